@@ -1,0 +1,36 @@
+ghost use Rattle.std.specs.Prelude.{◌≡◌, ◌↔◌, IsTrue};
+ghost use Rattle.odb_names.specs.Identifiers.{IsRequestId, is_unreserved};
+
+/// Whether the byte is an ASCII letter or digit, `-`, `.`, `_` or `~`.
+fn is_unreserved(byte: u8) -> bool
+    ensures { result ≡ is_unreserved byte }
+{
+    byte.is_ascii_alphanumeric() || matches!(byte, b'-' | b'.' | b'_' | b'~')
+}
+
+/// Whether the text may be the `id` or the `atomicityGroup` of a request.
+///
+/// That is the rule `request-id` of the OData ABNF 4.01: one or more ASCII letters, digits, `-`,
+/// `.`, `_` and `~`. The case of a letter counts.
+pub fn is_request_id(text: &str) -> bool
+    ensures { IsTrue result ↔ IsRequestId text.now }
+{
+    !text.is_empty() && text.as_bytes().iter().all(|byte| is_unreserved(*byte))
+}
+
+#[cfg(test)]
+mod tests {
+    use super::*;
+
+    #[test]
+    fn tells_identifiers(rt: HostRuntime) {
+        for text in ["0", "r1", "a-b.c_d~e", "~", "AZaz09", "."] {
+            assert!(rt; is_request_id(text), "{text}");
+        }
+        for text in [
+            "", " ", "a b", "a/b", "a:b", "$1", "a@b", "[", "`", "{", "\u{e9}", "a\n",
+        ] {
+            assert!(rt; !is_request_id(text), "{text}");
+        }
+    }
+}

@@ -1,0 +1,12 @@
+//! The texts of an OData JSON batch that stand for themselves: identifiers and methods.
+//!
+//! Each answer is the predicate or the relation that `specs/` states, and each definition there
+//! names its section of OData JSON Format 4.01 or its rule of the OData ABNF 4.01. What a batch
+//! makes of these texts is decided by the crates above.
+#![tactic(auto)]
+
+mod identifier;
+mod method;
+
+pub use identifier::is_request_id;
+pub use method::Method;

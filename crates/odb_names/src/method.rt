@@ -1,0 +1,96 @@
+ghost use Rattle.std.specs.Prelude.{◌≡◌, ℕ, MatchOption, IfSome};
+ghost use Rattle.odb_names.specs.declared.method.Method.{Method};
+ghost use Rattle.odb_names.specs.Methods.{Names, method_name, takes_body};
+
+/// What a request asks for (OData JSON Format 4.01, section 19.1).
+#[derive(Clone, Copy, Debug, PartialEq, Eq, Hash)]
+pub enum Method {
+    Delete,
+    Get,
+    Patch,
+    Post,
+    Put,
+}
+
+impl Method {
+    const ALL: [Method; 5] = [
+        Method::Delete,
+        Method::Get,
+        Method::Patch,
+        Method::Post,
+        Method::Put,
+    ];
+
+    /// The method of this name, in any ASCII case, or `None` where the text names no method.
+    pub fn read(text: &str) -> Option<Method>
+        ensures named { MatchOption result ((method : Method) → ¬ Names text.now method)
+            (Names text.now) }
+        ensures only { IfSome result (λ method. (other : Method) → Names text.now other
+            → other ≡ method) }
+    {
+        Method::ALL
+            .iter()
+            .copied()
+            .find(|method| text.eq_ignore_ascii_case(method.name()))
+    }
+
+    /// The method's name in lower case.
+    pub fn name(self) -> &'static str
+        ensures { result.now ≡ method_name self }
+    {
+        match self {
+            Method::Delete => "delete",
+            Method::Get => "get",
+            Method::Patch => "patch",
+            Method::Post => "post",
+            Method::Put => "put",
+        }
+    }
+
+    /// Whether a request with this method may have a body: all but `delete` and `get`.
+    pub fn takes_body(self) -> bool
+        ensures { result ≡ takes_body self }
+    {
+        match self {
+            Method::Delete | Method::Get => false,
+            Method::Patch | Method::Post | Method::Put => true,
+        }
+    }
+}
+
+#[cfg(test)]
+mod tests {
+    use super::*;
+
+    #[test]
+    fn reads_methods_in_any_case(rt: HostRuntime) {
+        for (text, method) in [
+            ("delete", Method::Delete),
+            ("GET", Method::Get),
+            ("Patch", Method::Patch),
+            ("pOST", Method::Post),
+            ("puT", Method::Put),
+        ] {
+            assert_eq!(rt; Method::read(text), Some(method), "{text}");
+        }
+        for text in [
+            "", "head", "get ", "ge", "gets", "options", "merge", "\u{212a}",
+        ] {
+            assert_eq!(rt; Method::read(text), None, "{text}");
+        }
+    }
+
+    #[test]
+    fn tells_which_methods_take_a_body(rt: HostRuntime) {
+        for (method, name, takes_body) in [
+            (Method::Delete, "delete", false),
+            (Method::Get, "get", false),
+            (Method::Patch, "patch", true),
+            (Method::Post, "post", true),
+            (Method::Put, "put", true),
+        ] {
+            assert_eq!(rt; method.name(), name);
+            assert_eq!(rt; method.takes_body(), takes_body, "{name}");
+        }
+    }
+}
