@@ -1,0 +1,4 @@
+mod ElementLemmas
+mod MemberLemmas
+mod NameLemmas
+mod RequestLemmas

@@ -1,0 +1,23 @@
+-- The names of an object's members, as a map of values holds them.
+use Rattle.std.proofs.Common.{◌≡◌, ◌||◌, ℕ, Bool, Some, List, [], ◌∷◌, map, String, string_bytes, refl, ap}
+use Rattle.std.specs.declared.alloc.Global.{Global}
+use Rattle.std.specs.List.{list_any}
+use Rattle.serde_json.specs.Data.{Data, null, boolean, number, string, array, object, Members}
+use Rattle.serde_json.specs.Find.{as_object}
+use Rattle.serde_json.specs.View.{members_view}
+use Rattle.serde_json.specs.declared.value.Value.{Value}
+use Rattle.odb_doc.specs.Members.{names_of, names_in}
+
+-- a test finds a name in the map exactly where it finds one in the object
+pub list_any-names_of : (test : List ℕ → Bool) (ms : List (String Global × Value))
+    → list_any test (names_of (members_view ms)) ≡ list_any (λ name. test (string_bytes name)) (map (λ m. m.0) ms)
+list_any-names_of test [] = refl
+list_any-names_of test (m ∷ ms) = ap (λ b. test (string_bytes m.0) || b) (list_any-names_of test ms)
+
+pub names_in-as_object : (d : Data) (ms : Members) → as_object d ≡ Some ms → names_in d ≡ names_of ms
+names_in-as_object null ms is = cc
+names_in-as_object (boolean b) ms is = cc
+names_in-as_object (number n) ms is = cc
+names_in-as_object (string s) ms is = cc
+names_in-as_object (array ds) ms is = cc
+names_in-as_object (object xs) ms is = let same : xs ≡ ms = cc in ap names_of same

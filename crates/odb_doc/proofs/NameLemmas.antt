@@ -1,0 +1,134 @@
+-- Names put at the end one by one, unless they stand already, are the distinct names.
+use Rattle.std.proofs.Common.{◌≡◌, ◌∙◌, ◌||◌, ◌&&◌, ◌+◌, ◌<◌, ℕ, Bool, true, false, cond, not, Option, None, Some, option_map, List, [], ◌∷◌, ◌++◌, length, drop, get_or, fold, filter, bytes_eq, if◌then◌else◌, refl, ap, sym, append_assoc, append-nil, Bor}
+use Rattle.std.specs.List.{list_any}
+use Rattle.std.proofs.lemmas.List.{map-append, at_drop_more}
+use Rattle.std.proofs.lemmas.List.Folds.{list_any-append}
+use Rattle.std.proofs.lemmas.Slice.Eq.{bytes_eq-Decides}
+use Rattle.serde_json.specs.Find.{as_str}
+use Rattle.serde_json.specs.View.{view, items_view}
+use Rattle.serde_json.specs.declared.value.Value.{Value}
+use Rattle.odb_doc.specs.Names.{without, distinct, with_name}
+use Rattle.odb_doc.specs.Records.{texts_in}
+use Rattle.odb_doc.specs.Shapes.{texts_of}
+
+-- ---- filters
+
+filter-same : {X : Type 0} (p q : X → Bool) → ((x : X) → p x ≡ q x) → (xs : List X) → filter p xs ≡ filter q xs
+filter-same p q same [] = refl
+filter-same p q same (x ∷ xs) = rw (same x, filter-same p q same xs) refl
+
+filter-filter : {X : Type 0} (p q : X → Bool) (xs : List X) → filter p (filter q xs) ≡ filter (λ x. q x && p x) xs
+filter-filter p q [] = refl
+filter-filter p q (x ∷ xs) =
+    elim (q x) as (λ b. filter p (cond b (x ∷ filter q xs) (filter q xs)) ≡ cond (b && p x) (x ∷ filter (λ y. q y && p y) xs) (filter (λ y. q y && p y) xs)) [
+      | true ↦ ap (λ rest. cond (p x) (x ∷ rest) rest) (filter-filter p q xs)
+      | false ↦ filter-filter p q xs
+    ]
+
+filter-all : {X : Type 0} (xs : List X) → filter (λ _. true) xs ≡ xs
+filter-all [] = refl
+filter-all (x ∷ xs) = ap (λ rest. x ∷ rest) (filter-all xs)
+
+-- ---- distinct names
+
+-- the name is none of these
+is_new : List (List ℕ) → List ℕ → Bool
+is_new names name = not (list_any (bytes_eq name) names)
+
+-- a name that is among these is not new, so to leave it out beforehand changes nothing
+stays_out_by : (same : Bool) (names : List (List ℕ)) (name other : List ℕ) → (same ≡ true → other ≡ name) → list_any (bytes_eq name) names ≡ true
+    → (not same && not (list_any (bytes_eq other) names)) ≡ not (list_any (bytes_eq other) names)
+stays_out_by true names name other equal among =
+    let found : list_any (bytes_eq other) names ≡ true = rw (equal refl) among in
+    rw found refl
+stays_out_by false names name other equal among = refl
+
+stays_out : (names : List (List ℕ)) (name : List ℕ) → list_any (bytes_eq name) names ≡ true → (other : List ℕ)
+    → (not (bytes_eq other name) && is_new names other) ≡ is_new names other
+unfolding is_new
+stays_out names name among other = stays_out_by (bytes_eq other name) names name other (bytes_eq-Decides other name).0 among
+
+-- a name is new to the names and this one where it is neither
+not-or : (a b : Bool) → not (a || (b || false)) ≡ (not b && not a)
+not-or true true = refl
+not-or true false = refl
+not-or false true = refl
+not-or false false = refl
+
+is_new-push : (names : List (List ℕ)) (name other : List ℕ) → is_new (names ++ name ∷ []) other ≡ (not (bytes_eq other name) && is_new names other)
+unfolding is_new
+is_new-push names name other =
+    rw (list_any-append (bytes_eq other) names (name ∷ [])) (not-or (list_any (bytes_eq other) names) (bytes_eq other name))
+
+-- one name, by whether it stands already
+fold-with_name_step : (among : Bool) (names added : List (List ℕ)) (name : List ℕ) → list_any (bytes_eq name) names ≡ among
+    → ((ns : List (List ℕ)) → fold with_name ns added ≡ ns ++ filter (is_new ns) (distinct added))
+    → fold with_name (if among then names else names ++ name ∷ []) added
+    ≡ names ++ cond (not among) (name ∷ filter (is_new names) (without name (distinct added))) (filter (is_new names) (without name (distinct added)))
+fold-with_name_step true names added name among rest =
+    rest names ∙ ap (λ xs. names ++ xs) (
+    sym (filter-same _ _ (stays_out names name among) (distinct added))
+    ∙ sym (filter-filter (is_new names) (λ other. not (bytes_eq other name)) (distinct added))
+    )
+fold-with_name_step false names added name among rest =
+    rest (names ++ name ∷ []) ∙ append_assoc names (name ∷ []) _ ∙ ap (λ xs. names ++ name ∷ xs) (
+    filter-same _ _ (is_new-push names name) (distinct added)
+    ∙ sym (filter-filter (is_new names) (λ other. not (bytes_eq other name)) (distinct added))
+    )
+
+-- what the fold adds to the names are the distinct ones among the new
+fold-with_name : (names added : List (List ℕ)) → fold with_name names added ≡ names ++ filter (is_new names) (distinct added)
+unfolding is_new
+fold-with_name names [] = sym (append-nil names)
+fold-with_name names (name ∷ added) =
+    fold-with_name_step (list_any (bytes_eq name) names) names added name refl (λ ns. fold-with_name ns added)
+
+fold-with_name-nil : (names : List (List ℕ)) → fold with_name [] names ≡ distinct names
+unfolding is_new
+fold-with_name-nil names = fold-with_name [] names ∙ filter-all (distinct names)
+
+-- ---- names in an array of values
+
+-- the names, and then the strings of the values one by one
+abbrev pub read_on : List (List ℕ) → List Value → Option (List (List ℕ))
+read_on names vs = option_map (fold with_name names) (texts_of (items_view vs))
+
+map-fold : (o : Option (List (List ℕ))) → option_map (fold with_name []) o ≡ option_map distinct o
+map-fold None = refl
+map-fold (Some names) = ap Some (fold-with_name-nil names)
+
+pub read_on-nil : (vs : List Value) → read_on [] vs ≡ option_map distinct (texts_of (items_view vs))
+read_on-nil vs = map-fold (texts_of (items_view vs))
+
+fold-map : (names : List (List ℕ)) (name : List ℕ) (o : Option (List (List ℕ)))
+    → option_map (fold with_name names) (option_map (λ texts. name ∷ texts) o) ≡ option_map (fold with_name (with_name names name)) o
+fold-map names name None = refl
+fold-map names name (Some texts) = refl
+
+pub read_on-text : (names : List (List ℕ)) (v : Value) (vs : List Value) (name : List ℕ) → as_str (view v) ≡ Some name
+    → read_on names (v ∷ vs) ≡ read_on (with_name names name) vs
+read_on-text names v vs name is = rw is (fold-map names name (texts_of (items_view vs)))
+
+pub read_on-other : (names : List (List ℕ)) (v : Value) (vs : List Value) → as_str (view v) ≡ None → read_on names (v ∷ vs) ≡ None
+read_on-other names v vs is = rw is refl
+
+-- ---- names as a set of references holds them
+
+texts_in-put : (among : Bool) (keys : List (Bor (List ℕ))) (text : Bor (List ℕ))
+    → texts_in (if among then keys else keys ++ text ∷ []) ≡ (if among then texts_in keys else texts_in keys ++ text.now ∷ [])
+texts_in-put true keys text = refl
+texts_in-put false keys text = map-append (λ (t : Bor (List ℕ)). t.now) keys (text ∷ [])
+
+list_any-texts_in : (name : List ℕ) (keys : List (Bor (List ℕ))) → list_any (bytes_eq name) (texts_in keys) ≡ list_any (λ key. bytes_eq name key.now) keys
+list_any-texts_in name [] = refl
+list_any-texts_in name (key ∷ keys) = ap (λ b. bytes_eq name key.now || b) (list_any-texts_in name keys)
+
+pub texts_in-insert : (keys : List (Bor (List ℕ))) (text : Bor (List ℕ))
+    → texts_in (if list_any (λ key. bytes_eq text.now key.now) keys then keys else keys ++ text ∷ []) ≡ with_name (texts_in keys) text.now
+texts_in-insert keys text = rw (list_any-texts_in text.now keys) (texts_in-put _ keys text)
+
+-- the value at a place goes first of what is left from there
+pub read_on-drop : (names : List (List ℕ)) (vs : List Value) (i : ℕ) (v : Value) → i < length vs → v ≡ get_or vs i v
+    → read_on names (drop i vs) ≡ read_on names (v ∷ drop (i + 1) vs)
+read_on-drop names vs i v within is =
+    at_drop_more (read_on names) vs i v within ∙ ap (λ x. read_on names (x ∷ drop (i + 1) vs)) (sym is)

@@ -1,0 +1,50 @@
+-- The rules of a document and of a request: their numbers, codes and names.
+use Rattle.std.specs.Prelude.{ℕ, ◌+◌, ◌/◌, ◌%◌, List, [], ◌∷◌, ◌++◌, codes}
+use Rattle.odb_doc.specs.declared.fault.DocumentRule.{DocumentRule}
+use Rattle.odb_doc.specs.declared.fault.DocumentRule.TheVariants as document
+use Rattle.odb_doc.specs.declared.fault.RequestRule.{RequestRule}
+use Rattle.odb_doc.specs.declared.fault.RequestRule.TheVariants as request
+
+-- `F` and the number in two digits
+abbrev pub code_of : ℕ → List ℕ
+code_of number = codes "F" ++ (48 + number / 10) ∷ (48 + number % 10) ∷ []
+
+abbrev pub document_number : DocumentRule → ℕ
+document_number document.TooLong = 1
+document_number document.NotJson = 2
+document_number document.NotObject = 3
+document_number document.NoRequests = 4
+document_number document.UnknownMember = 5
+document_number document.TooMany = 6
+
+abbrev pub document_code : DocumentRule → List ℕ
+document_code rule = code_of (document_number rule)
+
+abbrev pub document_name : DocumentRule → List ℕ
+document_name document.TooLong = codes "TooLong"
+document_name document.NotJson = codes "NotJson"
+document_name document.NotObject = codes "NotObject"
+document_name document.NoRequests = codes "NoRequests"
+document_name document.UnknownMember = codes "UnknownMember"
+document_name document.TooMany = codes "TooMany"
+
+abbrev pub request_number : RequestRule → ℕ
+request_number request.NotRequestObject = 10
+request_number request.IfMember = 11
+request_number request.UnknownRequestMember = 12
+request_number request.BadId = 13
+request_number request.BadMethod = 14
+request_number request.BadUrl = 15
+request_number request.BadDependsOn = 17
+
+abbrev pub request_code : RequestRule → List ℕ
+request_code rule = code_of (request_number rule)
+
+abbrev pub request_name : RequestRule → List ℕ
+request_name request.NotRequestObject = codes "NotRequestObject"
+request_name request.IfMember = codes "IfMember"
+request_name request.UnknownRequestMember = codes "UnknownRequestMember"
+request_name request.BadId = codes "BadId"
+request_name request.BadMethod = codes "BadMethod"
+request_name request.BadUrl = codes "BadUrl"
+request_name request.BadDependsOn = codes "BadDependsOn"

@@ -1,0 +1,10 @@
+pub mod Devices
+pub mod Documents
+pub mod Faults
+pub mod FaultTable
+pub mod Members
+pub mod Shapes
+pub mod LeastFault
+pub mod Names
+pub mod Records
+pub mod Batches

@@ -1,0 +1,16 @@
+-- Lists of names in which no name stands twice.
+use Rattle.std.specs.Prelude.{ℕ, List, [], ◌∷◌, ◌++◌, filter, bytes_eq, not, if◌then◌else◌}
+use Rattle.std.specs.List.{list_any}
+
+-- the names that are not this one
+abbrev pub without : List ℕ → List (List ℕ) → List (List ℕ)
+without name names = filter (λ other. not (bytes_eq other name)) names
+
+-- each name at its first place
+abbrev pub distinct : List (List ℕ) → List (List ℕ)
+distinct [] = []
+distinct (name ∷ names) = name ∷ without name (distinct names)
+
+-- the names, and this one at the end unless it stands already
+abbrev pub with_name : List (List ℕ) → List ℕ → List (List ℕ)
+with_name names name = if list_any (bytes_eq name) names then names else names ++ name ∷ []

@@ -1,0 +1,72 @@
+-- The shape of a batch document: where each fault stands (OData JSON Format 4.01, section 19.1).
+use Rattle.std.specs.Prelude.{◌≡◌, ◌<◌, ℕ, List, [], ◌∷◌, length, Option, Some, None, IsSome, IsNone, option_and_then, option_map, unwrap_or, codes}
+use Rattle.serde_json.specs.Data.{Data, null, array, Items, no_items, item}
+use Rattle.serde_json.specs.Find.{get, as_str, as_array, as_object}
+use Rattle.odb_names.specs.Identifiers.{IsRequestId}
+use Rattle.odb_names.specs.Methods.{Names}
+use Rattle.odb_names.specs.declared.method.Method.{Method}
+use Rattle.odb_doc.specs.declared.batch.TheConstants.{MAX_REQUESTS}
+use Rattle.odb_doc.specs.declared.fault.DocumentRule.{DocumentRule}
+use Rattle.odb_doc.specs.declared.fault.DocumentRule.TheVariants as document
+use Rattle.odb_doc.specs.declared.fault.RequestRule.{RequestRule}
+use Rattle.odb_doc.specs.declared.fault.RequestRule.TheVariants as request
+use Rattle.odb_doc.specs.declared.member.Object.TheVariants.{Document, Request}
+use Rattle.odb_doc.specs.Members.{list_of, text_at, HasUnknown}
+
+-- the array at `requests`
+abbrev pub requests_in : Data → Option Items
+requests_in d = option_and_then as_array (get (codes "requests") d)
+
+-- the elements of `requests`
+abbrev pub elements : Data → List Data
+elements d = unwrap_or (option_map list_of (requests_in d)) []
+
+-- Where a rule of the document is broken. A value has been read, so the document is neither too long nor no JSON.
+abbrev pub BreaksDocument : DocumentRule → Data → Type 0
+BreaksDocument document.TooLong d = ⊥
+BreaksDocument document.NotJson d = ⊥
+BreaksDocument document.NotObject d = IsNone (as_object d)
+BreaksDocument document.NoRequests d = IsSome (as_object d) × IsNone (requests_in d)
+BreaksDocument document.UnknownMember d = HasUnknown Document d
+BreaksDocument document.TooMany d = MAX_REQUESTS < length (elements d)
+
+-- the member `id` is this identifier
+pub record HasId (d : Data) (id : List ℕ) : Type 0 where
+  pub text : text_at (codes "id") d ≡ Some id
+  pub form : IsRequestId id
+
+-- the member `method` names this method
+pub record HasMethod (d : Data) (method : Method) : Type 0 where
+  pub name : List ℕ
+  pub text : text_at (codes "method") d ≡ Some name
+  pub names : Names name method
+
+-- the string at `url`
+abbrev pub url_of : Data → Option (List ℕ)
+url_of d = text_at (codes "url") d
+
+-- the strings of an array that holds nothing else
+abbrev pub texts_of : Items → Option (List (List ℕ))
+texts_of no_items = Some []
+texts_of (item d ds) = option_and_then (λ text. option_map (λ texts. text ∷ texts) (texts_of ds)) (as_str d)
+
+-- the strings of an array, none where it is absent or null
+abbrev pub texts_or_none : Option Data → Option (List (List ℕ))
+texts_or_none None = Some []
+texts_or_none (Some null) = Some []
+texts_or_none (Some (array ds)) = texts_of ds
+texts_or_none (Some _) = None
+
+-- the strings of `dependsOn`
+abbrev pub listed_names : Data → Option (List (List ℕ))
+listed_names d = texts_or_none (get (codes "dependsOn") d)
+
+-- Where a rule of a request is broken. Of an element that is no object nothing else is asked.
+abbrev pub BreaksRequest : RequestRule → Data → Type 0
+BreaksRequest request.NotRequestObject d = IsNone (as_object d)
+BreaksRequest request.IfMember d = IsSome (get (codes "if") d)
+BreaksRequest request.UnknownRequestMember d = HasUnknown Request d
+BreaksRequest request.BadId d = IsSome (as_object d) × ((id : List ℕ) → ¬ HasId d id)
+BreaksRequest request.BadMethod d = IsSome (as_object d) × ((method : Method) → ¬ HasMethod d method)
+BreaksRequest request.BadUrl d = IsSome (as_object d) × IsNone (url_of d)
+BreaksRequest request.BadDependsOn d = IsSome (as_object d) × IsNone (listed_names d)

@@ -1,0 +1,105 @@
+ghost use Rattle.std.specs.Prelude.{◌≡◌, ◌≤◌, ◌<◌, List, length, map, vec_len, option_map, slice_get, Some, IsSome, IfSome, ◌↔◌, IfOk, IfErr, OnOk, All};
+ghost use Rattle.std.specs.List.{AllZip};
+ghost use Rattle.serde_json.specs.View.{view};
+ghost use Rattle.odb_doc.specs.LeastFault.{IsWellShaped, IsLeastFault, IsBatchObject, IsLeastDocumentRule, IsRequestObject, IsFirstFault};
+ghost use Rattle.odb_doc.specs.Shapes.{elements, requests_in};
+ghost use Rattle.odb_doc.specs.Records.{Says, IsBatchOf, record_of};
+
+use crate::fault::{DocFault, DocumentRule};
+use crate::member::Object;
+use crate::request::Request;
+use serde_json::Value;
+use std::alloc::Global;
+
+/// How many requests a batch may have.
+const MAX_REQUESTS: usize = 10_000;
+
+/// The requests of a batch document without a fault of shape, in the order of the document.
+#[derive(Debug, Drop)]
+pub struct Batch<'a> {
+    requests: Vec<Request<'a>>,
+    ghost small: { vec_len requests ≤ 10000 },
+}
+
+/// The array at `requests`.
+fn requests_of(document: &Value) -> Option<&[Value]>
+    ensures array { IsSome result ↔ IsSome (requests_in (view document.now)) }
+    ensures elements { IfSome result (λ found. elements (view document.now) ≡ map view found.now) }
+    ensures len { IfSome result (λ found. length (elements (view document.now))
+        ≡ length found.now) }
+{
+    Some(document.get("requests")?.as_array()?.as_slice())
+}
+
+/// The elements of `requests`, where the document as a whole breaks no rule.
+fn elements_of(document: &Value) -> Result<&[Value], DocumentRule>
+    ensures whole { OnOk result (IsBatchObject (view document.now)) }
+    ensures elements { IfOk result (λ found. elements (view document.now) ≡ map view found.now) }
+    ensures len { IfOk result (λ found. length found.now ≤ MAX_REQUESTS) }
+    ensures least { IfErr result (IsLeastDocumentRule (view document.now)) }
+{
+    if !document.is_object() {
+        return Err(DocumentRule::NotObject);
+    }
+    let Some(elements) = requests_of(document) else {
+        return Err(DocumentRule::NoRequests);
+    };
+    if Object::Document.has_unknown(document) {
+        return Err(DocumentRule::UnknownMember);
+    }
+    if elements.len() > MAX_REQUESTS {
+        return Err(DocumentRule::TooMany);
+    }
+    Ok(elements)
+}
+
+/// The requests that the elements say, or the first fault among them.
+fn requests_from<'a>(alloc: Global, elements: &'a [Value]) -> Result<Vec<Request<'a>>, DocFault>
+    ensures sound { OnOk result (All IsRequestObject (map view elements.now)) }
+    ensures says { IfOk result (λ found. AllZip Says (map view elements.now)
+        (map record_of found.items)) }
+    ensures len { IfOk result (λ found. length found.items ≡ length elements.now) }
+    ensures first { IfErr result (IsFirstFault (map view elements.now)) }
+{
+    let mut requests = Vec::with_capacity(alloc, elements.len())?;
+    for (at, element) in elements.iter().enumerate() {
+        requests.push(Request::read(alloc, at, element)?)?;
+    }
+    Ok(requests)
+}
+
+impl<'a> Batch<'a> {
+    ghost use Rattle.odb_doc.specs.Batches.{records};
+
+    /// The batch that a document is.
+    ///
+    /// # Errors
+    ///
+    /// The least of the faults F03 to F06 and F10 to F17 by phase, position and number, where one
+    /// stands; `OutOfMemory` where memory was refused.
+    pub fn read(alloc: Global, document: &'a Value) -> Result<Batch<'a>, DocFault>
+        ensures good { OnOk result (IsWellShaped (view document.now)) }
+        ensures records { IfOk result (λ batch. IsBatchOf (view document.now) (records batch)) }
+        ensures least { IfErr result (λ fault. IsLeastFault fault (view document.now)) }
+    {
+        let elements = elements_of(document)?;
+        let requests = requests_from(alloc, elements)?;
+        Ok(Batch { requests })
+    }
+
+    /// How many requests there are: 10,000 at most.
+    pub fn len(&self) -> u32
+        ensures count { result ≡ length (records self.now) }
+        ensures small { result ≤ 10000 }
+    {
+        self.requests.len() as u32
+    }
+
+    /// The request at a position, counted from 0.
+    pub fn request(&self, i: u32) -> &Request<'a>
+        requires { i < length (records self.now) }
+        ensures { slice_get (records self.now) i ≡ Some (record_of result.now) }
+    {
+        &self.requests[i as usize]
+    }
+}

@@ -1,0 +1,152 @@
+ghost use Rattle.std.specs.Prelude.{◌≡◌, ℕ, ◌+◌, ◌<◌, ◌≤◌, ◌↔◌, false, length, IsTrue, IsErr, IfOk};
+ghost use Rattle.std.specs.Io.KnownBytes.{ReadConsumes, WriteAppends};
+ghost use Rattle.odb_doc.specs.declared.device.TheConstants.{MAX_READS};
+
+use std::io::{Read, Write};
+use std::marker::Model;
+use thiserror::Error;
+
+/// How often an input may be read: once for each byte of the longest document, and one byte more.
+pub const MAX_READS: u32 = 16_777_217;
+
+/// A device failed. Which one did, it remembers itself.
+#[derive(Clone, Copy, Debug, PartialEq, Eq, Error)]
+#[error("the device failed")]
+pub struct DeviceFault;
+
+/// A reader that counts its reads and remembers whether one of them failed.
+#[derive(Drop)]
+pub struct Input<R> {
+    reader: R,
+    failed: bool,
+    reads: u32,
+}
+
+impl<R> Model for Input<R> {
+    ghost use Rattle.odb_doc.specs.Devices.{Reading};
+
+    ghost Value = { Reading R };
+
+    ghost view = { λ input. record { reader = input.reader; failed = input.failed; reads = input.reads } };
+}
+
+impl<R: Read> Input<R> {
+    /// An input over the reader, which was not read yet.
+    pub fn new(reader: R) -> Self
+        ensures { result ≡ record { reader = reader; failed = false; reads = 0 } }
+    {
+        Input {
+            reader,
+            failed: false,
+            reads: 0,
+        }
+    }
+
+    /// The reader, as the reads so far have left it.
+    pub fn into_inner(self) -> R
+        ensures { result ≡ self.reader }
+    {
+        let Input { reader, .. } = self;
+        reader
+    }
+
+    /// Whether a read failed.
+    pub fn failed(&self) -> bool
+        ensures { result ≡ self.now.failed }
+    {
+        self.failed
+    }
+
+    /// How often `take` was called.
+    pub fn reads(&self) -> u32
+        ensures { result ≡ self.now.reads }
+    {
+        self.reads
+    }
+
+    /// Reads once into the buffer, and returns how many bytes came. None come at the end, or where
+    /// the buffer has no room.
+    ///
+    /// Any error of the reader is a fault, an interrupted read among them.
+    pub fn take(&mut self, buffer: &mut [u8]) -> Result<usize, DeviceFault>
+        requires works { self.old.failed ≡ false }
+        requires room { self.old.reads < MAX_READS }
+        ensures fault { IsErr result ↔ IsTrue self.new.failed }
+        ensures reads { self.new.reads ≡ self.old.reads + 1 }
+        ensures count { IfOk result (λ n. n ≤ length buffer.new) }
+        ensures bytes { ReadConsumes (R.remaining self.old.reader) (R.remaining self.new.reader)
+            result buffer.new }
+    {
+        self.reads += 1;
+        match self.reader.read(buffer) {
+            Ok(count) => Ok(count),
+            Err(_) => {
+                self.failed = true;
+                Err(DeviceFault)
+            }
+        }
+    }
+}
+
+/// A writer that remembers whether a write failed.
+#[derive(Drop)]
+pub struct Output<W> {
+    writer: W,
+    failed: bool,
+}
+
+impl<W> Model for Output<W> {
+    ghost use Rattle.odb_doc.specs.Devices.{Writing};
+
+    ghost Value = { Writing W };
+
+    ghost view = { λ output. record { writer = output.writer; failed = output.failed } };
+}
+
+impl<W: Write> Output<W> {
+    /// An output over the writer.
+    pub fn new(writer: W) -> Self
+        ensures { result ≡ record { writer = writer; failed = false } }
+    {
+        Output {
+            writer,
+            failed: false,
+        }
+    }
+
+    /// The writer, as the writes so far have left it.
+    pub fn into_inner(self) -> W
+        ensures { result ≡ self.writer }
+    {
+        let Output { writer, .. } = self;
+        writer
+    }
+
+    /// Whether a write failed.
+    pub fn failed(&self) -> bool
+        ensures { result ≡ self.now.failed }
+    {
+        self.failed
+    }
+
+    /// Writes once, and returns how many of the bytes were taken, from their front.
+    ///
+    /// Any error of the writer is a fault, an interrupted write among them, and so is a write that
+    /// takes none of some bytes.
+    pub fn put(&mut self, bytes: &[u8]) -> Result<usize, DeviceFault>
+        requires { self.old.failed ≡ false }
+        ensures fault { IsErr result ↔ IsTrue self.new.failed }
+        ensures count { IfOk result (λ n. n ≤ length bytes.now) }
+        ensures progress { IfOk result (λ n. 0 < length bytes.now → 0 < n) }
+        ensures bytes { WriteAppends (W.contents self.old.writer) (W.contents self.new.writer)
+            result bytes.now }
+    {
+        match self.writer.write(bytes) {
+            Ok(count) if count > 0 || bytes.is_empty() => Ok(count),
+            _ => {
+                self.failed = true;
+                Err(DeviceFault)
+            }
+        }
+    }
+}

@@ -1,0 +1,30 @@
+ghost use Rattle.std.specs.Prelude.{IfOk, IfErr};
+ghost use Rattle.serde_json.specs.View.{view};
+ghost use Rattle.odb_doc.specs.Documents.{IsDocument, RefusesDocument};
+
+use crate::fault::{DocFault, DocumentRule};
+use serde_json::Value;
+use std::alloc::Global;
+
+/// How many bytes a document may have.
+pub const MAX_DOCUMENT_BYTES: usize = 16_777_216;
+
+/// The JSON value of a document.
+///
+/// # Errors
+///
+/// F01 where there are more than 16,777,216 bytes; else F02 where `serde_json` refuses them for
+/// another cause than memory; `OutOfMemory` where memory was refused.
+pub fn parse(alloc: Global, bytes: &[u8]) -> Result<Value, DocFault>
+    ensures ok { IfOk result (λ value. IsDocument bytes.now (view value)) }
+    ensures err { IfErr result (λ fault. RefusesDocument fault bytes.now) }
+{
+    if bytes.len() > MAX_DOCUMENT_BYTES {
+        return Err(DocFault::Document(DocumentRule::TooLong));
+    }
+    match Value::from_slice(alloc, bytes) {
+        Ok(value) => Ok(value),
+        Err(error) if error.is_memory() => Err(DocFault::OutOfMemory),
+        Err(_) => Err(DocFault::Document(DocumentRule::NotJson)),
+    }
+}

@@ -1,0 +1,20 @@
+//! OData JSON batch documents: from bytes to the requests of a batch.
+//!
+//! A batch comes as a JSON document (OData JSON Format 4.01, section 19.1). [`parse`] makes a value
+//! of its bytes, and [`Batch::read`] makes the batch of that value, or tells the least fault of its
+//! shape. Whether the names that requests give each other fit together is decided by the crates
+//! above. [`Input`] and [`Output`] are a reader and a writer that remember whether they failed.
+#![tactic(auto)]
+
+mod batch;
+mod device;
+mod document;
+mod fault;
+mod member;
+mod request;
+
+pub use batch::Batch;
+pub use device::{DeviceFault, Input, MAX_READS, Output};
+pub use document::{MAX_DOCUMENT_BYTES, parse};
+pub use fault::{DocFault, DocumentRule, Place, RequestRule};
+pub use request::Request;

@@ -1,0 +1,72 @@
+ghost use Rattle.std.specs.Prelude.{◌≡◌, ◌↔◌, IsTrue, option_map, string_bytes};
+ghost use Rattle.std.specs.List.{list_any};
+ghost use Rattle.std.specs.BTreeMap.{keys};
+ghost use Rattle.serde_json.specs.Find.{get};
+ghost use Rattle.serde_json.specs.View.{view};
+ghost use Rattle.odb_doc.specs.Members as spec;
+
+use serde_json::{Map, Value};
+
+/// The objects of a batch document, each with members of its own.
+#[derive(Clone, Copy)]
+pub(crate) enum Object {
+    Document,
+    Request,
+}
+
+impl Object {
+    /// Whether the object may have a member of this name.
+    fn may_have(self, name: &str) -> bool
+        ensures { result ≡ spec.is_one_of (spec.members_of self) name.now }
+    {
+        match self {
+            Object::Document => name == "requests",
+            Object::Request => matches!(name, "id" | "method" | "url" | "dependsOn" | "if"),
+        }
+    }
+
+    #[tactic(auto, unfolding(crate::specs::Members::is_unknown))]
+    fn is_unknown(self, name: &str) -> bool
+        ensures { result ≡ spec.is_unknown (spec.members_of self) name.now }
+    {
+        !is_annotation(name) && !self.may_have(name)
+    }
+
+    fn has_unknown_among(self, members: &Map<String, Value>) -> bool
+        ensures { result ≡ list_any (λ name. spec.is_unknown (spec.members_of self)
+            (string_bytes name)) (keys members.now) }
+    {
+        members.keys().any(|name| self.is_unknown(name.as_str()))
+    }
+
+    /// Whether some member of the value is neither an annotation nor one that the object may have.
+    pub(crate) fn has_unknown(self, value: &Value) -> bool
+        ensures { IsTrue result ↔ spec.HasUnknown self (view value.now) }
+    {
+        match value.as_object() {
+            Some(members) => self.has_unknown_among(members),
+            None => false,
+        }
+    }
+}
+
+/// Whether the name holds `@`, as that of an annotation does.
+fn is_annotation(name: &str) -> bool
+    ensures { result ≡ spec.is_annotation name.now }
+{
+    name.as_bytes().iter().any(|byte| *byte == b'@')
+}
+
+/// The string at a member.
+pub(crate) fn text_at<'a>(value: &'a Value, name: &str) -> Option<&'a str>
+    ensures { option_map (λ text. text.now) result ≡ spec.text_at name.now (view value.now) }
+{
+    value.get(name).and_then(Value::as_str)
+}
+
+/// The value at a member, where null counts as absent.
+pub(crate) fn given<'a>(value: &'a Value, name: &str) -> Option<&'a Value>
+    ensures { option_map (λ v. view v.now) result ≡ spec.given (get name.now (view value.now)) }
+{
+    value.get(name).filter(|member| !member.is_null())
+}
