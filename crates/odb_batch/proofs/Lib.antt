@@ -1,0 +1,3 @@
+mod CheckLemmas
+mod ReadLemmas
+mod WriteLemmas

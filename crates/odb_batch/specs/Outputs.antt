@@ -1,0 +1,13 @@
+-- What a writer holds after a text was written to it, whole or in part.
+use Rattle.std.specs.Prelude.{◌≡◌, ℕ, List, ◌++◌, Option}
+use Rattle.std.specs.Io.KnownBytes.{Appends}
+
+-- the writer has gained a front of the text, and this is the rest
+pub record HasWritten (old new : Option (List ℕ)) (text rest : List ℕ) : Type 0 where
+  pub front : List ℕ
+  pub whole : text ≡ front ++ rest
+  pub written : Appends old new front
+
+-- the writer has gained a front of the text
+abbrev pub AppendsFront : Option (List ℕ) → Option (List ℕ) → List ℕ → Type 0
+AppendsFront old new text = (rest : List ℕ) × HasWritten old new text rest

@@ -1,0 +1,42 @@
+use clap::{Arg, ArgMatches, Command, Error};
+use std::alloc::{AllocError, Global};
+
+/// What the words of the command line ask for.
+#[derive(Clone, Copy, Debug)]
+pub enum Task<'a> {
+    /// Check the batch in the file, or the one on standard input where none is named.
+    Check { file: Option<&'a str> },
+}
+
+fn command<'a>(alloc: Global) -> Result<Command<'a>, AllocError> {
+    let file = Arg::new(alloc, "FILE").help(
+        "The batch document; standard input where it is absent",
+    );
+    let check = Command::new(alloc, "check")
+        .about("Check a batch: one line says whether it is accepted, or its least fault")
+        .arg(file)?;
+    Command::new(alloc, "odb_batch")
+        .about("Checks OData JSON batch requests. Without a command it checks standard input.")
+        .disable_help_subcommand(true)
+        .subcommand(check)
+}
+
+fn file_of<'a>(matches: &ArgMatches<'a>) -> Option<&'a str> {
+    matches.get_str("FILE")
+}
+
+impl<'a> Task<'a> {
+    /// The task that the words ask for, the program's name first.
+    ///
+    /// # Errors
+    ///
+    /// What `clap` says of wrong words, of a want of memory, and where help is asked for.
+    pub fn read(alloc: Global, words: &'a [String]) -> Result<Task<'a>, Error> {
+        let matches = command(alloc)?.try_get_matches_from(words)?;
+        let file = match matches.subcommand() {
+            Some((_, check)) => file_of(check),
+            None => None,
+        };
+        Ok(Task::Check { file })
+    }
+}

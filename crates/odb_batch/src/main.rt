@@ -1,0 +1,100 @@
+//! `odb_batch`: checks batch requests in the JSON form of OData JSON Format 4.01.
+//!
+//! Each command is an engine over readers and a writer, whose contract says what is written:
+//! [`engine`] has them. What stands here opens files, and turns the end of an engine into an exit
+//! status.
+#![tactic(auto)]
+
+mod command_line;
+mod engine;
+mod lines;
+mod names;
+mod reading;
+mod verdict;
+mod writing;
+
+use clap::error::ErrorKind;
+use command_line::Task;
+use engine::{EngineFault, check_batch};
+use odb_doc::{Input, Output};
+use std::process::ExitCode;
+use std::rt::Runtime;
+use std::{env, fs, io};
+use verdict::Ended;
+
+/// The exit status of the program.
+#[derive(Clone, Copy)]
+enum Status {
+    Done = 0,
+    Refused = 1,
+    WrongWords = 2,
+    Device = 3,
+    Memory = 4,
+}
+
+/// Tells on standard error why there is no result. That this line cannot be written changes nothing.
+fn failed<R: Runtime>(rt: &R, cause: &str, status: Status) -> Status {
+    let _ = eprintln!(rt; "error: {cause}");
+    status
+}
+
+fn status_of<R: Runtime>(rt: &R, ended: Result<Ended, EngineFault>) -> Status {
+    match ended {
+        Ok(Ended::Done) => Status::Done,
+        Ok(Ended::Refused) => Status::Refused,
+        Err(EngineFault::Read) => failed(rt, "read", Status::Device),
+        Err(EngineFault::Write) => failed(rt, "write", Status::Device),
+        Err(EngineFault::OutOfMemory) => failed(rt, "memory", Status::Memory),
+    }
+}
+
+/// The text of `clap`: help on standard output, and what is wrong with the words on standard error.
+fn explain<R: Runtime>(rt: &R, error: &clap::Error) -> Status {
+    if error.kind() == ErrorKind::OutOfMemory {
+        return failed(rt, "memory", Status::Memory);
+    }
+    if error.use_stderr() {
+        let _ = error.print(rt);
+        return Status::WrongWords;
+    }
+    match error.print(rt) {
+        Ok(()) => Status::Done,
+        Err(_) => failed(rt, "write", Status::Device),
+    }
+}
+
+fn check<R: Runtime + AllocGlobal>(rt: &R, file: Option<&str>) -> Status {
+    let mut output = Output::new(io::writer(rt));
+    let ended = match file {
+        None => check_batch(rt.alloc(), &mut Input::new(rt.reader()), &mut output),
+        Some(path) => match fs::open(rt, path) {
+            Ok(opened) => check_batch(rt.alloc(), &mut Input::new(opened), &mut output),
+            Err(error) if error.kind() == io::ErrorKind::OutOfMemory => {
+                Err(EngineFault::OutOfMemory)
+            }
+            Err(_) => return failed(rt, "open", Status::Device),
+        },
+    };
+    status_of(rt, ended)
+}
+
+fn run<R: Runtime + AllocGlobal>(rt: &R, words: &[String]) -> Status {
+    match Task::read(rt.alloc(), words) {
+        Ok(Task::Check { file }) => check(rt, file),
+        Err(error) => explain(rt, &error),
+    }
+}
+
+fn main(rt: HostRuntime) -> ExitCode {
+    let words: io::Result<Vec<String>> = env::args(&rt).and_then(|words| Ok(words.collect(
+        rt.alloc(),
+    )?));
+    let status = match words {
+        Ok(words) => run(&rt, words.as_slice()),
+        Err(error) if error.kind() == io::ErrorKind::OutOfMemory => {
+            failed(&rt, "memory", Status::Memory)
+        }
+        Err(_) => failed(&rt, "the words are no UTF-8", Status::WrongWords),
+    };
+    ExitCode::from(status as u8)
+}

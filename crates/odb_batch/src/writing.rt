@@ -1,0 +1,35 @@
+ghost use Rattle.std.specs.Prelude.{◌≡◌, ◌↔◌, false, IsTrue, IsErr, OnOk, OnErr};
+ghost use Rattle.std.specs.Io.KnownBytes.{Appends};
+ghost use Rattle.odb_batch.specs.Outputs.{AppendsFront};
+
+use odb_doc::{DeviceFault, Output};
+use std::io::Write;
+use thiserror::Error;
+
+/// The output failed before the whole text was written.
+#[derive(Clone, Copy, Debug, PartialEq, Eq, Error)]
+#[error("the output failed")]
+pub struct WriteFault;
+
+impl From<DeviceFault> for WriteFault {
+    fn from(_fault: DeviceFault) -> Self {
+        WriteFault
+    }
+}
+
+/// Writes the text whole. After a fault the output has a front of it.
+pub fn write_text<W: Write>(output: &mut Output<W>, text: &str) -> Result<(), WriteFault>
+    requires { output.old.failed ≡ false }
+    ensures fault { IsErr result ↔ IsTrue output.new.failed }
+    ensures ok { OnOk result (Appends (W.contents output.old.writer) (W.contents output.new.writer)
+        text.now) }
+    ensures err { OnErr result (AppendsFront (W.contents output.old.writer)
+        (W.contents output.new.writer) text.now) }
+{
+    let mut rest = text.as_bytes();
+    while !rest.is_empty() {
+        let count = output.put(rest)?;
+        rest = &rest[count..];
+    }
+    Ok(())
+}
