@@ -10,6 +10,8 @@ mod engine;
 mod lines;
 mod names;
 mod reading;
+#[cfg(test)]
+mod tests;
 mod verdict;
 mod writing;
 
