@@ -1,4 +1,10 @@
+mod BlankLemmas
 mod ElementLemmas
+mod HeaderLemmas
+mod ListedLemmas
 mod MemberLemmas
 mod NameLemmas
+mod OneHeaders
+mod ReferenceLemmas
 mod RequestLemmas
+mod RuleLemmas

@@ -35,7 +35,14 @@ request_number request.UnknownRequestMember = 12
 request_number request.BadId = 13
 request_number request.BadMethod = 14
 request_number request.BadUrl = 15
+request_number request.BadGroup = 16
 request_number request.BadDependsOn = 17
+request_number request.BadHeaders = 18
+request_number request.HeaderTwice = 19
+request_number request.BodyNotAllowed = 20
+request_number request.BadBody = 21
+request_number request.NestedBatch = 22
+request_number request.BadReference = 23
 
 abbrev pub request_code : RequestRule → List ℕ
 request_code rule = code_of (request_number rule)
@@ -47,4 +54,11 @@ request_name request.UnknownRequestMember = codes "UnknownRequestMember"
 request_name request.BadId = codes "BadId"
 request_name request.BadMethod = codes "BadMethod"
 request_name request.BadUrl = codes "BadUrl"
+request_name request.BadGroup = codes "BadGroup"
 request_name request.BadDependsOn = codes "BadDependsOn"
+request_name request.BadHeaders = codes "BadHeaders"
+request_name request.HeaderTwice = codes "HeaderTwice"
+request_name request.BodyNotAllowed = codes "BodyNotAllowed"
+request_name request.BadBody = codes "BadBody"
+request_name request.NestedBatch = codes "NestedBatch"
+request_name request.BadReference = codes "BadReference"

@@ -16,6 +16,10 @@ IsBatchObject d = (rule : DocumentRule) → ¬ BreaksDocument rule d
 abbrev pub IsRequestObject : Data → Type 0
 IsRequestObject d = (rule : RequestRule) → ¬ BreaksRequest rule d
 
+-- no rule of the request with a number below this one is broken
+abbrev pub BreaksNoneBelow : ℕ → Data → Type 0
+BreaksNoneBelow number d = (rule : RequestRule) → request_number rule < number → ¬ BreaksRequest rule d
+
 -- the document has no fault of shape
 abbrev pub IsWellShaped : Data → Type 0
 IsWellShaped d = IsBatchObject d × All IsRequestObject (elements d)
@@ -28,7 +32,7 @@ pub record IsLeastDocumentRule (d : Data) (rule : DocumentRule) : Type 0 where
 -- the rule is broken, and none with a smaller number
 pub record IsLeastRequestRule (d : Data) (rule : RequestRule) : Type 0 where
   pub broken : BreaksRequest rule d
-  pub least : (other : RequestRule) → request_number other < request_number rule → ¬ BreaksRequest other d
+  pub least : BreaksNoneBelow (request_number rule) d
 
 -- the element at the position breaks the rule first, and those before it break none
 pub record IsFirstBroken (ds : List Data) (at : ℕ) (rule : RequestRule) : Type 0 where

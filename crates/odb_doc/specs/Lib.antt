@@ -3,8 +3,13 @@ pub mod Documents
 pub mod Faults
 pub mod FaultTable
 pub mod Members
+pub mod Headers
+pub mod MediaTypes
+pub mod Bodies
 pub mod Shapes
 pub mod LeastFault
 pub mod Names
+pub mod References
+pub mod Heads
 pub mod Records
 pub mod Batches

@@ -32,7 +32,8 @@ given (Some d) = Some d
 -- the names of the members that an object may have
 abbrev pub members_of : Object → List (List ℕ)
 members_of Document = codes "requests" ∷ []
-members_of Request = codes "id" ∷ codes "method" ∷ codes "url" ∷ codes "dependsOn" ∷ codes "if" ∷ []
+members_of Request =
+    codes "id" ∷ codes "method" ∷ codes "url" ∷ codes "atomicityGroup" ∷ codes "dependsOn" ∷ codes "if" ∷ codes "headers" ∷ codes "body" ∷ []
 
 -- the name holds `@`
 abbrev pub is_annotation : List ℕ → Bool

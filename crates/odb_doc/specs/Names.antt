@@ -1,6 +1,11 @@
 -- Lists of names in which no name stands twice.
-use Rattle.std.specs.Prelude.{ℕ, List, [], ◌∷◌, ◌++◌, filter, bytes_eq, not, if◌then◌else◌}
+use Rattle.std.specs.Prelude.{ℕ, List, [], ◌∷◌, ◌++◌, map, filter, bytes_eq, not, if◌then◌else◌}
+use Rattle.std.specs.Borrow.{Bor}
 use Rattle.std.specs.List.{list_any}
+
+-- what the references point to
+abbrev pub texts_in : List (Bor (List ℕ)) → List (List ℕ)
+texts_in references = map (λ text. text.now) references
 
 -- the names that are not this one
 abbrev pub without : List ℕ → List (List ℕ) → List (List ℕ)

@@ -1,9 +1,12 @@
 -- The shape of a batch document: where each fault stands (OData JSON Format 4.01, section 19.1).
-use Rattle.std.specs.Prelude.{◌≡◌, ◌<◌, ℕ, List, [], ◌∷◌, length, Option, Some, None, IsSome, IsNone, option_and_then, option_map, unwrap_or, codes}
+use Rattle.std.specs.Prelude.{◌≡◌, ◌<◌, ℕ, false, List, [], ◌∷◌, length, Option, Some, None, IsSome, IsNone, IsSomeAnd, option_and_then, option_map, unwrap_or, bytes_eq, codes}
+use Rattle.std.specs.List.{IsDistinct}
 use Rattle.serde_json.specs.Data.{Data, null, array, Items, no_items, item}
 use Rattle.serde_json.specs.Find.{get, as_str, as_array, as_object}
+use Rattle.odb_names.specs.Fronts.{HasFront, bad}
 use Rattle.odb_names.specs.Identifiers.{IsRequestId}
-use Rattle.odb_names.specs.Methods.{Names}
+use Rattle.odb_names.specs.Methods.{Names, takes_body}
+use Rattle.odb_names.specs.Segments.{IsNestedBatch}
 use Rattle.odb_names.specs.declared.method.Method.{Method}
 use Rattle.odb_doc.specs.declared.batch.TheConstants.{MAX_REQUESTS}
 use Rattle.odb_doc.specs.declared.fault.DocumentRule.{DocumentRule}
@@ -11,7 +14,9 @@ use Rattle.odb_doc.specs.declared.fault.DocumentRule.TheVariants as document
 use Rattle.odb_doc.specs.declared.fault.RequestRule.{RequestRule}
 use Rattle.odb_doc.specs.declared.fault.RequestRule.TheVariants as request
 use Rattle.odb_doc.specs.declared.member.Object.TheVariants.{Document, Request}
-use Rattle.odb_doc.specs.Members.{list_of, text_at, HasUnknown}
+use Rattle.odb_doc.specs.Bodies.{body_of, HasUnfitBody}
+use Rattle.odb_doc.specs.Headers.{listed_headers, header_names}
+use Rattle.odb_doc.specs.Members.{list_of, text_at, given, HasUnknown}
 
 -- the array at `requests`
 abbrev pub requests_in : Data → Option Items
@@ -45,6 +50,11 @@ pub record HasMethod (d : Data) (method : Method) : Type 0 where
 abbrev pub url_of : Data → Option (List ℕ)
 url_of d = text_at (codes "url") d
 
+-- the member `atomicityGroup` is this identifier, or none where it is absent or null
+abbrev pub HasGroup : Data → Option (List ℕ) → Type 0
+HasGroup d None = given (get (codes "atomicityGroup") d) ≡ None
+HasGroup d (Some group) = (text_at (codes "atomicityGroup") d ≡ Some group) × IsRequestId group
+
 -- the strings of an array that holds nothing else
 abbrev pub texts_of : Items → Option (List (List ℕ))
 texts_of no_items = Some []
@@ -61,6 +71,13 @@ texts_or_none (Some _) = None
 abbrev pub listed_names : Data → Option (List (List ℕ))
 listed_names d = texts_or_none (get (codes "dependsOn") d)
 
+-- there is a body, though the method takes none
+pub record HasBodyNotAllowed (d : Data) : Type 0 where
+  pub method : Method
+  pub has : HasMethod d method
+  pub none : takes_body method ≡ false
+  pub body : IsSome (body_of d)
+
 -- Where a rule of a request is broken. Of an element that is no object nothing else is asked.
 abbrev pub BreaksRequest : RequestRule → Data → Type 0
 BreaksRequest request.NotRequestObject d = IsNone (as_object d)
@@ -69,4 +86,11 @@ BreaksRequest request.UnknownRequestMember d = HasUnknown Request d
 BreaksRequest request.BadId d = IsSome (as_object d) × ((id : List ℕ) → ¬ HasId d id)
 BreaksRequest request.BadMethod d = IsSome (as_object d) × ((method : Method) → ¬ HasMethod d method)
 BreaksRequest request.BadUrl d = IsSome (as_object d) × IsNone (url_of d)
+BreaksRequest request.BadGroup d = IsSome (as_object d) × ((group : Option (List ℕ)) → ¬ HasGroup d group)
 BreaksRequest request.BadDependsOn d = IsSome (as_object d) × IsNone (listed_names d)
+BreaksRequest request.BadHeaders d = IsSome (as_object d) × IsNone (listed_headers d)
+BreaksRequest request.HeaderTwice d = ¬ IsDistinct bytes_eq (header_names d)
+BreaksRequest request.BodyNotAllowed d = HasBodyNotAllowed d
+BreaksRequest request.BadBody d = HasUnfitBody d
+BreaksRequest request.NestedBatch d = IsSomeAnd (url_of d) IsNestedBatch
+BreaksRequest request.BadReference d = IsSomeAnd (url_of d) (λ url. HasFront url bad)

@@ -3,7 +3,7 @@ ghost use Rattle.std.specs.List.{AllZip};
 ghost use Rattle.serde_json.specs.View.{view};
 ghost use Rattle.odb_doc.specs.LeastFault.{IsWellShaped, IsLeastFault, IsBatchObject, IsLeastDocumentRule, IsRequestObject, IsFirstFault};
 ghost use Rattle.odb_doc.specs.Shapes.{elements, requests_in};
-ghost use Rattle.odb_doc.specs.Records.{Says, IsBatchOf, record_of};
+ghost use Rattle.odb_doc.specs.Records.{Says, IsSoundRecord, IsBatchOf, record_of};
 
 use crate::fault::{DocFault, DocumentRule};
 use crate::member::Object;
@@ -75,7 +75,7 @@ impl<'a> Batch<'a> {
     ///
     /// # Errors
     ///
-    /// The least of the faults F03 to F06 and F10 to F17 by phase, position and number, where one
+    /// The least of the faults F03 to F06 and F10 to F23 by phase, position and number, where one
     /// stands; `OutOfMemory` where memory was refused.
     pub fn read(alloc: Global, document: &'a Value) -> Result<Batch<'a>, DocFault>
         ensures good { OnOk result (IsWellShaped (view document.now)) }
@@ -98,7 +98,8 @@ impl<'a> Batch<'a> {
     /// The request at a position, counted from 0.
     pub fn request(&self, i: u32) -> &Request<'a>
         requires { i < length (records self.now) }
-        ensures { slice_get (records self.now) i ≡ Some (record_of result.now) }
+        ensures value { slice_get (records self.now) i ≡ Some (record_of result.now) }
+        ensures sound { IsSoundRecord (record_of result.now) }
     {
         &self.requests[i as usize]
     }

@@ -58,9 +58,32 @@ pub enum RequestRule {
     /// F15: `url` is absent, or is not a string.
     #[error("the request has no proper `url`")]
     BadUrl,
+    /// F16: `atomicityGroup` is there, is not null, and is not a string that is an identifier.
+    #[error("`atomicityGroup` is no identifier")]
+    BadGroup,
     /// F17: `dependsOn` is there, is not null, and is not an array of strings.
     #[error("`dependsOn` is no array of strings")]
     BadDependsOn,
+    /// F18: `headers` is there, is not null, and is not an object whose values are all strings.
+    #[error("`headers` is no object of strings")]
+    BadHeaders,
+    /// F19: `headers` is an object with two names that are equal once they are folded in ASCII.
+    #[error("`headers` has a name twice")]
+    HeaderTwice,
+    /// F20: the method is `delete` or `get`, and `body` is there and is not null.
+    #[error("the method takes no `body`")]
+    BodyNotAllowed,
+    /// F21: the headers can be read, `body` is there and is not null, and is not of the kind that
+    /// the media type at `content-type` asks for.
+    #[error("`body` is not of the kind that its media type asks for")]
+    BadBody,
+    /// F22: the last segment of the path of `url`, percent-decoded, is `$batch`.
+    #[error("`url` names a batch")]
+    NestedBatch,
+    /// F23: `url` begins with `$`, and then neither with a reserved name nor with an identifier
+    /// that ends the segment.
+    #[error("`url` begins with `$` and refers to no request")]
+    BadReference,
 }
 
 /// Why a document is no batch.
@@ -112,7 +135,7 @@ impl DocumentRule {
 impl RequestRule {
     ghost use Rattle.odb_doc.specs.Faults.{request_code, request_name};
 
-    /// The code that is printed, from `F10` to `F17`.
+    /// The code that is printed, from `F10` to `F23`.
     pub fn code(self) -> &'static str
         ensures { result.now ≡ request_code self }
     {
@@ -123,7 +146,14 @@ impl RequestRule {
             RequestRule::BadId => "F13",
             RequestRule::BadMethod => "F14",
             RequestRule::BadUrl => "F15",
+            RequestRule::BadGroup => "F16",
             RequestRule::BadDependsOn => "F17",
+            RequestRule::BadHeaders => "F18",
+            RequestRule::HeaderTwice => "F19",
+            RequestRule::BodyNotAllowed => "F20",
+            RequestRule::BadBody => "F21",
+            RequestRule::NestedBatch => "F22",
+            RequestRule::BadReference => "F23",
         }
     }
 
@@ -138,7 +168,14 @@ impl RequestRule {
             RequestRule::BadId => "BadId",
             RequestRule::BadMethod => "BadMethod",
             RequestRule::BadUrl => "BadUrl",
+            RequestRule::BadGroup => "BadGroup",
             RequestRule::BadDependsOn => "BadDependsOn",
+            RequestRule::BadHeaders => "BadHeaders",
+            RequestRule::HeaderTwice => "HeaderTwice",
+            RequestRule::BodyNotAllowed => "BodyNotAllowed",
+            RequestRule::BadBody => "BadBody",
+            RequestRule::NestedBatch => "NestedBatch",
+            RequestRule::BadReference => "BadReference",
         }
     }
 }

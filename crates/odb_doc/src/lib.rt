@@ -7,10 +7,16 @@
 #![tactic(auto)]
 
 mod batch;
+mod body;
+mod depends_on;
 mod device;
 mod document;
 mod fault;
+mod head;
+mod headers;
+mod media_type;
 mod member;
+mod reference;
 mod request;
 
 pub use batch::Batch;

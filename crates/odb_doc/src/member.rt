@@ -21,7 +21,10 @@ impl Object {
     {
         match self {
             Object::Document => name == "requests",
-            Object::Request => matches!(name, "id" | "method" | "url" | "dependsOn" | "if"),
+            Object::Request => matches!(
+                name,
+                "id" | "method" | "url" | "atomicityGroup" | "dependsOn" | "if" | "headers" | "body"
+            ),
         }
     }
 

@@ -2,7 +2,7 @@ ghost use Rattle.std.specs.Prelude.{◌≡◌, ◌↔◌, IsTrue};
 ghost use Rattle.odb_names.specs.Identifiers.{IsRequestId, is_unreserved};
 
 /// Whether the byte is an ASCII letter or digit, `-`, `.`, `_` or `~`.
-fn is_unreserved(byte: u8) -> bool
+pub(crate) fn is_unreserved(byte: u8) -> bool
     ensures { result ≡ is_unreserved byte }
 {
     byte.is_ascii_alphanumeric() || matches!(byte, b'-' | b'.' | b'_' | b'~')

@@ -1,8 +1,8 @@
 use Rattle.std.proofs.Common.{◌∙◌, ◌+◌, drop, sym, refl, rules}
 use Rattle.std.proofs.lemmas.List.{at_drop_all}
-use Rattle.odb_doc.specs.Records.{texts_in}
+use Rattle.odb_doc.specs.Names.{texts_in}
 use Rattle.odb_doc.proofs.NameLemmas.{read_on, read_on-nil, read_on-text, read_on-other, read_on-drop}
-use Rattle.odb_doc.proofs.request.distinct_texts.Goals as goal
+use Rattle.odb_doc.proofs.depends_on.distinct_texts.Goals as goal
 
 pub loop-element-init : goal.loop-element-init
 loop-element-init c = rw c.new-texts.ensures.empty refl

@@ -1,7 +1,7 @@
 use Rattle.std.proofs.Common.{◌≡◌, [], drop}
-use Rattle.odb_doc.specs.Records.{texts_in}
+use Rattle.odb_doc.specs.Names.{texts_in}
 use Rattle.odb_doc.proofs.NameLemmas.{read_on}
-use Rattle.odb_doc.proofs.request.distinct_texts.Given as goal
+use Rattle.odb_doc.proofs.depends_on.distinct_texts.Given as goal
 
 -- the texts so far, and then those that are left, are the whole
 abbrev pub invariant-loop-element : goal.invariant-loop-element

@@ -1,0 +1,101 @@
+-- The rules from F18 on, one after the other: what keeps a request from breaking them.
+use Rattle.std.proofs.Common.{◌≡◌, ◌∙◌, Bool, true, false, List, [], ◌∷◌, Option, None, Some, IsNone, map, get_or, ◌==◌, bytes_eq, refl, ap, sym, subst, arith}
+use Rattle.std.specs.Char.{to_ascii_lowercase}
+use Rattle.std.specs.Cmp.Lexicographic.{slice_cmp}
+use Rattle.std.specs.List.{IsDistinct, AllByRecursion}
+use Rattle.std.specs.Map.{keys_of}
+use Rattle.std.specs.Ordering.{nat_cmp, eq_by_cmp}
+use Rattle.std.proofs.lemmas.Bool.{both_ways}
+use Rattle.std.proofs.lemmas.Cmp.{nat_list_eq_equiv}
+use Rattle.std.proofs.lemmas.List.Sorted.{IsPermutation-sym, IsPermutation-map}
+use Rattle.std.proofs.lemmas.Map.Keys.{IsDistinct-from_sorted, IsDistinct-IsPermutation}
+use Rattle.std.proofs.lemmas.Map.Text.{is_eq-slice_cmp}
+use Rattle.serde_json.specs.Data.{Data}
+use Rattle.odb_names.specs.Methods.{method_name, takes_body}
+use Rattle.odb_names.specs.declared.method.Method.{Method}
+use Rattle.odb_names.specs.declared.method.Method.TheVariants.{Delete, Get, Patch, Post, Put}
+use Rattle.odb_doc.specs.declared.fault.RequestRule.TheVariants as request
+use Rattle.odb_doc.specs.Bodies.{body_of, asked_kind, IsOfKind}
+use Rattle.odb_doc.specs.Headers.{Header, HasHeaders, folded, listed_headers}
+use Rattle.odb_doc.specs.LeastFault.{BreaksNoneBelow, IsRequestObject}
+use Rattle.odb_doc.specs.Shapes.{HasMethod, BreaksRequest}
+use Rattle.odb_doc.proofs.ListedLemmas.{header_names-listed}
+use Rattle.odb_doc.proofs.OneHeaders.{one_headers}
+
+-- ---- no rule up to this one is broken
+
+pub below_19 : (d : Data) → BreaksNoneBelow 18 d → ¬ BreaksRequest request.BadHeaders d → BreaksNoneBelow 19 d
+below_19 d below here request.BadHeaders less = here
+below_19 d below here rule less = below rule (omega arith)
+
+pub below_20 : (d : Data) → BreaksNoneBelow 19 d → ¬ BreaksRequest request.HeaderTwice d → BreaksNoneBelow 20 d
+below_20 d below here request.HeaderTwice less = here
+below_20 d below here rule less = below rule (omega arith)
+
+pub below_21 : (d : Data) → BreaksNoneBelow 20 d → ¬ BreaksRequest request.BodyNotAllowed d → BreaksNoneBelow 21 d
+below_21 d below here request.BodyNotAllowed less = here
+below_21 d below here rule less = below rule (omega arith)
+
+pub below_22 : (d : Data) → BreaksNoneBelow 21 d → ¬ BreaksRequest request.BadBody d → BreaksNoneBelow 22 d
+below_22 d below here request.BadBody less = here
+below_22 d below here rule less = below rule (omega arith)
+
+pub below_23 : (d : Data) → BreaksNoneBelow 22 d → ¬ BreaksRequest request.NestedBatch d → BreaksNoneBelow 23 d
+below_23 d below here request.NestedBatch less = here
+below_23 d below here rule less = below rule (omega arith)
+
+pub breaks_none : (d : Data) → BreaksNoneBelow 23 d → ¬ BreaksRequest request.BadReference d → IsRequestObject d
+breaks_none d below here request.BadReference = here
+breaks_none d below here rule = below rule (omega arith)
+
+-- ---- headers
+
+listed_some : (o : Option (List Header)) (listed : List Header) → o ≡ Some listed → IsNone o → ⊥
+listed_some None listed is none = absurd (cc (is))
+listed_some (Some other) listed is none = cc (none)
+
+pub listed_not_bad : (d : Data) (listed : List Header) → listed_headers d ≡ Some listed → ¬ BreaksRequest request.BadHeaders d
+listed_not_bad d listed is bad = listed_some (listed_headers d) listed is bad.1
+
+pub twice_in : (d : Data) (listed : List Header) → listed_headers d ≡ Some listed → ¬ IsDistinct bytes_eq (keys_of (map folded listed)) → BreaksRequest request.HeaderTwice d
+twice_in d listed is twice distinct = twice (subst (IsDistinct bytes_eq) (header_names-listed d listed is) distinct)
+
+All-same : {X : Type 0} (e f : X → Bool) → ((x : X) → e x ≡ f x) → (xs : List X) → AllByRecursion (λ x. e x ≡ false) xs → AllByRecursion (λ x. f x ≡ false) xs
+All-same e f same [] all = tt
+All-same e f same (x ∷ xs) all = (sym (same x) ∙ all.0, All-same e f same xs all.1)
+
+IsDistinct-same : {X : Type 0} (e f : X → X → Bool) → ((x y : X) → e x y ≡ f x y) → (xs : List X) → IsDistinct e xs → IsDistinct f xs
+unfolding IsDistinct
+IsDistinct-same e f same [] distinct = tt
+IsDistinct-same e f same (x ∷ xs) distinct = (All-same (e x) (f x) (same x) xs distinct.0, IsDistinct-same e f same xs distinct.1)
+
+pub headers_not_twice : (d : Data) (headers : List Header) → HasHeaders d headers → ¬ BreaksRequest request.HeaderTwice d
+headers_not_twice d headers has twice =
+    let sorted = IsDistinct-from_sorted (slice_cmp nat_cmp) (keys_of headers) has.ordered in
+    let apart = IsDistinct-same (eq_by_cmp (slice_cmp nat_cmp)) bytes_eq is_eq-slice_cmp (keys_of headers) sorted in
+    let names = IsPermutation-map (λ (h : Header). h.0) headers (map folded has.listed) (IsPermutation-sym (map folded has.listed) headers has.same) in
+    let before = IsDistinct-IsPermutation bytes_eq nat_list_eq_equiv.symm (keys_of headers) (keys_of (map folded has.listed)) names apart in
+    twice (subst (IsDistinct bytes_eq) (sym (header_names-listed d has.listed has.are)) before)
+
+-- ---- the body
+
+-- the first letter of a method's name tells whether it takes a body: that is `p`
+takes_body-method_name : (method : Method) → takes_body method ≡ (get_or (method_name method) 0 0 == 112)
+takes_body-method_name Delete = refl
+takes_body-method_name Get = refl
+takes_body-method_name Patch = refl
+takes_body-method_name Post = refl
+takes_body-method_name Put = refl
+
+pub body_allowed : (d : Data) (method : Method) → HasMethod d method → takes_body method ≡ true → ¬ BreaksRequest request.BodyNotAllowed d
+body_allowed d method has takes breaks =
+    let name : has.name ≡ breaks.has.name = cc (has.text, breaks.has.text) in
+    let names : method_name method ≡ method_name breaks.method = sym has.names ∙ ap (map to_ascii_lowercase) name ∙ breaks.has.names in
+    let same = takes_body-method_name method ∙ ap (λ text. get_or text 0 0 == 112) names ∙ sym (takes_body-method_name breaks.method) in
+    both_ways (takes_body method) (same ∙ breaks.none) takes
+
+pub body_fits : (d : Data) (headers : List Header) (body : Data) → HasHeaders d headers → body_of d ≡ Some body → IsOfKind (asked_kind headers) body → ¬ BreaksRequest request.BadBody d
+body_fits d headers body has is fits unfit =
+    let same_headers : headers ≡ unfit.headers = one_headers d unfit.headers headers unfit.has has in
+    let same_body : body ≡ unfit.body = cc (is, unfit.given) in
+    unfit.unfit (subst (λ (hs : List Header). IsOfKind (asked_kind hs) unfit.body) same_headers (subst (λ (b : Data). IsOfKind (asked_kind headers) b) same_body fits))

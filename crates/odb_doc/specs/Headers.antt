@@ -1,0 +1,55 @@
+-- The headers of a request (OData JSON Format 4.01, section 19.1, `headers`; RFC 9110, section 5).
+use Rattle.std.specs.Prelude.{◌≡◌, ℕ, List, [], ◌∷◌, map, Option, Some, None, option_and_then, option_map, unwrap_or, codes, string_bytes, String}
+use Rattle.std.specs.declared.alloc.Global.{Global}
+use Rattle.std.specs.Borrow.{Bor}
+use Rattle.std.specs.BTreeMap.{BTreeMap}
+use Rattle.std.specs.Cmp.Lexicographic.{slice_cmp}
+use Rattle.std.specs.List.Sorted.{IsPermutation, IsStrictlySortedBy}
+use Rattle.std.specs.Map.{keys_of}
+use Rattle.std.specs.Ordering.{nat_cmp}
+use Rattle.std.specs.Str.{str_to_ascii_lowercase}
+use Rattle.serde_json.specs.Data.{Data, null, Members, no_members, member}
+use Rattle.serde_json.specs.Find.{get, as_str, as_object}
+use Rattle.odb_doc.specs.Members.{names_in, given}
+
+-- a name and a value
+abbrev pub Header : Type 0
+Header = List ℕ × List ℕ
+
+-- with the name in lower case, since field names have no case
+abbrev pub folded : Header → Header
+folded header = (str_to_ascii_lowercase header.0, header.1)
+
+-- the members of an object whose values are all strings
+abbrev pub text_members : Members → Option (List Header)
+text_members no_members = Some []
+text_members (member name d ms) =
+    option_and_then (λ text. option_map (λ headers. (name, text) ∷ headers) (text_members ms)) (as_str d)
+
+-- the same of a value that need not be there
+abbrev pub text_members_in : Option Data → Option (List Header)
+text_members_in None = Some []
+text_members_in (Some d) = option_and_then text_members (as_object d)
+
+-- the members of `headers`, which counts as absent where it is null
+abbrev pub listed_headers : Data → Option (List Header)
+listed_headers d = text_members_in (given (get (codes "headers") d))
+
+-- the names of the members of `headers` in lower case, whatever their values are
+abbrev pub header_names : Data → List (List ℕ)
+header_names d = map str_to_ascii_lowercase (names_in (unwrap_or (get (codes "headers") d) null))
+
+-- the members of `headers` with their names in lower case, each name once, in byte order of the names
+pub record HasHeaders (d : Data) (headers : List Header) : Type 0 where
+  pub listed : List Header
+  pub are : listed_headers d ≡ Some listed
+  pub same : IsPermutation (map folded listed) headers
+  pub ordered : IsStrictlySortedBy (slice_cmp nat_cmp) (keys_of headers)
+
+-- what a pair of references points to
+abbrev pub header_in : Bor (List ℕ) × Bor (List ℕ) → Header
+header_in header = (header.0.now, header.1.now)
+
+-- the headers that a map holds, in its order
+abbrev pub headers_in : BTreeMap (String Global) (String Global) → List Header
+headers_in m = map (λ entry. (string_bytes entry.0, string_bytes entry.1)) m.entries

@@ -1,0 +1,78 @@
+ghost use Rattle.std.specs.Prelude.{◌≡◌, ◌↔◌, IsTrue, OnOk, IfOk, IfErr, option_map};
+ghost use Rattle.serde_json.specs.View.{view};
+ghost use Rattle.odb_doc.specs.Bodies.{body_of, content_type, asked_kind, IsOfKind};
+ghost use Rattle.odb_doc.specs.Headers.{HasHeaders, headers_in};
+ghost use Rattle.odb_doc.specs.LeastFault.{BreaksNoneBelow, IsFaultAt};
+ghost use Rattle.odb_doc.specs.Shapes.{HasMethod};
+
+use crate::fault::{DocFault, RequestRule};
+use crate::media_type::BodyKind;
+use crate::member::given;
+use odb_names::{Method, is_base64url};
+use serde_json::Value;
+use std::alloc::{AllocError, Global};
+use std::collections::BTreeMap;
+
+/// Whether the value is of the kind.
+fn is_of_kind(kind: BodyKind, body: &Value) -> bool
+    ensures { IsTrue result ↔ IsOfKind kind (view body.now) }
+{
+    match kind {
+        BodyKind::Any => true,
+        BodyKind::Text => body.is_string(),
+        BodyKind::Base64Url => body.as_str().is_some_and(|text| is_base64url(text)),
+    }
+}
+
+/// The value of the header `content-type`, where no header counts as an empty one.
+fn content_type(headers: &BTreeMap<String, String>) -> &str
+    ensures { result.now ≡ content_type (headers_in headers.now) }
+{
+    match headers.get("content-type") {
+        Some(value) => value.as_str(),
+        None => "",
+    }
+}
+
+/// Whether the body is of the kind that the headers ask for.
+fn is_fit(
+    alloc: Global,
+    headers: &BTreeMap<String, String>,
+    body: &Value,
+) -> Result<bool, AllocError>
+    ensures { IfOk result (λ fit. IsTrue fit ↔ IsOfKind (asked_kind (headers_in headers.now))
+        (view body.now)) }
+{
+    let kind = BodyKind::of(alloc, content_type(headers))?;
+    Ok(is_of_kind(kind, body))
+}
+
+/// The body of a request, if any, or the first of the rules F20 and F21 that it breaks, as a fault
+/// that lies at `at`.
+pub(crate) fn body_of<'a>(
+    alloc: Global,
+    at: usize,
+    element: &'a Value,
+    method: Method,
+    headers: &BTreeMap<String, String>,
+) -> Result<Option<&'a Value>, DocFault>
+    requires below { BreaksNoneBelow 20 (view element.now) }
+    requires method { HasMethod (view element.now) method }
+    requires headers { HasHeaders (view element.now) (headers_in headers.now) }
+    ensures sound { OnOk result (BreaksNoneBelow 22 (view element.now)) }
+    ensures body { IfOk result (λ body. option_map (λ value. view value.now) body
+        ≡ body_of (view element.now)) }
+    ensures first { IfErr result (IsFaultAt at (view element.now)) }
+{
+    let broken = |rule| DocFault::Request { at, rule };
+    let Some(body) = given(element, "body") else {
+        return Ok(None);
+    };
+    if !method.takes_body() {
+        return Err(broken(RequestRule::BodyNotAllowed));
+    }
+    if !is_fit(alloc, headers, body)? {
+        return Err(broken(RequestRule::BadBody));
+    }
+    Ok(Some(body))
+}

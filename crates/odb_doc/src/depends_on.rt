@@ -1,0 +1,49 @@
+ghost use Rattle.std.specs.Prelude.{◌≡◌, IfOk, OnOk, option_map};
+ghost use Rattle.serde_json.specs.View.{view, items_view};
+ghost use Rattle.odb_doc.specs.Names.{distinct, texts_in, with_name};
+ghost use Rattle.odb_doc.specs.Shapes.{texts_of, listed_names};
+
+use indexmap::IndexSet;
+use serde_json::Value;
+use std::alloc::{AllocError, Global};
+
+/// Puts the text at the end, unless it stands already.
+fn keep<'a>(texts: &mut IndexSet<&'a str>, text: &'a str) -> Result<(), AllocError>
+    ensures { OnOk result (texts_in texts.new.keys ≡ with_name (texts_in texts.old.keys) text.now) }
+{
+    texts.insert(text)?;
+    Ok(())
+}
+
+/// The strings of an array, each at its first place, or `None` where an element is no string.
+fn distinct_texts<'a>(
+    alloc: Global,
+    elements: &'a [Value],
+) -> Result<Option<Vec<&'a str>>, AllocError>
+    ensures { IfOk result (λ found. option_map (λ list. texts_in list.items) found
+        ≡ option_map distinct (texts_of (items_view elements.now))) }
+{
+    let mut texts = IndexSet::new(alloc);
+    for element in elements {
+        let Some(text) = element.as_str() else {
+            return Ok(None);
+        };
+        keep(&mut texts, text)?;
+    }
+    Ok(Some(Vec::from_slice(alloc, texts.as_slice())?))
+}
+
+/// The names in `dependsOn`, each at its first place, or `None` where it is no array of strings.
+pub(crate) fn names_of<'a>(
+    alloc: Global,
+    element: &'a Value,
+) -> Result<Option<Vec<&'a str>>, AllocError>
+    ensures { IfOk result (λ found. option_map (λ list. texts_in list.items) found
+        ≡ option_map distinct (listed_names (view element.now))) }
+{
+    match element.get("dependsOn") {
+        None | Some(Value::Null) => Ok(Some(Vec::new(alloc))),
+        Some(Value::Array(elements)) => distinct_texts(alloc, elements.as_slice()),
+        Some(_) => Ok(None),
+    }
+}

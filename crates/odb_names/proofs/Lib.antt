@@ -1,0 +1,3 @@
+pub mod OneFront
+pub mod OneRun
+pub mod OneSegment

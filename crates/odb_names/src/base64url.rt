@@ -1,0 +1,42 @@
+ghost use Rattle.std.specs.Prelude.{◌↔◌, IsTrue};
+ghost use Rattle.odb_names.specs.Base64Url.{IsBase64Url, IsPadding};
+
+use crate::run::{Class, split_run};
+
+/// Whether the bytes are none, one or two `=`.
+fn is_padding(bytes: &[u8]) -> bool
+    ensures { IsTrue result ↔ IsPadding bytes.now }
+{
+    matches!(bytes, b"" | b"=" | b"==")
+}
+
+/// Whether the text has the form of base64url (RFC 4648, section 5).
+///
+/// That is ASCII letters, digits, `-` and `_`, whose count is not 1 modulo 4, and then at most two
+/// `=`. The padding need not fit that count, and nothing is decoded.
+pub fn is_base64url(text: &str) -> bool
+    ensures { IsTrue result ↔ IsBase64Url text.now }
+{
+    let (digits, padding) = split_run(text.as_bytes(), Class::Base64Url);
+    digits.len() % 4 != 1 && is_padding(padding)
+}
+
+#[cfg(test)]
+mod tests {
+    use super::*;
+
+    #[test]
+    fn tells_base64url(rt: HostRuntime) {
+        for text in [
+            "", "=", "==", "AB", "AB==", "ABC", "ABC=", "-_09", "azAZ==", "ABCDEF=",
+        ] {
+            assert!(rt; is_base64url(text), "{text}");
+        }
+        for text in [
+            "===", "A", "A=", "A===", "ABCDE", "ABCDE=", "AB===", "AB+_", "AB/_", "AB=C", "=AB",
+            "AB C", "AB\n", "\u{e9}AB",
+        ] {
+            assert!(rt; !is_base64url(text), "{text}");
+        }
+    }
+}

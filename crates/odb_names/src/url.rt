@@ -1,0 +1,163 @@
+ghost use Rattle.std.specs.Prelude.{◌≡◌, ◌+◌, ◌<◌, ◌↔◌, length, drop, slice_index, IsTrue, IfOk, IfSome, IfNone};
+ghost use Rattle.odb_names.specs.Fronts.{FrontForm, HasFront, form};
+ghost use Rattle.odb_names.specs.Segments.{HasNoSlash, IsFirstSegment, IsLastSegment, IsNestedBatch, slash};
+
+use crate::run::{Class, split_run};
+use crate::segment::Front;
+use percent_encoding::percent_decode;
+use std::alloc::{AllocError, Global};
+
+/// What stands before the first `/`, `?` or `#` of a URL.
+fn first_segment(url: &[u8]) -> &[u8]
+    ensures { IsFirstSegment url.now result.now }
+{
+    split_run(url, Class::Segment).0
+}
+
+/// The place of the last `/` of a path.
+fn last_slash(path: &[u8]) -> Option<usize>
+    ensures none { IfNone result (HasNoSlash path.now) }
+    ensures bound { IfSome result (λ i. i < length path.now) }
+    ensures found { IfSome result (λ i. slice_index path.now i ≡ slash) }
+    ensures last { IfSome result (λ i. HasNoSlash (drop (i + 1) path.now)) }
+{
+    path.iter().rposition(|byte| *byte == b'/')
+}
+
+/// What stands after the last `/` of the path of a URL.
+fn last_segment(url: &[u8]) -> &[u8]
+    ensures { IsLastSegment url.now result.now }
+{
+    let (path, _) = split_run(url, Class::Path);
+    match last_slash(path) {
+        Some(slash) => &path[slash + 1..],
+        None => path,
+    }
+}
+
+/// What a URL says to a batch by its first segment (OData JSON Format 4.01, section 19.1).
+///
+/// The first segment of `url` ends before the first `/`, `?` or `#`, and is percent-decoded once;
+/// a `%` without two hexadecimal digits stands for itself. `alloc` is asked for the decoded segment,
+/// where it has an escape, and for the identifier of a reference; where it refuses one of them, the
+/// answer is `AllocError`.
+pub fn front(alloc: Global, url: &str) -> Result<Front, AllocError>
+    ensures front { IfOk result (λ found. HasFront url.now (form found)) }
+    ensures only { IfOk result (λ found. (other : FrontForm) → HasFront url.now other
+        → other ≡ form found) }
+{
+    let segment = percent_decode(first_segment(url.as_bytes())).into_cow(alloc)?;
+    Front::of_segment(alloc, segment.as_slice())
+}
+
+/// Whether the URL names a batch, which no request of a batch may be (OData ABNF 4.01, rule
+/// `odataRelativeUri`).
+///
+/// That is so where the last segment of `url`, percent-decoded once, is `$batch`. It is what stands
+/// after the last `/` of the path, and the path ends before the first `?` or `#`. `alloc` is asked
+/// for the decoded segment, where it has an escape; where it refuses that, the answer is
+/// `AllocError`.
+pub fn is_nested_batch(alloc: Global, url: &str) -> Result<bool, AllocError>
+    ensures { IfOk result (λ nested. IsTrue nested ↔ IsNestedBatch url.now) }
+{
+    let segment = percent_decode(last_segment(url.as_bytes())).into_cow(alloc)?;
+    Ok(segment.as_slice() == b"$batch".as_slice())
+}
+
+#[cfg(test)]
+mod tests {
+    use super::*;
+
+    #[test]
+    fn tells_fronts(rt: HostRuntime) -> Result<(), AllocError> {
+        let alloc = rt.alloc();
+        for url in [
+            "",
+            "Orders",
+            "/$1/Orders",
+            "https://host/s/X",
+            "%zz",
+            "%2524",
+            "?$1",
+            "a$1",
+            "#$1",
+        ] {
+            assert_eq!(rt; front(alloc, url)?, Front::Plain, "{url}");
+        }
+        for url in [
+            "$batch",
+            "$crossjoin(A,B)",
+            "$all",
+            "$entity?$id=X",
+            "$root/X",
+            "$id",
+            "$metadata",
+            "$metadata#Orders",
+            "$%61ll/X",
+        ] {
+            assert_eq!(rt; front(alloc, url)?, Front::Reserved, "{url}");
+        }
+        for url in [
+            "$",
+            "%24",
+            "$/1",
+            "$1(5)",
+            "$a%2Fb",
+            "$a%FF",
+            "$a%",
+            "$(1)",
+            "$$1",
+            "$Metadata:",
+        ] {
+            assert_eq!(rt; front(alloc, url)?, Front::Bad, "{url}");
+        }
+        Ok(())
+    }
+
+    #[test]
+    fn tells_references(rt: HostRuntime) -> Result<(), AllocError> {
+        let alloc = rt.alloc();
+        for (url, id) in [
+            ("$1/Orders", "1"),
+            ("%241/Orders", "1"),
+            ("$1?$select=A", "1"),
+            ("$1#f", "1"),
+            ("$%61.b-c_d~e", "a.b-c_d~e"),
+            ("$metadataX", "metadataX"),
+            ("$Batch", "Batch"),
+        ] {
+            let reference = Front::Reference(String::from_str(alloc, id)?);
+            assert_eq!(rt; front(alloc, url)?, reference, "{url}");
+        }
+        Ok(())
+    }
+
+    #[test]
+    fn tells_nested_batches(rt: HostRuntime) -> Result<(), AllocError> {
+        let alloc = rt.alloc();
+        for url in [
+            "$batch",
+            "/service/$batch",
+            "%24batch?x=1",
+            "a/%24batch#f",
+            "/s/$batch?a/b",
+            "https://host/s/%24%62atch",
+        ] {
+            assert!(rt; is_nested_batch(alloc, url)?, "{url}");
+        }
+        for url in [
+            "",
+            "batch",
+            "$batch/",
+            "a?x/$batch",
+            "a#/$batch",
+            "$batchx",
+            "$Batch",
+            "a%2F$batch",
+            "%2524batch",
+        ] {
+            assert!(rt; !is_nested_batch(alloc, url)?, "{url}");
+        }
+        Ok(())
+    }
+}
