@@ -1,3 +1,4 @@
 mod CheckLemmas
+mod GroupLemmas
 mod ReadLemmas
 mod WriteLemmas

@@ -1,22 +1,31 @@
--- The names in `dependsOn` against the identifiers of a batch (OData JSON Format 4.01, section 19.1).
-use Rattle.std.specs.Prelude.{◌≡◌, ℕ, List, ◌∷◌, ◌++◌, length, map, All, Any, Contains}
+-- The names in `dependsOn` against the ids and the groups of a batch (OData JSON Format 4.01, section 19.1).
+use Rattle.std.specs.Prelude.{◌≡◌, ◌⊎◌, ℕ, List, [], ◌∷◌, ◌++◌, Option, Some, length, All, Any, slice_get, option_to_list}
+use Rattle.std.specs.List.{filter_map}
+use Rattle.odb_doc.specs.Names.{distinct}
 use Rattle.odb_doc.specs.Records.{Record}
 use Rattle.odb_batch.specs.declared.names.CheckFault.{CheckFault}
 use Rattle.odb_batch.specs.declared.names.CheckFault.TheVariants.{UnknownName}
 
--- the identifiers of the requests
-abbrev pub ids_of : List Record → List (List ℕ)
-ids_of batch = map (λ request. request.id) batch
+-- the name is the identifier or the group of the request
+abbrev pub IsNameOf : Record → List ℕ → Type 0
+IsNameOf request name = (request.id ≡ name) ⊎ (request.group ≡ Some name)
 
--- each name of the request is the identifier of some request
+-- the name is the identifier or the group of some request
+pub record IsKnown (batch : List Record) (name : List ℕ) : Type 0 where
+  pub position : ℕ
+  pub request : Record
+  pub stands : slice_get batch position ≡ Some request
+  pub has : IsNameOf request name
+
+-- each name of the request is known
 abbrev pub NamesExist : List Record → Record → Type 0
-NamesExist batch request = All (Contains (ids_of batch)) request.names
+NamesExist batch request = All (IsKnown batch) request.names
 
--- a name of the request is no identifier of a request
+-- a name of the request is not known
 abbrev pub HasUnknownName : List Record → Record → Type 0
-HasUnknownName batch request = Any (λ name. ¬ Contains (ids_of batch) name) request.names
+HasUnknownName batch request = Any (λ name. ¬ IsKnown batch name) request.names
 
--- the request at the position has a name that is no identifier, and those before it have none
+-- the request at the position has a name that is not known, and those before it have none
 pub record IsFirstUnknown (batch : List Record) (at : ℕ) : Type 0 where
   pub before : List Record
   pub request : Record
@@ -29,3 +38,7 @@ pub record IsFirstUnknown (batch : List Record) (at : ℕ) : Type 0 where
 -- the fault of the batch's names
 abbrev pub IsNameFault : List Record → CheckFault → Type 0
 IsNameFault batch (UnknownName at) = IsFirstUnknown batch at
+
+-- the different groups, in the order of their first positions
+abbrev pub groups_of : List Record → List (List ℕ)
+groups_of batch = distinct (filter_map (λ request. request.group) batch)

@@ -10,7 +10,7 @@ use Rattle.odb_batch.specs.declared.verdict.Verdict.{Verdict}
 use Rattle.odb_batch.specs.declared.verdict.Verdict.TheVariants.{Accepted, NoBatch, Unfit}
 use Rattle.odb_batch.specs.declared.verdict.Ended.{Ended}
 use Rattle.odb_batch.specs.declared.verdict.Ended.TheVariants.{Done, Refused}
-use Rattle.odb_batch.specs.Names.{NamesExist, IsNameFault}
+use Rattle.odb_batch.specs.Names.{NamesExist, IsNameFault, groups_of}
 use Rattle.odb_batch.specs.NameFaults.{check_code, check_name, check_place}
 use Rattle.odb_batch.specs.Lines.{accepted_line, fault_line}
 
@@ -28,7 +28,7 @@ IsDocumentFault bytes fault = RefusesDocument fault bytes ⊎ ((value : Data) ×
 -- what the check says of the bytes
 abbrev pub IsVerdictOn : List ℕ → Verdict → Type 0
 IsVerdictOn bytes (Accepted requests groups) =
-    (batch : List Record) × IsBatchDocument bytes batch × All (NamesExist batch) batch × (requests ≡ length batch) × (groups ≡ 0)
+    (batch : List Record) × IsBatchDocument bytes batch × All (NamesExist batch) batch × (requests ≡ length batch) × (groups ≡ length (groups_of batch))
 IsVerdictOn bytes (NoBatch fault) = IsNumbered fault × IsDocumentFault bytes fault
 IsVerdictOn bytes (Unfit fault) = (batch : List Record) × IsBatchDocument bytes batch × IsNameFault batch fault
 

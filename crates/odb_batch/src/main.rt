@@ -7,6 +7,7 @@
 
 mod command_line;
 mod engine;
+mod groups;
 mod lines;
 mod names;
 mod reading;

@@ -1,5 +1,6 @@
 ghost use Rattle.std.specs.Prelude.{◌≡◌, IfOk, string_bytes};
 
+use crate::groups::group_count;
 use crate::lines::{accepted_line, fault_line};
 use crate::names::{CheckFault, check_names};
 use odb_doc::{Batch, DocFault, parse};
@@ -42,12 +43,12 @@ impl Verdict {
             Err(DocFault::OutOfMemory) => return Err(AllocError),
             Err(fault) => return Ok(Verdict::NoBatch(fault)),
         };
-        Ok(match check_names(&batch) {
-            Ok(()) => Verdict::Accepted {
-                requests: batch.len(),
-                groups: 0,
-            },
-            Err(fault) => Verdict::Unfit(fault),
+        if let Err(fault) = check_names(&batch) {
+            return Ok(Verdict::Unfit(fault));
+        }
+        Ok(Verdict::Accepted {
+            requests: batch.len(),
+            groups: group_count(alloc, &batch)?,
         })
     }
 

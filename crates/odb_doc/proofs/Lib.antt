@@ -3,7 +3,7 @@ mod ElementLemmas
 mod HeaderLemmas
 mod ListedLemmas
 mod MemberLemmas
-mod NameLemmas
+pub mod NameLemmas
 mod OneHeaders
 mod ReferenceLemmas
 mod RequestLemmas

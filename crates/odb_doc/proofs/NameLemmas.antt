@@ -83,7 +83,7 @@ fold-with_name names [] = sym (append-nil names)
 fold-with_name names (name ∷ added) =
     fold-with_name_step (list_any (bytes_eq name) names) names added name refl (λ ns. fold-with_name ns added)
 
-fold-with_name-nil : (names : List (List ℕ)) → fold with_name [] names ≡ distinct names
+pub fold-with_name-nil : (names : List (List ℕ)) → fold with_name [] names ≡ distinct names
 unfolding is_new
 fold-with_name-nil names = fold-with_name [] names ∙ filter-all (distinct names)
 

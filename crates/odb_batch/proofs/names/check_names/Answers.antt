@@ -10,11 +10,11 @@ loop-i-init c = λ k d within. absurd (omega arith)
 
 pub returns-then-not-names_exist-clause-unknown : goal.returns-then-not-names_exist-clause-unknown
 returns-then-not-names_exist-clause-unknown c =
-    IsFirstUnknown-at (records c.args.batch.now) c.loop-i.i (record_of c.request.result.now) c.request.ensures c.loop-i.invariant (c.names_exist.ensures.unknown c.if-not-names_exist.true)
+    IsFirstUnknown-at (records c.args.batch.now) c.loop-i.i (record_of c.request.result.now) c.request.ensures.value c.loop-i.invariant (c.names_exist.ensures.unknown c.if-not-names_exist.true)
 
 pub loop-i-preserved : goal.loop-i-preserved
 loop-i-preserved c =
-    NamesExist-more (records c.args.batch.now) c.loop-i.i (record_of c.request.result.now) c.request.ensures c.loop-i.invariant (c.names_exist.ensures.exist c.if-not-names_exist.false)
+    NamesExist-more (records c.args.batch.now) c.loop-i.i (record_of c.request.result.now) c.request.ensures.value c.loop-i.invariant (c.names_exist.ensures.exist c.if-not-names_exist.false)
 
 pub returns-clause-ok : goal.returns-clause-ok
 returns-clause-ok c =
