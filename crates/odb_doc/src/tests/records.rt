@@ -2,6 +2,7 @@
 
 use crate::{Batch, parse};
 use odb_names::Method;
+use std::alloc::{AllocError, Global};
 use std::test::Fail;
 
 const BATCH: &str = r#"{
@@ -103,5 +104,46 @@ fn reads_bodies(rt: HostRuntime) -> Result<(), Fail> {
     for at in [0, 2, 3] {
         assert!(rt; batch.request(at).body.is_none(), "{at}");
     }
+    Ok(())
+}
+
+/// A request whose URL, names, headers and body are each as many as `count`.
+fn long(alloc: Global, count: usize) -> Result<String, AllocError> {
+    let mut text = String::from_str(
+        alloc,
+        "{\"requests\":[{\"id\":\"a\",\"method\":\"put\",\"url\":\"",
+    )?;
+    for _ in 0..count {
+        text.push_str("%2f")?;
+    }
+    text.push_str("\",\"dependsOn\":[\"\"")?;
+    for name in 0..count {
+        let name = format!(in alloc; ",\"{name}\",\"\"")?;
+        text.push_str(name.as_str())?;
+    }
+    text.push_str("],\"headers\":{\"content-type\":\"image/png\"")?;
+    for name in 0..count {
+        let header = format!(in alloc; ",\"H{name}\":\"v\"")?;
+        text.push_str(header.as_str())?;
+    }
+    text.push_str("},\"body\":\"")?;
+    for _ in 0..count {
+        text.push_str("AAAA")?;
+    }
+    text.push_str("\"}]}")?;
+    Ok(text)
+}
+
+#[test]
+fn looks_at_each_part_of_a_long_request_once(rt: HostRuntime) -> Result<(), Fail> {
+    let alloc = rt.alloc();
+    let value = parse(alloc, long(alloc, 10_000)?.as_bytes())?;
+    let batch = Batch::read(alloc, &value)?;
+    assert!(rt; batch.len() == 1);
+    let request = batch.request(0);
+    assert_eq!(rt; request.url.len(), 30_000);
+    assert_eq!(rt; request.names.len(), 10_001);
+    assert_eq!(rt; request.headers.len(), 10_001);
+    assert!(rt; request.body.is_some());
     Ok(())
 }
