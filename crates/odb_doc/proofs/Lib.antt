@@ -1,4 +1,5 @@
 mod BlankLemmas
+mod DistinctLemmas
 mod ElementLemmas
 mod HeaderLemmas
 mod ListedLemmas

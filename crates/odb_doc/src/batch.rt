@@ -71,12 +71,17 @@ fn requests_from<'a>(alloc: Global, elements: &'a [Value]) -> Result<Vec<Request
 impl<'a> Batch<'a> {
     ghost use Rattle.odb_doc.specs.Batches.{records};
 
-    /// The batch that a document is.
+    /// The batch that a document is (OData JSON Format 4.01, section 19.1).
+    ///
+    /// `document` is the value that [`crate::parse`] made. Texts and bodies stay in it; `alloc` is
+    /// asked for the list of requests and, for each, its names, its headers and the identifier in
+    /// its URL.
     ///
     /// # Errors
     ///
-    /// The least of the faults F03 to F06 and F10 to F23 by phase, position and number, where one
-    /// stands; `OutOfMemory` where memory was refused.
+    /// A fault of the document, F03 to F06, the least by number, where one stands; else, at the
+    /// first request that has a fault, the least of F10 to F23 by number. `OutOfMemory` where
+    /// memory was refused, in place of any of them.
     pub fn read(alloc: Global, document: &'a Value) -> Result<Batch<'a>, DocFault>
         ensures good { OnOk result (IsWellShaped (view document.now)) }
         ensures records { IfOk result (λ batch. IsBatchOf (view document.now) (records batch)) }

@@ -18,6 +18,8 @@ mod media_type;
 mod member;
 mod reference;
 mod request;
+#[cfg(test)]
+mod tests;
 
 pub use batch::Batch;
 pub use device::{DeviceFault, Input, MAX_READS, Output};

@@ -1,8 +1,8 @@
 ghost use Rattle.std.specs.Prelude.{IfOk, IfErr, OnOk, bytes_eq};
 ghost use Rattle.std.specs.List.{IsDistinct};
 ghost use Rattle.std.specs.Option.{ForSome};
-ghost use Rattle.serde_json.specs.View.{view};
 ghost use Rattle.std.proofs.Props.{props};
+ghost use Rattle.serde_json.specs.View.{view};
 ghost use Rattle.odb_names.specs.Identifiers.{IsRequestId};
 ghost use Rattle.odb_doc.specs.LeastFault.{IsRequestObject, IsFaultAt};
 ghost use Rattle.odb_doc.specs.Names.{texts_in};

@@ -3,7 +3,7 @@ use Rattle.std.proofs.Common.{sym}
 use Rattle.serde_json.specs.View.{view}
 use Rattle.odb_doc.specs.Names.{texts_in}
 use Rattle.odb_doc.specs.Shapes.{listed_names}
-use Rattle.odb_doc.proofs.NameLemmas.{IsDistinct-listed}
+use Rattle.odb_doc.proofs.DistinctLemmas.{IsDistinct-listed}
 use Rattle.odb_doc.proofs.request.Request.read.Goals as goal
 
 pub invariant_of-result-clause-names_apart : goal.invariant_of-result-clause-names_apart
