@@ -23,7 +23,7 @@ fn distinct_texts<'a>(
     ensures { IfOk result (λ found. option_map (λ list. texts_in list.items) found
         ≡ option_map distinct (texts_of (items_view elements.now))) }
 {
-    let mut texts = IndexSet::new(alloc);
+    let mut texts = IndexSet::with_capacity(alloc, elements.len())?;
     for element in elements {
         let Some(text) = element.as_str() else {
             return Ok(None);

@@ -5,7 +5,7 @@ use Rattle.odb_doc.proofs.NameLemmas.{read_on, read_on-nil, read_on-text, read_o
 use Rattle.odb_doc.proofs.depends_on.distinct_texts.Goals as goal
 
 pub loop-element-init : goal.loop-element-init
-loop-element-init c = rw c.new-texts.ensures.empty refl
+loop-element-init c = rw c.in_ok-texts.ensures.empty refl
 
 pub returns-in_default : goal.returns-in_default
 returns-in_default c =
