@@ -3,6 +3,7 @@ use Rattle.std.proofs.Common.{◌≡◌, ◌∙◌, ◌||◌, ◌&&◌, ◌+◌,
 use Rattle.std.specs.List.{list_any}
 use Rattle.std.proofs.lemmas.List.{map-append, at_drop_more}
 use Rattle.std.proofs.lemmas.List.Folds.{list_any-append}
+use Rattle.std.proofs.lemmas.Bool.Decides.{same_from_decides}
 use Rattle.std.proofs.lemmas.Slice.Eq.{bytes_eq-Decides}
 use Rattle.serde_json.specs.Find.{as_str}
 use Rattle.serde_json.specs.View.{view, items_view}
@@ -131,3 +132,19 @@ pub read_on-drop : (names : List (List ℕ)) (vs : List Value) (i : ℕ) (v : Va
     → read_on names (drop i vs) ≡ read_on names (v ∷ drop (i + 1) vs)
 read_on-drop names vs i v within is =
     at_drop_more (read_on names) vs i v within ∙ ap (λ x. read_on names (x ∷ drop (i + 1) vs)) (sym is)
+
+-- ---- names as a list of references holds them
+
+bytes_eq-comm : (xs ys : List ℕ) → bytes_eq xs ys ≡ bytes_eq ys xs
+bytes_eq-comm xs ys =
+    let other = bytes_eq-Decides ys xs in
+    same_from_decides (bytes_eq xs ys) (bytes_eq ys xs) (bytes_eq-Decides xs ys) (λ is. sym (other.0 is), λ same. other.1 (sym same))
+
+list_any-comm : (name : List ℕ) (keys : List (Bor (List ℕ))) → list_any (λ key. bytes_eq key.now name) keys ≡ list_any (λ key. bytes_eq name key.now) keys
+list_any-comm name [] = refl
+list_any-comm name (key ∷ keys) = rw (bytes_eq-comm key.now name, list_any-comm name keys) refl
+
+-- the text is put at the end where the list does not have it
+pub texts_in-contains : (keys : List (Bor (List ℕ))) (text : Bor (List ℕ)) (among : Bool) → among ≡ list_any (λ key. bytes_eq key.now text.now) keys
+    → texts_in (if among then keys else keys ++ text ∷ []) ≡ with_name (texts_in keys) text.now
+texts_in-contains keys text among is = rw (is, list_any-comm text.now keys) (texts_in-insert keys text)
