@@ -1,5 +1,5 @@
 -- Names against the requests of a batch, request by request.
-use Rattle.std.proofs.Common.{◌≡◌, ◌≢◌, ◌∙◌, ◌+◌, ◌<◌, ◌≤◌, ℕ, Some, List, [], ◌∷◌, ◌++◌, length, take, drop, get_or, All, Any, Bor, slice_get, ap, sym, arith, take-append-drop, below_more}
+use Rattle.std.proofs.Common.{◌≡◌, ◌∙◌, ◌+◌, ◌<◌, ◌≤◌, ℕ, Some, List, [], ◌∷◌, ◌++◌, length, take, drop, get_or, All, Any, Bor, slice_get, ap, sym, arith, take-append-drop, below_more}
 use Rattle.std.proofs.lemmas.List.{drop_more, take_all, get_or-map, length-map, length-take}
 use Rattle.std.proofs.lemmas.List.Elements.{All-more}
 use Rattle.std.proofs.lemmas.Option.{get_or_from_slice_get, slice_get_within}

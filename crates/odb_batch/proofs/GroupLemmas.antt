@@ -1,5 +1,5 @@
 -- The groups of a batch, put into a set one by one.
-use Rattle.std.proofs.Common.{◌≡◌, ◌∙◌, ◌+◌, ◌≤◌, ℕ, Option, None, Some, List, [], ◌∷◌, length, drop, fold, filter, slice_get, Bor, refl, ap, sym, arith, bytes_eq, not}
+use Rattle.std.proofs.Common.{◌≡◌, ◌∙◌, ◌+◌, ◌≤◌, ℕ, Option, None, Some, List, [], ◌∷◌, length, drop, fold, slice_get, Bor, refl, ap, sym, arith, bytes_eq, not}
 use Rattle.std.specs.List.{filter_map, cons_option}
 use Rattle.std.proofs.lemmas.List.{drop_more, at_drop_all, length-map}
 use Rattle.std.proofs.lemmas.List.Sums.{length-filter, count_by-le-length}

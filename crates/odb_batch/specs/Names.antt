@@ -1,5 +1,5 @@
 -- The names in `dependsOn` against the ids and the groups of a batch (OData JSON Format 4.01, section 19.1).
-use Rattle.std.specs.Prelude.{◌≡◌, ◌⊎◌, ℕ, List, [], ◌∷◌, ◌++◌, Option, Some, length, All, Any, slice_get, option_to_list}
+use Rattle.std.specs.Prelude.{◌≡◌, ◌⊎◌, ℕ, List, ◌∷◌, ◌++◌, Some, length, All, Any, slice_get}
 use Rattle.std.specs.List.{filter_map}
 use Rattle.odb_doc.specs.Names.{distinct}
 use Rattle.odb_doc.specs.Records.{Record}

@@ -1,4 +1,4 @@
-use Rattle.std.proofs.Common.{◌≡◌, ◌≤◌, ◌∙◌, length, sym, rules, arith}
+use Rattle.std.proofs.Common.{◌≤◌, ◌∙◌, length, sym, rules, arith}
 use Rattle.odb_doc.specs.Batches.{records}
 use Rattle.odb_doc.specs.Records.{record_of}
 use Rattle.odb_doc.specs.Names.{texts_in}

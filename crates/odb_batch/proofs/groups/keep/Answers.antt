@@ -1,4 +1,4 @@
-use Rattle.std.proofs.Common.{◌≡◌, ◌∙◌, ap}
+use Rattle.std.proofs.Common.{◌∙◌, ap}
 use Rattle.odb_doc.specs.Names.{texts_in}
 use Rattle.odb_doc.proofs.NameLemmas.{texts_in-insert}
 use Rattle.odb_batch.proofs.groups.keep.Goals as goal

@@ -1,7 +1,6 @@
 use Rattle.std.proofs.Common.{◌≤◌, length, rules, arith}
 use Rattle.odb_doc.specs.Batches.{records}
-use Rattle.odb_doc.specs.Records.{record_of}
-use Rattle.odb_batch.proofs.CheckLemmas.{IsNoneOf-all, IsNoneOf-more}
+use Rattle.odb_batch.proofs.CheckLemmas.{IsNoneOf-all}
 use Rattle.odb_batch.proofs.names.is_known.Goals as goal
 
 pub loop-i-init : goal.loop-i-init
