@@ -1,0 +1,253 @@
+-- The laws of the plan of a batch whose names fit together.
+use Rattle.std.proofs.Common.{◌≡◌, ◌≢◌, ◌≤◌, ◌<◌, ◌⊎◌, ℕ, zero, suc, Bool, true, false, cond, List, [], ◌∷◌, ◌++◌, Option, Some, None, refl, sym, ap, ◌∙◌, subst, inl, inr, arith, length, get_or, append-nil}
+use Rattle.std.specs.Prelude.{Contains, IsSomeAnd, AllPairs, bytes_eq}
+use Rattle.std.specs.List.{list_any, filter_map, cons_option, IsDistinct}
+use Rattle.std.proofs.lemmas.Map.Made.{AllPairs-from_IsDistinct}
+use Rattle.std.proofs.lemmas.Bool.{cases_lt, cases_eq, cases_Bool, both_ways}
+use Rattle.std.proofs.lemmas.List.Elements.{Contains-append_left, Contains-append_right, Contains-append_cases}
+use Rattle.std.proofs.lemmas.Slice.Eq.{bytes_eq-Decides}
+use Rattle.odb_doc.specs.Records.{Record}
+use Rattle.odb_check.specs.declared.fault.NameRule.TheVariants.{IdTwice, IdIsGroup, GroupSplit, ForwardName, OwnGroup, GroupNotListed, UnknownReference, ForwardReference, ReferenceNotListed}
+use Rattle.odb_check.specs.declared.need.Need.{Need}
+use Rattle.odb_check.specs.declared.need.Need.TheVariants.{One, Group}
+use Rattle.odb_check.specs.Firsts.{list_below}
+use Rattle.odb_check.specs.LeastNameFault.{HasGoodNames}
+use Rattle.odb_check.specs.NameFaults.{StandsAt}
+use Rattle.odb_check.specs.Needs.{need_of, further_names, needed_names, needs_at}
+use Rattle.odb_check.specs.Positions.{id_at, group_at, names_at, reference_at, IsId, IsIdFrom, IsInGroupOf, NamesGroupOf}
+use Rattle.odb_check.specs.Shape.{unit_of, needs_of, shape_of, IsEarlier, IsAlone, IsPlan, HasNamesAsNeeds}
+use Rattle.odb_check.specs.Units.{begin_in, unit_begin, unit_at, unit_count}
+use Rattle.odb_check.proofs.AnyLemmas.{StandsFor, stands_for, Contains-meaning, Contains-head, Contains-tail, Contains-none, Contains-cases, Contains-Decides, Contains-get_or}
+use Rattle.odb_check.proofs.BelowLemmas.{length-list_below, get_or-list_below}
+use Rattle.odb_check.proofs.LeastLemmas.{name_inside}
+use Rattle.odb_check.proofs.LevelLemmas.{HasNeedsBefore}
+use Rattle.odb_check.proofs.NeedLemmas.{IsMeant, is_meant, id_need, group_need}
+use Rattle.odb_check.proofs.PositionLemmas.{id_within, group_within, reference_within}
+use Rattle.odb_check.proofs.RowLemmas.{HasSoundIds, later_unit}
+use Rattle.odb_check.proofs.UnitLemmas.{IsUnitOf, unit_before, same_begin, same_group, one_unit, in_group, in_unit, in_order, unit_at_start}
+
+pub good_ids : (rs : List Record) → HasGoodNames rs → HasSoundIds rs
+good_ids rs good = record { once = good IdTwice; apart = good IdIsGroup; adjacent = good GroupSplit }
+
+further_one : (v : Bool) (id name : List ℕ) → Contains (cond v [] (id ∷ [])) name → Some id ≡ Some name
+further_one true id name h = absurd (Contains-none name h)
+further_one false id name h = elim (Contains-cases id name [] h) [ inl same ↦ ap Some same | inr more ↦ absurd (Contains-none name more) ]
+
+-- a needed name is in `dependsOn`, or is the reference
+further_reference : (names : List (List ℕ)) (reference : Option (List ℕ)) (name : List ℕ) → Contains (further_names names reference) name → reference ≡ Some name
+further_reference names None name h = absurd (Contains-none name h)
+further_reference names (Some id) name h = further_one (list_any (bytes_eq id) names) id name h
+
+named_cases : (rs : List Record) (i : ℕ) (name : List ℕ) → Contains (needed_names rs i) name → Contains (names_at rs i) name ⊎ (reference_at rs i ≡ Some name)
+named_cases rs i name h =
+    elim (Contains-append_cases (names_at rs i) (further_names (names_at rs i) (reference_at rs i)) name h) [
+      | inl listed ↦ inl listed
+      | inr further ↦ inr (further_reference (names_at rs i) (reference_at rs i) name further)
+    ]
+
+refers_stands : (rs : List Record) (i : ℕ) (id : List ℕ) (P : List ℕ → Type 0) → reference_at rs i ≡ Some id → P id → IsSomeAnd (reference_at rs i) P
+refers_stands rs i id P here holds = subst (λ o. IsSomeAnd o P) (sym here) holds
+
+earlier_one : (rs : List Record) → HasGoodNames rs → (i r : ℕ) (name : List ℕ) → id_at rs r ≡ Some name → Contains (names_at rs i) name ⊎ (reference_at rs i ≡ Some name) → r < i
+earlier_one rs good i r name here cases =
+    elim (cases_lt r i) [
+      | inl less ↦ less
+      | inr more ↦ elim cases [
+        | inl listed ↦ absurd (good ForwardName i (record { name = name; listed = listed; holds = inl (r, more, here) }))
+        | inr refers ↦ absurd (good ForwardReference i (refers_stands rs i name (λ id. IsIdFrom rs id i) refers (r, more, here)))
+      ]
+    ]
+
+earlier_group : (rs : List Record) → HasGoodNames rs → (i u : ℕ) (name : List ℕ) → ((j : ℕ) → ¬ (id_at rs j ≡ Some name)) → IsUnitOf rs name u → Contains (names_at rs i) name ⊎ (reference_at rs i ≡ Some name) → u < unit_at rs i
+earlier_group rs good i u name no_id is cases =
+    elim (cases_lt u (unit_at rs i)) [
+      | inl less ↦ less
+      | inr more ↦ elim cases [
+        | inr refers ↦ absurd (good UnknownReference i (refers_stands rs i name (λ id. ¬ IsId rs id) refers (λ h. no_id h.0 h.1)))
+        | inl listed ↦ elim (cases_eq u (unit_at rs i)) [
+          | inl own ↦ absurd (good OwnGroup i (record { name = name; listed = listed; holds = in_group rs name u i is (sym own) }))
+          | inr other ↦
+              let after : (j : ℕ) → group_at rs j ≡ Some name → i < j = λ j there. later_unit rs (good_ids rs good) i j (let at_u : unit_at rs j ≡ u = in_unit rs name u j is there in omega arith) in
+              absurd (good ForwardName i (record { name = name; listed = listed; holds = inr ((is.start, is.first.here), after) }))
+        ]
+      ]
+    ]
+
+pub needs_before : (rs : List Record) → HasGoodNames rs → HasNeedsBefore rs
+needs_before rs good = record {
+  one = λ i r h.
+      let name : StandsFor (need_of rs) (needed_names rs i) (One r) = stands_for (need_of rs) (needed_names rs i) (One r) h in
+      earlier_one rs good i r name.element (is_meant rs name.element (One r) name.means).1.here (named_cases rs i name.element name.inside);
+  group = λ i u h.
+      let name : StandsFor (need_of rs) (needed_names rs i) (Group u) = stands_for (need_of rs) (needed_names rs i) (Group u) h in
+      earlier_group rs good i u name.element (is_meant rs name.element (Group u) name.means).no_id (is_meant rs name.element (Group u) name.means).unit (named_cases rs i name.element name.inside);
+  order = in_order rs (good GroupSplit);
+}
+
+-- a listed name is among the needs
+listed_need : (rs : List Record) (i : ℕ) (name : List ℕ) (need : Need) → Contains (names_at rs i) name → need_of rs name ≡ Some need → Contains (needs_at rs i) need
+listed_need rs i name need h means = Contains-meaning (need_of rs) (needed_names rs i) name need (Contains-append_left (names_at rs i) (further_names (names_at rs i) (reference_at rs i)) name h) means
+
+group_listed : (rs : List Record) → HasGoodNames rs → (i r : ℕ) (group name : List ℕ) → group_at rs r ≡ Some group → unit_at rs r ≢ unit_at rs i → id_at rs r ≡ Some name → r < i → Contains (names_at rs i) name → Contains (needs_at rs i) (Group (unit_at rs r))
+group_listed rs good i r group name there other here less listed =
+    elim (cases_Bool (list_any (bytes_eq group) (names_at rs i))) [
+      | inl named ↦ listed_need rs i group (Group (unit_at rs r)) ((Contains-Decides group (names_at rs i)).0 named) (group_need rs (good IdIsGroup) group r there)
+      | inr unnamed ↦
+          let P : List ℕ → Type 0 = λ g. ¬ (group_at rs i ≡ Some g) × ¬ Contains (names_at rs i) g in
+          let lacks : P group = ((λ same. other (one_unit rs r i group there same)), (λ h. both_ways (list_any (bytes_eq group) (names_at rs i)) unnamed ((Contains-Decides group (names_at rs i)).1 h))) in
+          absurd (good GroupNotListed i (record { name = name; listed = listed; holds = (r, less, here, subst (λ o. IsSomeAnd o P) (sym there) lacks) }))
+    ]
+
+group_covers : (rs : List Record) → HasGoodNames rs → (i r : ℕ) (group name : List ℕ) → group_at rs r ≡ Some group → unit_at rs r ≢ unit_at rs i → id_at rs r ≡ Some name → r < i → reference_at rs i ≡ Some name → Contains (needs_at rs i) (Group (unit_at rs r))
+group_covers rs good i r group name there other here less refers =
+    elim (cases_Bool (list_any (bytes_eq name) (names_at rs i))) [
+      | inl named ↦ group_listed rs good i r group name there other here less ((Contains-Decides name (names_at rs i)).0 named)
+      | inr unnamed ↦ elim (cases_Bool (list_any (bytes_eq group) (names_at rs i))) [
+        | inl covered ↦ listed_need rs i group (Group (unit_at rs r)) ((Contains-Decides group (names_at rs i)).0 covered) (group_need rs (good IdIsGroup) group r there)
+        | inr uncovered ↦
+            let not_together : ¬ IsInGroupOf rs i r = λ h. other (one_unit rs r i h.0 h.2 h.1) in
+            let not_named : ¬ Contains (names_at rs i) name = λ h. both_ways (list_any (bytes_eq name) (names_at rs i)) unnamed ((Contains-Decides name (names_at rs i)).1 h) in
+            let not_covered : ¬ NamesGroupOf rs i r = λ h. both_ways (list_any (bytes_eq group) (names_at rs i)) uncovered ((Contains-Decides group (names_at rs i)).1
+            (let same : h.0 ≡ group = (let s : Some h.0 ≡ Some group = sym h.1 ∙ there in cc) in subst (Contains (names_at rs i)) same h.2)) in
+            absurd (good ReferenceNotListed i (refers_stands rs i name (λ id. (j : ℕ) × (j < i) × (id_at rs j ≡ Some id) × ¬ IsInGroupOf rs i j × ¬ Contains (names_at rs i) id × ¬ NamesGroupOf rs i j) refers
+            (r, less, here, not_together, not_named, not_covered)))
+      ]
+    ]
+
+alone_case : (rs : List Record) (r j : ℕ) → group_at rs r ≡ None → unit_at rs j ≡ unit_at rs r → j ≡ r
+alone_case rs r j none same =
+    let at_r : unit_begin rs r ≡ r = ap (begin_in rs r) none in
+    let at_j : unit_begin rs j ≡ j = ap (begin_in rs j) (same_group rs j r same ∙ none) in
+    sym at_j ∙ same_begin rs j r same ∙ at_r
+
+listed_case : (rs : List Record) → HasGoodNames rs → (i r : ℕ) → Contains (needs_at rs i) (One r) → unit_at rs r ≢ unit_at rs i → (group : Option (List ℕ)) → group_at rs r ≡ group
+    → ((j : ℕ) → unit_at rs j ≡ unit_at rs r → j ≡ r) ⊎ Contains (needs_at rs i) (Group (unit_at rs r))
+listed_case rs good i r h other None e = inl (λ j same. alone_case rs r j e same)
+listed_case rs good i r h other (Some group) e =
+    let name : StandsFor (need_of rs) (needed_names rs i) (One r) = stands_for (need_of rs) (needed_names rs i) (One r) h in
+    let here : id_at rs r ≡ Some name.element = (is_meant rs name.element (One r) name.means).1.here in
+    let less : r < i = (needs_before rs good).one i r h in
+    elim (named_cases rs i name.element name.inside) [
+      | inl listed ↦ inr (group_listed rs good i r group name.element e other here less listed)
+      | inr refers ↦ inr (group_covers rs good i r group name.element e other here less refers)
+    ]
+
+-- two names that stand for one need are one name
+one_name : (rs : List Record) (need : Need) (name other : List ℕ) → IsMeant rs name need → IsMeant rs other need → name ≡ other
+one_name rs (One p) name other is also = let s : Some name ≡ Some other = sym is.1.here ∙ also.1.here in cc
+one_name rs (Group u) name other is also =
+    let there : group_at rs is.unit.start ≡ Some other = in_group rs other u is.unit.start also.unit (unit_at_start rs name u is.unit) in
+    let s : Some name ≡ Some other = sym is.unit.first.here ∙ there in cc
+
+-- no element stands twice
+abbrev AreApart : {X : Type 0} → List X → Type 0
+AreApart [] = Unit {0}
+AreApart {X} (x ∷ xs) = ((y : X) → Contains xs y → x ≢ y) × AreApart xs
+
+texts_apart : (texts : List (List ℕ)) → AllPairs (λ text other. text ≢ other) texts → AreApart texts
+texts_apart [] pairs = tt
+texts_apart (text ∷ texts) pairs = (
+  (λ other h same. pairs zero (suc h.0) other (omega arith) (omega (arith, h.1)) (same ∙ sym h.2)),
+  texts_apart texts (λ i j d less inside. pairs (suc i) (suc j) d (omega arith) (omega arith)),
+)
+
+with_last : {X : Type 0} (xs : List X) (last : X) → AreApart xs → (Contains xs last → ⊥) → AreApart (xs ++ last ∷ [])
+with_last [] last apart absent = ((λ y h. absurd (Contains-none y h)), tt)
+with_last (x ∷ xs) last apart absent = (
+  (λ y h same. elim (Contains-append_cases xs (last ∷ []) y h) [
+    | inl before ↦ apart.0 y before same
+    | inr at_last ↦ elim (Contains-cases last y [] at_last) [ inl is ↦ absent (subst (Contains (x ∷ xs)) (same ∙ sym is) (Contains-head x xs)) | inr more ↦ Contains-none y more ]
+  ]),
+  with_last xs last apart.1 (λ h. absent (Contains-tail x last xs h)),
+)
+
+further_apart : (names : List (List ℕ)) (id : List ℕ) → AreApart names → (v : Bool) → list_any (bytes_eq id) names ≡ v → AreApart (names ++ cond v [] (id ∷ []))
+further_apart names id apart true e = subst AreApart (sym (append-nil names)) apart
+further_apart names id apart false e = with_last names id apart (λ h. both_ways (list_any (bytes_eq id) names) e ((Contains-Decides id names).1 h))
+
+needed_apart : (names : List (List ℕ)) (reference : Option (List ℕ)) → AreApart names → AreApart (names ++ further_names names reference)
+needed_apart names None apart = subst AreApart (sym (append-nil names)) apart
+needed_apart names (Some id) apart = further_apart names id apart (list_any (bytes_eq id) names) refl
+
+means_apart : (rs : List Record) (name : List ℕ) (names : List (List ℕ)) → ((other : List ℕ) → Contains names other → name ≢ other) → AreApart (filter_map (need_of rs) names) → (found : Option Need) → need_of rs name ≡ found
+    → AreApart (cons_option found (filter_map (need_of rs) names))
+means_apart rs name names apart more None e = more
+means_apart rs name names apart more (Some need) e = (
+  (λ other h same.
+      let stands : StandsFor (need_of rs) names other = stands_for (need_of rs) names other h in
+      apart stands.element stands.inside (one_name rs need name stands.element (is_meant rs name need e) (is_meant rs stands.element need (stands.means ∙ ap Some (sym same))))),
+  more,
+)
+
+needs_apart : (rs : List Record) (names : List (List ℕ)) → AreApart names → AreApart (filter_map (need_of rs) names)
+needs_apart rs [] apart = tt
+needs_apart rs (name ∷ names) apart = means_apart rs name names apart.0 (needs_apart rs names apart.1) (need_of rs name) refl
+
+pairs_apart : {X : Type 0} (xs : List X) → AreApart xs → AllPairs (λ x y. x ≢ y) xs
+pairs_apart [] apart i j d less inside = absurd (omega arith)
+pairs_apart (x ∷ xs) apart zero zero d less inside = absurd (omega arith)
+pairs_apart (x ∷ xs) apart zero (suc j) d less inside = apart.0 (get_or xs j d) (Contains-get_or xs j d (omega arith))
+pairs_apart (x ∷ xs) apart (suc i) zero d less inside = absurd (omega arith)
+pairs_apart (x ∷ xs) apart (suc i) (suc j) d less inside = pairs_apart xs apart.1 i j d (omega arith) (omega arith)
+
+-- units and needs of the plan as data
+unit_there : (rs : List Record) (i : ℕ) → i < length rs → unit_of (shape_of rs) i ≡ unit_at rs i
+unit_there rs i h = get_or-list_below (length rs) (unit_at rs) i 0 h
+
+needs_there : (rs : List Record) (i : ℕ) → i < length rs → needs_of (shape_of rs) i ≡ needs_at rs i
+needs_there rs i h = get_or-list_below (length rs) (needs_at rs) i [] h
+
+in_plan : (rs : List Record) (i : ℕ) → i < length (list_below (length rs) (unit_at rs)) → i < length rs
+in_plan rs i h = omega (arith, length-list_below (length rs) (unit_at rs))
+
+earlier_case : (rs : List Record) → HasGoodNames rs → (i : ℕ) → i < length rs → (need : Need) → Contains (needs_at rs i) need → IsEarlier (shape_of rs) i need
+earlier_case rs good i h (One r) inside = (needs_before rs good).one i r inside
+earlier_case rs good i h (Group u) inside = omega (arith, unit_there rs i h, (needs_before rs good).group i u inside)
+
+plan_listed : (rs : List Record) → HasGoodNames rs → (i r : ℕ) → i < length rs → r < length rs → Contains (needs_at rs i) (One r)
+    → (unit_of (shape_of rs) r ≡ unit_of (shape_of rs) i) ⊎ (IsAlone (shape_of rs) r ⊎ Contains (needs_of (shape_of rs) i) (Group (unit_of (shape_of rs) r)))
+plan_listed rs good i r h inside needs =
+    elim (cases_eq (unit_at rs r) (unit_at rs i)) [
+      | inl same ↦ inl (unit_there rs r inside ∙ same ∙ sym (unit_there rs i h))
+      | inr other ↦ inr (elim (listed_case rs good i r needs other (group_at rs r) refl) [
+        | inl alone ↦ inl (λ j less same. alone j (sym (unit_there rs j (in_plan rs j less)) ∙ same ∙ unit_there rs r inside))
+        | inr group ↦ inr (subst (λ u. Contains (needs_of (shape_of rs) i) (Group u)) (sym (unit_there rs r inside)) (subst (λ xs. Contains xs (Group (unit_at rs r))) (sym (needs_there rs i h)) group))
+      ])
+    ]
+
+pub is_plan : (rs : List Record) → HasGoodNames rs → length rs ≤ 10000 → ((k : ℕ) → k < length rs → IsDistinct bytes_eq (names_at rs k)) → IsPlan (shape_of rs)
+is_plan rs good few distinct =
+    let before : HasNeedsBefore rs = needs_before rs good in
+    let needs : (i : ℕ) (need : Need) → i < length rs → Contains (needs_of (shape_of rs) i) need → Contains (needs_at rs i) need = λ i need h inside. subst (λ xs. Contains xs need) (needs_there rs i h) inside in
+    record {
+      few = omega (arith, length-list_below (length rs) (unit_at rs));
+      as_long = length-list_below (length rs) (needs_at rs) ∙ sym (length-list_below (length rs) (unit_at rs));
+      counted = λ i h. let inside : i < length rs = in_plan rs i h in omega (arith, unit_there rs i inside, unit_before rs i (length rs) inside);
+      in_order = λ i j h less. let inside : j < length rs = in_plan rs j less in omega (arith, unit_there rs i (omega arith), unit_there rs j inside, before.order i j h);
+      earlier = λ i need h inside. earlier_case rs good i (in_plan rs i h) need (needs i need (in_plan rs i h) inside);
+      earlier_unit = λ i r h inside other.
+          let here : i < length rs = in_plan rs i h in
+          let less : r < i = before.one i r (needs i (One r) here inside) in
+          let low : unit_of (shape_of rs) r ≤ unit_of (shape_of rs) i = omega (arith, unit_there rs r (omega arith), unit_there rs i here, before.order r i (omega arith)) in
+          elim (cases_lt (unit_of (shape_of rs) r) (unit_of (shape_of rs) i)) [ inl smaller ↦ smaller | inr more ↦ absurd (other (omega arith)) ];
+      listed = λ i r h inside. let here : i < length rs = in_plan rs i h in let need : Contains (needs_at rs i) (One r) = needs i (One r) here inside in plan_listed rs good i r here (let less : r < i = before.one i r need in omega arith) need;
+      distinct = λ i h. let here : i < length rs = in_plan rs i h in subst (AllPairs (λ need other. need ≢ other)) (sym (needs_there rs i here))
+          (pairs_apart (needs_at rs i) (needs_apart rs (needed_names rs i) (needed_apart (names_at rs i) (reference_at rs i) (texts_apart (names_at rs i) (AllPairs-from_IsDistinct bytes_eq-Decides (names_at rs i) (distinct i here))))));
+    }
+
+further_there : (names : List (List ℕ)) (id : List ℕ) → (v : Bool) → list_any (bytes_eq id) names ≡ v → Contains (names ++ cond v [] (id ∷ [])) id
+further_there names id true e = Contains-append_left names [] id ((Contains-Decides id names).0 e)
+further_there names id false e = Contains-append_right names (id ∷ []) id (Contains-head id [])
+
+reference_needed : (rs : List Record) (i : ℕ) (id : List ℕ) → reference_at rs i ≡ Some id → Contains (needed_names rs i) id
+reference_needed rs i id here = subst (λ o. Contains (names_at rs i ++ further_names (names_at rs i) o) id) (sym here) (further_there (names_at rs i) id (list_any (bytes_eq id) (names_at rs i)) refl)
+
+pub names_as_needs : (rs : List Record) → HasGoodNames rs → HasNamesAsNeeds rs (shape_of rs)
+names_as_needs rs good = record {
+  names_id = λ i name r listed here. subst (λ xs. Contains xs (One r)) (sym (needs_there rs i (name_inside rs i name listed))) (listed_need rs i name (One r) listed (id_need rs (good IdTwice) name r here));
+  names_group = λ i name j listed here.
+      subst (λ u. Contains (needs_of (shape_of rs) i) (Group u)) (sym (unit_there rs j (group_within rs j name here)))
+      (subst (λ xs. Contains xs (Group (unit_at rs j))) (sym (needs_there rs i (name_inside rs i name listed))) (listed_need rs i name (Group (unit_at rs j)) listed (group_need rs (good IdIsGroup) name j here)));
+  refers = λ i id r refers here. subst (λ xs. Contains xs (One r)) (sym (needs_there rs i (reference_within rs i id refers)))
+      (Contains-meaning (need_of rs) (needed_names rs i) id (One r) (reference_needed rs i id refers) (id_need rs (good IdTwice) id r here));
+}

@@ -1,0 +1,111 @@
+-- One more request in the tables.
+use Rattle.std.proofs.Common.{◌≡◌, ◌≢◌, ◌≤◌, ◌<◌, ◌+◌, ◌⊎◌, ℕ, zero, suc, Bool, true, false, cond, List, [], ◌∷◌, ◌++◌, Option, Some, None, refl, sym, ap, ◌∙◌, subst, inl, inr, arith, length, add-one, length-append}
+use Rattle.std.specs.Prelude.{◌==◌, slice_get, option_map, option_and_then, unwrap_or, bytes_eq}
+use Rattle.std.specs.Borrow.{Bor}
+use Rattle.std.specs.List.{IsDistinct}
+use Rattle.std.proofs.lemmas.Bool.{cases_Bool, cases_lt, cond-false, eq-eqb, ne_eqb}
+use Rattle.indexmap.specs.IndexMap.{IndexMap}
+use Rattle.odb_doc.specs.Records.{Record}
+use Rattle.odb_check.specs.Firsts.{or_else, is_text, first_below, list_below, pass_below}
+use Rattle.odb_check.specs.Positions.{id_at, group_at, names_at}
+use Rattle.odb_check.specs.Tables.{AreTablesOf, at_text, unit_among}
+use Rattle.odb_check.specs.Units.{first_in_group, is_new_group, begins_unit, units_before, begin_in, unit_begin, unit_at}
+use Rattle.odb_check.proofs.FirstLemmas.{count_less}
+use Rattle.odb_check.proofs.PositionLemmas.{text_there}
+use Rattle.odb_check.proofs.UnitLemmas.{BeginsAt, unit_begins, unit_at_begin}
+
+-- a position begins a unit, or is in one that began before
+pub unit_cases : (rs : List Record) (i : ℕ) → ((begins_unit rs i ≡ true) × (unit_at rs i ≡ units_before rs i)) ⊎ ((begins_unit rs i ≡ false) × (unit_at rs i < units_before rs i))
+unit_cases rs i =
+    elim (cases_Bool (begins_unit rs i)) [
+      | inl begins ↦ inl (begins, unit_at_begin rs i begins)
+      | inr not_begins ↦
+          let at_begin : BeginsAt rs i (unit_begin rs i) = unit_begins rs i in
+          let other : unit_begin rs i ≢ i = λ e. let begins : begins_unit rs i ≡ true = subst (λ j. begins_unit rs j ≡ true) e at_begin.begins in cc in
+          inr (not_begins, count_less (begins_unit rs) (unit_begin rs i) i at_begin.begins (omega arith))
+    ]
+
+next_start : (rs : List Record) (i : ℕ) (starts : List ℕ) → length starts ≡ units_before rs i → starts ≡ pass_below i (begins_unit rs)
+    → cond (unit_at rs i == length starts) (starts ++ i ∷ []) starts ≡ pass_below (suc i) (begins_unit rs)
+next_start rs i starts count are =
+    elim (unit_cases rs i) [
+      | inl begins ↦
+          let same : (unit_at rs i == length starts) ≡ true = eq-eqb (unit_at rs i) (length starts) (begins.1 ∙ sym count) in
+          rw (same, begins.0) (ap (λ xs. xs ++ i ∷ []) are)
+      | inr within ↦
+          let other : (unit_at rs i == length starts) ≡ false = ne_eqb (unit_at rs i) (length starts) (λ e. omega arith) in
+          rw (other, within.0) are
+    ]
+
+next_count : (rs : List Record) (i : ℕ) (starts : List ℕ) → length starts ≡ units_before rs i
+    → length (cond (unit_at rs i == length starts) (starts ++ i ∷ []) starts) ≡ units_before rs (suc i)
+next_count rs i starts count =
+    elim (unit_cases rs i) [
+      | inl begins ↦
+          let same : (unit_at rs i == length starts) ≡ true = eq-eqb (unit_at rs i) (length starts) (begins.1 ∙ sym count) in
+          rw (same, begins.0) (omega (arith, length-append starts (i ∷ [])))
+      | inr within ↦
+          let other : (unit_at rs i == length starts) ≡ false = ne_eqb (unit_at rs i) (length starts) (λ e. omega arith) in
+          rw (other, within.0) count
+    ]
+
+-- the unit that the tables tell of the next position
+found_unit : (rs : List Record) (i next : ℕ) (group : List ℕ) → next ≡ units_before rs i → (found : Option ℕ)
+    → unwrap_or (option_map (units_before rs) found) next ≡ units_before rs (unwrap_or found i)
+found_unit rs i next group e None = e
+found_unit rs i next group e (Some b) = refl
+
+told_unit : {S : Type 0} (rs : List Record) (i next : ℕ) (groups : IndexMap (Bor (List ℕ)) ℕ S) → ((q : List ℕ) → at_text groups q ≡ option_map (units_before rs) (first_in_group rs i q))
+    → next ≡ units_before rs i → (group : Option (List ℕ)) → unit_among groups group next ≡ units_before rs (begin_in rs i group)
+told_unit rs i next groups are e None = e
+told_unit rs i next groups are e (Some group) = ap (λ o. unwrap_or o next) (are group) ∙ found_unit rs i next group e (first_in_group rs i group)
+
+new_group : (rs : List Record) (i unit : ℕ) (q : List ℕ) → unit ≡ unit_at rs i → first_in_group rs i q ≡ None → (v : Bool) → is_text q (group_at rs i) ≡ v
+    → cond v (Some unit) None ≡ option_map (units_before rs) (cond v (Some i) None)
+new_group rs i unit q e none true here =
+    let group_is : group_at rs i ≡ Some q = text_there q (group_at rs i) here in
+    let begin_is : unit_begin rs i ≡ i = ap (begin_in rs i) group_is ∙ ap (λ o. unwrap_or o i) none in
+    ap Some (e ∙ ap (units_before rs) begin_is)
+new_group rs i unit q e none false here = refl
+
+next_group : (rs : List Record) (i unit : ℕ) (q : List ℕ) → unit ≡ unit_at rs i → (found : Option ℕ) → first_in_group rs i q ≡ found
+    → or_else (option_map (units_before rs) found) (cond (is_text q (group_at rs i)) (Some unit) None) ≡ option_map (units_before rs) (or_else found (cond (is_text q (group_at rs i)) (Some i) None))
+next_group rs i unit q e None here = new_group rs i unit q e here (is_text q (group_at rs i)) refl
+next_group rs i unit q e (Some b) here = refl
+
+few_more : (v : Bool) (starts : List ℕ) (i : ℕ) → length starts ≤ i → length (cond v (starts ++ i ∷ []) starts) ≤ suc i
+few_more true starts i few = omega (arith, length-append starts (i ∷ []))
+few_more false starts i few = omega arith
+
+apart_more : (rs : List Record) (i : ℕ) → ((k : ℕ) → k < i → IsDistinct bytes_eq (names_at rs k)) → IsDistinct bytes_eq (names_at rs i) → (k : ℕ) → k < suc i → IsDistinct bytes_eq (names_at rs k)
+apart_more rs i before here k h =
+    elim (cases_lt k i) [ inl less ↦ before k less | inr more ↦ let same : i ≡ k = omega arith in subst (λ j. IsDistinct bytes_eq (names_at rs j)) same here ]
+
+-- the tables go on by one request, from what each call says
+pub walk_on : {S T : Type 0} (rs : List Record) (i : ℕ) (r : Record) (ids ids' : IndexMap (Bor (List ℕ)) ℕ S) (groups groups' : IndexMap (Bor (List ℕ)) ℕ T) (units starts units' starts' : List ℕ) (unit : ℕ)
+    → slice_get rs i ≡ Some r
+    → IsDistinct bytes_eq r.names
+    → AreTablesOf rs i ids groups units starts
+    → unit ≡ unit_among groups r.group (length starts)
+    → ((q : List ℕ) → at_text ids' q ≡ or_else (at_text ids q) (cond (bytes_eq q r.id) (Some i) None))
+    → ((q : List ℕ) → at_text groups' q ≡ or_else (at_text groups q) (cond (is_text q r.group) (Some unit) None))
+    → starts' ≡ cond (unit == length starts) (starts ++ i ∷ []) starts
+    → units' ≡ units ++ unit ∷ []
+    → AreTablesOf rs (suc i) ids' groups' units' starts'
+walk_on rs i r ids ids' groups groups' units starts units' starts' unit here apart tables told ids_go groups_go starts_go units_go =
+    let id_is : id_at rs i ≡ Some r.id = ap (λ o. option_map (λ x. x.id) o) here in
+    let group_is : group_at rs i ≡ r.group = ap (λ o. option_and_then (λ x. x.group) o) here in
+    let unit_is : unit ≡ unit_at rs i = told ∙ told_unit rs i (length starts) groups tables.groups_are tables.count r.group ∙ ap (λ g. units_before rs (begin_in rs i g)) (sym group_is) in
+    let starts_unit : starts' ≡ cond (unit_at rs i == length starts) (starts ++ i ∷ []) starts = starts_go ∙ ap (λ u. cond (u == length starts) (starts ++ i ∷ []) starts) unit_is in
+    record {
+      ids_are = λ q. ids_go q ∙ ap (λ o. or_else o (cond (bytes_eq q r.id) (Some i) None)) (tables.ids_are q)
+          ∙ ap (λ o. or_else (first_below i (λ j. is_text q (id_at rs j))) (cond (is_text q o) (Some i) None)) (sym id_is);
+      groups_are = λ q. groups_go q ∙ ap (λ o. or_else o (cond (is_text q r.group) (Some unit) None)) (tables.groups_are q)
+          ∙ ap (λ o. or_else (option_map (units_before rs) (first_in_group rs i q)) (cond (is_text q o) (Some unit) None)) (sym group_is)
+          ∙ next_group rs i unit q unit_is (first_in_group rs i q) refl;
+      units_are = units_go ∙ ap (λ xs. xs ++ unit ∷ []) tables.units_are ∙ ap (λ u. list_below i (unit_at rs) ++ u ∷ []) unit_is;
+      starts_are = starts_unit ∙ next_start rs i starts tables.count tables.starts_are;
+      count = ap length starts_unit ∙ next_count rs i starts tables.count;
+      few = subst (λ xs. length xs ≤ suc i) (sym starts_unit) (few_more (unit_at rs i == length starts) starts i tables.few);
+      names_apart = apart_more rs i tables.names_apart (subst (IsDistinct bytes_eq) (sym (ap (λ o. unwrap_or (option_map (λ x. x.names) o) []) here)) apart);
+    }

@@ -1,0 +1,154 @@
+-- Where units begin, and the order of their numbers.
+use Rattle.std.proofs.Common.{◌≡◌, ◌≤◌, ◌<◌, ◌+◌, ◌-◌, ℕ, zero, suc, Bool, true, false, not, List, Option, Some, None, refl, sym, ap, ◌∙◌, subst, inl, inr, arith, length}
+use Rattle.std.specs.Prelude.{is_some, unwrap_or, option_map, IsSomeAnd}
+use Rattle.std.proofs.lemmas.Bool.{cases_lt, cases_Bool}
+use Rattle.odb_doc.specs.Records.{Record}
+use Rattle.odb_check.specs.declared.fault.NameRule.TheVariants.{GroupSplit}
+use Rattle.odb_check.specs.Firsts.{count_below, is_text}
+use Rattle.odb_check.specs.NameFaults.{StandsAt}
+use Rattle.odb_check.specs.Positions.{group_at, IsGroupBefore}
+use Rattle.odb_check.specs.Units.{first_in_group, is_new_group, begins_unit, units_before, begin_in, unit_begin, unit_at, group_begin, unit_of_group}
+use Rattle.odb_check.proofs.FirstLemmas.{count_less, count_same}
+use Rattle.odb_check.proofs.PositionLemmas.{IsFirstAt, text_there, there_text, text_first, text_none, text_alone, text_absent, group_first, group_none}
+
+-- the unit of i begins at b
+pub record BeginsAt (rs : List Record) (i b : ℕ) : Type 0 where
+  pub begins : begins_unit rs b ≡ true
+  pub upto : b ≤ i
+  pub same : group_at rs b ≡ group_at rs i
+
+-- where a group stands first a unit begins
+first_begins : (rs : List Record) (group : List ℕ) (b : ℕ) → group_at rs b ≡ Some group → first_in_group rs b group ≡ None → begins_unit rs b ≡ true
+first_begins rs group b here none = ap (is_new_group rs b) here ∙ ap (λ o. not (is_some o)) none
+
+pub group_begins : (rs : List Record) (group : List ℕ) (b : ℕ) → IsFirstAt (group_at rs) group b → begins_unit rs b ≡ true
+group_begins rs group b first = first_begins rs group b first.here (text_absent (group_at rs) group b first.before)
+
+begin_found : (rs : List Record) (i : ℕ) (group : List ℕ) → group_at rs i ≡ Some group → (found : Option ℕ) → first_in_group rs i group ≡ found → BeginsAt rs i (unwrap_or found i)
+begin_found rs i group here None e = record { begins = first_begins rs group i here e; upto = omega arith; same = refl }
+begin_found rs i group here (Some b) e =
+    let first : (b < i) × IsFirstAt (group_at rs) group b = text_first (group_at rs) group i b e in
+    record { begins = group_begins rs group b first.1; upto = omega (arith, first.0); same = first.1.here ∙ sym here }
+
+begin_case : (rs : List Record) (i : ℕ) (group : Option (List ℕ)) → group_at rs i ≡ group → BeginsAt rs i (begin_in rs i group)
+begin_case rs i None e = record { begins = ap (is_new_group rs i) e; upto = omega arith; same = refl }
+begin_case rs i (Some group) e = begin_found rs i group e (first_in_group rs i group) refl
+
+pub unit_begins : (rs : List Record) (i : ℕ) → BeginsAt rs i (unit_begin rs i)
+unit_begins rs i = begin_case rs i (group_at rs i) refl
+
+no_earlier : (i : ℕ) (found : Option ℕ) → not (is_some found) ≡ true → found ≡ None
+no_earlier i None e = refl
+no_earlier i (Some b) e = cc
+
+begins_there : (rs : List Record) (i : ℕ) (group : Option (List ℕ)) → is_new_group rs i group ≡ true → begin_in rs i group ≡ i
+begins_there rs i None e = refl
+begins_there rs i (Some group) e = ap (λ o. unwrap_or o i) (no_earlier i (first_in_group rs i group) e)
+
+-- the unit that begins at a position is numbered by those before
+pub unit_at_begin : (rs : List Record) (b : ℕ) → begins_unit rs b ≡ true → unit_at rs b ≡ units_before rs b
+unit_at_begin rs b e = ap (units_before rs) (begins_there rs b (group_at rs b) e)
+
+-- where a unit begins no earlier position has its group
+pub begins_first : (rs : List Record) (group : List ℕ) (b : ℕ) → begins_unit rs b ≡ true → group_at rs b ≡ Some group → IsFirstAt (group_at rs) group b
+begins_first rs group b begins here = record {
+  here = here;
+  before = text_none (group_at rs) group b (no_earlier b (first_in_group rs b group) (sym (ap (is_new_group rs b) here) ∙ begins));
+}
+
+pub unit_before : (rs : List Record) (i n : ℕ) → i < n → unit_at rs i < units_before rs n
+unit_before rs i n h =
+    let at_begin : BeginsAt rs i (unit_begin rs i) = unit_begins rs i in
+    count_less (begins_unit rs) (unit_begin rs i) n at_begin.begins (omega arith)
+
+-- positions of one unit begin together and have the same group, if any
+pub same_begin : (rs : List Record) (i j : ℕ) → unit_at rs i ≡ unit_at rs j → unit_begin rs i ≡ unit_begin rs j
+same_begin rs i j e = count_same (begins_unit rs) (unit_begin rs i) (unit_begin rs j) (unit_begins rs i).begins (unit_begins rs j).begins e
+
+pub same_group : (rs : List Record) (i j : ℕ) → unit_at rs i ≡ unit_at rs j → group_at rs i ≡ group_at rs j
+same_group rs i j e = sym (unit_begins rs i).same ∙ ap (group_at rs) (same_begin rs i j e) ∙ (unit_begins rs j).same
+
+pub begin_of_group : (rs : List Record) (i : ℕ) (group : List ℕ) → group_at rs i ≡ Some group → IsFirstAt (group_at rs) group (unit_begin rs i)
+begin_of_group rs i group here = begins_first rs group (unit_begin rs i) (unit_begins rs i).begins ((unit_begins rs i).same ∙ here)
+
+-- positions of one group are in one unit
+pub one_unit : (rs : List Record) (i j : ℕ) (group : List ℕ) → group_at rs i ≡ Some group → group_at rs j ≡ Some group → unit_at rs i ≡ unit_at rs j
+one_unit rs i j group here there =
+    ap (units_before rs) (text_alone (group_at rs) group (unit_begin rs i) (unit_begin rs j) (begin_of_group rs i group here) (begin_of_group rs j group there))
+
+-- the unit of a group
+pub record IsUnitOf (rs : List Record) (group : List ℕ) (u : ℕ) : Type 0 where
+  pub start : ℕ
+  pub within : start < length rs
+  pub first : IsFirstAt (group_at rs) group start
+  pub number : units_before rs start ≡ u
+
+unit_case : (rs : List Record) (group : List ℕ) (u : ℕ) (found : Option ℕ) → group_begin rs group ≡ found → option_map (units_before rs) found ≡ Some u → IsUnitOf rs group u
+unit_case rs group u None e some = cc
+unit_case rs group u (Some b) e some =
+    let first : (b < length rs) × IsFirstAt (group_at rs) group b = group_first rs group b e in
+    record { start = b; within = first.0; first = first.1; number = cc }
+
+pub unit_is : (rs : List Record) (group : List ℕ) (u : ℕ) → unit_of_group rs group ≡ Some u → IsUnitOf rs group u
+unit_is rs group u e = unit_case rs group u (group_begin rs group) refl e
+
+pub unit_at_start : (rs : List Record) (group : List ℕ) (u : ℕ) (is : IsUnitOf rs group u) → unit_at rs is.start ≡ u
+unit_at_start rs group u is = unit_at_begin rs is.start (group_begins rs group is.start is.first) ∙ is.number
+
+-- who is in the unit of a group is in the group, and the other way round
+pub in_group : (rs : List Record) (group : List ℕ) (u i : ℕ) → IsUnitOf rs group u → unit_at rs i ≡ u → group_at rs i ≡ Some group
+in_group rs group u i is e = same_group rs i is.start (e ∙ sym (unit_at_start rs group u is)) ∙ is.first.here
+
+pub in_unit : (rs : List Record) (group : List ℕ) (u i : ℕ) → IsUnitOf rs group u → group_at rs i ≡ Some group → unit_at rs i ≡ u
+in_unit rs group u i is e = one_unit rs i is.start group e is.first.here ∙ unit_at_start rs group u is
+
+known_case : (rs : List Record) (group : List ℕ) (i : ℕ) → group_at rs i ≡ Some group → (found : Option ℕ) → group_begin rs group ≡ found → option_map (units_before rs) found ≡ Some (unit_at rs i)
+known_case rs group i here None e = absurd (group_none rs group e i here)
+known_case rs group i here (Some b) e =
+    let first : (b < length rs) × IsFirstAt (group_at rs) group b = group_first rs group b e in
+    ap (λ q. Some (units_before rs q)) (text_alone (group_at rs) group b (unit_begin rs i) first.1 (begin_of_group rs i group here))
+
+-- each group has a unit
+pub known_group : (rs : List Record) (group : List ℕ) (i : ℕ) → group_at rs i ≡ Some group → unit_of_group rs group ≡ Some (unit_at rs i)
+known_group rs group i here = known_case rs group i here (group_begin rs group) refl
+
+pub unknown_unit : (rs : List Record) (group : List ℕ) → unit_of_group rs group ≡ None → (i : ℕ) → ¬ (group_at rs i ≡ Some group)
+unknown_unit rs group none i here = let some : unit_of_group rs group ≡ Some (unit_at rs i) = known_group rs group i here in cc
+
+one_back : (rs : List Record) → ((i : ℕ) → ¬ StandsAt GroupSplit rs i) → (q k : ℕ) (group : List ℕ) → q < k → group_at rs q ≡ Some group → group_at rs (suc k) ≡ Some group → group_at rs k ≡ Some group
+one_back rs adjacent q k group less here there =
+    elim (cases_Bool (is_text group (group_at rs k))) [
+      | inl same ↦ text_there group (group_at rs k) same
+      | inr other ↦
+          let P : List ℕ → Type 0 = λ g. (j : ℕ) × (suc k ≡ j + 1) × ¬ (group_at rs j ≡ Some g) × IsGroupBefore rs g j in
+          let not_there : ¬ (group_at rs k ≡ Some group) = λ e. let same : is_text group (group_at rs k) ≡ true = there_text group (group_at rs k) e in cc in
+          let split : P group = (k, omega arith, not_there, (q, less, here)) in
+          absurd (adjacent (suc k) (subst (λ o. IsSomeAnd o P) (sym there) split))
+    ]
+
+-- between two positions of a group all are in it
+between : (rs : List Record) → ((i : ℕ) → ¬ StandsAt GroupSplit rs i) → (q : ℕ) (group : List ℕ) (d k j : ℕ) → k + d ≡ j → q ≤ k → group_at rs q ≡ Some group → group_at rs j ≡ Some group → group_at rs k ≡ Some group
+between rs adjacent q group zero k j e h here there = let same : j ≡ k = omega arith in subst (λ n. group_at rs n ≡ Some group) same there
+between rs adjacent q group (suc d) k j e h here there =
+    let next : group_at rs (suc k) ≡ Some group = between rs adjacent q group d (suc k) j (omega arith) (omega arith) here there in
+    elim (cases_lt q k) [
+      | inl less ↦ one_back rs adjacent q k group less here next
+      | inr more ↦ let same : q ≡ k = omega arith in subst (λ n. group_at rs n ≡ Some group) same here
+    ]
+
+in_order_case : (rs : List Record) → ((i : ℕ) → ¬ StandsAt GroupSplit rs i) → (i j : ℕ) → i ≤ j → unit_begin rs j ≤ i → (group : Option (List ℕ)) → group_at rs j ≡ group → unit_at rs i ≡ unit_at rs j
+in_order_case rs adjacent i j h begun None e =
+    let at_itself : unit_begin rs j ≡ j = ap (begin_in rs j) e in
+    let same : i ≡ j = omega arith in
+    ap (unit_at rs) same
+in_order_case rs adjacent i j h begun (Some group) e =
+    let here : group_at rs (unit_begin rs j) ≡ Some group = (unit_begins rs j).same ∙ e in
+    one_unit rs i j group (between rs adjacent (unit_begin rs j) group (j - i) i j (omega arith) begun here e) e
+
+-- a later position is in no earlier unit
+pub in_order : (rs : List Record) → ((i : ℕ) → ¬ StandsAt GroupSplit rs i) → (i j : ℕ) → i ≤ j → unit_at rs i ≤ unit_at rs j
+in_order rs adjacent i j h =
+    elim (cases_lt i (unit_begin rs j)) [
+      | inl less ↦ omega (arith, unit_before rs i (unit_begin rs j) less)
+      | inr begun ↦ omega (arith, in_order_case rs adjacent i j h begun (group_at rs j) refl)
+    ]

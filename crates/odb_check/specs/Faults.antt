@@ -1,0 +1,46 @@
+-- The rules on the names of a batch: their numbers, phases, codes and names.
+use Rattle.std.specs.Prelude.{ℕ, List, codes}
+use Rattle.odb_doc.specs.Faults.{code_of}
+use Rattle.odb_check.specs.declared.fault.NameRule.{NameRule}
+use Rattle.odb_check.specs.declared.fault.NameRule.TheVariants.{IdTwice, IdIsGroup, GroupSplit, UnknownName, ForwardName, OwnGroup, GroupNotListed, UnknownReference, ForwardReference, ReferenceNotListed}
+
+-- the number in the code
+abbrev pub number : NameRule → ℕ
+number IdTwice = 30
+number IdIsGroup = 31
+number GroupSplit = 32
+number UnknownName = 40
+number ForwardName = 41
+number OwnGroup = 42
+number GroupNotListed = 43
+number UnknownReference = 44
+number ForwardReference = 45
+number ReferenceNotListed = 46
+
+-- after the document and the shapes come identifiers and groups, and then names and references
+abbrev pub phase : NameRule → ℕ
+phase IdTwice = 3
+phase IdIsGroup = 3
+phase GroupSplit = 3
+phase UnknownName = 4
+phase ForwardName = 4
+phase OwnGroup = 4
+phase GroupNotListed = 4
+phase UnknownReference = 4
+phase ForwardReference = 4
+phase ReferenceNotListed = 4
+
+abbrev pub rule_code : NameRule → List ℕ
+rule_code rule = code_of (number rule)
+
+abbrev pub rule_name : NameRule → List ℕ
+rule_name IdTwice = codes "IdTwice"
+rule_name IdIsGroup = codes "IdIsGroup"
+rule_name GroupSplit = codes "GroupSplit"
+rule_name UnknownName = codes "UnknownName"
+rule_name ForwardName = codes "ForwardName"
+rule_name OwnGroup = codes "OwnGroup"
+rule_name GroupNotListed = codes "GroupNotListed"
+rule_name UnknownReference = codes "UnknownReference"
+rule_name ForwardReference = codes "ForwardReference"
+rule_name ReferenceNotListed = codes "ReferenceNotListed"

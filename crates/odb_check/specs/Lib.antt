@@ -1,0 +1,16 @@
+pub mod Faults
+pub mod FaultTable
+pub mod Positions
+pub mod NameFaults
+pub mod LeastNameFault
+pub mod Firsts
+pub mod Units
+pub mod Needs
+pub mod Tables
+pub mod Tests
+pub mod Walks
+pub mod Marks
+pub mod Levels
+pub mod Shape
+pub mod Plans
+pub mod Texts

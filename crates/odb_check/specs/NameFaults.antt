@@ -1,0 +1,26 @@
+-- Where each rule on names is broken, over all pairs of positions (OData JSON Format 4.01, sections 19.1
+-- and 19.2).
+use Rattle.std.specs.Prelude.{◌≡◌, ◌<◌, ◌⊎◌, ◌+◌, ℕ, List, Some, Contains, IsSomeAnd}
+use Rattle.odb_doc.specs.Records.{Record}
+use Rattle.odb_check.specs.declared.fault.NameRule.{NameRule}
+use Rattle.odb_check.specs.declared.fault.NameRule.TheVariants as rules
+use Rattle.odb_check.specs.Positions.{id_at, group_at, names_at, reference_at, IsId, IsIdBefore, IsIdFrom, IsGroup, IsGroupBefore, IsGroupAfter, IsInGroupOf, NamesGroupOf}
+
+-- of one of the names at position i this is true
+pub record SomeName (rs : List Record) (i : ℕ) (P : List ℕ → Type 0) : Type 0 where
+  pub name : List ℕ
+  pub listed : Contains (names_at rs i) name
+  pub holds : P name
+
+-- the rule is broken at position i
+abbrev pub StandsAt : NameRule → List Record → ℕ → Type 0
+StandsAt rules.IdTwice rs i = IsSomeAnd (id_at rs i) (λ id. IsIdBefore rs id i)
+StandsAt rules.IdIsGroup rs i = IsSomeAnd (id_at rs i) (λ id. IsGroup rs id)
+StandsAt rules.GroupSplit rs i = IsSomeAnd (group_at rs i) (λ group. (j : ℕ) × (i ≡ j + 1) × ¬ (group_at rs j ≡ Some group) × IsGroupBefore rs group j)
+StandsAt rules.UnknownName rs i = SomeName rs i (λ name. ¬ IsId rs name × ¬ IsGroup rs name)
+StandsAt rules.ForwardName rs i = SomeName rs i (λ name. IsIdFrom rs name i ⊎ IsGroupAfter rs name i)
+StandsAt rules.OwnGroup rs i = SomeName rs i (λ name. group_at rs i ≡ Some name)
+StandsAt rules.GroupNotListed rs i = SomeName rs i (λ name. (j : ℕ) × (j < i) × (id_at rs j ≡ Some name) × IsSomeAnd (group_at rs j) (λ group. ¬ (group_at rs i ≡ Some group) × ¬ Contains (names_at rs i) group))
+StandsAt rules.UnknownReference rs i = IsSomeAnd (reference_at rs i) (λ id. ¬ IsId rs id)
+StandsAt rules.ForwardReference rs i = IsSomeAnd (reference_at rs i) (λ id. IsIdFrom rs id i)
+StandsAt rules.ReferenceNotListed rs i = IsSomeAnd (reference_at rs i) (λ id. (j : ℕ) × (j < i) × (id_at rs j ≡ Some id) × ¬ IsInGroupOf rs i j × ¬ Contains (names_at rs i) id × ¬ NamesGroupOf rs i j)

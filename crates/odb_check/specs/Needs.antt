@@ -1,0 +1,37 @@
+-- What the requests of a batch need (OData JSON Format 4.01, section 19.1, `dependsOn`, and section 19.2).
+use Rattle.std.specs.Prelude.{◌≡◌, ℕ, suc, List, [], ◌∷◌, ◌++◌, Option, Some, None, length, bytes_eq, cond}
+use Rattle.std.specs.List.{list_any, filter_map}
+use Rattle.odb_doc.specs.Records.{Record}
+use Rattle.odb_check.specs.declared.need.Need.{Need}
+use Rattle.odb_check.specs.declared.need.Need.TheVariants.{One, Group}
+use Rattle.odb_check.specs.Positions.{names_at, reference_at}
+use Rattle.odb_check.specs.Firsts.{list_below, joined_below}
+use Rattle.odb_check.specs.Units.{position_of, unit_of_group}
+
+-- a position, or else a unit
+abbrev pub need_at : Option ℕ → Option ℕ → Option Need
+need_at (Some position) unit = Some (One position)
+need_at None (Some unit) = Some (Group unit)
+need_at None None = None
+
+-- an identifier stands for its position and a group for its unit, any other text for nothing
+abbrev pub need_of : List Record → List ℕ → Option Need
+need_of rs name = need_at (position_of rs name) (unit_of_group rs name)
+
+-- the reference, where it is not among the names
+abbrev pub further_names : List (List ℕ) → Option (List ℕ) → List (List ℕ)
+further_names names None = []
+further_names names (Some id) = cond (list_any (bytes_eq id) names) [] (id ∷ [])
+
+-- the names in `dependsOn`, and then the reference where it is not among them
+abbrev pub needed_names : List Record → ℕ → List (List ℕ)
+needed_names rs i = names_at rs i ++ further_names (names_at rs i) (reference_at rs i)
+
+-- what these names stand for
+abbrev pub needs_at : List Record → ℕ → List Need
+needs_at rs i = filter_map (need_of rs) (needed_names rs i)
+
+-- the needs of the first n requests, one after another, and where those of each begin
+pub record AreNeedsOf (rs : List Record) (n : ℕ) (needs : List Need) (offsets : List ℕ) : Type 0 where
+  pub needs_are : needs ≡ joined_below n (needs_at rs)
+  pub offsets_are : offsets ≡ list_below (suc n) (λ k. length (joined_below k (needs_at rs)))

@@ -1,0 +1,153 @@
+ghost use Rattle.std.specs.Prelude.{◌≡◌};
+ghost use Rattle.odb_check.specs.declared.fault.CheckFault.TheVariants.{OutOfMemory};
+
+use odb_doc::Place;
+use std::alloc::{AllocError, AllocFailed};
+use thiserror::Error;
+
+/// A rule that the names of a batch break at one of its requests (OData JSON Format 4.01, sections
+/// 19.1 and 19.2).
+///
+/// The rules on identifiers and groups, up to F32, come before those on names and references: these
+/// are looked at only in a batch in which no request breaks one of the former.
+#[derive(Clone, Copy, Debug, PartialEq, Eq, Error)]
+pub enum NameRule {
+    /// F30: an earlier request has the same identifier.
+    #[error("an earlier request has the same `id`")]
+    IdTwice,
+    /// F31: the identifier is the atomicity group of some request.
+    #[error("`id` is the `atomicityGroup` of some request")]
+    IdIsGroup,
+    /// F32: the request has a group that the request just before it is not in, and an earlier one is
+    /// in it.
+    #[error("the requests of the group are not adjacent")]
+    GroupSplit,
+    /// F40: a name of `dependsOn` is no identifier and no group of the batch.
+    #[error("`dependsOn` has a name that the batch does not have")]
+    UnknownName,
+    /// F41: a name is the identifier of this request or of a later one, or is a group all of whose
+    /// requests come later.
+    #[error("`dependsOn` names a request or a group that does not precede")]
+    ForwardName,
+    /// F42: a name is the group of this request.
+    #[error("`dependsOn` names the request's own group")]
+    OwnGroup,
+    /// F43: a name is the identifier of an earlier request that is in another group, and that group
+    /// is not in `dependsOn`.
+    #[error("`dependsOn` names a member of a group without the group")]
+    GroupNotListed,
+    /// F44: the reference is no identifier of the batch.
+    #[error("`url` refers to a request that the batch does not have")]
+    UnknownReference,
+    /// F45: the reference is the identifier of this request or of a later one.
+    #[error("`url` refers to a request that does not precede")]
+    ForwardReference,
+    /// F46: the reference is the identifier of an earlier request, the two are not in one group, and
+    /// neither the reference nor the group of the earlier request is in `dependsOn`.
+    #[error("`url` refers to a request that `dependsOn` does not name")]
+    ReferenceNotListed,
+}
+
+/// Why the names of a batch do not fit together.
+#[derive(Clone, Copy, Debug, PartialEq, Eq, Error)]
+pub enum CheckFault {
+    /// The request at this position, counted from 0, breaks this rule.
+    #[error("request {at}: {rule}")]
+    Request { at: usize, rule: NameRule },
+    /// Memory was refused. That says nothing of the batch.
+    #[error("out of memory")]
+    OutOfMemory,
+}
+
+impl NameRule {
+    ghost use Rattle.odb_check.specs.Faults.{rule_code, rule_name};
+
+    /// The code that is printed, from `F30` to `F46`.
+    pub fn code(self) -> &'static str
+        ensures { result.now ≡ rule_code self }
+    {
+        match self {
+            NameRule::IdTwice => "F30",
+            NameRule::IdIsGroup => "F31",
+            NameRule::GroupSplit => "F32",
+            NameRule::UnknownName => "F40",
+            NameRule::ForwardName => "F41",
+            NameRule::OwnGroup => "F42",
+            NameRule::GroupNotListed => "F43",
+            NameRule::UnknownReference => "F44",
+            NameRule::ForwardReference => "F45",
+            NameRule::ReferenceNotListed => "F46",
+        }
+    }
+
+    /// The name that is printed, as `ForwardName`.
+    pub fn name(self) -> &'static str
+        ensures { result.now ≡ rule_name self }
+    {
+        match self {
+            NameRule::IdTwice => "IdTwice",
+            NameRule::IdIsGroup => "IdIsGroup",
+            NameRule::GroupSplit => "GroupSplit",
+            NameRule::UnknownName => "UnknownName",
+            NameRule::ForwardName => "ForwardName",
+            NameRule::OwnGroup => "OwnGroup",
+            NameRule::GroupNotListed => "GroupNotListed",
+            NameRule::UnknownReference => "UnknownReference",
+            NameRule::ForwardReference => "ForwardReference",
+            NameRule::ReferenceNotListed => "ReferenceNotListed",
+        }
+    }
+}
+
+impl CheckFault {
+    ghost use Rattle.odb_check.specs.FaultTable.{IsNumbered, fault_code, fault_name, fault_place};
+
+    /// The code of a numbered fault, as `F41`.
+    pub fn code(&self) -> &'static str
+        requires { IsNumbered self.now }
+        ensures { result.now ≡ fault_code self.now }
+    {
+        match *self {
+            CheckFault::Request { rule, .. } => rule.code(),
+            CheckFault::OutOfMemory => unreachable!(),
+        }
+    }
+
+    /// The name of a numbered fault, as `ForwardName`.
+    pub fn name(&self) -> &'static str
+        requires { IsNumbered self.now }
+        ensures { result.now ≡ fault_name self.now }
+    {
+        match *self {
+            CheckFault::Request { rule, .. } => rule.name(),
+            CheckFault::OutOfMemory => unreachable!(),
+        }
+    }
+
+    /// Where a numbered fault lies.
+    pub fn place(&self) -> Place
+        requires { IsNumbered self.now }
+        ensures { result ≡ fault_place self.now }
+    {
+        match *self {
+            CheckFault::Request { at, .. } => Place::Request(at),
+            CheckFault::OutOfMemory => unreachable!(),
+        }
+    }
+}
+
+impl From<AllocError> for CheckFault {
+    ghost from_gives = { λ _ fault. fault ≡ OutOfMemory };
+
+    fn from(_error: AllocError) -> Self {
+        CheckFault::OutOfMemory
+    }
+}
+
+impl<T: Drop> From<AllocFailed<T>> for CheckFault {
+    ghost from_gives = { λ _ fault. fault ≡ OutOfMemory };
+
+    fn from(_error: AllocFailed<T>) -> Self {
+        CheckFault::OutOfMemory
+    }
+}

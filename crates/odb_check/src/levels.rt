@@ -1,0 +1,61 @@
+ghost use Rattle.std.specs.Prelude.{◌≡◌, ◌≤◌, ◌<◌, ◌+◌, ℕ, length, slice_index, All, IfOk};
+ghost use Rattle.odb_doc.specs.Batches.{records};
+ghost use Rattle.odb_check.specs.LeastNameFault.{HasGoodNames};
+ghost use Rattle.odb_check.specs.Levels.{level_needed, levels_below, next_level};
+ghost use Rattle.odb_check.specs.Marks.{IsWithin};
+ghost use Rattle.odb_check.specs.Needs.{AreNeedsOf};
+
+use crate::need::Need;
+use crate::needs::{Needs, needs_of_request};
+use crate::tables::Tables;
+use std::alloc::{AllocError, Global};
+
+/// The level of what is needed.
+fn level_needed(need: Need, levels: &[u32], unit_levels: &[u32]) -> u32
+    requires { IsWithin need (length levels.now) (length unit_levels.now) }
+    ensures { result ≡ level_needed (slice_index levels.now) (slice_index unit_levels.now) need }
+{
+    match need {
+        Need::One(position) => levels[position as usize],
+        Need::Group(unit) => unit_levels[unit as usize],
+    }
+}
+
+/// 0 without needs, else one more than the greatest level of what is needed.
+fn next_level(needs: &[Need], levels: &[u32], unit_levels: &[u32]) -> u32
+    requires within { All (λ need. IsWithin need (length levels.now) (length unit_levels.now))
+        needs.now }
+    requires low { (k : ℕ) → slice_index levels.now k ≤ 10000 }
+    requires unit_low { (u : ℕ) → slice_index unit_levels.now u ≤ 10000 }
+    ensures { result ≡ next_level (slice_index levels.now) (slice_index unit_levels.now)
+        needs.now }
+{
+    let mut level: u32 = 0;
+    for need in needs {
+        level = level.max(level_needed(*need, levels, unit_levels) + 1);
+    }
+    level
+}
+
+/// The level of each request: how long its longest chain of needs is.
+pub(crate) fn levels_of(
+    alloc: Global,
+    tables: &Tables<'_>,
+    needs: &Needs,
+) -> Result<Vec<u32>, AllocError>
+    requires good { HasGoodNames (records tables.now.batch.now) }
+    requires needs { AreNeedsOf (records tables.now.batch.now)
+        (length (records tables.now.batch.now)) needs.now.list.items needs.now.offsets.items }
+    ensures { IfOk result (λ levels. levels.items
+        ≡ levels_below (records tables.now.batch.now) (length (records tables.now.batch.now))) }
+{
+    let mut levels = Vec::with_capacity(alloc, tables.len() as usize)?;
+    let mut unit_levels = vec![in alloc; 0_u32; tables.unit_count() as usize]?;
+    for i in 0..tables.len() {
+        let level = next_level(needs_of_request(tables, needs, i), &levels, &unit_levels);
+        levels.push(level)?;
+        let unit = tables.unit_of(i) as usize;
+        unit_levels[unit] = unit_levels[unit].max(level);
+    }
+    Ok(levels)
+}

@@ -1,0 +1,56 @@
+ghost use Rattle.std.specs.Prelude.{◌≡◌, ◌<◌, ◌==◌, length, slice_index, IfOk};
+ghost use Rattle.odb_check.specs.Marks.{AreUpTo, IsWithin, ones_with, groups_with};
+
+use crate::need::Need;
+use std::alloc::{AllocError, Global};
+
+/// The requests and units that a request names, each marked by the stamp of that request.
+///
+/// A walk over the requests gives each of them a stamp above those before, so no mark is ever taken
+/// back.
+#[derive(Drop)]
+pub(crate) struct Marks {
+    ones: Vec<u32>,
+    groups: Vec<u32>,
+}
+
+impl Marks {
+    /// No marks yet, for stamps from 1 on.
+    pub(crate) fn new(alloc: Global, requests: u32, units: u32) -> Result<Marks, AllocError>
+        ensures { IfOk result (λ marks. AreUpTo 0 requests units marks.ones.items
+            marks.groups.items) }
+    {
+        Ok(Marks {
+            ones: vec![in alloc; 0_u32; requests as usize]?,
+            groups: vec![in alloc; 0_u32; units as usize]?,
+        })
+    }
+
+    /// Marks what a name stands for.
+    pub(crate) fn mark(&mut self, need: Need, stamp: u32)
+        requires { IsWithin need (length self.old.ones.items) (length self.old.groups.items) }
+        ensures ones { self.new.ones.items ≡ ones_with need stamp self.old.ones.items }
+        ensures groups { self.new.groups.items ≡ groups_with need stamp self.old.groups.items }
+    {
+        match need {
+            Need::One(position) => self.ones[position as usize] = stamp,
+            Need::Group(unit) => self.groups[unit as usize] = stamp,
+        }
+    }
+
+    /// Whether the request has the stamp.
+    pub(crate) fn has_one(&self, position: u32, stamp: u32) -> bool
+        requires { position < length self.now.ones.items }
+        ensures { result ≡ (slice_index self.now.ones.items position == stamp) }
+    {
+        self.ones[position as usize] == stamp
+    }
+
+    /// Whether the unit has the stamp.
+    pub(crate) fn has_group(&self, unit: u32, stamp: u32) -> bool
+        requires { unit < length self.now.groups.items }
+        ensures { result ≡ (slice_index self.now.groups.items unit == stamp) }
+    {
+        self.groups[unit as usize] == stamp
+    }
+}

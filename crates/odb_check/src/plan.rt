@@ -1,0 +1,119 @@
+ghost use Rattle.std.specs.Prelude.{◌≡◌, ◌≤◌, ◌<◌, length, slice_get, Some};
+ghost use Rattle.std.proofs.Props.{props};
+ghost use Rattle.odb_doc.specs.Batches.{records};
+ghost use Rattle.odb_doc.specs.Records.{IsSoundRecord, record_of};
+ghost use Rattle.odb_check.specs.LeastNameFault.{HasGoodNames};
+ghost use Rattle.odb_check.specs.Levels.{HasLevels, level_at, levels_below};
+ghost use Rattle.odb_check.specs.Needs.{AreNeedsOf};
+ghost use Rattle.odb_check.specs.Units as units;
+
+use crate::need::Need;
+use crate::needs::{Needs, needs_of_request};
+use crate::tables::Tables;
+use odb_doc::Request;
+use std::ops::Range;
+
+/// The plan of a batch whose names fit together: its units, and what each request needs before it may
+/// start (OData JSON Format 4.01, sections 19.1 and 19.2; OData Protocol 4.01, section 11.7).
+///
+/// A unit is one atomicity group, or one request without a group; units are numbered from 0 in the
+/// order of their first requests. The texts of the batch are borrowed from it.
+#[derive(Drop)]
+pub struct Plan<'b> {
+    pub(crate) tables: Tables<'b>,
+    pub(crate) needs: Needs,
+    pub(crate) levels: Vec<u32>,
+    ghost good: { HasGoodNames (records tables.batch.now) },
+    ghost needed: { AreNeedsOf (records tables.batch.now) (length (records tables.batch.now))
+        needs.list.items needs.offsets.items } by { Prim.hlevel props },
+    ghost leveled: { levels.items
+        ≡ levels_below (records tables.batch.now) (length (records tables.batch.now)) },
+}
+
+impl<'b> Plan<'b> {
+    ghost use Rattle.odb_check.specs.Needs.{needs_at};
+    ghost use Rattle.odb_check.specs.Plans.{plan_records};
+    ghost use Rattle.odb_check.specs.Shape.{HasNamesAsNeeds, IsPlan, shape_of};
+
+    /// How many requests there are: 10,000 at most.
+    pub fn len(&self) -> u32
+        ensures count { result ≡ length (plan_records self.now) }
+        ensures small { result ≤ 10000 }
+
+        // What holds of every plan.
+        ensures good { HasGoodNames (plan_records self.now) }
+        ensures laws { IsPlan (shape_of (plan_records self.now)) }
+        ensures names { HasNamesAsNeeds (plan_records self.now) (shape_of (plan_records self.now)) }
+    {
+        self.tables.len()
+    }
+
+    /// The request at a position, counted from 0.
+    pub fn request(&self, i: u32) -> &Request<'b>
+        requires { i < length (plan_records self.now) }
+        ensures value { slice_get (plan_records self.now) i ≡ Some (record_of result.now) }
+        ensures sound { IsSoundRecord (record_of result.now) }
+    {
+        self.tables.request(i)
+    }
+
+    /// How many units there are.
+    pub fn unit_count(&self) -> u32
+        ensures count { result ≡ units.unit_count (plan_records self.now) }
+        ensures few { result ≤ length (plan_records self.now) }
+    {
+        self.tables.unit_count()
+    }
+
+    /// The unit that the request at a position is in.
+    pub fn unit_of(&self, i: u32) -> u32
+        requires { i < length (plan_records self.now) }
+        ensures value { result ≡ units.unit_at (plan_records self.now) i }
+        ensures within { result < units.unit_count (plan_records self.now) }
+    {
+        self.tables.unit_of(i)
+    }
+
+    /// The positions of a unit, which are adjacent.
+    pub fn members(&self, u: u32) -> Range<u32>
+        requires { u < units.unit_count (plan_records self.now) }
+        ensures { units.HasMembers (plan_records self.now) u result.start result.end }
+    {
+        let start = self.tables.start_of(u);
+        let end = if u + 1 < self.tables.unit_count() {
+            self.tables.start_of(u + 1)
+        } else {
+            self.tables.len()
+        };
+        start..end
+    }
+
+    /// What the request at a position needs: what its names stand for, in order and each once, and
+    /// then the request that its URL refers to, where no name stands for that.
+    pub fn needs(&self, i: u32) -> &[Need]
+        requires { i < length (plan_records self.now) }
+        ensures { result.now ≡ needs_at (plan_records self.now) i }
+    {
+        needs_of_request(&self.tables, &self.needs, i)
+    }
+
+    /// How long the longest chain of needs is that the request at a position waits for.
+    ///
+    /// That is 0 without needs, else one more than the greatest level of what is needed. The level of
+    /// a group is the greatest of its members.
+    pub fn level(&self, i: u32) -> u32
+        requires { i < length (plan_records self.now) }
+        ensures value { result ≡ level_at (plan_records self.now) i }
+        ensures law { HasLevels (plan_records self.now) }
+    {
+        self.levels[i as usize]
+    }
+
+    /// The position of the request with this identifier, or `None` where the text is no identifier of
+    /// the batch.
+    pub fn position_of(&self, id: &str) -> Option<u32>
+        ensures { result ≡ units.position_of (plan_records self.now) id.now }
+    {
+        self.tables.position_of(id)
+    }
+}
