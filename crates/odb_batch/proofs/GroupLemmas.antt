@@ -7,7 +7,7 @@ use Rattle.std.proofs.lemmas.Option.{get_or_from_slice_get, slice_get_within}
 use Rattle.odb_doc.specs.Names.{distinct, texts_in, with_name}
 use Rattle.odb_doc.specs.Records.{Record}
 use Rattle.odb_doc.proofs.NameLemmas.{fold-with_name-nil}
-use Rattle.odb_batch.specs.Names.{groups_of}
+use Rattle.odb_batch.specs.Groups.{groups_of}
 
 -- the groups so far, and then those of the requests that are left
 abbrev pub put_on : List (List ℕ) → List Record → List (List ℕ)

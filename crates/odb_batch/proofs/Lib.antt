@@ -1,4 +1,3 @@
-mod CheckLemmas
 mod GroupLemmas
 mod ReadLemmas
 mod WriteLemmas

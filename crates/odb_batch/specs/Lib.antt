@@ -1,7 +1,6 @@
 pub mod Inputs
 pub mod Outputs
-pub mod Names
-pub mod NameFaults
+pub mod Groups
 pub mod Lines
 pub mod Verdicts
-pub mod Checks
+pub mod Reports

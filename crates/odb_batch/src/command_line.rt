@@ -1,4 +1,4 @@
-use clap::{Arg, ArgMatches, Command, Error};
+use clap::{Arg, Command, Error};
 use std::alloc::{AllocError, Global};
 
 /// What the words of the command line ask for.
@@ -6,6 +6,8 @@ use std::alloc::{AllocError, Global};
 pub enum Task<'a> {
     /// Check the batch in the file, or the one on standard input where none is named.
     Check { file: Option<&'a str> },
+    /// Plan the batch in the file.
+    Plan { file: &'a str },
 }
 
 fn command<'a>(alloc: Global) -> Result<Command<'a>, AllocError> {
@@ -15,14 +17,17 @@ fn command<'a>(alloc: Global) -> Result<Command<'a>, AllocError> {
     let check = Command::new(alloc, "check")
         .about("Check a batch: one line says whether it is accepted, or its least fault")
         .arg(file)?;
+    let file = Arg::new(alloc, "FILE")
+        .help("The batch document")
+        .required(true);
+    let plan = Command::new(alloc, "plan")
+        .about("Plan a batch: a line per request says what it needs and what may run beside it")
+        .arg(file)?;
     Command::new(alloc, "odb_batch")
         .about("Checks OData JSON batch requests. Without a command it checks standard input.")
         .disable_help_subcommand(true)
-        .subcommand(check)
-}
-
-fn file_of<'a>(matches: &ArgMatches<'a>) -> Option<&'a str> {
-    matches.get_str("FILE")
+        .subcommand(check)?
+        .subcommand(plan)
 }
 
 impl<'a> Task<'a> {
@@ -33,10 +38,15 @@ impl<'a> Task<'a> {
     /// What `clap` says of wrong words, of a want of memory, and where help is asked for.
     pub fn read(alloc: Global, words: &'a [String]) -> Result<Task<'a>, Error> {
         let matches = command(alloc)?.try_get_matches_from(words)?;
-        let file = match matches.subcommand() {
-            Some((_, check)) => file_of(check),
-            None => None,
-        };
-        Ok(Task::Check { file })
+        Ok(match matches.subcommand() {
+            Some(("plan", plan)) => Task::Plan {
+                // `clap` refuses words without it.
+                file: plan.get_str("FILE").unwrap_or(""),
+            },
+            Some((_, check)) => Task::Check {
+                file: check.get_str("FILE"),
+            },
+            None => Task::Check { file: None },
+        })
     }
 }

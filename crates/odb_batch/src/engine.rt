@@ -3,10 +3,10 @@ ghost use Rattle.odb_doc.specs.declared.device.TheConstants.{MAX_READS};
 ghost use Rattle.odb_batch.specs.declared.reading.ReadFault.TheVariants as read_faults;
 ghost use Rattle.odb_batch.specs.declared.engine.EngineFault.TheVariants as faults;
 ghost use Rattle.odb_batch.specs.Inputs.{SomeDocument, GivesFew};
-ghost use Rattle.odb_batch.specs.Checks.{Checks, ChecksInPart};
+ghost use Rattle.odb_batch.specs.Reports.{Reports, ReportsInPart};
 
 use crate::reading::{ReadFault, read_document};
-use crate::verdict::{Ended, Verdict};
+use crate::verdict::{Ended, Subject, Verdict};
 use crate::writing::{WriteFault, write_text};
 use odb_doc::{Input, Output};
 use std::alloc::{AllocError, Global};
@@ -55,7 +55,41 @@ impl From<AllocError> for EngineFault {
     }
 }
 
-/// Reads a document, checks it, and writes the line of the verdict.
+/// Reads a document, and writes of it what the subject is, or the line of its least fault.
+fn report<R: Read, W: Write>(
+    alloc: Global,
+    subject: Subject,
+    input: &mut Input<R>,
+    output: &mut Output<W>,
+) -> Result<Ended, EngineFault>
+    requires input_works { input.old.failed ≡ false }
+    requires input_fresh { input.old.reads ≡ 0 }
+    requires output_works { output.old.failed ≡ false }
+
+    ensures ended { IfOk result (λ ended. SomeDocument (R.remaining input.old.reader)
+        (λ bytes. Reports subject bytes ended (W.contents output.old.writer)
+        (W.contents output.new.writer))) }
+
+    ensures read { (result ≡ Err EngineFault.Read) ↔ IsTrue input.new.failed }
+    ensures unread { result ≡ Err EngineFault.Read → output.new ≡ output.old }
+    ensures memory { result ≡ Err EngineFault.OutOfMemory → output.new ≡ output.old }
+    ensures write { (result ≡ Err EngineFault.Write) ↔ IsTrue output.new.failed }
+    ensures part { result ≡ Err EngineFault.Write → SomeDocument (R.remaining input.old.reader)
+        (λ bytes. ReportsInPart subject bytes (W.contents output.old.writer)
+        (W.contents output.new.writer)) }
+
+    ensures reads { input.new.reads ≤ MAX_READS }
+    ensures given { GivesFew (R.remaining input.old.reader) (R.remaining input.new.reader) }
+{
+    let bytes = read_document(alloc, input)?;
+    let verdict = Verdict::on(alloc, subject, bytes.as_slice())?;
+    let ended = verdict.ended();
+    let text = verdict.into_text(alloc)?;
+    write_text(output, text.as_str())?;
+    Ok(ended)
+}
+
+/// Checks the batch in a document: writes the line of its counts, or of its least fault.
 ///
 /// # Errors
 ///
@@ -71,7 +105,7 @@ pub fn check_batch<R: Read, W: Write>(
     requires output_works { output.old.failed ≡ false }
 
     ensures ended { IfOk result (λ ended. SomeDocument (R.remaining input.old.reader)
-        (λ bytes. Checks bytes ended (W.contents output.old.writer)
+        (λ bytes. Reports Subject.Counts bytes ended (W.contents output.old.writer)
         (W.contents output.new.writer))) }
 
     ensures read { (result ≡ Err EngineFault.Read) ↔ IsTrue input.new.failed }
@@ -79,15 +113,43 @@ pub fn check_batch<R: Read, W: Write>(
     ensures memory { result ≡ Err EngineFault.OutOfMemory → output.new ≡ output.old }
     ensures write { (result ≡ Err EngineFault.Write) ↔ IsTrue output.new.failed }
     ensures part { result ≡ Err EngineFault.Write → SomeDocument (R.remaining input.old.reader)
-        (λ bytes. ChecksInPart bytes (W.contents output.old.writer)
+        (λ bytes. ReportsInPart Subject.Counts bytes (W.contents output.old.writer)
         (W.contents output.new.writer)) }
 
     ensures reads { input.new.reads ≤ MAX_READS }
     ensures given { GivesFew (R.remaining input.old.reader) (R.remaining input.new.reader) }
 {
-    let bytes = read_document(alloc, input)?;
-    let verdict = Verdict::on(alloc, bytes.as_slice())?;
-    let line = verdict.line(alloc)?;
-    write_text(output, line.as_str())?;
-    Ok(verdict.ended())
+    report(alloc, Subject::Counts, input, output)
+}
+
+/// Plans the batch in a document: writes a line per request, or the line of its least fault.
+///
+/// # Errors
+///
+/// As for [`check_batch`].
+pub fn plan_batch<R: Read, W: Write>(
+    alloc: Global,
+    input: &mut Input<R>,
+    output: &mut Output<W>,
+) -> Result<Ended, EngineFault>
+    requires input_works { input.old.failed ≡ false }
+    requires input_fresh { input.old.reads ≡ 0 }
+    requires output_works { output.old.failed ≡ false }
+
+    ensures ended { IfOk result (λ ended. SomeDocument (R.remaining input.old.reader)
+        (λ bytes. Reports Subject.Plan bytes ended (W.contents output.old.writer)
+        (W.contents output.new.writer))) }
+
+    ensures read { (result ≡ Err EngineFault.Read) ↔ IsTrue input.new.failed }
+    ensures unread { result ≡ Err EngineFault.Read → output.new ≡ output.old }
+    ensures memory { result ≡ Err EngineFault.OutOfMemory → output.new ≡ output.old }
+    ensures write { (result ≡ Err EngineFault.Write) ↔ IsTrue output.new.failed }
+    ensures part { result ≡ Err EngineFault.Write → SomeDocument (R.remaining input.old.reader)
+        (λ bytes. ReportsInPart Subject.Plan bytes (W.contents output.old.writer)
+        (W.contents output.new.writer)) }
+
+    ensures reads { input.new.reads ≤ MAX_READS }
+    ensures given { GivesFew (R.remaining input.old.reader) (R.remaining input.new.reader) }
+{
+    report(alloc, Subject::Plan, input, output)
 }

@@ -1,7 +1,7 @@
 ghost use Rattle.std.specs.Prelude.{◌≡◌, length, IfOk, OnOk};
 ghost use Rattle.odb_doc.specs.Batches.{records};
 ghost use Rattle.odb_doc.specs.Names.{texts_in, with_name};
-ghost use Rattle.odb_batch.specs.Names.{groups_of};
+ghost use Rattle.odb_batch.specs.Groups.{groups_of};
 
 use indexmap::IndexSet;
 use odb_doc::Batch;

@@ -5,11 +5,12 @@
 //! status.
 #![tactic(auto)]
 
+ghost use Rattle.std.specs.Prelude.{◌≡◌, false, IfOk};
+
 mod command_line;
 mod engine;
 mod groups;
 mod lines;
-mod names;
 mod reading;
 #[cfg(test)]
 mod tests;
@@ -18,7 +19,7 @@ mod writing;
 
 use clap::error::ErrorKind;
 use command_line::Task;
-use engine::{EngineFault, check_batch};
+use engine::{EngineFault, check_batch, plan_batch};
 use odb_doc::{Input, Output};
 use std::process::ExitCode;
 use std::rt::Runtime;
@@ -66,24 +67,44 @@ fn explain<R: Runtime>(rt: &R, error: &clap::Error) -> Status {
     }
 }
 
+/// The file as an input, or the status of a program that cannot open it.
+fn open<R: Runtime>(rt: &R, path: &str) -> Result<Input<R::File>, Status>
+    ensures works { IfOk result (λ input. input.failed ≡ false) }
+    ensures fresh { IfOk result (λ input. input.reads ≡ 0) }
+{
+    match fs::open(rt, path) {
+        Ok(file) => Ok(Input::new(file)),
+        Err(error) if error.kind() == io::ErrorKind::OutOfMemory => {
+            Err(failed(rt, "memory", Status::Memory))
+        }
+        Err(_) => Err(failed(rt, "open", Status::Device)),
+    }
+}
+
 fn check<R: Runtime + AllocGlobal>(rt: &R, file: Option<&str>) -> Status {
     let mut output = Output::new(io::writer(rt));
     let ended = match file {
         None => check_batch(rt.alloc(), &mut Input::new(rt.reader()), &mut output),
-        Some(path) => match fs::open(rt, path) {
-            Ok(opened) => check_batch(rt.alloc(), &mut Input::new(opened), &mut output),
-            Err(error) if error.kind() == io::ErrorKind::OutOfMemory => {
-                Err(EngineFault::OutOfMemory)
-            }
-            Err(_) => return failed(rt, "open", Status::Device),
+        Some(path) => match open(rt, path) {
+            Ok(mut input) => check_batch(rt.alloc(), &mut input, &mut output),
+            Err(status) => return status,
         },
     };
     status_of(rt, ended)
 }
 
+fn plan<R: Runtime + AllocGlobal>(rt: &R, path: &str) -> Status {
+    let mut output = Output::new(io::writer(rt));
+    match open(rt, path) {
+        Ok(mut input) => status_of(rt, plan_batch(rt.alloc(), &mut input, &mut output)),
+        Err(status) => status,
+    }
+}
+
 fn run<R: Runtime + AllocGlobal>(rt: &R, words: &[String]) -> Status {
     match Task::read(rt.alloc(), words) {
         Ok(Task::Check { file }) => check(rt, file),
+        Ok(Task::Plan { file }) => plan(rt, file),
         Err(error) => explain(rt, &error),
     }
 }

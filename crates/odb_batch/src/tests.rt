@@ -1,5 +1,5 @@
 //! The engine over readers and writers that behave, and over some that do not.
-use crate::engine::{EngineFault, check_batch};
+use crate::engine::{EngineFault, check_batch, plan_batch};
 use crate::verdict::Ended;
 use odb_doc::{Input, Output};
 use std::alloc::Global;
@@ -9,6 +9,21 @@ use std::test::Fail;
 
 const TWO_REQUESTS: &str = r#"{"requests":[{"id":"1","method":"get","url":"A"},
     {"id":"2","method":"get","url":"B","dependsOn":["1"]}]}"#;
+
+/// A book is looked up, then lent by two requests in one group, and then the loans are listed.
+const LENDING: &str = r#"{"@odata.context":"x","requests":[
+    {"id":"0","method":"get","url":"/library/Books('dune')"},
+    {"id":"1","atomicityGroup":"lend","dependsOn":["0"],"method":"patch",
+        "url":"/library/Books('dune')","headers":{"Prefer":"return=minimal"},"body":{"Reader":42}},
+    {"id":"2","atomicityGroup":"lend","dependsOn":["0"],"method":"post",
+        "url":"/library/Loans","body":{"Book":"dune","Reader":42}},
+    {"id":"3","dependsOn":["lend"],"method":"GET","url":"Loans"}]}"#;
+
+/// The request of a body refers to that of an order, which it need not list, being in its group.
+const ORDER: &str = r#"{"requests":[
+    {"id":"order","atomicityGroup":"g","method":"post","url":"Orders"},
+    {"id":"line","atomicityGroup":"g","method":"post","url":"$order/Lines"},
+    {"id":"bill","dependsOn":["g"],"method":"get","url":"$order/Bill"}]}"#;
 
 /// Gives its bytes some at a time, and fails instead where its turn says so.
 #[derive(Drop)]
@@ -88,6 +103,8 @@ fn a_document_gives_one_line(rt: HostRuntime) -> Result<(), Fail> {
             "ok 0 requests 0 groups\n",
         ),
         (TWO_REQUESTS, Ended::Done, "ok 2 requests 0 groups\n"),
+        (LENDING, Ended::Done, "ok 4 requests 1 groups\n"),
+        (ORDER, Ended::Done, "ok 3 requests 1 groups\n"),
         (
             unknown,
             Ended::Refused,
@@ -111,6 +128,43 @@ fn a_document_gives_one_line(rt: HostRuntime) -> Result<(), Fail> {
         assert_eq!(rt;
             output.into_inner().as_slice(),
             line.as_bytes(),
+            "{document}"
+        );
+    }
+    Ok(())
+}
+
+#[test]
+fn a_plan_has_a_line_for_each_request(rt: HostRuntime) -> Result<(), Fail> {
+    let early = r#"{"requests":[{"id":"a","method":"get","url":"A","dependsOn":["b"]},
+        {"id":"b","method":"get","url":"B"}]}"#;
+    for (document, ended, text) in [
+        (r#"{"requests":[]}"#, Ended::Done, ""),
+        (
+            LENDING,
+            Ended::Done,
+            "0 0 level 0 group * needs *\n1 1 level 1 group lend needs 0\n\
+             2 2 level 1 group lend needs 0\n3 3 level 2 group * needs lend\n",
+        ),
+        (
+            ORDER,
+            Ended::Done,
+            "0 order level 0 group g needs *\n1 line level 1 group g needs order\n\
+             2 bill level 2 group * needs g,order\n",
+        ),
+        (early, Ended::Refused, "fault F41 ForwardName /requests/0\n"),
+        ("{}", Ended::Refused, "fault F04 NoRequests batch\n"),
+    ] {
+        let mut input = Input::new(document.as_bytes());
+        let mut output = Output::new(Vec::new(rt.alloc()));
+        assert_eq!(rt;
+            plan_batch(rt.alloc(), &mut input, &mut output)?,
+            ended,
+            "{document}"
+        );
+        assert_eq!(rt;
+            output.into_inner().as_slice(),
+            text.as_bytes(),
             "{document}"
         );
     }

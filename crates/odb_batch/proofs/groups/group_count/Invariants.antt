@@ -1,7 +1,7 @@
 use Rattle.std.proofs.Common.{◌≡◌, drop}
 use Rattle.odb_doc.specs.Batches.{records}
 use Rattle.odb_doc.specs.Names.{texts_in}
-use Rattle.odb_batch.specs.Names.{groups_of}
+use Rattle.odb_batch.specs.Groups.{groups_of}
 use Rattle.odb_batch.proofs.GroupLemmas.{put_on}
 use Rattle.odb_batch.proofs.groups.group_count.Given as goal
 
