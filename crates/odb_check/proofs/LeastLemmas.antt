@@ -1,5 +1,5 @@
 -- The first rule that a walk finds broken is the least fault.
-use Rattle.std.proofs.Common.{◌≡◌, ◌≢◌, ◌≤◌, ◌<◌, ◌⊎◌, ℕ, zero, suc, Bool, true, false, ◌&&◌, cond, List, [], ◌∷◌, ◌++◌, Option, Some, None, refl, sym, ap, ◌∙◌, subst, inl, inr, arith, length}
+use Rattle.std.proofs.Common.{◌≡◌, ◌<◌, ◌⊎◌, ℕ, Bool, true, false, ◌&&◌, cond, List, [], ◌∷◌, ◌++◌, Option, Some, None, refl, sym, ap, ◌∙◌, subst, inl, inr, arith, length}
 use Rattle.std.specs.Prelude.{◌==◌, nat_lt, Contains, IsSomeAnd, option_map, unwrap_or}
 use Rattle.std.specs.Bool.{Decides}
 use Rattle.std.specs.List.{list_all}
@@ -12,8 +12,8 @@ use Rattle.odb_check.specs.declared.fault.NameRule.{NameRule}
 use Rattle.odb_check.specs.declared.fault.NameRule.TheVariants.{IdTwice, IdIsGroup, GroupSplit, UnknownName, ForwardName, OwnGroup, GroupNotListed, UnknownReference, ForwardReference, ReferenceNotListed}
 use Rattle.odb_check.specs.Faults.{number, phase}
 use Rattle.odb_check.specs.Firsts.{or_else}
-use Rattle.odb_check.specs.LeastNameFault.{ComesBefore, IsLeastAt, HasGoodNames, RefusesNames, NoneIn, IsFirstIn}
-use Rattle.odb_check.specs.NameFaults.{SomeName, StandsAt}
+use Rattle.odb_check.specs.LeastNameFault.{IsLeastAt, HasGoodNames, RefusesNames, NoneIn, IsFirstIn}
+use Rattle.odb_check.specs.NameFaults.{StandsAt}
 use Rattle.odb_check.specs.Positions.{id_at, group_at, names_at, reference_at}
 use Rattle.odb_check.specs.Tests.{is_broken, first_broken, id_rules, named_rules, reference_rules, broken_id, broken_rule, broken_name}
 use Rattle.odb_check.specs.Walks.{IsFirstBroken, FailsFirst}

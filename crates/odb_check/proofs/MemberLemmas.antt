@@ -1,10 +1,10 @@
 -- The positions of a unit.
-use Rattle.std.proofs.Common.{◌≡◌, ◌≤◌, ◌<◌, ◌+◌, ℕ, List, inl, inr, arith, length}
+use Rattle.std.proofs.Common.{◌≡◌, ◌≤◌, ◌+◌, ℕ, List, inl, inr, arith, length}
 use Rattle.std.proofs.lemmas.Bool.{cases_lt}
 use Rattle.odb_doc.specs.Records.{Record}
 use Rattle.odb_check.specs.declared.fault.NameRule.TheVariants.{GroupSplit}
 use Rattle.odb_check.specs.NameFaults.{StandsAt}
-use Rattle.odb_check.specs.Units.{begins_unit, units_before, unit_at, unit_count, HasMembers, IsStartOf}
+use Rattle.odb_check.specs.Units.{begins_unit, unit_at, unit_count, HasMembers, IsStartOf}
 use Rattle.odb_check.proofs.FirstLemmas.{count_more}
 use Rattle.odb_check.proofs.UnitLemmas.{unit_before, unit_at_begin, in_order}
 

@@ -1,5 +1,5 @@
 -- What names stand for.
-use Rattle.std.proofs.Common.{◌≡◌, ◌≢◌, ◌≤◌, ◌<◌, ℕ, Bool, true, false, List, Option, Some, None, refl, sym, ap, ◌∙◌, subst, inl, inr, arith, length}
+use Rattle.std.proofs.Common.{◌≡◌, ◌<◌, ℕ, List, Option, Some, None, refl, sym, ap, ◌∙◌, subst, inl, inr, length}
 use Rattle.std.specs.Prelude.{IsSomeAnd}
 use Rattle.std.proofs.lemmas.Bool.{cases_order}
 use Rattle.odb_doc.specs.Records.{Record}
@@ -10,9 +10,9 @@ use Rattle.odb_check.specs.Marks.{IsWithin}
 use Rattle.odb_check.specs.NameFaults.{StandsAt}
 use Rattle.odb_check.specs.Needs.{need_at, need_of}
 use Rattle.odb_check.specs.Positions.{id_at, group_at, IsIdBefore, IsGroup}
-use Rattle.odb_check.specs.Units.{begins_unit, units_before, unit_at, unit_count, position_of, unit_of_group}
+use Rattle.odb_check.specs.Units.{begins_unit, unit_at, unit_count, position_of, unit_of_group}
 use Rattle.odb_check.proofs.FirstLemmas.{count_less}
-use Rattle.odb_check.proofs.PositionLemmas.{IsFirstAt, id_within, position_first, position_none}
+use Rattle.odb_check.proofs.PositionLemmas.{IsFirstAt, position_first, position_none}
 use Rattle.odb_check.proofs.UnitLemmas.{IsUnitOf, unit_is, group_begins, known_group, unknown_unit}
 
 -- a name that stands for a group is no identifier

@@ -1,11 +1,11 @@
 -- The needs of one request, as a part of the list of all.
-use Rattle.std.proofs.Common.{◌≡◌, ◌≤◌, ◌<◌, ◌+◌, ◌-◌, ℕ, zero, suc, List, [], ◌∷◌, ◌++◌, refl, sym, ap, ◌∙◌, subst, inl, inr, arith, length, take, drop, get_or, append_assoc, append-nil, length-append}
+use Rattle.std.proofs.Common.{◌≡◌, ◌≤◌, ◌<◌, ◌+◌, ◌-◌, ℕ, zero, suc, List, [], ◌++◌, sym, ap, ◌∙◌, inl, inr, arith, length, take, drop, append_assoc, append-nil, length-append}
 use Rattle.std.specs.Prelude.{slice_range, slice_index}
 use Rattle.std.proofs.Math.Seq.{drop-append_seam, take-append_seam}
 use Rattle.std.proofs.lemmas.Bool.{cases_lt}
 use Rattle.odb_doc.specs.Records.{Record}
 use Rattle.odb_check.specs.declared.need.Need.{Need}
-use Rattle.odb_check.specs.Firsts.{list_below, joined_below}
+use Rattle.odb_check.specs.Firsts.{joined_below}
 use Rattle.odb_check.specs.Needs.{needs_at, AreNeedsOf}
 use Rattle.odb_check.proofs.BelowLemmas.{length-list_below, get_or-list_below}
 

@@ -12,17 +12,16 @@ use Rattle.odb_check.specs.declared.need.Need.{Need}
 use Rattle.odb_check.specs.declared.need.Need.TheVariants.{One, Group}
 use Rattle.odb_check.specs.Firsts.{list_below}
 use Rattle.odb_check.specs.LeastNameFault.{HasGoodNames}
-use Rattle.odb_check.specs.NameFaults.{StandsAt}
 use Rattle.odb_check.specs.Needs.{need_of, further_names, needed_names, needs_at}
 use Rattle.odb_check.specs.Positions.{id_at, group_at, names_at, reference_at, IsId, IsIdFrom, IsInGroupOf, NamesGroupOf}
 use Rattle.odb_check.specs.Shape.{unit_of, needs_of, shape_of, IsEarlier, IsAlone, IsPlan, HasNamesAsNeeds}
-use Rattle.odb_check.specs.Units.{begin_in, unit_begin, unit_at, unit_count}
+use Rattle.odb_check.specs.Units.{begin_in, unit_begin, unit_at}
 use Rattle.odb_check.proofs.AnyLemmas.{StandsFor, stands_for, Contains-meaning, Contains-head, Contains-tail, Contains-none, Contains-cases, Contains-Decides, Contains-get_or}
 use Rattle.odb_check.proofs.BelowLemmas.{length-list_below, get_or-list_below}
 use Rattle.odb_check.proofs.LeastLemmas.{name_inside}
 use Rattle.odb_check.proofs.LevelLemmas.{HasNeedsBefore}
 use Rattle.odb_check.proofs.NeedLemmas.{IsMeant, is_meant, id_need, group_need}
-use Rattle.odb_check.proofs.PositionLemmas.{id_within, group_within, reference_within}
+use Rattle.odb_check.proofs.PositionLemmas.{group_within, reference_within}
 use Rattle.odb_check.proofs.RowLemmas.{HasSoundIds, later_unit}
 use Rattle.odb_check.proofs.UnitLemmas.{IsUnitOf, unit_before, same_begin, same_group, one_unit, in_group, in_unit, in_order, unit_at_start}
 

@@ -1,14 +1,14 @@
 -- First positions of identifiers and groups.
-use Rattle.std.proofs.Common.{◌≡◌, ◌≤◌, ◌<◌, ℕ, Bool, true, false, List, Option, Some, None, refl, sym, ap, subst, inl, inr, arith, length}
-use Rattle.std.specs.Prelude.{slice_get, option_map, option_and_then}
+use Rattle.std.proofs.Common.{◌≡◌, ◌<◌, ℕ, true, List, Option, Some, None, refl, sym, ap, subst, inl, inr, length}
+use Rattle.std.specs.Prelude.{option_map, option_and_then}
 use Rattle.std.proofs.lemmas.Bool.{both_ways, false_from_ne_true}
 use Rattle.std.proofs.lemmas.Slice.Eq.{bytes_eq-Decides}
 use Rattle.std.proofs.lemmas.Option.{slice_get_cases}
 use Rattle.odb_doc.specs.Records.{Record}
 use Rattle.odb_check.specs.Firsts.{first_below, is_text}
 use Rattle.odb_check.specs.Positions.{id_at, group_at, reference_at}
-use Rattle.odb_check.specs.Units.{first_in_group, position_of, group_begin}
-use Rattle.odb_check.proofs.FirstLemmas.{IsFirst, FirstCases, first_cases, first_alone, first_some, first_of, none_below}
+use Rattle.odb_check.specs.Units.{position_of, group_begin}
+use Rattle.odb_check.proofs.FirstLemmas.{IsFirst, first_alone, first_some, first_of, none_below}
 
 -- the text stands at b, and not before
 pub record IsFirstAt (what : ℕ → Option (List ℕ)) (text : List ℕ) (b : ℕ) : Type 0 where

@@ -1,6 +1,6 @@
 -- What a name or a reference adds to the needs.
-use Rattle.std.proofs.Common.{◌≡◌, ◌<◌, ℕ, Bool, true, false, cond, List, [], ◌∷◌, Option, Some, None, refl, sym, ap, ◌∙◌, subst, length}
-use Rattle.std.specs.Prelude.{◌==◌, Contains, bytes_eq}
+use Rattle.std.proofs.Common.{◌≡◌, ◌<◌, ℕ, Bool, true, false, cond, List, [], ◌∷◌, Some, refl, ap, ◌∙◌, subst, length}
+use Rattle.std.specs.Prelude.{Contains, bytes_eq}
 use Rattle.std.specs.Bool.{Decides}
 use Rattle.std.specs.List.{list_any, filter_map, cons_option}
 use Rattle.std.proofs.lemmas.Bool.{eqb-true, eq-eqb}
@@ -13,7 +13,7 @@ use Rattle.odb_check.specs.Positions.{id_at, names_at, reference_at}
 use Rattle.odb_check.specs.Tests.{is_one, named_at}
 use Rattle.odb_check.specs.Units.{position_of, unit_of_group}
 use Rattle.odb_check.proofs.AnyLemmas.{SomePasses, StandsFor, any_passes, some_passes, stands_for, Contains-meaning, Contains-Decides}
-use Rattle.odb_check.proofs.NeedLemmas.{IsMeant, is_meant}
+use Rattle.odb_check.proofs.NeedLemmas.{is_meant}
 use Rattle.odb_check.proofs.PositionLemmas.{IsFirstAt, position_first}
 
 one_means : (rs : List Record) (id name : List ℕ) (p : ℕ) → id_at rs p ≡ Some id → (need : Need) → need_of rs name ≡ Some need → is_one p need ≡ true → name ≡ id

@@ -1,9 +1,9 @@
 -- Each question to the tables decides its rule.
-use Rattle.std.proofs.Common.{◌≡◌, ◌≢◌, ◌≤◌, ◌<◌, ◌+◌, ◌-◌, ◌⊎◌, ℕ, suc, Bool, true, false, not, ◌&&◌, List, Option, Some, None, refl, sym, ap, ◌∙◌, subst, inl, inr, arith, length}
+use Rattle.std.proofs.Common.{◌≡◌, ◌≢◌, ◌<◌, ◌+◌, ◌-◌, ◌⊎◌, ℕ, Bool, true, false, not, ◌&&◌, List, Option, Some, None, refl, sym, ap, ◌∙◌, subst, inl, inr, arith, length}
 use Rattle.std.specs.Prelude.{◌==◌, nat_lt, nat_le, is_some, Contains, IsSomeAnd, option_and_then}
 use Rattle.std.specs.Bool.{Decides}
 use Rattle.std.specs.List.{list_any}
-use Rattle.std.proofs.lemmas.Bool.{cases_lt, and_parts, and_from, not-true, eqb-true, eq-eqb, ne_eqb, ltb-true, lt-ltb, leb-true, le-leb, both_ways, false_from_ne_true}
+use Rattle.std.proofs.lemmas.Bool.{cases_lt, and_parts, and_from, eqb-true, eq-eqb, ltb-true, lt-ltb, leb-true, le-leb}
 use Rattle.odb_doc.specs.Records.{Record}
 use Rattle.odb_check.specs.declared.fault.NameRule.TheVariants.{IdTwice, IdIsGroup, GroupSplit, UnknownName, ForwardName, OwnGroup, GroupNotListed, UnknownReference, ForwardReference, ReferenceNotListed}
 use Rattle.odb_check.specs.declared.need.Need.{Need}
@@ -11,10 +11,10 @@ use Rattle.odb_check.specs.declared.need.Need.TheVariants.{One, Group}
 use Rattle.odb_check.specs.NameFaults.{SomeName, StandsAt}
 use Rattle.odb_check.specs.Needs.{need_of}
 use Rattle.odb_check.specs.Positions.{id_at, group_at, names_at, reference_at, IsId, IsIdBefore, IsIdFrom, IsGroup, IsGroupBefore, IsGroupAfter, IsInGroupOf, NamesGroupOf}
-use Rattle.odb_check.specs.Tests.{some_and, named_at, is_one, is_group, repeats_id, has_id_of_group, splits_group, is_unknown, is_forward, is_own, names_unit_of, is_outside, lacks_group, is_not_listed, referred_to, is_broken}
-use Rattle.odb_check.specs.Units.{begin_in, unit_begin, unit_at, units_before, position_of, unit_of_group}
+use Rattle.odb_check.specs.Tests.{some_and, named_at, is_one, is_group, is_unknown, is_forward, is_own, names_unit_of, is_outside, lacks_group, is_not_listed, is_broken}
+use Rattle.odb_check.specs.Units.{begin_in, unit_begin, unit_at, position_of, unit_of_group}
 use Rattle.odb_check.proofs.AnyLemmas.{SomePasses, StandsFor, any_passes, some_passes, stands_for, Contains-meaning}
-use Rattle.odb_check.proofs.NeedLemmas.{IsMeant, IsGroupName, is_meant, id_need, group_need, position_is, means_nothing, one_id}
+use Rattle.odb_check.proofs.NeedLemmas.{IsMeant, is_meant, id_need, group_need, means_nothing, one_id}
 use Rattle.odb_check.proofs.PositionLemmas.{IsFirstAt, position_first, position_none}
 use Rattle.odb_check.proofs.ReferenceLemmas.{one_listed}
 use Rattle.odb_check.proofs.UnitLemmas.{IsUnitOf, BeginsAt, unit_begins, unit_is, unknown_unit, unit_before, same_begin, same_group, one_unit, begin_of_group, in_group, in_unit, in_order}

@@ -1,15 +1,15 @@
 -- One more request in the tables.
-use Rattle.std.proofs.Common.{◌≡◌, ◌≢◌, ◌≤◌, ◌<◌, ◌+◌, ◌⊎◌, ℕ, zero, suc, Bool, true, false, cond, List, [], ◌∷◌, ◌++◌, Option, Some, None, refl, sym, ap, ◌∙◌, subst, inl, inr, arith, length, add-one, length-append}
+use Rattle.std.proofs.Common.{◌≡◌, ◌≢◌, ◌≤◌, ◌<◌, ◌⊎◌, ℕ, suc, Bool, true, false, cond, List, [], ◌∷◌, ◌++◌, Option, Some, None, refl, sym, ap, ◌∙◌, subst, inl, inr, arith, length, length-append}
 use Rattle.std.specs.Prelude.{◌==◌, slice_get, option_map, option_and_then, unwrap_or, bytes_eq}
 use Rattle.std.specs.Borrow.{Bor}
 use Rattle.std.specs.List.{IsDistinct}
-use Rattle.std.proofs.lemmas.Bool.{cases_Bool, cases_lt, cond-false, eq-eqb, ne_eqb}
+use Rattle.std.proofs.lemmas.Bool.{cases_Bool, cases_lt, eq-eqb, ne_eqb}
 use Rattle.indexmap.specs.IndexMap.{IndexMap}
 use Rattle.odb_doc.specs.Records.{Record}
 use Rattle.odb_check.specs.Firsts.{or_else, is_text, first_below, list_below, pass_below}
 use Rattle.odb_check.specs.Positions.{id_at, group_at, names_at}
 use Rattle.odb_check.specs.Tables.{AreTablesOf, at_text, unit_among}
-use Rattle.odb_check.specs.Units.{first_in_group, is_new_group, begins_unit, units_before, begin_in, unit_begin, unit_at}
+use Rattle.odb_check.specs.Units.{first_in_group, begins_unit, units_before, begin_in, unit_begin, unit_at}
 use Rattle.odb_check.proofs.FirstLemmas.{count_less}
 use Rattle.odb_check.proofs.PositionLemmas.{text_there}
 use Rattle.odb_check.proofs.UnitLemmas.{BeginsAt, unit_begins, unit_at_begin}

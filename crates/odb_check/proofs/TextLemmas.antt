@@ -1,10 +1,9 @@
 -- Names of needs, and one more of them in a text.
-use Rattle.std.proofs.Common.{◌≡◌, ◌<◌, ◌≤◌, ℕ, List, [], ◌∷◌, ◌++◌, Some, refl, sym, ap, ◌∙◌, subst, arith, length, get_or, append_assoc, append-nil}
-use Rattle.std.specs.Prelude.{All, Contains, codes, ◌==◌, option_and_then}
+use Rattle.std.proofs.Common.{◌≡◌, ◌<◌, ℕ, List, [], ◌∷◌, ◌++◌, sym, ap, ◌∙◌, arith, length, get_or, append_assoc, append-nil}
+use Rattle.std.specs.Prelude.{All, codes, ◌==◌, option_and_then}
 use Rattle.std.proofs.lemmas.Bool.{eq-eqb, ne_eqb}
 use Rattle.odb_doc.specs.Records.{Record}
 use Rattle.odb_check.specs.declared.need.Need.{Need}
-use Rattle.odb_check.specs.Firsts.{first_below}
 use Rattle.odb_check.specs.Marks.{IsWithin}
 use Rattle.odb_check.specs.Needs.{need_of, needed_names, needs_at}
 use Rattle.odb_check.specs.Positions.{group_at}

@@ -1,10 +1,10 @@
 -- Where units begin, and the order of their numbers.
-use Rattle.std.proofs.Common.{◌≡◌, ◌≤◌, ◌<◌, ◌+◌, ◌-◌, ℕ, zero, suc, Bool, true, false, not, List, Option, Some, None, refl, sym, ap, ◌∙◌, subst, inl, inr, arith, length}
+use Rattle.std.proofs.Common.{◌≡◌, ◌≤◌, ◌<◌, ◌+◌, ◌-◌, ℕ, zero, suc, true, not, List, Option, Some, None, refl, sym, ap, ◌∙◌, subst, inl, inr, arith, length}
 use Rattle.std.specs.Prelude.{is_some, unwrap_or, option_map, IsSomeAnd}
 use Rattle.std.proofs.lemmas.Bool.{cases_lt, cases_Bool}
 use Rattle.odb_doc.specs.Records.{Record}
 use Rattle.odb_check.specs.declared.fault.NameRule.TheVariants.{GroupSplit}
-use Rattle.odb_check.specs.Firsts.{count_below, is_text}
+use Rattle.odb_check.specs.Firsts.{is_text}
 use Rattle.odb_check.specs.NameFaults.{StandsAt}
 use Rattle.odb_check.specs.Positions.{group_at, IsGroupBefore}
 use Rattle.odb_check.specs.Units.{first_in_group, is_new_group, begins_unit, units_before, begin_in, unit_begin, unit_at, group_begin, unit_of_group}

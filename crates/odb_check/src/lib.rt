@@ -15,6 +15,8 @@ mod need;
 mod needs;
 mod plan;
 mod tables;
+#[cfg(test)]
+mod tests;
 mod text;
 
 pub use checking::check;

@@ -1,9 +1,8 @@
-use Rattle.std.proofs.Common.{◌≡◌, ◌<◌, ℕ, ap, ◌∙◌, sym, subst, length, get_or, arith, add-one}
+use Rattle.std.proofs.Common.{◌≡◌, ◌<◌, ap, ◌∙◌, sym, subst, length, get_or, arith, add-one}
 use Rattle.std.specs.Prelude.{Contains, max, slice_index, slice_set}
 use Rattle.std.proofs.lemmas.Grind.{get_or_default_zero}
 use Rattle.odb_doc.specs.Batches.{records}
-use Rattle.odb_check.specs.declared.need.Need.{Need}
-use Rattle.odb_check.specs.Levels.{next_level, levels_below}
+use Rattle.odb_check.specs.Levels.{next_level}
 use Rattle.odb_check.specs.Marks.{IsWithin}
 use Rattle.odb_check.specs.Needs.{needs_at}
 use Rattle.odb_check.specs.Units.{unit_at, unit_count}

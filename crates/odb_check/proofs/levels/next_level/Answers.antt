@@ -1,4 +1,4 @@
-use Rattle.std.proofs.Common.{◌≡◌, ◌+◌, ℕ, ◌∷◌, ◌++◌, [], List, ap, sym, ◌∙◌, take, get_or, arith}
+use Rattle.std.proofs.Common.{◌≡◌, ◌+◌, ℕ, ap, sym, ◌∙◌, take, get_or}
 use Rattle.std.specs.Prelude.{slice_index, max}
 use Rattle.std.proofs.lemmas.List.{take_more}
 use Rattle.odb_check.specs.declared.need.Need.{Need}

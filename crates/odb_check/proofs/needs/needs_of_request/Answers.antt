@@ -1,4 +1,4 @@
-use Rattle.std.proofs.Common.{◌≡◌, ◌≤◌, ◌+◌, ap, ◌∙◌, length, arith}
+use Rattle.std.proofs.Common.{ap, ◌∙◌, length, arith}
 use Rattle.std.specs.Prelude.{slice_range, slice_index}
 use Rattle.odb_doc.specs.Batches.{records}
 use Rattle.odb_check.proofs.OffsetLemmas.{HasPart, part_of}

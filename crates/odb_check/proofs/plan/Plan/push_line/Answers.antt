@@ -1,4 +1,4 @@
-use Rattle.std.proofs.Common.{List, sym, subst}
+use Rattle.std.proofs.Common.{sym, subst}
 use Rattle.std.specs.Prelude.{All, length}
 use Rattle.odb_check.specs.Marks.{IsWithin}
 use Rattle.odb_check.specs.Plans.{plan_records}
