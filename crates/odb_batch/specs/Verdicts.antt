@@ -1,7 +1,6 @@
 -- What a document is found to be, and what is printed of it.
 use Rattle.std.specs.Prelude.{◌≡◌, ◌⊎◌, ℕ, List, length, string_bytes}
 use Rattle.serde_json.specs.Data.{Data}
-use Rattle.odb_doc.specs.declared.fault.DocFault.{DocFault}
 use Rattle.odb_doc.specs.Documents.{IsDocument, RefusesDocument}
 use Rattle.odb_doc.specs.FaultTable as document
 use Rattle.odb_doc.specs.LeastFault.{IsWellShaped, IsLeastFault}
