@@ -3,7 +3,8 @@
 //! A batch comes as a JSON document (OData JSON Format 4.01, section 19.1). [`parse`] makes a value
 //! of its bytes, and [`Batch::read`] makes the batch of that value, or tells the least fault of its
 //! shape. Whether the names that requests give each other fit together is decided by the crates
-//! above. [`Input`] and [`Output`] are a reader and a writer that remember whether they failed.
+//! above. An [`Outcome`] is what a request ended with. [`Input`] and [`Output`] are a reader and a
+//! writer that remember whether they failed.
 #![tactic(auto)]
 
 mod batch;
@@ -16,6 +17,7 @@ mod head;
 mod headers;
 mod media_type;
 mod member;
+mod outcome;
 mod reference;
 mod request;
 #[cfg(test)]
@@ -25,4 +27,5 @@ pub use batch::Batch;
 pub use device::{DeviceFault, Input, MAX_READS, Output};
 pub use document::{MAX_DOCUMENT_BYTES, parse};
 pub use fault::{DocFault, DocumentRule, Place, RequestRule};
+pub use outcome::Outcome;
 pub use request::Request;

@@ -1,0 +1,131 @@
+-- Where a request stands after a run, by the events of the run.
+use Rattle.std.proofs.Common.{subst, ◌≡◌, ◌≢◌, ℕ, ◌<◌, ◌≤◌, ◌+◌, ◌==◌, ◌∙◌, sym, refl, ap, arith, Bool, true, false, cond, ◌||◌, eq-eqb, List, [], ◌∷◌, length, inl, inr, ◌⊎◌, Option, None, count_by, get_or-set_same, get_or-set_other}
+use Rattle.std.specs.List.{list_any}
+use Rattle.std.proofs.lemmas.Bool.{cases_eq, true≢false, and_parts, ne_eqb}
+use Rattle.std.proofs.lemmas.List.Elements.{Contains-append_left, Contains-append_right}
+use Rattle.std.proofs.lemmas.List.Sums.{sum_by-cons}
+use Rattle.odb_doc.specs.declared.outcome.Outcome.{Outcome}
+use Rattle.odb_check.specs.declared.plan.Plan.{Plan}
+use Rattle.odb_sched.specs.declared.policy.Mode.{Mode}
+use Rattle.odb_sched.specs.declared.phase.Phase.{Phase}
+use Rattle.odb_sched.specs.declared.phase.Phase.TheVariants.{Unstarted, Running, Reported}
+use Rattle.odb_sched.specs.declared.event.Event.{Event}
+use Rattle.odb_sched.specs.declared.event.Event.TheVariants.{Start, Report}
+use Rattle.odb_sched.specs.Statuses.{is_success, is_status}
+use Rattle.odb_sched.specs.Phases.{is_running, has_succeeded}
+use Rattle.odb_sched.specs.State.{State, size, phase_at, shape, at_first, after}
+use Rattle.odb_sched.specs.Steps.{may_come}
+use Rattle.odb_sched.specs.Runs.{position_of, after_all, IsRunFrom, starts, report_of, or_later, first_report, phase_by, phase_of, IsRun, state_after}
+use Rattle.odb_sched.specs.Laws.{HasSuccess, HasFewEvents}
+use Rattle.odb_sched.specs.Reached.{IsReached}
+use Rattle.odb_sched.proofs.PhaseLemmas.{get_or-set_cases, get_or-replicate_Unstarted, Unstarted-from, Running-from}
+use Rattle.odb_sched.proofs.StartLemmas.{may_start-parts}
+use Rattle.odb_sched.proofs.ReachedLemmas.{reached_after}
+
+-- what has succeeded after an event had before it, or is reported so by it
+success_by : (state : State) (event : Event) (r : ℕ) → has_succeeded (phase_at (after state event) r) ≡ true
+    → (has_succeeded (phase_at state r) ≡ true) ⊎ ((outcome : Outcome) × (event ≡ Report r outcome) × (is_success outcome.status ≡ true))
+success_by state (Start i) r e = elim (get_or-set_cases state.phases i r Running) [
+  | inl written ↦ absurd (true≢false (sym e ∙ ap has_succeeded written.1))
+  | inr kept ↦ inl (ap has_succeeded (sym kept) ∙ e)
+]
+success_by state (Report i outcome) r e = elim (get_or-set_cases state.phases i r (Reported outcome)) [
+  | inl written ↦ inr (outcome, ap (λ k. Report k outcome) (sym written.0), ap has_succeeded (sym written.1) ∙ e)
+  | inr kept ↦ inl (ap has_succeeded (sym kept) ∙ e)
+]
+
+-- what has succeeded after events had before them, or is reported so among them
+pub success_among : (state : State) (events : List Event) (r : ℕ) → has_succeeded (phase_at (after_all state events) r) ≡ true → (has_succeeded (phase_at state r) ≡ true) ⊎ HasSuccess events r
+success_among state [] r e = inl e
+success_among state (event ∷ es) r e = elim (success_among (after state event) es r e) [
+  | inl early ↦ elim (success_by state event r early) [
+    | inl before ↦ inl before
+    | inr now ↦ inr (now.0, Contains-append_left (event ∷ []) es (Report r now.0) (0, omega arith, now.1), now.2)
+  ]
+  | inr later ↦ inr (later.0, Contains-append_right (event ∷ []) es (Report r later.0) later.1, later.2)
+]
+
+-- where the request of an event stood before it and stands after it, and where the others do
+pub record IsMove (state : State) (event : Event) (before new : Phase) : Type 0 where
+  pub stood : phase_at state (position_of event) ≡ before
+  pub stands : phase_at (after state event) (position_of event) ≡ new
+  pub others : (i : ℕ) → i ≢ position_of event → phase_at (after state event) i ≡ phase_at state i
+
+move_start : (state : State) (i : ℕ) → IsReached state → i < size state → may_come state (Start i) ≡ true → IsMove state (Start i) Unstarted Running
+move_start state i reached within may =
+    let each : length state.phases ≡ size state = reached.each in
+    let start = may_start-parts state i may in
+    record {
+      stood = Unstarted-from _ start.fresh;
+      stands = get_or-set_same state.phases i Running Unstarted (omega arith);
+      others = λ j other. get_or-set_other state.phases i j Running Unstarted other;
+    }
+
+move_report : (state : State) (i : ℕ) (outcome : Outcome) → IsReached state → i < size state → may_come state (Report i outcome) ≡ true → IsMove state (Report i outcome) Running (Reported outcome)
+move_report state i outcome reached within may =
+    let each : length state.phases ≡ size state = reached.each in
+    let parts = and_parts (is_running (phase_at state i)) (is_status outcome.status) may in
+    record {
+      stood = Running-from _ parts.0;
+      stands = get_or-set_same state.phases i (Reported outcome) Unstarted (omega arith);
+      others = λ j other. get_or-set_other state.phases i j (Reported outcome) Unstarted other;
+    }
+
+-- how many events a request may still have
+abbrev left : Phase → ℕ
+left Unstarted = 2
+left Running = 1
+left (Reported outcome) = 0
+
+-- an event takes one from what its request has left
+left_by : (state : State) (event : Event) (before new : Phase) (i : ℕ) → IsMove state event before new → left new + 1 ≡ left before → cond (position_of event == i) 1 0 + left (phase_at (after state event) i) ≤ left (phase_at state i)
+left_by state event before new i move fewer = elim (cases_eq (position_of event) i) [
+  | inl here ↦ rw (eq-eqb _ _ here, ← here, move.stood, move.stands) (omega arith)
+  | inr elsewhere ↦ rw (ne_eqb _ _ elsewhere, move.others i (λ e. elsewhere (sym e))) (omega arith)
+]
+
+left_after : (state : State) (event : Event) (i : ℕ) → IsReached state → position_of event < size state → may_come state event ≡ true → cond (position_of event == i) 1 0 + left (phase_at (after state event) i) ≤ left (phase_at state i)
+left_after state (Start j) i reached within may = left_by state (Start j) Unstarted Running i (move_start state j reached within may) refl
+left_after state (Report j outcome) i reached within may = left_by state (Report j outcome) Running (Reported outcome) i (move_report state j outcome reached within may) refl
+
+pub few_events : (state : State) (events : List Event) (i : ℕ) → IsReached state → IsRunFrom state events → count_by (λ e. position_of e == i) events ≤ left (phase_at state i)
+few_events state [] i reached run = omega arith
+few_events state (event ∷ es) i reached run =
+    let rest : count_by (λ e. position_of e == i) es ≤ left (phase_at (after state event) i) = few_events (after state event) es i (reached_after state event reached run.0 run.1) run.2 in
+    let first : cond (position_of event == i) 1 0 + left (phase_at (after state event) i) ≤ left (phase_at state i) = left_after state event i reached run.0 run.1 in
+    rw (sum_by-cons (λ e. cond (position_of e == i) 1 0) event es) (omega arith)
+
+-- where a request stands by where it stood, its first report since, and whether it has started since
+abbrev phase_since : Phase → Option Outcome → Bool → Phase
+phase_since Unstarted report started = phase_by report started
+phase_since Running report started = phase_by report true
+phase_since (Reported outcome) report started = Reported outcome
+
+phase_since-none : (phase : Phase) → phase ≡ phase_since phase None false
+phase_since-none Unstarted = refl
+phase_since-none Running = refl
+phase_since-none (Reported outcome) = refl
+
+phase_by_event : (state : State) (event : Event) (i : ℕ) (report : Option Outcome) (started : Bool) → IsReached state → position_of event < size state → may_come state event ≡ true
+    → phase_since (phase_at (after state event) i) report started ≡ phase_since (phase_at state i) (or_later (report_of i event) report) (starts i event || started)
+phase_by_event state (Start j) i report started reached within may = elim (cases_eq i j) [
+  | inl here ↦ let move = move_start state j reached within may in rw (eq-eqb _ _ here, here, move.stood, move.stands) refl
+  | inr elsewhere ↦ let move = move_start state j reached within may in rw (ne_eqb _ _ elsewhere, move.others i elsewhere) refl
+]
+phase_by_event state (Report j outcome) i report started reached within may = elim (cases_eq i j) [
+  | inl here ↦ let move = move_report state j outcome reached within may in rw (eq-eqb _ _ here, here, move.stood, move.stands) refl
+  | inr elsewhere ↦ let move = move_report state j outcome reached within may in rw (ne_eqb _ _ elsewhere, move.others i elsewhere) refl
+]
+
+pub phase_after_all : (state : State) (events : List Event) (i : ℕ) → IsReached state → IsRunFrom state events → phase_at (after_all state events) i ≡ phase_since (phase_at state i) (first_report i events) (list_any (starts i) events)
+phase_after_all state [] i reached run = phase_since-none (phase_at state i)
+phase_after_all state (event ∷ es) i reached run =
+    phase_after_all (after state event) es i (reached_after state event reached run.0 run.1) run.2
+    ∙ phase_by_event state event i (first_report i es) (list_any (starts i) es) reached run.0 run.1
+
+-- before any event each request has two events left, and is unstarted
+pub few_events_first : (source : Plan) (mode : Mode) (width : ℕ) (events : List Event) → IsReached (at_first source mode width) → IsRun source mode width events → HasFewEvents events
+few_events_first source mode width events reached run i = subst (λ phase. count_by (λ e. position_of e == i) events ≤ left phase) (get_or-replicate_Unstarted (length (shape source).units) i) (few_events (at_first source mode width) events i reached run)
+
+pub phases_first : (source : Plan) (mode : Mode) (width : ℕ) (events : List Event) (i : ℕ) → IsReached (at_first source mode width) → IsRun source mode width events → phase_at (state_after source mode width events) i ≡ phase_of i events
+phases_first source mode width events i reached run = phase_after_all (at_first source mode width) events i reached run ∙ ap (λ phase. phase_since phase (first_report i events) (list_any (starts i) events)) (get_or-replicate_Unstarted (length (shape source).units) i)

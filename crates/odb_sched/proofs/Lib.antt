@@ -1,0 +1,16 @@
+pub mod BelowLemmas
+pub mod FailingLemmas
+pub mod PlanLemmas
+pub mod PhaseLemmas
+pub mod MetLemmas
+pub mod StartLemmas
+pub mod StuckLemmas
+pub mod ReachedLemmas
+pub mod RunLemmas
+pub mod EventLemmas
+pub mod NameLemmas
+pub mod ResultLemmas
+pub mod SpanLemmas
+pub mod ListLemmas
+pub mod KeptLemmas
+pub mod TakenLemmas

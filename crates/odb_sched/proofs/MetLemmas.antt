@@ -1,0 +1,44 @@
+-- What is met, and what it says of the requests.
+use Rattle.std.proofs.Common.{◌≡◌, ℕ, ◌<◌, ◌∙◌, sym, ap, Bool, true, false, not, ◌||◌, eqb, eq-eqb, List, length, get_or, set, inl, inr}
+use Rattle.std.specs.List.{list_all}
+use Rattle.std.proofs.lemmas.Bool.{cases_eq, both_ways, or_left, or_right, ne_eqb, not_from_false, true≢false}
+use Rattle.odb_check.specs.declared.need.Need.{Need}
+use Rattle.odb_check.specs.declared.need.Need.TheVariants.{One, Group}
+use Rattle.odb_check.specs.Shape.{Shape, unit_of, needs_of}
+use Rattle.odb_sched.specs.declared.phase.Phase.{Phase}
+use Rattle.odb_sched.specs.declared.phase.Phase.TheVariants.{Unstarted}
+use Rattle.odb_sched.specs.Phases.{has_succeeded}
+use Rattle.odb_sched.specs.Steps.{succeeded_in, met_in}
+use Rattle.odb_sched.proofs.BelowLemmas.{all_below-Decides, list_all-each, list_all-from}
+use Rattle.odb_sched.proofs.PhaseLemmas.{get_or-set_cases}
+
+not_member_or : (a b : Bool) → a ≡ true → (not a || b) ≡ true → b ≡ true
+not_member_or true b e h = h
+not_member_or false b e h = absurd (true≢false (sym e))
+
+-- of a unit that has succeeded each member has
+pub member_succeeded : (plan : Shape) (phases : List Phase) (u i : ℕ) → succeeded_in plan phases u ≡ true → i < length plan.units → unit_of plan i ≡ u → has_succeeded (get_or phases i Unstarted) ≡ true
+member_succeeded plan phases u i e within here =
+    not_member_or (eqb (unit_of plan i) u) _ (eq-eqb (unit_of plan i) u here) ((all_below-Decides (length plan.units) (λ j. not (eqb (unit_of plan j) u) || has_succeeded (get_or phases j Unstarted))).0 e i within)
+
+-- a unit each of whose members has succeeded has too
+pub succeeded_in-from : (plan : Shape) (phases : List Phase) (u : ℕ) → ((i : ℕ) → i < length plan.units → unit_of plan i ≡ u → has_succeeded (get_or phases i Unstarted) ≡ true) → succeeded_in plan phases u ≡ true
+succeeded_in-from plan phases u each = (all_below-Decides (length plan.units) (λ j. not (eqb (unit_of plan j) u) || has_succeeded (get_or phases j Unstarted))).1 (λ i within. elim (cases_eq (unit_of plan i) u) [
+  | inl here ↦ or_right _ _ (each i within here)
+  | inr elsewhere ↦ or_left _ _ (not_from_false _ (ne_eqb (unit_of plan i) u elsewhere))
+])
+
+-- a write over a request that has not succeeded takes no success away
+pub has_succeeded-set : (phases : List Phase) (i j : ℕ) (phase : Phase) → has_succeeded (get_or phases i Unstarted) ≡ false → has_succeeded (get_or phases j Unstarted) ≡ true → has_succeeded (get_or (set phases i phase) j Unstarted) ≡ true
+has_succeeded-set phases i j phase fresh done = elim (get_or-set_cases phases i j phase) [
+  | inl written ↦ absurd (both_ways (has_succeeded (get_or phases i Unstarted)) fresh (ap (λ k. has_succeeded (get_or phases k Unstarted)) (sym written.0) ∙ done))
+  | inr kept ↦ ap has_succeeded kept ∙ done
+]
+
+pub met_in-set : (plan : Shape) (phases : List Phase) (i : ℕ) (phase : Phase) (need : Need) → has_succeeded (get_or phases i Unstarted) ≡ false → met_in plan phases need ≡ true → met_in plan (set phases i phase) need ≡ true
+met_in-set plan phases i phase (One r) fresh met = has_succeeded-set phases i r phase fresh met
+met_in-set plan phases i phase (Group u) fresh met = succeeded_in-from plan (set phases i phase) u (λ j within here. has_succeeded-set phases i j phase fresh (member_succeeded plan phases u j met within here))
+
+-- what was met stays met
+pub all_met-set : (plan : Shape) (phases : List Phase) (i j : ℕ) (phase : Phase) → has_succeeded (get_or phases i Unstarted) ≡ false → list_all (met_in plan phases) (needs_of plan j) ≡ true → list_all (met_in plan (set phases i phase)) (needs_of plan j) ≡ true
+all_met-set plan phases i j phase fresh met = list_all-from (met_in plan (set phases i phase)) (needs_of plan j) (λ need has. met_in-set plan phases i phase need fresh (list_all-each (met_in plan phases) (needs_of plan j) need met has))

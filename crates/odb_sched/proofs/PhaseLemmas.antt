@@ -1,0 +1,67 @@
+-- The tests of a phase against each other.
+use Rattle.std.proofs.Common.{◌≡◌, ℕ, sym, refl, Bool, true, false, not, List, length, get_or, set, inl, inr, ◌⊎◌, get_or-set_other, get_or-set_same, replicate}
+use Rattle.std.proofs.lemmas.Bool.{cases_eq, cases_lt, true≢false}
+use Rattle.std.proofs.lemmas.List.{get_or_past, set_past, get_or-replicate, length-replicate}
+use Rattle.odb_doc.specs.declared.outcome.Outcome.{Outcome}
+use Rattle.odb_sched.specs.declared.phase.Phase.{Phase}
+use Rattle.odb_sched.specs.declared.phase.Phase.TheVariants.{Unstarted, Running, Reported}
+use Rattle.odb_sched.specs.Statuses.{is_success}
+use Rattle.odb_sched.specs.Phases.{is_unstarted, is_running, is_reported, has_succeeded, has_failed}
+
+pub is_unstarted-from : (phase : Phase) → is_reported phase ≡ false → is_running phase ≡ false → is_unstarted phase ≡ true
+is_unstarted-from Unstarted a b = refl
+is_unstarted-from Running a b = absurd (true≢false b)
+is_unstarted-from (Reported outcome) a b = absurd (true≢false a)
+
+pub is_unstarted-reported : (phase : Phase) → is_unstarted phase ≡ true → is_reported phase ≡ false
+is_unstarted-reported Unstarted e = refl
+is_unstarted-reported Running e = refl
+is_unstarted-reported (Reported outcome) e = absurd (true≢false (sym e))
+
+pub has_succeeded-from : (phase : Phase) → is_reported phase ≡ true → has_failed phase ≡ false → has_succeeded phase ≡ true
+has_succeeded-from Unstarted a b = absurd (true≢false (sym a))
+has_succeeded-from Running a b = absurd (true≢false (sym a))
+has_succeeded-from (Reported outcome) a b = at (is_success outcome.status) b
+  where
+    at : (t : Bool) → not t ≡ false → t ≡ true
+    at true e = refl
+    at false e = absurd (true≢false e)
+
+pub Unstarted-from : (phase : Phase) → is_unstarted phase ≡ true → phase ≡ Unstarted
+Unstarted-from Unstarted e = refl
+Unstarted-from Running e = absurd (true≢false (sym e))
+Unstarted-from (Reported outcome) e = absurd (true≢false (sym e))
+
+pub Running-from : (phase : Phase) → is_running phase ≡ true → phase ≡ Running
+Running-from Unstarted e = absurd (true≢false (sym e))
+Running-from Running e = refl
+Running-from (Reported outcome) e = absurd (true≢false (sym e))
+
+-- what has succeeded is an outcome with a success
+pub Reported-from : (phase : Phase) → has_succeeded phase ≡ true → (outcome : Outcome) × (phase ≡ Reported outcome) × (is_success outcome.status ≡ true)
+Reported-from Unstarted e = absurd (true≢false (sym e))
+Reported-from Running e = absurd (true≢false (sym e))
+Reported-from (Reported outcome) e = (outcome, refl, e)
+
+-- what has failed is an outcome without success
+pub Failed-from : (phase : Phase) → has_failed phase ≡ true → (outcome : Outcome) × (phase ≡ Reported outcome) × (not (is_success outcome.status) ≡ true)
+Failed-from Unstarted e = absurd (true≢false (sym e))
+Failed-from Running e = absurd (true≢false (sym e))
+Failed-from (Reported outcome) e = (outcome, refl, e)
+
+-- after a write each place has what was written, or what it had
+pub get_or-set_cases : (phases : List Phase) (i j : ℕ) (phase : Phase) → ((j ≡ i) × (get_or (set phases i phase) j Unstarted ≡ phase)) ⊎ (get_or (set phases i phase) j Unstarted ≡ get_or phases j Unstarted)
+get_or-set_cases phases i j phase = elim (cases_eq j i) [
+  | inl same ↦ elim (cases_lt i (length phases)) [
+    | inl within ↦ inl (same, rw same (get_or-set_same phases i phase Unstarted within))
+    | inr past ↦ inr (rw (set_past phases i phase past) refl)
+  ]
+  | inr other ↦ inr (get_or-set_other phases i j phase Unstarted other)
+]
+
+-- before any event each place is unstarted, those past the end too
+pub get_or-replicate_Unstarted : (n i : ℕ) → get_or (replicate n Unstarted) i Unstarted ≡ Unstarted
+get_or-replicate_Unstarted n i = elim (cases_lt i n) [
+  | inl within ↦ get_or-replicate n i Unstarted Unstarted within
+  | inr past ↦ get_or_past (replicate n Unstarted) i Unstarted (rw (length-replicate n Unstarted) past)
+]

@@ -1,0 +1,144 @@
+-- What a request is answered, and why all orders of events give one result.
+use Rattle.std.proofs.Common.{◌≡◌, ℕ, ◌<◌, ◌∙◌, sym, refl, subst, arith, Bool, true, false, not, ◌&&◌, ◌||◌, inl, inr, Some, None, Contains, if◌then◌else◌}
+use Rattle.std.proofs.lemmas.Bool.{both_ways, true≢false, and_parts, and_from, or_cases, false_from_ne_true, not-true, not_from_false}
+use Rattle.odb_doc.specs.declared.outcome.Outcome.{Outcome}
+use Rattle.odb_check.specs.declared.need.Need.{Need}
+use Rattle.odb_check.specs.declared.need.Need.TheVariants.{One, Group}
+use Rattle.odb_check.specs.Shape.{unit_of, needs_of}
+use Rattle.odb_sched.specs.declared.policy.Mode.TheVariants.{Continue}
+use Rattle.odb_sched.specs.declared.phase.Phase.{Phase}
+use Rattle.odb_sched.specs.declared.phase.Phase.TheVariants.{Unstarted, Running, Reported}
+use Rattle.odb_sched.specs.Below.{any_below, all_below}
+use Rattle.odb_sched.specs.Statuses.{is_success}
+use Rattle.odb_sched.specs.Phases.{is_unstarted, is_running, is_reported, has_succeeded, has_failed}
+use Rattle.odb_sched.specs.State.{State, size, phase_at}
+use Rattle.odb_sched.specs.Failing.{Fails, own, passed, unit_needed, succeeds}
+use Rattle.odb_sched.specs.Steps.{is_stopped, is_met, unit_succeeded, unit_failed, is_finished}
+use Rattle.odb_sched.specs.Answers.{answer_of, answer, is_answered_2xx}
+use Rattle.odb_sched.specs.Laws.{Agrees, HasOneResult, HasSoundResult, IsAllOrNone, IsSound}
+use Rattle.odb_sched.specs.Reached.{IsReached}
+use Rattle.odb_sched.proofs.BelowLemmas.{all_below-Decides, list_all-each}
+use Rattle.odb_sched.proofs.FailingLemmas.{Fails-from_fails, fails-from_Fails, Fails-as}
+use Rattle.odb_sched.proofs.PhaseLemmas.{Reported-from, Failed-from, has_succeeded-from}
+use Rattle.odb_sched.proofs.MetLemmas.{member_succeeded, succeeded_in-from}
+
+-- the table has no success for the request
+abbrev is_bad_in : (ℕ → Outcome) → ℕ → Bool
+is_bad_in table i = not (is_success (table i).status)
+
+-- a request is answered with a success where it and its unit have succeeded
+answered_2xx_is : (phase : Phase) (succeeded : Bool) → is_answered_2xx (answer_of phase succeeded) ≡ (has_succeeded phase && succeeded)
+answered_2xx_is Unstarted succeeded = refl
+answered_2xx_is Running succeeded = refl
+answered_2xx_is (Reported outcome) succeeded = by_tests (is_success outcome.status) succeeded refl
+  where
+    by_tests : (good whole : Bool) → is_success outcome.status ≡ good → is_answered_2xx (if good && not whole then None else Some outcome) ≡ (good && whole)
+    by_tests true true e = e
+    by_tests true false e = refl
+    by_tests false whole e = e
+
+pub answered-from : (state : State) (i : ℕ) → i < size state → unit_succeeded state (unit_of state.shape i) ≡ true → is_answered_2xx (answer state i) ≡ true
+answered-from state i within whole = answered_2xx_is (phase_at state i) _ ∙ and_from _ _ (member_succeeded state.shape state.phases (unit_of state.shape i) i whole within refl) whole
+
+pub answered-unit : (state : State) (i : ℕ) → is_answered_2xx (answer state i) ≡ true → unit_succeeded state (unit_of state.shape i) ≡ true
+answered-unit state i e = (and_parts (has_succeeded (phase_at state i)) (unit_succeeded state (unit_of state.shape i)) (sym (answered_2xx_is (phase_at state i) _) ∙ e)).1
+
+pub all_or_none : (state : State) → IsAllOrNone state
+all_or_none state i j within inside same e = answered-from state j inside (rw (← same) (answered-unit state i e))
+
+-- what has succeeded has started
+begun : (phase : Phase) → has_succeeded phase ≡ true → is_unstarted phase ≡ false
+begun Unstarted e = absurd (true≢false (sym e))
+begun Running e = refl
+begun (Reported outcome) e = refl
+
+-- a member of a unit that has succeeded had its needs met
+met_of : (state : State) (i : ℕ) (need : Need) → IsReached state → i < size state → unit_succeeded state (unit_of state.shape i) ≡ true → Contains (needs_of state.shape i) need → is_met state need ≡ true
+met_of state i need reached within whole has =
+    list_all-each (is_met state) (needs_of state.shape i) need
+    (reached.needs i within (begun (phase_at state i) (member_succeeded state.shape state.phases (unit_of state.shape i) i whole within refl))) has
+
+-- the unit that a member of a succeeded unit needs has succeeded
+unit_met : (state : State) (i : ℕ) (need : Need) → IsReached state → i < size state → unit_succeeded state (unit_of state.shape i) ≡ true → Contains (needs_of state.shape i) need → unit_succeeded state (unit_needed state.shape need) ≡ true
+unit_met state i (One r) reached within whole has = elim (reached.laws.listed i r within has) [
+  | inl same ↦ rw same whole
+  | inr (inl alone) ↦ succeeded_in-from state.shape state.phases (unit_of state.shape r) (λ j inside here. rw (alone j inside here) (met_of state i (One r) reached within whole has))
+  | inr (inr group) ↦ met_of state i (Group (unit_of state.shape r)) reached within whole group
+]
+unit_met state i (Group u) reached within whole has = met_of state i (Group u) reached within whole has
+
+pub sound_answers : (state : State) → IsReached state → IsSound state
+sound_answers state reached i within e =
+    let whole = answered-unit state i e in (
+      (λ r has.
+          let earlier : r < i = reached.laws.earlier i (One r) within has in
+          answered-from state r (omega arith) (unit_met state i (One r) reached within whole has)),
+      (λ u j has inside here. answered-from state j inside (rw here (unit_met state i (Group u) reached within whole has))),
+    )
+
+-- the table has what a request that has succeeded has reported
+good_in_table : (state : State) (table : ℕ → Outcome) (i : ℕ) → Agrees state table → i < size state → has_succeeded (phase_at state i) ≡ true → (is_success (table i).status ≡ true) × (phase_at state i ≡ Reported (table i))
+good_in_table state table i agrees within done =
+    let (outcome, at, good) = Reported-from (phase_at state i) done in
+    let same : outcome ≡ table i = agrees i outcome within at in
+    (rw (← same) good, rw (← same) at)
+
+-- a unit that has succeeded does not fail under the table
+succeeded_sound : (state : State) (table : ℕ → Outcome) (u : ℕ) → IsReached state → Agrees state table → Fails state.shape (is_bad_in table) u → unit_succeeded state u ≡ true → ⊥
+succeeded_sound state table _ reached agrees (own i within bad) whole =
+    both_ways _ (not-true _ bad) (good_in_table state table i agrees within (member_succeeded state.shape state.phases (unit_of state.shape i) i whole within refl)).0
+succeeded_sound state table _ reached agrees (passed i need within has other failing) whole =
+    succeeded_sound state table (unit_needed state.shape need) reached agrees failing (unit_met state i need reached within whole has)
+
+pub succeeds-from : (state : State) (table : ℕ → Outcome) (u : ℕ) → IsReached state → Agrees state table → unit_succeeded state u ≡ true → succeeds state.shape table u ≡ true
+succeeds-from state table u reached agrees whole = not_from_false _ (false_from_ne_true _ (λ failing. succeeded_sound state table u reached agrees (Fails-from_fails state.shape (is_bad_in table) u failing) whole))
+
+pub sound_result : (state : State) → IsReached state → HasSoundResult state
+sound_result state reached table agrees i within e =
+    let whole = answered-unit state i e in
+    let (good, at) = good_in_table state table i agrees within (member_succeeded state.shape state.phases (unit_of state.shape i) i whole within refl) in
+    (succeeds-from state table (unit_of state.shape i) reached agrees whole, rw (whole, at) (kept (is_success (table i).status)))
+  where
+    kept : (good : Bool) → (if good && not true then None else Some (table i)) ≡ Some (table i)
+    kept true = refl
+    kept false = refl
+
+-- a unit that has failed in a run fails under the table
+failed_sound : (state : State) (table : ℕ → Outcome) (u : ℕ) → Agrees state table → unit_failed state u ≡ true → Fails state.shape (is_bad_in table) u
+failed_sound state table u agrees failed = Fails-as state.shape (λ i. has_failed (phase_at state i)) (is_bad_in table) u
+    (λ i within bad.
+    let (outcome, at, poor) = Failed-from (phase_at state i) bad in
+    let same : outcome ≡ table i = agrees i outcome within at in
+    own i within (rw (← same) poor))
+    (Fails-from_fails state.shape (λ i. has_failed (phase_at state i)) u failed)
+
+-- in a finished run that is not stopped each request is over
+each_over : (state : State) (i : ℕ) → is_finished state ≡ true → is_stopped state ≡ false → i < size state → unit_failed state (unit_of state.shape i) ≡ false → is_reported (phase_at state i) ≡ true
+each_over state i finished goes within sound =
+    let parts = and_parts (not (any_below (size state) (λ j. is_running (phase_at state j)))) (is_stopped state || all_below (size state) (λ j. is_reported (phase_at state j) || unit_failed state (unit_of state.shape j))) finished in
+    elim (or_cases (is_stopped state) (all_below (size state) (λ j. is_reported (phase_at state j) || unit_failed state (unit_of state.shape j))) parts.1) [
+      | inl stopped ↦ absurd (both_ways _ goes stopped)
+      | inr over ↦ elim (or_cases (is_reported (phase_at state i)) (unit_failed state (unit_of state.shape i)) ((all_below-Decides (size state) (λ j. is_reported (phase_at state j) || unit_failed state (unit_of state.shape j))).0 over i within)) [
+        | inl reported ↦ reported
+        | inr failed ↦ absurd (both_ways _ sound failed)
+      ]
+    ]
+
+-- a unit that succeeds under the table has succeeded in a finished run that is not stopped
+unit_succeeded-from : (state : State) (table : ℕ → Outcome) (u : ℕ) → IsReached state → is_finished state ≡ true → is_stopped state ≡ false → Agrees state table → succeeds state.shape table u ≡ true → unit_succeeded state u ≡ true
+unit_succeeded-from state table u reached finished goes agrees good = succeeded_in-from state.shape state.phases u (λ i within here.
+    let sound : unit_failed state u ≡ false = false_from_ne_true _ (λ failed. both_ways _ (not-true _ good) (fails-from_Fails state.shape (is_bad_in table) u reached.laws (failed_sound state table u agrees failed))) in
+    has_succeeded-from (phase_at state i) (each_over state i finished goes within (rw here sound))
+    (false_from_ne_true _ (λ failed. both_ways _ sound (subst (λ v. unit_failed state v ≡ true) here (fails-from_Fails state.shape (λ j. has_failed (phase_at state j)) (unit_of state.shape i) reached.laws (own i within failed))))))
+
+goes_on : (state : State) → state.mode ≡ Continue → is_stopped state ≡ false
+goes_on state mode = rw mode refl
+
+pub one_result : (state : State) → IsReached state → is_finished state ≡ true → state.mode ≡ Continue → HasOneResult state
+one_result state reached finished mode table agrees i within = (
+  (
+    (λ e. (sound_result state reached table agrees i within e).0),
+    (λ good. answered-from state i within (unit_succeeded-from state table (unit_of state.shape i) reached finished (goes_on state mode) agrees good)),
+  ),
+  (λ e. (sound_result state reached table agrees i within e).1),
+)

@@ -1,0 +1,63 @@
+-- Runs by their parts: what holds of a state along a run.
+use Rattle.std.proofs.Common.{ℕ, ◌<◌, ◌≡◌, ◌<◌, ◌∙◌, refl, true, List, [], ◌∷◌, ◌++◌}
+use Rattle.odb_check.specs.declared.plan.Plan.{Plan}
+use Rattle.odb_check.specs.Plans.{plan_records}
+use Rattle.odb_check.specs.Shape.{IsPlan, shape_of}
+use Rattle.odb_sched.specs.declared.policy.Mode.{Mode}
+use Rattle.odb_sched.specs.declared.event.Event.{Event}
+use Rattle.odb_sched.specs.declared.event.Event.TheVariants.{Start, Report}
+use Rattle.odb_sched.specs.State.{State, size, at_first, after}
+use Rattle.odb_sched.specs.Steps.{may_come}
+use Rattle.odb_sched.specs.Runs.{position_of, after_all, IsRunFrom, IsRun, state_after}
+use Rattle.odb_sched.specs.Reached.{IsReached}
+use Rattle.odb_sched.proofs.PlanLemmas.{laws-shape}
+use Rattle.odb_sched.proofs.ReachedLemmas.{reached_first, reached_after}
+
+pub reached_after_all : (state : State) (events : List Event) → IsReached state → IsRunFrom state events → IsReached (after_all state events)
+reached_after_all state [] reached run = reached
+reached_after_all state (e ∷ es) reached run = reached_after_all (after state e) es (reached_after state e reached run.0 run.1) run.2
+
+pub reached_at_first : (source : Plan) (mode : Mode) (width : ℕ) → IsPlan (shape_of (plan_records source)) → 0 < width → IsReached (at_first source mode width)
+reached_at_first source mode width laws wide = reached_first source mode width (laws-shape source laws) wide
+
+pub reached_run : (source : Plan) (mode : Mode) (width : ℕ) (events : List Event) → IsPlan (shape_of (plan_records source)) → 0 < width → IsRun source mode width events → IsReached (state_after source mode width events)
+reached_run source mode width events laws wide run = reached_after_all (at_first source mode width) events (reached_at_first source mode width laws wide) run
+
+-- events one after another
+pub after_all-push : (state : State) (events : List Event) (event : Event) → after_all state (events ++ event ∷ []) ≡ after (after_all state events) event
+after_all-push state [] event = refl
+after_all-push state (e ∷ es) event = after_all-push (after state e) es event
+
+shape-after : (state : State) (event : Event) → (after state event).shape ≡ state.shape
+shape-after state (Start i) = refl
+shape-after state (Report i outcome) = refl
+
+pub shape-after_all : (state : State) (events : List Event) → (after_all state events).shape ≡ state.shape
+shape-after_all state [] = refl
+shape-after_all state (e ∷ es) = shape-after_all (after state e) es ∙ shape-after state e
+
+-- a run that an event is in, cut there
+pub record IsCut (state : State) (before : List Event) (event : Event) (later : List Event) : Type 0 where
+  pub run : IsRunFrom state before
+  pub within : position_of event < size (after_all state before)
+  pub may : may_come (after_all state before) event ≡ true
+  pub rest : IsRunFrom (after (after_all state before) event) later
+
+pub cut : (state : State) (before : List Event) (event : Event) (later : List Event) → IsRunFrom state (before ++ event ∷ later) → IsCut state before event later
+cut state [] event later run = record { run = tt; within = run.0; may = run.1; rest = run.2 }
+cut state (e ∷ es) event later run =
+    let inner = cut (after state e) es event later run.2 in
+    record { run = (run.0, run.1, inner.run); within = inner.within; may = inner.may; rest = inner.rest }
+
+-- a run goes on with an event that may come
+pub joined : (state : State) (before : List Event) (event : Event) → IsRunFrom state before → position_of event < size (after_all state before) → may_come (after_all state before) event ≡ true → IsRunFrom state (before ++ event ∷ [])
+joined state [] event run within may = (within, may, tt)
+joined state (e ∷ es) event run within may = (run.0, run.1, joined (after state e) es event run.2 within may)
+
+mode-after : (state : State) (event : Event) → (after state event).mode ≡ state.mode
+mode-after state (Start i) = refl
+mode-after state (Report i outcome) = refl
+
+pub mode-after_all : (state : State) (events : List Event) → (after_all state events).mode ≡ state.mode
+mode-after_all state [] = refl
+mode-after_all state (e ∷ es) = mode-after_all (after state e) es ∙ mode-after state e

@@ -1,0 +1,61 @@
+-- The conditions of a start, and the first cause against one.
+use Rattle.std.proofs.Common.{◌≡◌, ℕ, ◌<◌, refl, Bool, true, false, not, ◌&&◌, lt-ltb, ltb-true, arith, nat_lt, nat_le, Option, Some, None, is_none, find, if◌then◌else◌}
+use Rattle.std.proofs.lemmas.Bool.{and_from, and_parts, not-true, not_from_false}
+use Rattle.std.proofs.lemmas.Bool.Decides.{nat_tests}
+use Rattle.odb_doc.specs.declared.outcome.Outcome.{Outcome}
+use Rattle.odb_check.specs.declared.need.Need.{Need}
+use Rattle.odb_check.specs.Shape.{unit_of, needs_of}
+use Rattle.odb_sched.specs.declared.refusal.StartRefusal.TheVariants as start
+use Rattle.odb_sched.specs.declared.refusal.ReportRefusal.TheVariants as report
+use Rattle.odb_sched.specs.Statuses.{is_status}
+use Rattle.odb_sched.specs.Phases.{is_unstarted, is_running}
+use Rattle.odb_sched.specs.State.{State, phase_at}
+use Rattle.odb_sched.specs.Steps.{is_stopped, unit_failed, is_met, all_met, running_count, may_start, may_report, waiting_refusal, start_refusal, report_refusal}
+use Rattle.odb_sched.proofs.BelowLemmas.{find-all}
+
+pub record MayStart (state : State) (i : ℕ) : Type 0 where
+  pub fresh : is_unstarted (phase_at state i) ≡ true
+  pub goes : is_stopped state ≡ false
+  pub sound : unit_failed state (unit_of state.shape i) ≡ false
+  pub met : all_met state i ≡ true
+  pub room : running_count state < state.width
+
+pub may_start-from : (state : State) (i : ℕ) → MayStart state i → may_start state i ≡ true
+may_start-from state i parts =
+    and_from _ _ (and_from _ _ (and_from _ _ (and_from _ _ parts.fresh (not_from_false _ parts.goes)) (not_from_false _ parts.sound)) parts.met) (lt-ltb _ _ parts.room)
+
+pub may_start-parts : (state : State) (i : ℕ) → may_start state i ≡ true → MayStart state i
+may_start-parts state i may =
+    let room = and_parts (is_unstarted (phase_at state i) && not (is_stopped state) && not (unit_failed state (unit_of state.shape i)) && all_met state i) (nat_lt (running_count state) state.width) may in
+    let met = and_parts (is_unstarted (phase_at state i) && not (is_stopped state) && not (unit_failed state (unit_of state.shape i))) (all_met state i) room.0 in
+    let sound = and_parts (is_unstarted (phase_at state i) && not (is_stopped state)) (not (unit_failed state (unit_of state.shape i))) met.0 in
+    let fresh = and_parts (is_unstarted (phase_at state i)) (not (is_stopped state)) sound.0 in
+    record { fresh = fresh.0; goes = not-true _ fresh.1; sound = not-true _ sound.1; met = met.1; room = ltb-true _ _ room.1 }
+
+-- a start is refused or not as its tests say
+refused_by : (fresh stopped failed : Bool) (unmet : Option Need) (met : Bool) (full room : Bool) → is_none unmet ≡ met → not full ≡ room
+    → is_none (if not fresh then Some start.AlreadyStarted else if stopped then Some start.Stopped else if failed then Some start.UnitFailed else waiting_refusal unmet full) ≡ (fresh && not stopped && not failed && met && room)
+refused_by false stopped failed unmet met full room e f = refl
+refused_by true true failed unmet met full room e f = refl
+refused_by true false true unmet met full room e f = refl
+refused_by true false false (Some need) met full room e f = rw (← e) refl
+refused_by true false false None met true room e f = rw (← e, ← f) refl
+refused_by true false false None met false room e f = rw (← e, ← f) refl
+
+not_full : (count width : ℕ) → not (nat_le width count) ≡ nat_lt count width
+not_full count width = grind (arith, nat_tests)
+
+-- a start is refused exactly where it may not come
+pub start_refusal-may_start : (state : State) (i : ℕ) → is_none (start_refusal state i) ≡ may_start state i
+start_refusal-may_start state i =
+    refused_by (is_unstarted (phase_at state i)) (is_stopped state) (unit_failed state (unit_of state.shape i)) (find (λ need. not (is_met state need)) (needs_of state.shape i)) (all_met state i) (nat_le state.width (running_count state)) (nat_lt (running_count state) state.width)
+    (find-all (is_met state) (needs_of state.shape i)) (not_full (running_count state) state.width)
+
+-- a report is refused exactly where it may not come
+pub report_refusal-may_report : (state : State) (i : ℕ) (outcome : Outcome) → is_none (report_refusal state i outcome) ≡ may_report state i outcome
+report_refusal-may_report state i outcome = by_tests (is_running (phase_at state i)) (is_status outcome.status)
+  where
+    by_tests : (runs sound : Bool) → is_none (if not runs then Some report.NotRunning else if not sound then Some report.BadStatus else None) ≡ (runs && sound)
+    by_tests true true = refl
+    by_tests true false = refl
+    by_tests false sound = refl

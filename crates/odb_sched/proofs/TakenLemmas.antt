@@ -1,0 +1,66 @@
+-- The front of a list of events that a run has taken.
+use Rattle.std.proofs.Common.{◌≡◌, ℕ, ◌<◌, ◌+◌, ◌∙◌, sym, refl, ap, subst, arith, true, List, [], ◌∷◌, ◌++◌, length, All, append_assoc, append-nil, length-append}
+use Rattle.std.proofs.lemmas.List.Elements.{All-contains, Contains-append_right}
+use Rattle.odb_sched.specs.declared.event.Event.{Event}
+use Rattle.odb_sched.specs.declared.refusal.RunRefusal.{RunRefusal}
+use Rattle.odb_sched.specs.declared.refusal.RunRefusal.TheVariants as refusal
+use Rattle.odb_sched.specs.State.{State, size, after}
+use Rattle.odb_sched.specs.Steps.{may_come}
+use Rattle.odb_sched.specs.Runs.{position_of, after_all, IsRunFrom, RefusesEvent, StopsAt, Refuses}
+use Rattle.odb_sched.proofs.RunLemmas.{after_all-push, joined, shape-after_all}
+
+-- the events before the rest are a run that leaves this state
+pub record HasTaken (first : State) (events rest : List Event) (count : ℕ) (now : State) : Type 0 where
+  pub before : List Event
+  pub whole : events ≡ before ++ rest
+  pub counted : length before ≡ count
+  pub run : IsRunFrom first before
+  pub state : now ≡ after_all first before
+
+pub taken_none : (first : State) (events : List Event) → HasTaken first events events 0 first
+taken_none first events = record { before = []; whole = refl; counted = refl; run = tt; state = refl }
+
+-- the same rest and count, written otherwise
+pub taken_as : (first : State) (events rest other : List Event) (count n : ℕ) (now : State) → rest ≡ other → count ≡ n → HasTaken first events rest count now → HasTaken first events other n now
+taken_as first events rest other count n now same_rest same_count taken = rw (← same_rest, ← same_count) taken
+
+-- the next event names a request that there is
+pub next_within : (first : State) (events : List Event) (event : Event) (later : List Event) (count : ℕ) (now : State) → All (λ e. position_of e < size first) events → HasTaken first events (event ∷ later) count now → position_of event < size now
+next_within first events event later count now within taken =
+    let here : position_of event < size first = All-contains (λ e. position_of e < size first) events event within (rw taken.whole (Contains-append_right taken.before (event ∷ later) event (0, omega arith, refl))) in
+    rw (taken.state, shape-after_all first taken.before) here
+
+pub taken_more : (first : State) (events : List Event) (event : Event) (later : List Event) (count : ℕ) (now next : State) → HasTaken first events (event ∷ later) count now → position_of event < size now → may_come now event ≡ true → next ≡ after now event → HasTaken first events later (count + 1) next
+taken_more first events event later count now next taken within may is = record {
+  before = taken.before ++ event ∷ [];
+  whole = taken.whole ∙ sym (append_assoc taken.before (event ∷ []) later);
+  counted = let counted = taken.counted in omega (arith, length-append taken.before (event ∷ []));
+  run = joined first taken.before event taken.run (subst (λ state. position_of event < size state) taken.state within) (subst (λ state. may_come state event ≡ true) taken.state may);
+  state = is ∙ ap (λ state. after state event) taken.state ∙ sym (after_all-push first taken.before event);
+}
+
+-- all events are taken
+pub taken_all : (first : State) (events : List Event) (count : ℕ) (now : State) → HasTaken first events [] count now → IsRunFrom first events × (now ≡ after_all first events)
+taken_all first events count now taken =
+    let whole : events ≡ taken.before = taken.whole ∙ append-nil taken.before in
+    (subst (IsRunFrom first) (sym whole) taken.run, taken.state ∙ ap (after_all first) (sym whole))
+
+-- the next event is refused, so the list is no run
+refused_next : (first : State) (events : List Event) (event : Event) (later : List Event) (at count : ℕ) (now : State) (cause : RunRefusal) → HasTaken first events (event ∷ later) count now → at ≡ count → RefusesEvent now at event cause → StopsAt first events cause
+refused_next first events event later at count now cause taken place refused = record {
+  before = taken.before;
+  event = event;
+  later = later;
+  whole = taken.whole;
+  run = taken.run;
+  refused = subst (λ state. RefusesEvent state (length taken.before) event cause) taken.state (subst (λ n. RefusesEvent now n event cause) (place ∙ sym taken.counted) refused);
+}
+
+pub taken_refused : (first : State) (events : List Event) (event : Event) (later : List Event) (at count : ℕ) (now : State) (cause : RunRefusal) → HasTaken first events (event ∷ later) count now → at ≡ count → RefusesEvent now at event cause → Refuses first events cause
+taken_refused first events event later at count now (refusal.Start n cause) taken place refused = refused_next first events event later at count now (refusal.Start n cause) taken place refused
+taken_refused first events event later at count now (refusal.Report n cause) taken place refused = refused_next first events event later at count now (refusal.Report n cause) taken place refused
+taken_refused first events event later at count now refusal.OutOfMemory taken place refused = tt
+
+-- each event names a request that there is
+pub sized : (first : State) (n : ℕ) (events : List Event) → size first ≡ n → All (λ e. position_of e < n) events → All (λ e. position_of e < size first) events
+sized first n events is within = rw is within

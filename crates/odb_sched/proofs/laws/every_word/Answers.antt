@@ -1,0 +1,15 @@
+-- The clauses are the laws of the lemmas, at the plan of the requests.
+use Rattle.odb_sched.proofs.EventLemmas.{phases_first}
+use Rattle.odb_sched.proofs.FailingLemmas.{Fails-from_fails, fails-from_Fails, succeeds_by_members}
+use Rattle.odb_sched.proofs.RunLemmas.{reached_at_first}
+use Rattle.odb_sched.proofs.PlanLemmas.{laws-shape}
+use Rattle.odb_sched.proofs.laws.every_word.Goals as goal
+
+pub returns-clause-phases : goal.returns-clause-phases
+returns-clause-phases c = λ mode width events i wide run. phases_first _ mode width events i (reached_at_first _ mode width c.len-count.ensures.laws wide) run
+
+pub returns-clause-failing : goal.returns-clause-failing
+returns-clause-failing c = λ bad u. ((λ e. Fails-from_fails _ bad u e), (λ failing. fails-from_Fails _ bad u (laws-shape _ c.len-count.ensures.laws) failing))
+
+pub returns-clause-succeeding : goal.returns-clause-succeeding
+returns-clause-succeeding c = λ table u. succeeds_by_members _ table u (laws-shape _ c.len-count.ensures.laws)

@@ -1,0 +1,21 @@
+-- Tests of the numbers below a number.
+use Rattle.std.specs.Prelude.{◌≡◌, ℕ, zero, suc, ◌==◌, ◌&&◌, ◌||◌, nat_lt, Bool, true, false, List, [], ◌∷◌, count_by, if◌then◌else◌}
+
+-- whether some number below n passes
+abbrev pub any_below : ℕ → (ℕ → Bool) → Bool
+any_below zero test = false
+any_below (suc n) test = test n || any_below n test
+
+-- whether each number below n passes
+abbrev pub all_below : ℕ → (ℕ → Bool) → Bool
+all_below zero test = true
+all_below (suc n) test = test n && all_below n test
+
+-- the numbers below n that pass, from the greatest down
+abbrev pub passing_below : ℕ → (ℕ → Bool) → List ℕ
+passing_below zero test = []
+passing_below (suc n) test = if test n then n ∷ passing_below n test else passing_below n test
+
+-- the list has the numbers below n that pass, each once, and no others
+abbrev pub ListsOnce : ℕ → (ℕ → Bool) → List ℕ → Type 0
+ListsOnce n test xs = (i : ℕ) → count_by (λ x. x == i) xs ≡ (if nat_lt i n && test i then 1 else 0)

@@ -1,0 +1,15 @@
+-- What a finished run keeps.
+use Rattle.std.specs.Prelude.{◌≡◌, true}
+use Rattle.odb_sched.specs.declared.done.Done.TheInside.{Inside}
+use Rattle.odb_sched.specs.State.{State}
+use Rattle.odb_sched.specs.Steps.{is_finished}
+use Rattle.odb_sched.specs.Plans.{state_of}
+use Rattle.odb_sched.specs.Reached.{IsReached}
+
+-- the state in which the run has ended
+abbrev pub state_in : Inside → State
+state_in s = state_of s.plan.now s.policy s.phases.items
+
+pub record IsEnded (s : Inside) : Type 0 where
+  pub reached : IsReached (state_in s)
+  pub finished : is_finished (state_in s) ≡ true

@@ -1,0 +1,16 @@
+pub mod Below
+pub mod Statuses
+pub mod Phases
+pub mod PlanCode
+pub mod State
+pub mod Plans
+pub mod Failing
+pub mod Steps
+pub mod Runs
+pub mod Answers
+pub mod Laws
+pub mod Views
+pub mod Reached
+pub mod Kept
+pub mod Ended
+pub mod Refusals

@@ -1,0 +1,47 @@
+-- The state of a run: its plan, its policy, and where each request stands.
+use Rattle.std.specs.Prelude.{ℕ, List, length, replicate, slice_index_or, slice_set}
+use Rattle.odb_doc.specs.declared.outcome.Outcome.{Outcome}
+use Rattle.odb_check.specs.declared.plan.Plan.{Plan}
+use Rattle.odb_check.specs.Plans.{plan_records}
+use Rattle.odb_check.specs.Shape.{Shape, shape_of}
+use Rattle.odb_sched.specs.declared.policy.Mode.{Mode}
+use Rattle.odb_sched.specs.declared.phase.Phase.{Phase}
+use Rattle.odb_sched.specs.declared.phase.Phase.TheVariants.{Unstarted, Running, Reported}
+use Rattle.odb_sched.specs.declared.event.Event.{Event}
+use Rattle.odb_sched.specs.declared.event.Event.TheVariants.{Start, Report}
+
+-- The units and needs of a plan. It is closed, since a run asks for no more of them than the laws of a plan.
+unfoldable pub shape : Plan → Shape
+shape plan = shape_of (plan_records plan)
+
+-- the shape is that of the plan; the phases are by position
+pub record State : Type 0 where
+  pub plan : Plan
+  pub shape : Shape
+  pub mode : Mode
+  pub width : ℕ
+  pub phases : List Phase
+
+-- how many requests there are
+abbrev pub size : State → ℕ
+size state = length state.shape.units
+
+-- where the request at a position stands
+abbrev pub phase_at : State → ℕ → Phase
+phase_at state i = slice_index_or state.phases i Unstarted
+
+-- before any event
+abbrev pub at_first : Plan → Mode → ℕ → State
+at_first plan mode width = record { plan = plan; shape = shape plan; mode = mode; width = width; phases = replicate (length (shape plan).units) Unstarted }
+
+-- after a start
+abbrev pub started : State → ℕ → State
+started state i = record state { phases = slice_set state.phases i Running }
+
+-- after a report
+abbrev pub reported : State → ℕ → Outcome → State
+reported state i outcome = record state { phases = slice_set state.phases i (Reported outcome) }
+
+abbrev pub after : State → Event → State
+after state (Start i) = started state i
+after state (Report i outcome) = reported state i outcome

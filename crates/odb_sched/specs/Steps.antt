@@ -1,0 +1,99 @@
+-- Which event may come (OData JSON Format 4.01, section 19.2; OData Protocol 4.01, sections 8.2.8.3 and 11.7).
+use Rattle.std.specs.Prelude.{ℕ, ◌==◌, ◌&&◌, ◌||◌, Bool, true, false, not, nat_lt, nat_le, List, length, slice_index_or, Option, Some, None, count_by, find, if◌then◌else◌}
+use Rattle.std.specs.List.{list_any, list_all}
+use Rattle.odb_doc.specs.declared.outcome.Outcome.{Outcome}
+use Rattle.odb_check.specs.declared.need.Need.{Need}
+use Rattle.odb_check.specs.declared.need.Need.TheVariants.{One, Group}
+use Rattle.odb_check.specs.Shape.{Shape, unit_of, needs_of}
+use Rattle.odb_sched.specs.declared.policy.Mode.{Mode}
+use Rattle.odb_sched.specs.declared.policy.Mode.TheVariants.{Continue, Stop}
+use Rattle.odb_sched.specs.declared.phase.Phase.{Phase}
+use Rattle.odb_sched.specs.declared.phase.Phase.TheVariants.{Unstarted}
+use Rattle.odb_sched.specs.declared.event.Event.{Event}
+use Rattle.odb_sched.specs.declared.event.Event.TheVariants.{Start, Report}
+use Rattle.odb_sched.specs.declared.refusal.StartRefusal.{StartRefusal}
+use Rattle.odb_sched.specs.declared.refusal.StartRefusal.TheVariants as start
+use Rattle.odb_sched.specs.declared.refusal.ReportRefusal.{ReportRefusal}
+use Rattle.odb_sched.specs.declared.refusal.ReportRefusal.TheVariants as report
+use Rattle.odb_sched.specs.Below.{any_below, all_below}
+use Rattle.odb_sched.specs.Statuses.{is_status}
+use Rattle.odb_sched.specs.Phases.{is_unstarted, is_running, is_reported, has_succeeded, has_failed, has_erred}
+use Rattle.odb_sched.specs.State.{State, size, phase_at}
+use Rattle.odb_sched.specs.Failing.{fails}
+
+-- each member of a unit has reported a success
+abbrev pub succeeded_in : Shape → List Phase → ℕ → Bool
+succeeded_in plan phases u = all_below (length plan.units) (λ i. not (unit_of plan i == u) || has_succeeded (slice_index_or phases i Unstarted))
+
+-- what is needed has reported a success: a request, or each member of a group
+abbrev pub met_in : Shape → List Phase → Need → Bool
+met_in plan phases (One r) = has_succeeded (slice_index_or phases r Unstarted)
+met_in plan phases (Group u) = succeeded_in plan phases u
+
+-- a unit has failed: a member reported no success, or needs something of another unit that has failed
+abbrev pub failed_in : Shape → List Phase → ℕ → Bool
+failed_in plan phases u = fails plan (λ i. has_failed (slice_index_or phases i Unstarted)) u
+
+abbrev pub unit_succeeded : State → ℕ → Bool
+unit_succeeded state u = succeeded_in state.shape state.phases u
+
+abbrev pub is_met : State → Need → Bool
+is_met state need = met_in state.shape state.phases need
+
+abbrev pub all_met : State → ℕ → Bool
+all_met state i = list_all (is_met state) (needs_of state.shape i)
+
+abbrev pub unit_failed : State → ℕ → Bool
+unit_failed state u = failed_in state.shape state.phases u
+
+-- whether an error stops a run
+abbrev pub stops : Mode → Bool
+stops Continue = false
+stops Stop = true
+
+-- a run that an error stops has one
+abbrev pub stopped_in : Mode → List Phase → Bool
+stopped_in mode phases = stops mode && list_any has_erred phases
+
+abbrev pub is_stopped : State → Bool
+is_stopped state = stopped_in state.mode state.phases
+
+-- how many requests run
+abbrev pub running_count : State → ℕ
+running_count state = count_by is_running state.phases
+
+-- the start of a request may come
+abbrev pub may_start : State → ℕ → Bool
+may_start state i = is_unstarted (phase_at state i) && not (is_stopped state) && not (unit_failed state (unit_of state.shape i)) && all_met state i && nat_lt (running_count state) state.width
+
+-- the report of a request may come
+abbrev pub may_report : State → ℕ → Outcome → Bool
+may_report state i outcome = is_running (phase_at state i) && is_status outcome.status
+
+abbrev pub may_come : State → Event → Bool
+may_come state (Start i) = may_start state i
+may_come state (Report i outcome) = may_report state i outcome
+
+-- none runs, and the run is stopped or each request was reported or is of a failed unit
+abbrev pub is_finished : State → Bool
+is_finished state = not (any_below (size state) (λ i. is_running (phase_at state i))) && (is_stopped state || all_below (size state) (λ i. is_reported (phase_at state i) || unit_failed state (unit_of state.shape i)))
+
+-- the first need that is not met, else a full width
+abbrev pub waiting_refusal : Option Need → Bool → Option StartRefusal
+waiting_refusal (Some need) is_full = Some (start.Waiting need)
+waiting_refusal None is_full = if is_full then Some start.WidthReached else None
+
+-- the first cause why a request may not start
+abbrev pub start_refusal : State → ℕ → Option StartRefusal
+start_refusal state i =
+    if not (is_unstarted (phase_at state i)) then Some start.AlreadyStarted
+    else if is_stopped state then Some start.Stopped
+    else if unit_failed state (unit_of state.shape i) then Some start.UnitFailed
+    else waiting_refusal (find (λ need. not (is_met state need)) (needs_of state.shape i)) (nat_le state.width (running_count state))
+
+-- the first cause why a request may not be reported
+abbrev pub report_refusal : State → ℕ → Outcome → Option ReportRefusal
+report_refusal state i outcome =
+    if not (is_running (phase_at state i)) then Some report.NotRunning
+    else if not (is_status outcome.status) then Some report.BadStatus
+    else None

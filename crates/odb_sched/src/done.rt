@@ -1,0 +1,136 @@
+ghost use Rattle.std.specs.Prelude.{◌≡◌, ◌<◌, true, length, IfOk};
+ghost use Rattle.odb_check.specs.Shape as shapes;
+ghost use Rattle.odb_check.specs.Plans.{plan_records};
+ghost use Rattle.odb_sched.specs.State as states;
+ghost use Rattle.odb_sched.specs.Steps as steps;
+ghost use Rattle.odb_sched.specs.Laws as laws;
+ghost use Rattle.odb_sched.specs.Reached.{IsReached};
+ghost use Rattle.odb_sched.specs.Plans.{state_of};
+
+use crate::phase::{Phase, is_success};
+use crate::policy::Policy;
+use crate::shape::{size, unit_of};
+use crate::units::unit_succeeded;
+use odb_check::Plan;
+use odb_doc::Outcome;
+use std::alloc::{AllocError, Global};
+use std::marker::Model;
+
+/// What a request of a finished run is answered (OData JSON Format 4.01, section 19.4).
+#[derive(Clone, Copy, Debug)]
+pub enum Answer<'a> {
+    /// The outcome that was reported.
+    Reported(&'a Outcome),
+    /// It did not start, or it reported a success that is undone, since its unit did not succeed.
+    FailedDependency,
+}
+
+impl Answer<'_> {
+    ghost use Rattle.odb_sched.specs.Answers.{shown, status_of};
+
+    /// The HTTP status. That of a failed dependency is 424.
+    pub fn status(&self) -> u16
+        ensures { result ≡ status_of (shown self.now) }
+    {
+        match self {
+            Answer::Reported(outcome) => outcome.status,
+            Answer::FailedDependency => 424,
+        }
+    }
+}
+
+/// A finished run, with its answers (OData JSON Format 4.01, section 19.4).
+#[derive(Drop)]
+pub struct Done<'p> {
+    plan: &'p Plan<'p>,
+    policy: Policy,
+    phases: Vec<Phase>,
+}
+
+impl<'p> Model for Done<'p> {
+    ghost use Rattle.odb_sched.specs.PlanCode.{plan_code};
+    ghost use Rattle.odb_sched.specs.State.{State};
+
+    ghost Value = { State };
+
+    ghost use Rattle.odb_sched.specs.contracts.phase.Phase as phase;
+    ghost use Rattle.std.specs.Coded.{codes};
+
+    ghost coded = { Prim.hlevel (codes, plan_code, phase.the_row.coded) };
+
+    ghost use Rattle.odb_sched.specs.Ended.{state_in, IsEnded};
+
+    ghost view = { state_in };
+
+    ghost invariant = { IsEnded };
+}
+
+impl<'p> Done<'p> {
+    ghost use Rattle.odb_sched.specs.Answers as answers;
+
+    /// The end of a run whose requests stand so.
+    pub(crate) fn new(plan: &'p Plan<'p>, policy: Policy, phases: Vec<Phase>) -> Done<'p>
+        requires reached { IsReached (state_of plan.now policy phases.items) }
+        requires finished { steps.is_finished (state_of plan.now policy phases.items) ≡ true }
+        ensures { result ≡ state_of plan.now policy phases.items }
+    {
+        Done {
+            plan,
+            policy,
+            phases,
+        }
+    }
+
+    /// The plan that was run.
+    pub fn plan(&self) -> &'p Plan<'p>
+        ensures plan { result.now ≡ self.now.plan }
+        ensures shape { self.now.shape ≡ states.shape self.now.plan }
+        ensures size { states.size self.now ≡ length (plan_records self.now.plan) }
+        ensures finished { steps.is_finished self.now ≡ true }
+        ensures all_or_none { laws.IsAllOrNone self.now }
+        ensures sound { laws.IsSound self.now }
+    {
+        self.plan
+    }
+
+    /// What the request at a position, counted from 0, is answered.
+    pub fn answer(&self, i: u32) -> Answer<'_>
+        requires { i < states.size self.now }
+        ensures { answers.shown result ≡ answers.answer self.now i }
+    {
+        match &self.phases[i as usize] {
+            Phase::Reported(outcome) => {
+                let succeeded = unit_succeeded(self.plan, &self.phases, unit_of(self.plan, i));
+                if is_success(outcome.status) && !succeeded {
+                    Answer::FailedDependency
+                } else {
+                    Answer::Reported(outcome)
+                }
+            }
+            _ => Answer::FailedDependency,
+        }
+    }
+
+    /// Whether a request reported a success and is answered as a failed dependency.
+    fn is_undone(&self, i: u32) -> bool
+        requires { i < states.size self.now }
+        ensures { result ≡ answers.is_undone self.now i }
+    {
+        self.phases[i as usize].has_succeeded()
+            && !unit_succeeded(self.plan, &self.phases, unit_of(self.plan, i))
+    }
+
+    /// The positions whose requests reported a success that has to be undone, since their unit did
+    /// not succeed: from the last to the first.
+    pub fn undone(&self, alloc: Global) -> Result<Vec<u32>, AllocError>
+        ensures { IfOk result (λ positions. positions.items ≡ answers.undone self.now) }
+    {
+        let mut positions = Vec::new(alloc);
+        for i in (0..size(self.plan)).rev() {
+            if self.is_undone(i) {
+                positions.push(i)?;
+            }
+        }
+        Ok(positions)
+    }
+}

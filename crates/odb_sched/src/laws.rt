@@ -1,0 +1,70 @@
+//! What is true of every run of a plan, in each mode, at each width, and whatever is reported
+//! (OData JSON Format 4.01, sections 19.1 and 19.2; OData Protocol 4.01, section 11.7).
+//!
+//! The laws are clauses of functions that change nothing. They speak of lists of events, and of the
+//! same words that the clauses of the scheduler use.
+
+ghost use Rattle.std.specs.Prelude.{◌≡◌, ℕ, ◌<◌, ◌↔◌, Bool, true, List, IsTrue};
+ghost use Rattle.odb_doc.specs.declared.outcome.Outcome.{Outcome};
+ghost use Rattle.odb_check.specs.Plans.{plan_records};
+ghost use Rattle.odb_sched.specs.declared.policy.Mode.{Mode};
+ghost use Rattle.odb_sched.specs.declared.event.Event.{Event};
+ghost use Rattle.odb_sched.specs.State.{shape, phase_at};
+ghost use Rattle.odb_sched.specs.Failing.{Fails, fails};
+ghost use Rattle.odb_sched.specs.Steps.{is_finished};
+ghost use Rattle.odb_sched.specs.Runs.{IsRun, state_after, phase_of};
+ghost use Rattle.odb_sched.specs.Laws.{StartsLast, IsNeverStuck, HasFewEvents, HasOneResult, HasSoundResult, IsAllOrNone, IsSound, SucceedsByMembers};
+
+use odb_check::Plan;
+
+/// No request starts before all that it names has ended with success. A run that is not finished
+/// has a request that runs or one that may start, and none has more than a start and a report.
+pub fn every_run(plan: &Plan<'_>)
+    ensures dependencies_first { (mode : Mode) (width : ℕ) (events : List Event)
+        → IsRun plan.now mode width events
+        → StartsLast (plan_records plan.now) events }
+    ensures never_stuck { (mode : Mode) (width : ℕ) (events : List Event) → 0 < width
+        → IsRun plan.now mode width events
+        → IsNeverStuck (state_after plan.now mode width events) }
+    ensures few_events { (mode : Mode) (width : ℕ) (events : List Event) → 0 < width
+        → IsRun plan.now mode width events
+        → HasFewEvents events }
+{
+    let _count = plan.len();
+}
+
+/// The answers of a finished run are those of each table of outcomes that its reports agree with.
+/// The answers of a group are all successes or none is, and a success needs only successes.
+pub fn every_result(plan: &Plan<'_>)
+    ensures one_result { (width : ℕ) (events : List Event) → 0 < width
+        → IsRun plan.now Mode.Continue width events
+        → is_finished (state_after plan.now Mode.Continue width events) ≡ true
+        → HasOneResult (state_after plan.now Mode.Continue width events) }
+    ensures sound_result { (mode : Mode) (width : ℕ) (events : List Event) → 0 < width
+        → IsRun plan.now mode width events
+        → HasSoundResult (state_after plan.now mode width events) }
+    ensures all_or_none { (mode : Mode) (width : ℕ) (events : List Event) → 0 < width
+        → IsRun plan.now mode width events
+        → IsAllOrNone (state_after plan.now mode width events) }
+    ensures sound { (mode : Mode) (width : ℕ) (events : List Event) → 0 < width
+        → IsRun plan.now mode width events
+        → IsSound (state_after plan.now mode width events) }
+{
+    let _count = plan.len();
+}
+
+/// What the words of the laws mean that are tests: a request stands where its start and its first
+/// report say, a failing unit is the least relation of that name, and a unit succeeds under a table
+/// where its members do, and the other units that they need.
+pub fn every_word(plan: &Plan<'_>)
+    ensures phases { (mode : Mode) (width : ℕ) (events : List Event) (i : ℕ) → 0 < width
+        → IsRun plan.now mode width events
+        → phase_at (state_after plan.now mode width events) i ≡ phase_of i events }
+    ensures failing { (bad : ℕ → Bool) (u : ℕ)
+        → IsTrue (fails (shape plan.now) bad u)
+        ↔ Fails (shape plan.now) bad u }
+    ensures succeeding { (table : ℕ → Outcome) (u : ℕ)
+        → SucceedsByMembers (shape plan.now) table u }
+{
+    let _count = plan.len();
+}

@@ -1,0 +1,72 @@
+ghost use Rattle.std.specs.Prelude.{◌≡◌};
+ghost use Rattle.odb_sched.specs.Statuses as statuses;
+
+use odb_doc::Outcome;
+
+/// Where a request stands in a run.
+#[derive(Debug, Drop)]
+pub enum Phase {
+    Unstarted,
+    Running,
+    Reported(Outcome),
+}
+
+/// Whether a status is a success.
+pub(crate) fn is_success(status: u16) -> bool
+    ensures { result ≡ statuses.is_success status }
+{
+    (200..300).contains(&status)
+}
+
+/// Whether a report may have this status.
+pub(crate) fn is_status(status: u16) -> bool
+    ensures { result ≡ statuses.is_status status }
+{
+    (200..600).contains(&status)
+}
+
+impl Phase {
+    ghost use Rattle.odb_sched.specs.Phases as phases;
+
+    pub(crate) fn is_unstarted(&self) -> bool
+        ensures { result ≡ phases.is_unstarted self.now }
+    {
+        matches!(self, Phase::Unstarted)
+    }
+
+    pub(crate) fn is_running(&self) -> bool
+        ensures { result ≡ phases.is_running self.now }
+    {
+        matches!(self, Phase::Running)
+    }
+
+    /// Whether a status from 200 to 299 was reported.
+    pub(crate) fn has_succeeded(&self) -> bool
+        ensures { result ≡ phases.has_succeeded self.now }
+    {
+        match self {
+            Phase::Reported(outcome) => is_success(outcome.status),
+            _ => false,
+        }
+    }
+
+    /// Whether another status was reported.
+    pub(crate) fn has_failed(&self) -> bool
+        ensures { result ≡ phases.has_failed self.now }
+    {
+        match self {
+            Phase::Reported(outcome) => !is_success(outcome.status),
+            _ => false,
+        }
+    }
+
+    /// Whether a status from 400 to 599 was reported.
+    pub(crate) fn has_erred(&self) -> bool
+        ensures { result ≡ phases.has_erred self.now }
+    {
+        match self {
+            Phase::Reported(outcome) => (400..600).contains(&outcome.status),
+            _ => false,
+        }
+    }
+}

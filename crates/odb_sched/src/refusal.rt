@@ -1,0 +1,141 @@
+ghost use Rattle.std.specs.Prelude.{◌≡◌};
+ghost use Rattle.odb_sched.specs.declared.refusal.RunRefusal.TheVariants.{OutOfMemory};
+
+use odb_check::Need;
+use std::alloc::AllocError;
+use thiserror::Error;
+
+/// Why a request may not start.
+#[derive(Clone, Copy, Debug, PartialEq, Eq, Error)]
+pub enum StartRefusal {
+    /// S1: it has started before.
+    #[error("the request has started before")]
+    AlreadyStarted,
+    /// S2: an error has stopped the run.
+    #[error("an error has stopped the run")]
+    Stopped,
+    /// S3: a request of its unit did not succeed, or needs something of another unit that failed.
+    #[error("the unit of the request has failed")]
+    UnitFailed,
+    /// S4: this is the first of its needs that has not ended with success.
+    #[error("the request waits for {0:?}")]
+    Waiting(Need),
+    /// S5: as many requests run as the width allows.
+    #[error("as many requests run as may")]
+    WidthReached,
+}
+
+/// Why an outcome is not taken.
+#[derive(Clone, Copy, Debug, PartialEq, Eq, Error)]
+pub enum ReportRefusal {
+    /// P1: the request does not run.
+    #[error("the request does not run")]
+    NotRunning,
+    /// P2: the status is not from 200 to 599.
+    #[error("the status is not from 200 to 599")]
+    BadStatus,
+}
+
+/// Why a list of events is no run.
+#[derive(Clone, Copy, Debug, PartialEq, Eq, Error)]
+pub enum RunRefusal {
+    /// The start at this place of the list, counted from 0, may not come.
+    #[error("event {at}: {cause}")]
+    Start { at: usize, cause: StartRefusal },
+    /// The report at this place of the list, counted from 0, may not come.
+    #[error("event {at}: {cause}")]
+    Report { at: usize, cause: ReportRefusal },
+    /// Memory was refused. That says nothing of the events.
+    #[error("out of memory")]
+    OutOfMemory,
+}
+
+impl StartRefusal {
+    ghost use Rattle.odb_sched.specs.Refusals.{start_code, start_name};
+
+    /// The code that is printed, from `S1` to `S5`.
+    pub fn code(&self) -> &'static str
+        ensures { result.now ≡ start_code self.now }
+    {
+        match self {
+            StartRefusal::AlreadyStarted => "S1",
+            StartRefusal::Stopped => "S2",
+            StartRefusal::UnitFailed => "S3",
+            StartRefusal::Waiting(_) => "S4",
+            StartRefusal::WidthReached => "S5",
+        }
+    }
+
+    /// The name that is printed, as `Waiting`.
+    pub fn name(&self) -> &'static str
+        ensures { result.now ≡ start_name self.now }
+    {
+        match self {
+            StartRefusal::AlreadyStarted => "AlreadyStarted",
+            StartRefusal::Stopped => "Stopped",
+            StartRefusal::UnitFailed => "UnitFailed",
+            StartRefusal::Waiting(_) => "Waiting",
+            StartRefusal::WidthReached => "WidthReached",
+        }
+    }
+}
+
+impl ReportRefusal {
+    ghost use Rattle.odb_sched.specs.Refusals.{report_code, report_name};
+
+    /// The code that is printed, `P1` or `P2`.
+    pub fn code(&self) -> &'static str
+        ensures { result.now ≡ report_code self.now }
+    {
+        match self {
+            ReportRefusal::NotRunning => "P1",
+            ReportRefusal::BadStatus => "P2",
+        }
+    }
+
+    /// The name that is printed, as `NotRunning`.
+    pub fn name(&self) -> &'static str
+        ensures { result.now ≡ report_name self.now }
+    {
+        match self {
+            ReportRefusal::NotRunning => "NotRunning",
+            ReportRefusal::BadStatus => "BadStatus",
+        }
+    }
+}
+
+impl RunRefusal {
+    ghost use Rattle.odb_sched.specs.Refusals.{IsNumbered, run_code, run_name};
+
+    /// The code of a numbered refusal, as `S4`.
+    pub fn code(&self) -> &'static str
+        requires { IsNumbered self.now }
+        ensures { result.now ≡ run_code self.now }
+    {
+        match self {
+            RunRefusal::Start { cause, .. } => cause.code(),
+            RunRefusal::Report { cause, .. } => cause.code(),
+            RunRefusal::OutOfMemory => unreachable!(),
+        }
+    }
+
+    /// The name of a numbered refusal, as `Waiting`.
+    pub fn name(&self) -> &'static str
+        requires { IsNumbered self.now }
+        ensures { result.now ≡ run_name self.now }
+    {
+        match self {
+            RunRefusal::Start { cause, .. } => cause.name(),
+            RunRefusal::Report { cause, .. } => cause.name(),
+            RunRefusal::OutOfMemory => unreachable!(),
+        }
+    }
+}
+
+impl From<AllocError> for RunRefusal {
+    ghost from_gives = { λ _ refusal. refusal ≡ OutOfMemory };
+
+    fn from(_error: AllocError) -> Self {
+        RunRefusal::OutOfMemory
+    }
+}

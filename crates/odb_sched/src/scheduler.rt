@@ -1,0 +1,215 @@
+ghost use Rattle.std.specs.Prelude.{◌≡◌, ◌<◌, ◌≤◌, ◌↔◌, ℕ, true, false, List, Some, length, slice_set, replicate, IsTrue, IsOk, IfOk, IfErr, OnOk, OnErr};
+ghost use Rattle.odb_check.specs.Plans.{plan_records};
+ghost use Rattle.odb_sched.specs.declared.policy.Mode.TheVariants as modes;
+ghost use Rattle.odb_sched.specs.declared.phase.Phase.TheVariants.{Unstarted};
+ghost use Rattle.odb_sched.specs.Below.{ListsOnce};
+ghost use Rattle.odb_sched.specs.Phases as tests;
+ghost use Rattle.odb_sched.specs.State as states;
+ghost use Rattle.odb_sched.specs.Steps as steps;
+ghost use Rattle.odb_sched.specs.Laws as laws;
+
+use crate::done::Done;
+use crate::phase::{Phase, is_status};
+use crate::policy::Policy;
+use crate::refusal::{ReportRefusal, StartRefusal};
+use crate::shape::{size, unit_of};
+use crate::units::first_unmet;
+use crate::views::Views;
+use odb_check::Plan;
+use odb_doc::Outcome;
+use std::alloc::{AllocError, Global};
+use std::marker::Model;
+
+/// One run of a plan, as far as it has come (OData Protocol 4.01, section 11.7).
+#[derive(Drop)]
+pub struct Scheduler<'p> {
+    plan: &'p Plan<'p>,
+    policy: Policy,
+    phases: Vec<Phase>,
+    views: Views,
+}
+
+impl<'p> Model for Scheduler<'p> {
+    ghost use Rattle.odb_sched.specs.PlanCode.{plan_code};
+    ghost use Rattle.odb_sched.specs.State.{State};
+
+    ghost Value = { State };
+
+    ghost use Rattle.odb_sched.specs.contracts.phase.Phase as phase;
+    ghost use Rattle.std.specs.Coded.{codes};
+
+    ghost coded = { Prim.hlevel (codes, plan_code, phase.the_row.coded) };
+
+    ghost use Rattle.odb_sched.specs.Kept.{state_in, IsKept};
+
+    ghost view = { state_in };
+
+    ghost invariant = { IsKept };
+}
+
+/// As many requests that have not started.
+fn all_unstarted(alloc: Global, count: u32) -> Result<Vec<Phase>, AllocError>
+    ensures { IfOk result (λ phases. phases.items ≡ replicate count Unstarted) }
+{
+    let mut phases = Vec::with_capacity(alloc, count as usize)?;
+    for _ in 0..count {
+        phases.push(Phase::Unstarted)?;
+    }
+    Ok(phases)
+}
+
+/// Writes where a request stands now.
+fn put(phases: &mut [Phase], i: u32, phase: Phase)
+    requires { i < length phases.old }
+    ensures { phases.new ≡ slice_set phases.old i phase }
+{
+    phases[i as usize] = phase;
+}
+
+impl<'p> Scheduler<'p> {
+    /// A run before its first event. It takes all the memory that the run needs: the calls from
+    /// then on take none, and an outcome is moved in, not copied.
+    pub fn new(
+        alloc: Global,
+        plan: &'p Plan<'p>,
+        policy: Policy,
+    ) -> Result<Scheduler<'p>, AllocError>
+        ensures state { IfOk result (λ scheduler. scheduler
+            ≡ states.at_first plan.now policy.mode policy.width) }
+        ensures size { IfOk result (λ scheduler. states.size scheduler
+            ≡ length (plan_records plan.now)) }
+    {
+        let phases = all_unstarted(alloc, size(plan))?;
+        let mut views = Views::new(alloc, plan)?;
+        views.refresh(plan, policy, &phases);
+        Ok(Scheduler {
+            plan,
+            policy,
+            phases,
+            views,
+        })
+    }
+
+    /// The first cause why a request may not start.
+    fn start_refusal(&self, i: u32) -> Option<StartRefusal>
+        requires { i < states.size self.now }
+        ensures { result ≡ steps.start_refusal self.now i }
+    {
+        if !self.phases[i as usize].is_unstarted() {
+            return Some(StartRefusal::AlreadyStarted);
+        }
+        if self.views.stopped() {
+            return Some(StartRefusal::Stopped);
+        }
+        if self.views.failed(unit_of(self.plan, i)) {
+            return Some(StartRefusal::UnitFailed);
+        }
+        if let Some(need) = first_unmet(self.plan, &self.phases, i) {
+            return Some(StartRefusal::Waiting(need));
+        }
+        if self.views.running().len() >= self.policy.width as usize {
+            return Some(StartRefusal::WidthReached);
+        }
+        None
+    }
+
+    /// Starts the request at a position, counted from 0.
+    ///
+    /// # Errors
+    ///
+    /// The first cause in the order S1 to S5; the run is as before.
+    pub fn start(&mut self, i: u32) -> Result<(), StartRefusal>
+        requires { i < states.size self.old }
+        ensures ok { OnOk result (self.new ≡ states.started self.old i) }
+        ensures allowed { IsOk result ↔ IsTrue (steps.may_start self.old i) }
+        ensures cause { IfErr result (λ cause. steps.start_refusal self.old i ≡ Some cause) }
+        ensures err { OnErr result (self.new ≡ self.old) }
+    {
+        if let Some(cause) = self.start_refusal(i) {
+            return Err(cause);
+        }
+        put(&mut self.phases, i, Phase::Running);
+        self.views.refresh(self.plan, self.policy, &self.phases);
+        Ok(())
+    }
+
+    /// The first cause why an outcome is not taken.
+    fn report_refusal(&self, i: u32, outcome: &Outcome) -> Option<ReportRefusal>
+        requires { i < states.size self.now }
+        ensures { result ≡ steps.report_refusal self.now i outcome.now }
+    {
+        if !self.phases[i as usize].is_running() {
+            return Some(ReportRefusal::NotRunning);
+        }
+        if !is_status(outcome.status) {
+            return Some(ReportRefusal::BadStatus);
+        }
+        None
+    }
+
+    /// Takes the outcome of a request that runs.
+    ///
+    /// # Errors
+    ///
+    /// P1 or P2, in this order, and the outcome; the run is as before.
+    pub fn report(&mut self, i: u32, outcome: Outcome) -> Result<(), (ReportRefusal, Outcome)>
+        requires { i < states.size self.old }
+        ensures ok { OnOk result (self.new ≡ states.reported self.old i outcome) }
+        ensures allowed { IsOk result ↔ IsTrue (steps.may_report self.old i outcome) }
+        ensures cause { IfErr result (λ e. steps.report_refusal self.old i outcome ≡ Some e.0) }
+        ensures back { IfErr result (λ e. e.1 ≡ outcome) }
+        ensures err { OnErr result (self.new ≡ self.old) }
+    {
+        if let Some(cause) = self.report_refusal(i, &outcome) {
+            return Err((cause, outcome));
+        }
+        put(&mut self.phases, i, Phase::Reported(outcome));
+        self.views.refresh(self.plan, self.policy, &self.phases);
+        Ok(())
+    }
+
+    /// The positions that may start, each once, in an order that is open.
+    pub fn ready(&self) -> &[u32]
+        ensures { ListsOnce (states.size self.now) (steps.may_start self.now) result.now }
+    {
+        self.views.ready()
+    }
+
+    /// The positions that run, each once, in an order that is open.
+    pub fn running(&self) -> &[u32]
+        ensures listed { ListsOnce (states.size self.now)
+            (λ i. tests.is_running (states.phase_at self.now i)) result.now }
+        ensures width { length result.now ≤ self.now.width }
+    {
+        self.views.running()
+    }
+
+    /// Whether no event may come any more: none runs, and the run is stopped or each request was
+    /// reported or will never start.
+    pub fn is_finished(&self) -> bool
+        ensures value { result ≡ steps.is_finished self.now }
+        ensures idle { IsTrue result ↔ ((i : ℕ) → i < states.size self.now
+            → (steps.may_start self.now i ≡ false)
+            × (tests.is_running (states.phase_at self.now i) ≡ false)) }
+    {
+        self.views.is_idle()
+    }
+
+    /// Ends a finished run.
+    pub fn close(self) -> Done<'p>
+        requires { steps.is_finished self ≡ true }
+        ensures state { result ≡ self.entry }
+        ensures one_result { self.entry.mode ≡ modes.Continue → laws.HasOneResult result }
+        ensures sound_result { laws.HasSoundResult result }
+        ensures all_or_none { laws.IsAllOrNone result }
+        ensures sound { laws.IsSound result }
+    {
+        let Scheduler {
+            plan,
+            policy,
+            phases,
+            views: _,
+        } = self;
+        Done::new(plan, policy, phases)
+    }
+}
