@@ -51,7 +51,7 @@ pub record IsMove (state : State) (event : Event) (before new : Phase) : Type 0 
   pub stands : phase_at (after state event) (position_of event) ≡ new
   pub others : (i : ℕ) → i ≢ position_of event → phase_at (after state event) i ≡ phase_at state i
 
-move_start : (state : State) (i : ℕ) → IsReached state → i < size state → may_come state (Start i) ≡ true → IsMove state (Start i) Unstarted Running
+pub move_start : (state : State) (i : ℕ) → IsReached state → i < size state → may_come state (Start i) ≡ true → IsMove state (Start i) Unstarted Running
 move_start state i reached within may =
     let each : length state.phases ≡ size state = reached.each in
     let start = may_start-parts state i may in
@@ -61,7 +61,7 @@ move_start state i reached within may =
       others = λ j other. get_or-set_other state.phases i j Running Unstarted other;
     }
 
-move_report : (state : State) (i : ℕ) (outcome : Outcome) → IsReached state → i < size state → may_come state (Report i outcome) ≡ true → IsMove state (Report i outcome) Running (Reported outcome)
+pub move_report : (state : State) (i : ℕ) (outcome : Outcome) → IsReached state → i < size state → may_come state (Report i outcome) ≡ true → IsMove state (Report i outcome) Running (Reported outcome)
 move_report state i outcome reached within may =
     let each : length state.phases ≡ size state = reached.each in
     let parts = and_parts (is_running (phase_at state i)) (is_status outcome.status) may in
@@ -72,7 +72,7 @@ move_report state i outcome reached within may =
     }
 
 -- how many events a request may still have
-abbrev left : Phase → ℕ
+abbrev pub left : Phase → ℕ
 left Unstarted = 2
 left Running = 1
 left (Reported outcome) = 0

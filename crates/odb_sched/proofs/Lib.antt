@@ -14,3 +14,5 @@ pub mod SpanLemmas
 pub mod ListLemmas
 pub mod KeptLemmas
 pub mod TakenLemmas
+pub mod ChoiceLemmas
+pub mod CourseLemmas

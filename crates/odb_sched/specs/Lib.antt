@@ -14,3 +14,7 @@ pub mod Reached
 pub mod Kept
 pub mod Ended
 pub mod Refusals
+pub mod Choosing
+pub mod Courses
+pub mod ExecFaults
+pub mod Advances

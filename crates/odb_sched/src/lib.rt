@@ -7,21 +7,31 @@
 //! (section 19.4). What holds of every run is said in [`laws`].
 #![tactic(auto)]
 
+mod chooser;
 mod done;
 mod event;
+mod execution;
+mod fault;
 pub mod laws;
 mod phase;
 mod policy;
 mod refusal;
 mod scheduler;
+mod service;
 mod shape;
+mod step;
 #[cfg(test)]
 mod tests;
 mod units;
 mod views;
 
+pub use chooser::{Choice, Chooser, First, Last, Wide};
 pub use done::{Answer, Done};
 pub use event::{Event, run};
+pub use execution::{Trace, execute};
+pub use fault::ExecFault;
 pub use policy::{Mode, Policy};
 pub use refusal::{ReportRefusal, RunRefusal, StartRefusal};
 pub use scheduler::Scheduler;
+pub use service::{Service, ServiceFault};
+pub use step::Step;

@@ -1,0 +1,244 @@
+-- An execution from step to step.
+use Rattle.std.proofs.Common.{◌≡◌, ℕ, ◌<◌, ◌≤◌, ◌+◌, ◌*◌, ◌∙◌, ap, sym, refl, subst, arith, Bool, true, false, ◌&&◌, List, [], ◌∷◌, ◌++◌, length, map, replicate, slice_set, inl, inr, ◌⊎◌, Contains, Result, Ok, Err}
+use Rattle.std.proofs.lemmas.Bool.{both_ways, and_parts, cases_eq, true≢false}
+use Rattle.std.specs.List.{sum_by}
+use Rattle.std.proofs.lemmas.List.Sums.{sum_by-set}
+use Rattle.std.proofs.lemmas.List.{length-append}
+use Rattle.std.proofs.lemmas.List.Folds.{sum_by-replicate}
+use Rattle.odb_check.specs.declared.plan.Plan.{Plan}
+use Rattle.odb_check.specs.Plans.{plan_records}
+use Rattle.odb_check.specs.Shape.{IsPlan, shape_of}
+use Rattle.odb_doc.specs.declared.outcome.Outcome.{Outcome}
+use Rattle.odb_sched.specs.declared.policy.Mode.{Mode}
+use Rattle.odb_sched.specs.declared.phase.Phase.{Phase}
+use Rattle.odb_sched.specs.declared.phase.Phase.TheVariants.{Unstarted, Running, Reported}
+use Rattle.odb_sched.specs.declared.event.Event.{Event}
+use Rattle.odb_sched.specs.declared.event.Event.TheVariants.{Start, Report}
+use Rattle.odb_sched.specs.declared.step.Step.{Step}
+use Rattle.odb_sched.specs.declared.step.Step.TheVariants as step
+use Rattle.odb_sched.specs.declared.service.ServiceFault.{ServiceFault}
+use Rattle.odb_sched.specs.declared.service.ServiceFault.TheVariants as service
+use Rattle.odb_sched.specs.declared.fault.ExecFault.{ExecFault}
+use Rattle.odb_sched.specs.declared.fault.ExecFault.TheVariants as fault
+use Rattle.odb_sched.specs.Below.{ListsOnce}
+use Rattle.odb_sched.specs.Statuses.{is_status}
+use Rattle.odb_sched.specs.Phases.{is_running, is_reported}
+use Rattle.odb_sched.specs.State.{State, size, phase_at, shape, at_first, after, started, reported}
+use Rattle.odb_sched.specs.Steps.{may_start, may_report, may_come, is_finished}
+use Rattle.odb_sched.specs.Runs.{position_of, after_all, IsRunFrom}
+use Rattle.odb_sched.specs.Reached.{IsReached}
+use Rattle.odb_sched.specs.Choosing.{Positions, positions_of, IsAmong}
+use Rattle.odb_sched.specs.Courses.{Allowance, Offer, ready_set, running_set, IsAllowed, IsOffered, step_of, AreChosen, IsCourse, IsDue, IsFinishedBy, IsCausedBy}
+use Rattle.odb_sched.specs.Advances.{position_in, MayTake, IsNext, IsTaken}
+use Rattle.odb_sched.proofs.ChoiceLemmas.{positions-listed, listed-in}
+use Rattle.odb_sched.proofs.PlanLemmas.{length-shape}
+use Rattle.odb_sched.proofs.ReachedLemmas.{reached_after}
+use Rattle.odb_sched.proofs.RunLemmas.{reached_after_all, reached_at_first, joined, after_all-push, shape-after_all, mode-after_all}
+use Rattle.odb_sched.proofs.EventLemmas.{left, IsMove, move_start, move_report}
+
+-- what is picked from the two lists may come next
+pub next-from : (allows : Allowance) (state : State) (ready running : List ℕ) (step : Step)
+    → ListsOnce (size state) (may_start state) ready → ListsOnce (size state) (λ i. is_running (phase_at state i)) running
+    → IsAmong ready running step → allows (positions_of ready) (positions_of running) step → IsNext allows state step
+next-from allows state ready running (step.Start i) starts runs among allowed =
+    let (within, may) = listed-in (size state) (may_start state) ready i starts among in
+    record {
+      within = within;
+      may = may;
+      allowed = rw (← positions-listed (size state) (may_start state) ready starts, ← positions-listed (size state) (λ j. is_running (phase_at state j)) running runs) allowed;
+    }
+next-from allows state ready running (step.Report i) starts runs among allowed =
+    let (within, may) = listed-in (size state) (λ j. is_running (phase_at state j)) running i runs among in
+    record {
+      within = within;
+      may = may;
+      allowed = rw (← positions-listed (size state) (may_start state) ready starts, ← positions-listed (size state) (λ j. is_running (phase_at state j)) running runs) allowed;
+    }
+
+pub taken-start : (offers : Offer) (state new : State) (taking : Step) (i : ℕ) → taking ≡ step.Start i → MayTake state taking → new ≡ started state i → IsTaken offers state new taking
+taken-start offers state new taking i same may is = record { event = Start i; step_is = same; may = subst (MayTake state) same may; offered = tt; new_is = is }
+
+pub taken-report : (offers : Offer) (state new : State) (i : ℕ) (outcome : Outcome) → may_report state i outcome ≡ true → offers i (Ok outcome) → new ≡ reported state i outcome → IsTaken offers state new (step.Report i)
+taken-report offers state new i outcome may offered is = record { event = Report i outcome; step_is = refl; may = may; offered = offered; new_is = is }
+
+-- how many events a run may still have
+abbrev pub events_left : State → ℕ
+events_left state = sum_by left state.phases
+
+pub left_at_first : (source : Plan) (mode : Mode) (width : ℕ) → events_left (at_first source mode width) ≡ 2 * length (shape source).units
+left_at_first source mode width = let all : sum_by left (replicate (length (shape source).units) Unstarted) ≡ length (shape source).units * 2 = sum_by-replicate left (length (shape source).units) Unstarted in omega arith
+
+left-set : (state : State) (i : ℕ) (old new : Phase) → IsReached state → i < size state → phase_at state i ≡ old → left new + 1 ≡ left old → events_left (record state { phases = slice_set state.phases i new }) + 1 ≡ events_left state
+left-set state i old new reached within stood fewer =
+    let each : length state.phases ≡ size state = reached.each in
+    let count = sum_by-set left state.phases i new Unstarted (omega arith) in
+    let here : left (phase_at state i) ≡ left old = ap left stood in
+    omega arith
+
+-- an event takes one from them
+pub left_after_event : (state : State) (event : Event) → IsReached state → position_of event < size state → may_come state event ≡ true → events_left (after state event) + 1 ≡ events_left state
+left_after_event state (Start i) reached within may = left-set state i Unstarted Running reached within (move_start state i reached within may).stood refl
+left_after_event state (Report i outcome) reached within may = left-set state i Running (Reported outcome) reached within (move_report state i outcome reached within may).stood refl
+
+-- what was done so far, and what chooser and service allow and offer now
+pub record SoFar (allows allows_now : Allowance) (offers offers_now : Offer) (first state : State) (steps : List Step) : Type 0 where
+  pub events : List Event
+  pub course : IsCourse allows offers first events
+  pub steps_are : steps ≡ map step_of events
+  pub state_is : state ≡ after_all first events
+  pub allowed : (ready running : Positions) (step : Step) → allows_now ready running step → allows ready running step
+  pub offered : (i : ℕ) (answer : Result Outcome ServiceFault) → is_reported (phase_at state i) ≡ false → offers_now i answer → offers i answer
+  pub count : length steps + events_left state ≡ events_left first
+
+pub none_so_far : (allows : Allowance) (offers : Offer) (first : State) → SoFar allows allows offers offers first first []
+none_so_far allows offers first = record {
+  events = [];
+  course = record { run = tt; chosen = tt };
+  steps_are = refl;
+  state_is = refl;
+  allowed = λ ready running step e. e;
+  offered = λ i answer fresh e. e;
+  count = omega arith;
+}
+
+chosen-push : (allows : Allowance) (offers : Offer) (state : State) (events : List Event) (event : Event) → AreChosen allows offers state events
+    → IsAllowed allows (after_all state events) (step_of event) → IsOffered offers event → AreChosen allows offers state (events ++ event ∷ [])
+chosen-push allows offers state [] event chosen allowed offered = (allowed, offered, tt)
+chosen-push allows offers state (e ∷ es) event chosen allowed offered = (chosen.0, chosen.1, chosen-push allows offers (after state e) es event chosen.2 allowed offered)
+
+map-push : (events : List Event) (event : Event) → map step_of (events ++ event ∷ []) ≡ map step_of events ++ step_of event ∷ []
+map-push [] event = refl
+map-push (e ∷ es) event = ap (λ steps. step_of e ∷ steps) (map-push es event)
+
+position-step : (event : Event) → position_in (step_of event) ≡ position_of event
+position-step (Start i) = refl
+position-step (Report i outcome) = refl
+
+running_open : (phase : Phase) → is_running phase ≡ true → is_reported phase ≡ false
+running_open Unstarted e = absurd (true≢false (sym e))
+running_open Running e = refl
+running_open (Reported outcome) e = absurd (true≢false (sym e))
+
+abbrev is_report : Step → Bool
+is_report (step.Start i) = false
+is_report (step.Report i) = true
+
+-- a request that is not reported after a step was not reported before it, and was not the one reported
+still_open : (state : State) (event : Event) (i : ℕ) → IsReached state → position_of event < size state → may_come state event ≡ true → is_reported (phase_at (after state event) i) ≡ false
+    → (is_reported (phase_at state i) ≡ false) × (step_of event ≡ step.Report i → ⊥)
+still_open state (Start j) i reached within may fresh = let move = move_start state j reached within may in
+    (elim (cases_eq i j) [
+      | inl here ↦ rw (here, move.stood) refl
+      | inr elsewhere ↦ ap is_reported (sym (move.others i elsewhere)) ∙ fresh
+    ], λ same. true≢false (sym (ap is_report same)))
+still_open state (Report j outcome) i reached within may fresh = let move = move_report state j outcome reached within may in
+    elim (cases_eq i j) [
+      | inl here ↦ absurd (both_ways _ fresh (rw (here, move.stands) refl))
+      | inr elsewhere ↦ (ap is_reported (sym (move.others i elsewhere)) ∙ fresh, λ same. elsewhere (sym (ap position_in same)))
+    ]
+
+-- an outcome that is offered now for a request that runs was offered at first
+offered-first : (offers offers_now : Offer) (state : State) (event : Event)
+    → ((i : ℕ) (answer : Result Outcome ServiceFault) → is_reported (phase_at state i) ≡ false → offers_now i answer → offers i answer)
+    → may_come state event ≡ true → IsOffered offers_now event → IsOffered offers event
+offered-first offers offers_now state (Start i) first may offered = tt
+offered-first offers offers_now state (Report i outcome) first may offered =
+    first i (Ok outcome) (running_open (phase_at state i) (and_parts (is_running (phase_at state i)) (is_status outcome.status) may).0) offered
+
+-- a step takes one event from those that are left
+pub fewer-left : (allows : Allowance) (offers : Offer) (state new : State) (s : Step) → IsReached state → IsNext allows state s → IsTaken offers state new s → events_left new + 1 ≡ events_left state
+fewer-left allows offers state new s reached next taken =
+    let within : position_of taken.event < size state = subst (λ i. i < size state) (ap position_in taken.step_is ∙ position-step taken.event) next.within in
+    let last : events_left new ≡ events_left (after state taken.event) = ap events_left taken.new_is in
+    let fewer : events_left (after state taken.event) + 1 ≡ events_left state = left_after_event state taken.event reached within taken.may in
+    omega arith
+
+module _ (allows allows_now allows_later : Allowance) (offers offers_now offers_later : Offer) (first state new : State) (steps : List Step) (s : Step) where
+  pub one_more : IsReached first → SoFar allows allows_now offers offers_now first state steps → IsNext allows_now state s → IsTaken offers_now state new s
+      → ((ready running : Positions) (other : Step) → allows_later ready running other → allows_now ready running other)
+      → ((i : ℕ) (answer : Result Outcome ServiceFault) → (s ≡ step.Report i → ⊥) → offers_later i answer → offers_now i answer)
+      → SoFar allows allows_later offers offers_later first new (steps ++ s ∷ [])
+  one_more reached far next taken narrows offered =
+      let event = taken.event in
+      let here : state ≡ after_all first far.events = far.state_is in
+      let now : IsReached state = subst IsReached (sym here) (reached_after_all first far.events reached far.course.run) in
+      let within : position_of event < size state = subst (λ i. i < size state) (ap position_in taken.step_is ∙ position-step event) next.within in
+      let chosen : IsAllowed allows state (step_of event) = subst (IsAllowed allows state) taken.step_is (far.allowed (ready_set state) (running_set state) s next.allowed) in
+      record {
+        events = far.events ++ event ∷ [];
+        course = record {
+          run = joined first far.events event far.course.run (subst (λ x. position_of event < size x) here within) (subst (λ x. may_come x event ≡ true) here taken.may);
+          chosen = chosen-push allows offers first far.events event far.course.chosen (subst (λ x. IsAllowed allows x (step_of event)) here chosen)
+              (offered-first offers offers_now state event far.offered taken.may taken.offered);
+        };
+        steps_are = ap (λ xs. xs ++ s ∷ []) far.steps_are ∙ ap (λ x. map step_of far.events ++ x ∷ []) taken.step_is ∙ sym (map-push far.events event);
+        state_is = taken.new_is ∙ ap (λ x. after x event) here ∙ sym (after_all-push first far.events event);
+        allowed = λ ready running other e. far.allowed ready running other (narrows ready running other e);
+        offered = λ i answer fresh e.
+            let parts = still_open state event i now within taken.may (ap (λ x. is_reported (phase_at x i)) (sym taken.new_is) ∙ fresh) in
+            far.offered i answer parts.0 (offered i answer (λ same. parts.1 (sym taken.step_is ∙ same)) e);
+        count =
+            let fewer : events_left (after state event) + 1 ≡ events_left state = left_after_event state event now within taken.may in
+            let last : events_left new ≡ events_left (after state event) = ap events_left taken.new_is in
+            let longer : length (steps ++ s ∷ []) ≡ length steps + 1 = length-append steps (s ∷ []) in
+            let before : length steps + events_left state ≡ events_left first = far.count in
+            omega arith;
+      }
+
+  -- the next step is the report of a request, so it is due
+  due-next : SoFar allows allows_now offers offers_now first state steps → IsNext allows_now state s → (i : ℕ) → s ≡ step.Report i → IsDue allows offers first i
+  due-next far next i same =
+      let report : IsNext allows_now state (step.Report i) = subst (IsNext allows_now state) same next in
+      let here : state ≡ after_all first far.events = far.state_is in
+      record {
+        events = far.events;
+        course = far.course;
+        within = subst (λ shape. i < length shape.units) (ap (λ x. x.shape) here ∙ shape-after_all first far.events) report.within;
+        runs = subst (λ x. is_running (phase_at x i) ≡ true) here report.may;
+        allowed = subst (λ x. IsAllowed allows x (step.Report i)) here (far.allowed (ready_set state) (running_set state) (step.Report i) report.allowed);
+      }
+
+  -- and what is offered for it now was offered at first
+  offered-next : SoFar allows allows_now offers offers_now first state steps → IsNext allows_now state s → (i : ℕ) (answer : Result Outcome ServiceFault) → s ≡ step.Report i → offers_now i answer → offers i answer
+  offered-next far next i answer same e = far.offered i answer (running_open (phase_at state i) (subst (IsNext allows_now state) same next).may) e
+
+  pub caused-first : SoFar allows allows_now offers offers_now first state steps → IsNext allows_now state s → (cause : ExecFault) → IsCausedBy offers_now (λ i. s ≡ step.Report i) cause → IsCausedBy offers (IsDue allows offers first) cause
+  caused-first far next (fault.NoOutcome i) (same, e) = (due-next far next i same, offered-next far next i (Err service.NoOutcome) same e)
+  caused-first far next (fault.Service i) (same, e) = (due-next far next i same, offered-next far next i (Err service.Failed) same e)
+  caused-first far next (fault.BadStatus i) (same, (outcome, e, bad)) = (due-next far next i same, (outcome, offered-next far next i (Ok outcome) same e, bad))
+  caused-first far next fault.OutOfMemory e = tt
+
+  pub finished-by : SoFar allows allows_now offers offers_now first state steps → is_finished state ≡ true → IsFinishedBy allows offers first steps state
+  finished-by far finished = record { events = far.events; course = far.course; steps_are = far.steps_are; last_is = far.state_is; finished = finished }
+
+-- before the first step
+pub so_far-first : (allows : Allowance) (offers : Offer) (first state : State) (steps : List Step) → state ≡ first → steps ≡ [] → SoFar allows allows offers offers first state steps
+so_far-first allows offers first state steps here none = subst (λ xs. SoFar allows allows offers offers first state xs) (sym none) (subst (λ s. SoFar allows allows offers offers first s []) (sym here) (none_so_far allows offers first))
+
+module _ (source : Plan) (mode : Mode) (width : ℕ) where
+  left-source : events_left (at_first source mode width) ≡ 2 * length (plan_records source)
+  left-source = let units : length (shape source).units ≡ length (plan_records source) = length-shape source in let all = left_at_first source mode width in omega arith
+
+  -- room for two steps to a request is room enough
+  pub room-first : (state : State) (steps : List Step) (room : ℕ) → state ≡ at_first source mode width → steps ≡ [] → 2 * length (plan_records source) ≤ room → length steps + events_left state ≤ room
+  room-first state steps room here none enough =
+      let count : length steps ≡ 0 = ap length none in
+      let all : events_left state ≡ events_left (at_first source mode width) = ap events_left here in
+      let most = left-source in
+      omega arith
+
+  module _ (allows allows_now : Allowance) (offers offers_now : Offer) (state : State) (steps : List Step) (far : SoFar allows allows_now offers offers_now (at_first source mode width) state steps) where
+    pub few-steps : length steps ≤ 2 * length (plan_records source)
+    few-steps = let count : length steps + events_left state ≡ events_left (at_first source mode width) = far.count in let most = left-source in omega arith
+
+    same-size : size state ≡ length (plan_records source)
+    same-size = ap size far.state_is ∙ ap (λ shape. length shape.units) (shape-after_all (at_first source mode width) far.events) ∙ length-shape source
+
+    pub next-within : (s : Step) → IsNext allows_now state s → position_in s < length (plan_records source)
+    next-within s next = subst (λ n. position_in s < n) same-size next.within
+
+    pub reached-so_far : IsPlan (shape_of (plan_records source)) → 0 < width → IsReached state
+    reached-so_far laws wide = subst IsReached (sym far.state_is) (reached_after_all (at_first source mode width) far.events (reached_at_first source mode width laws wide) far.course.run)
+
+    pub same-mode : state.mode ≡ mode
+    same-mode = ap (λ s. s.mode) far.state_is ∙ mode-after_all (at_first source mode width) far.events

@@ -1,0 +1,17 @@
+use Rattle.std.proofs.Common.{◌≤◌, ◌*◌, ◌+◌, length}
+use Rattle.std.specs.Vec.{vec_capacity}
+use Rattle.odb_sched.specs.State.{at_first}
+use Rattle.odb_sched.proofs.CourseLemmas.{SoFar, events_left}
+use Rattle.odb_sched.proofs.execution.execute.Given as goal
+
+-- the steps so far, and room for those that are left
+abbrev pub invariant-loop-step : goal.invariant-loop-step
+invariant-loop-step g l = record {
+  far : SoFar ((goal.Chooser-dyn g l.fn.chooser.now).allows l.fn.chooser.now.1) ((goal.Chooser-dyn g l.chooser.now).allows l.chooser.now.1)
+      (g.S.Service.offers l.fn.service) (g.S.Service.offers l.service)
+      (at_first l.fn.plan l.fn.policy.mode l.fn.policy.width) l.scheduler l.steps.items;
+  room : length l.steps.items + events_left l.scheduler ≤ vec_capacity l.steps;
+}
+
+abbrev pub decreases-loop-step : goal.decreases-loop-step
+decreases-loop-step g l = events_left l.scheduler

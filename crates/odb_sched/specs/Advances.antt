@@ -1,0 +1,32 @@
+-- One step of an execution.
+use Rattle.std.specs.Prelude.{◌≡◌, ℕ, ◌<◌, true}
+use Rattle.odb_sched.specs.declared.event.Event.{Event}
+use Rattle.odb_sched.specs.declared.step.Step.{Step}
+use Rattle.odb_sched.specs.declared.step.Step.TheVariants as step
+use Rattle.odb_sched.specs.Phases.{is_running}
+use Rattle.odb_sched.specs.State.{State, size, phase_at, after}
+use Rattle.odb_sched.specs.Steps.{may_start, may_come}
+use Rattle.odb_sched.specs.Courses.{Allowance, Offer, IsAllowed, IsOffered, step_of}
+
+abbrev pub position_in : Step → ℕ
+position_in (step.Start i) = i
+position_in (step.Report i) = i
+
+-- the request may start, or runs
+abbrev pub MayTake : State → Step → Type 0
+MayTake state (step.Start i) = may_start state i ≡ true
+MayTake state (step.Report i) = is_running (phase_at state i) ≡ true
+
+-- the step of some request may be taken, and is allowed
+pub record IsNext (allows : Allowance) (state : State) (step : Step) : Type 0 where
+  pub within : position_in step < size state
+  pub may : MayTake state step
+  pub allowed : IsAllowed allows state step
+
+-- some event of this step came, and what it reports was offered
+pub record IsTaken (offers : Offer) (state new : State) (step : Step) : Type 0 where
+  pub event : Event
+  pub step_is : step ≡ step_of event
+  pub may : may_come state event ≡ true
+  pub offered : IsOffered offers event
+  pub new_is : new ≡ after state event

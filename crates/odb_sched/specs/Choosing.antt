@@ -1,0 +1,57 @@
+-- Which step of a run comes next, as one allows it who chooses among the requests that may start and those that run.
+use Rattle.std.specs.Prelude.{◌≡◌, ℕ, ◌<◌, ◌≤◌, true, false, List, length, slice_index_or, Contains}
+use Rattle.std.specs.Ordering.{nat_cmp}
+use Rattle.std.specs.FinSet.{FinSet, from_list, contains}
+use Rattle.odb_sched.specs.declared.step.Step.{Step}
+use Rattle.odb_sched.specs.declared.step.Step.TheVariants as step
+use Rattle.odb_sched.specs.declared.chooser.Choice.{Choice}
+use Rattle.odb_sched.specs.declared.chooser.Choice.TheVariants as choice
+
+-- a set of positions
+abbrev pub Positions : Type 0
+Positions = FinSet nat_cmp
+
+-- the positions of a list, whatever their order
+abbrev pub positions_of : List ℕ → Positions
+positions_of xs = from_list xs
+
+-- the place that is chosen lies in its list
+abbrev pub IsInRange : List ℕ → List ℕ → Choice → Type 0
+IsInRange ready running (choice.Start place) = place < length ready
+IsInRange ready running (choice.Report place) = place < length running
+
+-- the step that is chosen
+abbrev pub picked : List ℕ → List ℕ → Choice → Step
+picked ready running (choice.Start place) = step.Start (slice_index_or ready place 0)
+picked ready running (choice.Report place) = step.Report (slice_index_or running place 0)
+
+-- the step is of one of these positions
+abbrev pub IsAmong : List ℕ → List ℕ → Step → Type 0
+IsAmong ready running (step.Start i) = Contains ready i
+IsAmong ready running (step.Report i) = Contains running i
+
+pub record IsLeast (positions : Positions) (i : ℕ) : Type 0 where
+  pub among : contains positions i ≡ true
+  pub least : (j : ℕ) → contains positions j ≡ true → i ≤ j
+
+pub record IsGreatest (positions : Positions) (i : ℕ) : Type 0 where
+  pub among : contains positions i ≡ true
+  pub greatest : (j : ℕ) → contains positions j ≡ true → j ≤ i
+
+abbrev pub IsNone : Positions → Type 0
+IsNone positions = (i : ℕ) → contains positions i ≡ false
+
+-- the least that runs is reported; where none runs, the least that may start is started
+abbrev pub AllowsFirst : Positions → Positions → Step → Type 0
+AllowsFirst ready running (step.Report i) = IsLeast running i
+AllowsFirst ready running (step.Start i) = IsNone running × IsLeast ready i
+
+-- the same with the greatest
+abbrev pub AllowsLast : Positions → Positions → Step → Type 0
+AllowsLast ready running (step.Report i) = IsGreatest running i
+AllowsLast ready running (step.Start i) = IsNone running × IsGreatest ready i
+
+-- the least that may start is started; where none may start, the least that runs is reported
+abbrev pub AllowsWide : Positions → Positions → Step → Type 0
+AllowsWide ready running (step.Start i) = IsLeast ready i
+AllowsWide ready running (step.Report i) = IsNone ready × IsLeast running i

@@ -1,0 +1,118 @@
+ghost use Rattle.std.specs.Prelude.{◌<◌, length, slice_index_or};
+ghost use Rattle.odb_sched.specs.Choosing.{positions_of, IsLeast, IsGreatest};
+
+/// Which step of a run comes next: a place, counted from 0, in one of the two slices that were lent.
+#[derive(Clone, Copy, Debug, PartialEq, Eq)]
+pub enum Choice {
+    /// Start the request at this place of those that may start.
+    Start(usize),
+    /// Report the request at this place of those that run.
+    Report(usize),
+}
+
+/// Decides in which order a plan is executed, as far as its dependencies leave that open.
+///
+/// What a chooser may pick is a relation of its own over the sets of positions that may start and
+/// that run, so it does not hang on the order in which they are lent.
+pub trait Chooser {
+    ghost use Rattle.std.specs.Prelude.{◌≡◌, ◌<◌, ◌+◌, length};
+    ghost use Rattle.odb_sched.specs.declared.step.Step.{Step};
+    ghost use Rattle.odb_sched.specs.Choosing.{Positions, positions_of, IsInRange, picked};
+
+    /// Which steps it allows for the positions that may start and those that run.
+    ghost allows: { Self → Positions → Positions → Step → Type 0 };
+
+    /// The next step, where `ready` are the positions that may start and `running` those that run.
+    fn choose(&mut self, ready: &[u32], running: &[u32]) -> Choice
+        requires { 0 < length ready.now + length running.now }
+        ensures in_range { IsInRange ready.now running.now result }
+        ensures allowed { allows self.old (positions_of ready.now) (positions_of running.now)
+            (picked ready.now running.now result) }
+        ensures narrows { (ready running : Positions) (step : Step)
+            → allows self.new ready running step → allows self.old ready running step };
+}
+
+/// Where the least position stands.
+fn least_place(positions: &[u32]) -> usize
+    requires { 0 < length positions.now }
+    ensures within { result < length positions.now }
+    ensures least { IsLeast (positions_of positions.now) (slice_index_or positions.now result 0) }
+{
+    let mut least = 0;
+    for (place, position) in positions.iter().enumerate() {
+        if *position < positions[least] {
+            least = place;
+        }
+    }
+    least
+}
+
+/// Where the greatest position stands.
+fn greatest_place(positions: &[u32]) -> usize
+    requires { 0 < length positions.now }
+    ensures within { result < length positions.now }
+    ensures greatest { IsGreatest (positions_of positions.now)
+        (slice_index_or positions.now result 0) }
+{
+    let mut greatest = 0;
+    for (place, position) in positions.iter().enumerate() {
+        if *position > positions[greatest] {
+            greatest = place;
+        }
+    }
+    greatest
+}
+
+/// Reports before it starts, and takes the least position.
+#[derive(Clone, Copy, Debug)]
+pub struct First;
+
+impl Chooser for First {
+    ghost use Rattle.odb_sched.specs.Choosing.{AllowsFirst};
+
+    ghost allows = { λ _. AllowsFirst };
+
+    fn choose(&mut self, ready: &[u32], running: &[u32]) -> Choice {
+        if running.is_empty() {
+            Choice::Start(least_place(ready))
+        } else {
+            Choice::Report(least_place(running))
+        }
+    }
+}
+
+/// Reports before it starts, and takes the greatest position.
+#[derive(Clone, Copy, Debug)]
+pub struct Last;
+
+impl Chooser for Last {
+    ghost use Rattle.odb_sched.specs.Choosing.{AllowsLast};
+
+    ghost allows = { λ _. AllowsLast };
+
+    fn choose(&mut self, ready: &[u32], running: &[u32]) -> Choice {
+        if running.is_empty() {
+            Choice::Start(greatest_place(ready))
+        } else {
+            Choice::Report(greatest_place(running))
+        }
+    }
+}
+
+/// Starts all that may start before it reports, and takes the least position.
+#[derive(Clone, Copy, Debug)]
+pub struct Wide;
+
+impl Chooser for Wide {
+    ghost use Rattle.odb_sched.specs.Choosing.{AllowsWide};
+
+    ghost allows = { λ _. AllowsWide };
+
+    fn choose(&mut self, ready: &[u32], running: &[u32]) -> Choice {
+        if ready.is_empty() {
+            Choice::Report(least_place(running))
+        } else {
+            Choice::Start(least_place(ready))
+        }
+    }
+}

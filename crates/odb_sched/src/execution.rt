@@ -1,0 +1,169 @@
+ghost use Rattle.std.specs.Prelude.{◌≡◌, ◌≢◌, ◌<◌, ◌≤◌, ◌+◌, ◌*◌, ℕ, true, List, length, Result, IfOk, IfErr, OnOk, Option, IfSome, None, IsTrue, ◌↔◌};
+ghost use Rattle.odb_check.specs.Plans.{plan_records};
+ghost use Rattle.odb_sched.specs.declared.policy.Mode.TheVariants.{Continue};
+ghost use Rattle.odb_sched.specs.declared.event.Event.{Event};
+ghost use Rattle.odb_sched.specs.declared.fault.ExecFault.TheVariants as faults;
+ghost use Rattle.odb_sched.specs.declared.step.Step.TheVariants as kinds;
+ghost use Rattle.odb_sched.specs.State.{size, at_first};
+ghost use Rattle.odb_sched.specs.Steps.{is_finished};
+ghost use Rattle.odb_sched.specs.Choosing.{Positions, positions_of, IsAmong};
+ghost use Rattle.odb_sched.specs.Courses.{IsCourse, IsDue, IsFinishedBy, IsCausedBy};
+ghost use Rattle.odb_sched.specs.Advances.{position_in, MayTake, IsNext, IsTaken};
+ghost use Rattle.odb_sched.specs.Laws as laws;
+
+use crate::chooser::{Choice, Chooser};
+use crate::done::Done;
+use crate::fault::ExecFault;
+use crate::laws::every_run;
+use crate::policy::Policy;
+use crate::refusal::ReportRefusal;
+use crate::scheduler::Scheduler;
+use crate::service::{Service, ServiceFault};
+use crate::step::Step;
+use odb_check::Plan;
+use odb_doc::Outcome;
+use std::alloc::Global;
+
+/// A finished execution: its answers, and the steps that led to them.
+#[derive(Drop)]
+pub struct Trace<'p> {
+    /// The run as it ended.
+    pub done: Done<'p>,
+    /// The steps in their order.
+    pub steps: Vec<Step>,
+}
+
+/// The step that the chooser picks among the positions that may start and those that run.
+fn pick(chooser: &mut dyn Chooser, ready: &[u32], running: &[u32]) -> Step
+    requires { 0 < length ready.now + length running.now }
+    ensures among { IsAmong ready.now running.now result }
+    ensures allowed { allows chooser.old (positions_of ready.now) (positions_of running.now)
+        result }
+    ensures narrows { (ready running : Positions) (step : Step)
+        → allows chooser.new ready running step → allows chooser.old ready running step }
+{
+    match chooser.choose(ready, running) {
+        Choice::Start(place) => Step::Start(ready[place]),
+        Choice::Report(place) => Step::Report(running[place]),
+    }
+}
+
+/// The next step, or `None` where the run is finished.
+fn next_step(scheduler: &Scheduler<'_>, chooser: &mut dyn Chooser) -> Option<Step>
+    ensures finished { result ≡ None → is_finished scheduler.now ≡ true }
+    ensures next { IfSome result (IsNext (allows chooser.old) scheduler.now) }
+    ensures narrows { (ready running : Positions) (step : Step)
+        → allows chooser.new ready running step → allows chooser.old ready running step }
+{
+    if scheduler.is_finished() {
+        return None;
+    }
+    Some(pick(chooser, scheduler.ready(), scheduler.running()))
+}
+
+/// The fault of a request whose outcome is not taken.
+fn bad_status(i: u32, _refused: (ReportRefusal, Outcome)) -> ExecFault
+    ensures { result ≡ faults.BadStatus i }
+{
+    ExecFault::BadStatus(i)
+}
+
+/// Asks the service for the outcome of a request that runs, and reports it.
+fn report<S: Service>(
+    scheduler: &mut Scheduler<'_>,
+    plan: &Plan<'_>,
+    service: &mut S,
+    i: u32,
+) -> Result<(), ExecFault>
+    requires request { i < length (plan_records plan.now) }
+    requires within { i < size scheduler.old }
+    requires may { MayTake scheduler.old (kinds.Report i) }
+    ensures taken { OnOk result (IsTaken (S.offers service.old) scheduler.old scheduler.new
+        (kinds.Report i)) }
+    ensures narrows { (j : ℕ) (answer : Result Outcome ServiceFault) → j ≢ i
+        → S.offers service.new j answer → S.offers service.old j answer }
+    ensures fault { IfErr result (IsCausedBy (S.offers service.old) (λ j. j ≡ i)) }
+{
+    let outcome = match service.perform(i, plan.request(i)) {
+        Ok(outcome) => outcome,
+        Err(ServiceFault::NoOutcome) => return Err(ExecFault::NoOutcome(i)),
+        Err(ServiceFault::Failed) => return Err(ExecFault::Service(i)),
+        Err(ServiceFault::OutOfMemory) => return Err(ExecFault::OutOfMemory),
+    };
+    match scheduler.report(i, outcome) {
+        Ok(()) => Ok(()),
+        Err(refused) => Err(bad_status(i, refused)),
+    }
+}
+
+/// Takes a step that may be taken.
+fn take<S: Service>(
+    scheduler: &mut Scheduler<'_>,
+    plan: &Plan<'_>,
+    service: &mut S,
+    step: Step,
+) -> Result<(), ExecFault>
+    requires request { position_in step < length (plan_records plan.now) }
+    requires within { position_in step < size scheduler.old }
+    requires may { MayTake scheduler.old step }
+    ensures taken { OnOk result (IsTaken (S.offers service.old) scheduler.old scheduler.new step) }
+    ensures narrows { (j : ℕ) (answer : Result Outcome ServiceFault) → (step ≡ kinds.Report j → ⊥)
+        → S.offers service.new j answer → S.offers service.old j answer }
+    ensures fault { IfErr result (IsCausedBy (S.offers service.old) (λ j. step ≡ kinds.Report j)) }
+{
+    match step {
+        Step::Start(i) => {
+            scheduler.start(i).unwrap();
+            Ok(())
+        }
+        Step::Report(i) => report(scheduler, plan, service, i),
+    }
+}
+
+/// Runs a plan to its end. The chooser says what comes next, and the service gives the outcome of a
+/// request when its report is chosen (OData JSON Format 4.01, section 19.2; OData Protocol 4.01,
+/// section 11.7).
+///
+/// There are two steps to a request at most, and their memory is taken before the first. A run is
+/// never stuck, so there is no fault for one that is.
+///
+/// # Errors
+///
+/// F80, F81 or F82 for the request whose report was chosen, where the service has no outcome for
+/// it, failed, or gave a status that is not from 200 to 599; `OutOfMemory` where memory was
+/// refused. Chooser and service are left as their calls so far left them.
+pub fn execute<'p, S: Service>(
+    alloc: Global,
+    plan: &'p Plan<'p>,
+    policy: Policy,
+    chooser: &mut dyn Chooser,
+    service: &mut S,
+) -> Result<Trace<'p>, ExecFault>
+    ensures course { IfOk result (λ trace. IsFinishedBy (allows chooser.old) (S.offers service.old)
+        (at_first plan.now policy.mode policy.width) trace.steps.items trace.done) }
+    ensures few_steps { IfOk result (λ trace.
+        length trace.steps.items ≤ 2 * length (plan_records plan.now)) }
+    ensures fault { IfErr result (IsCausedBy (S.offers service.old) (IsDue (allows chooser.old)
+        (S.offers service.old) (at_first plan.now policy.mode policy.width))) }
+    ensures dependencies_first { OnOk result ((events : List Event)
+        → IsCourse (allows chooser.old) (S.offers service.old)
+            (at_first plan.now policy.mode policy.width) events
+        → laws.StartsLast (plan_records plan.now) events) }
+    ensures one_result { policy.mode ≡ Continue
+        → IfOk result (λ trace. laws.HasOneResult trace.done) }
+    ensures sound_result { IfOk result (λ trace. laws.HasSoundResult trace.done) }
+    ensures all_or_none { IfOk result (λ trace. laws.IsAllOrNone trace.done) }
+    ensures sound { IfOk result (λ trace. laws.IsSound trace.done) }
+{
+    every_run(plan);
+    let mut scheduler = Scheduler::new(alloc, plan, policy)?;
+    let mut steps = Vec::with_capacity(alloc, 2 * plan.len() as usize)?;
+    while let Some(step) = next_step(&scheduler, chooser) {
+        take(&mut scheduler, plan, service, step)?;
+        steps.push(step).unwrap();
+    }
+    Ok(Trace {
+        done: scheduler.close(),
+        steps,
+    })
+}

@@ -1,0 +1,40 @@
+use odb_doc::{Outcome, Request};
+use thiserror::Error;
+
+/// Why a service gives no outcome.
+#[derive(Clone, Copy, Debug, PartialEq, Eq, Error)]
+pub enum ServiceFault {
+    /// It has none for this request.
+    #[error("there is no outcome for the request")]
+    NoOutcome,
+    /// It failed.
+    #[error("the service failed")]
+    Failed,
+    /// Memory was refused. That says nothing of the request.
+    #[error("out of memory")]
+    OutOfMemory,
+}
+
+/// Performs requests (OData JSON Format 4.01, section 19.2).
+///
+/// What a service may answer is a relation of its own. An answer for one request changes nothing of
+/// what it may answer for another.
+pub trait Service {
+    ghost use Rattle.std.specs.Prelude.{◌≢◌, ℕ, Result, Err};
+    ghost use Rattle.odb_doc.specs.declared.outcome.Outcome.{Outcome};
+    ghost use Rattle.odb_sched.specs.declared.service.ServiceFault.{ServiceFault};
+    ghost use Rattle.odb_sched.specs.declared.service.ServiceFault.TheVariants.{OutOfMemory};
+
+    /// Which answers it may give now for the request at a position.
+    ghost offers: { Self → ℕ → Result Outcome ServiceFault → Type 0 };
+
+    /// The outcome of the request, which stands at position `i` of its batch, counted from 0.
+    ///
+    /// # Errors
+    ///
+    /// Where the service has no outcome for it, failed, or was refused memory.
+    fn perform(&mut self, i: u32, request: &Request<'_>) -> Result<Outcome, ServiceFault>
+        ensures offered { result ≢ Err OutOfMemory → offers self.old i result }
+        ensures narrows { (j : ℕ) (answer : Result Outcome ServiceFault) → j ≢ i
+            → offers self.new j answer → offers self.old j answer };
+}
