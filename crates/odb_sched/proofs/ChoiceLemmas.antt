@@ -1,5 +1,5 @@
 -- The positions that may start and those that run, as lists and as sets.
-use Rattle.std.proofs.Common.{◌≡◌, ℕ, zero, suc, ◌<◌, ◌≤◌, ◌+◌, ◌==◌, ◌∙◌, ap, sym, refl, arith, Bool, true, false, ◌&&◌, ◌||◌, cond, nat_lt, nat_eq, if◌then◌else◌, eq-eqb, eqb-true, lt-ltb, le-ltb, ltb-true, List, [], ◌∷◌, length, get_or, inl, inr, count_by, Contains, IsTrue, ◌↔◌}
+use Rattle.std.proofs.Common.{◌≡◌, ℕ, zero, suc, ◌<◌, ◌≤◌, ◌+◌, ◌==◌, ◌∙◌, ap, sym, refl, arith, Bool, true, false, ◌&&◌, ◌||◌, cond, nat_lt, nat_eq, if◌then◌else◌, eq-eqb, eqb-true, lt-ltb, le-ltb, ltb-true, List, [], ◌∷◌, length, get_or, inl, inr, count_by, All, Contains, IsTrue, ◌↔◌}
 use Rattle.std.specs.List.{list_any}
 use Rattle.std.specs.FinSet.{contains, same_set, contains-from_list_nat, nat_cmp-IsAntisymmetric}
 use Rattle.std.specs.Cmp.{nat_cmp_total}
@@ -7,6 +7,7 @@ use Rattle.std.proofs.lemmas.Bool.{cases_eq, cases_lt, ne_eqb, and_parts, both_w
 use Rattle.std.proofs.lemmas.List.{get_or_default}
 use Rattle.std.proofs.lemmas.List.Folds.{list_any_at, Any-from_list_any}
 use Rattle.std.proofs.lemmas.List.Sums.{sum_by-cons}
+use Rattle.std.proofs.lemmas.List.Elements.{Contains-get_or}
 use Rattle.odb_sched.specs.Below.{passing_below, ListsOnce}
 use Rattle.odb_sched.proofs.ListLemmas.{none_listed}
 use Rattle.odb_sched.specs.Choosing.{Positions, positions_of, IsLeast, IsGreatest, IsNone}
@@ -64,6 +65,9 @@ listed-in n test xs i listed (k, within, at) =
     let among : contains (positions_of xs) i ≡ true = contains-from_list_nat xs i ∙ list_any_at (λ x. nat_eq x i) xs k i within (eq-eqb (get_or xs k i) i at) in
     let parts = and_parts (nat_lt i n) (test i) (sym (contains-listed n test xs i listed) ∙ among) in
     (ltb-true _ _ parts.0, parts.1)
+
+pub listed_within : (n : ℕ) (test : ℕ → Bool) (xs : List ℕ) → ListsOnce n test xs → All (λ i. i < n) xs
+listed_within n test xs listed k d within = (listed-in n test xs (get_or xs k d) listed (Contains-get_or xs k d within)).0
 
 -- where a run goes on, some position may start or runs
 pub some_listed : (n : ℕ) (starts runs : ℕ → Bool) (ready running : List ℕ) (finished : Bool) → ListsOnce n starts ready → ListsOnce n runs running

@@ -1,4 +1,4 @@
-ghost use Rattle.std.specs.Prelude.{◌≡◌, ◌<◌, ◌≤◌, ◌↔◌, ℕ, true, false, List, Some, length, slice_set, replicate, IsTrue, IsOk, IfOk, IfErr, OnOk, OnErr};
+ghost use Rattle.std.specs.Prelude.{◌≡◌, ◌<◌, ◌≤◌, ◌↔◌, ℕ, true, false, List, Some, length, slice_set, replicate, IsTrue, IsOk, IfOk, IfErr, OnOk, OnErr, All};
 ghost use Rattle.odb_check.specs.Plans.{plan_records};
 ghost use Rattle.odb_sched.specs.declared.policy.Mode.TheVariants as modes;
 ghost use Rattle.odb_sched.specs.declared.phase.Phase.TheVariants.{Unstarted};
@@ -170,7 +170,8 @@ impl<'p> Scheduler<'p> {
 
     /// The positions that may start, each once, in an order that is open.
     pub fn ready(&self) -> &[u32]
-        ensures { ListsOnce (states.size self.now) (steps.may_start self.now) result.now }
+        ensures listed { ListsOnce (states.size self.now) (steps.may_start self.now) result.now }
+        ensures within { All (λ i. i < states.size self.now) result.now }
     {
         self.views.ready()
     }
@@ -179,6 +180,7 @@ impl<'p> Scheduler<'p> {
     pub fn running(&self) -> &[u32]
         ensures listed { ListsOnce (states.size self.now)
             (λ i. tests.is_running (states.phase_at self.now i)) result.now }
+        ensures within { All (λ i. i < states.size self.now) result.now }
         ensures width { length result.now ≤ self.now.width }
     {
         self.views.running()

@@ -1,6 +1,7 @@
 //! Worked examples of runs: what each event is told, which requests may start and run after the
 //! events, and what each is answered in the end.
 
+mod embedding;
 mod executions;
 mod lists;
 mod model;
