@@ -18,6 +18,16 @@ answer_of Unstarted succeeded = None
 answer_of Running succeeded = None
 answer_of (Reported outcome) succeeded = if is_success outcome.status && not succeeded then None else Some outcome
 
+-- the outcome of a request that stands so
+abbrev pub outcome_of : Phase → Option Outcome
+outcome_of Unstarted = None
+outcome_of Running = None
+outcome_of (Reported outcome) = Some outcome
+
+-- the outcome that a request has reported
+abbrev pub reported : State → ℕ → Option Outcome
+reported state i = outcome_of (phase_at state i)
+
 abbrev pub answer : State → ℕ → Option Outcome
 answer state i = answer_of (phase_at state i) (unit_succeeded state (unit_of state.shape i))
 

@@ -1,4 +1,4 @@
-ghost use Rattle.std.specs.Prelude.{◌≡◌, ◌<◌, true, length, IfOk};
+ghost use Rattle.std.specs.Prelude.{option_map, ◌≡◌, ◌<◌, true, length, IfOk};
 ghost use Rattle.odb_check.specs.Shape as shapes;
 ghost use Rattle.odb_check.specs.Plans.{plan_records};
 ghost use Rattle.odb_sched.specs.State as states;
@@ -108,6 +108,18 @@ impl<'p> Done<'p> {
                 }
             }
             _ => Answer::FailedDependency,
+        }
+    }
+
+    /// The outcome that the request at a position, counted from 0, reported, where it did: also one
+    /// that has to be undone, whatever the request is answered.
+    pub fn reported(&self, i: u32) -> Option<&Outcome>
+        requires { i < states.size self.now }
+        ensures { option_map (λ outcome. outcome.now) result ≡ answers.reported self.now i }
+    {
+        match &self.phases[i as usize] {
+            Phase::Reported(outcome) => Some(outcome),
+            _ => None,
         }
     }
 

@@ -2,7 +2,7 @@
 
 use super::{GROUP, PASSED_ON, THREE, outcome};
 use crate::{
-    Choice, Chooser, ExecFault, First, Last, Mode, Policy, Service, ServiceFault, Step, Trace, Wide,
+    Choice, Chooser, Done, ExecFault, First, Last, Mode, Policy, Service, ServiceFault, Step, Trace, Wide,
     execute,
 };
 use odb_check::{Plan, check};
@@ -91,8 +91,21 @@ impl Chooser for WideLast {
     }
 }
 
+/// An undone position with the status that was reported there.
+fn undone(alloc: Global, done: &Done<'_>, i: u32) -> Result<String, AllocError> {
+    let reported = if i < done.plan().len() {
+        done.reported(i)
+    } else {
+        None
+    };
+    match reported {
+        Some(outcome) => format!(in alloc; " {i}:{}", outcome.status),
+        None => format!(in alloc; " {i}"),
+    }
+}
+
 /// The steps, as `+0` for a start and `-0` for a report; behind a bar the statuses of the answers;
-/// and the undone positions.
+/// and the undone positions with what was reported there.
 fn story(alloc: Global, trace: &Trace<'_>) -> Result<String, AllocError> {
     let mut notes = String::new(alloc);
     for step in &trace.steps {
@@ -107,8 +120,11 @@ fn story(alloc: Global, trace: &Trace<'_>) -> Result<String, AllocError> {
     for i in 0..plan.len() {
         notes.push_str(&format!(in alloc; "{} ", trace.done.answer(i).status())?)?;
     }
-    let undone = trace.done.undone(alloc)?;
-    notes.push_str(&format!(in alloc; "{undone:?}")?)?;
+    notes.push_str("[")?;
+    for i in trace.done.undone(alloc)? {
+        notes.push_str(&undone(alloc, &trace.done, i)?)?;
+    }
+    notes.push_str("]")?;
     Ok(notes)
 }
 
@@ -183,14 +199,14 @@ fn reports_before_it_starts(rt: HostRuntime) -> Result<(), Fail> {
             USUAL,
             go_on,
             &[200, 204, 409, 200][..],
-            "+0 -0 +1 -1 +2 -2 | 200 424 409 424 [1]",
+            "+0 -0 +1 -1 +2 -2 | 200 424 409 424 [ 1:204]",
             "+0 -0 +2 -2 | 200 424 409 424 []",
         ),
         (
             GROUP,
             go_on,
             &[201, 201, 409][..],
-            "+0 -0 +1 -1 +2 -2 | 424 424 409 [1, 0]",
+            "+0 -0 +1 -1 +2 -2 | 424 424 409 [ 1:201 0:201]",
             "+2 -2 | 424 424 409 []",
         ),
         (
@@ -198,7 +214,7 @@ fn reports_before_it_starts(rt: HostRuntime) -> Result<(), Fail> {
             go_on,
             &[500, 201, 200, 200][..],
             "+0 -0 | 500 424 424 424 []",
-            "+1 -1 +0 -0 | 500 424 424 424 [1]",
+            "+1 -1 +0 -0 | 500 424 424 424 [ 1:201]",
         ),
         (
             BOTH,
@@ -247,19 +263,19 @@ fn starts_all_before_it_reports(rt: HostRuntime) -> Result<(), Fail> {
             USUAL,
             go_on,
             &[200, 500, 201, 200][..],
-            "+0 -0 +1 +2 -1 -2 | 200 500 424 424 [2]",
+            "+0 -0 +1 +2 -1 -2 | 200 500 424 424 [ 2:201]",
         ),
         (
             PASSED_ON,
             go_on,
             &[500, 201, 200, 200][..],
-            "+0 +1 -0 -1 | 500 424 424 424 [1]",
+            "+0 +1 -0 -1 | 500 424 424 424 [ 1:201]",
         ),
         (
             BOTH,
             go_on,
             &[200, 409, 201, 200, 204][..],
-            "+0 +1 -0 +2 +4 -1 -2 -4 | 200 409 424 424 204 [2]",
+            "+0 +1 -0 +2 +4 -1 -2 -4 | 200 409 424 424 204 [ 2:201]",
         ),
         (
             BOTH,
@@ -305,7 +321,7 @@ fn takes_the_order_of_any_chooser(rt: HostRuntime) -> Result<(), Fail> {
         (
             PASSED_ON,
             &[500, 201, 200, 200][..],
-            "+1 +0 -1 -0 | 500 424 424 424 [1]",
+            "+1 +0 -1 -0 | 500 424 424 424 [ 1:201]",
         ),
         (
             BOTH,
