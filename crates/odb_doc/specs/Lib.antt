@@ -13,3 +13,5 @@ pub mod References
 pub mod Heads
 pub mod Records
 pub mod Batches
+pub mod WholeNumbers
+pub mod TextFaults

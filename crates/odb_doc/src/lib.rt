@@ -22,6 +22,7 @@ mod reference;
 mod request;
 #[cfg(test)]
 mod tests;
+mod whole;
 
 pub use batch::Batch;
 pub use device::{DeviceFault, Input, MAX_READS, Output};
@@ -29,3 +30,4 @@ pub use document::{MAX_DOCUMENT_BYTES, parse};
 pub use fault::{DocFault, DocumentRule, Place, RequestRule};
 pub use outcome::Outcome;
 pub use request::Request;
+pub use whole::{TextFault, is_whole};

@@ -5,6 +5,7 @@ mod documents;
 mod order;
 mod records;
 mod requests;
+mod whole_numbers;
 
 use crate::{Batch, DocFault, RequestRule, parse};
 use std::alloc::{AllocError, Global};
