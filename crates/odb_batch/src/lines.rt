@@ -10,6 +10,8 @@ fn place_text(alloc: Global, place: Place) -> Result<String, AllocError>
     match place {
         Place::Batch => format!(in alloc; "batch"),
         Place::Request(at) => format!(in alloc; "/requests/{at}"),
+        Place::Outcomes => format!(in alloc; "outcomes"),
+        Place::Outcome(at) => format!(in alloc; "/outcomes/{at}"),
     }
 }
 

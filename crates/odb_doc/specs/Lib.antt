@@ -15,3 +15,4 @@ pub mod Records
 pub mod Batches
 pub mod WholeNumbers
 pub mod TextFaults
+pub mod OutcomeFaults

@@ -1,10 +1,10 @@
--- Looking into the objects of a batch document.
+-- Looking into the objects of a batch document and of a document of outcomes.
 use Rattle.std.specs.Prelude.{◌≡◌, ◌==◌, ◌&&◌, ℕ, List, [], ◌∷◌, Option, Some, None, option_and_then, codes, bytes_eq, Bool, true, not}
 use Rattle.std.specs.List.{list_any}
 use Rattle.serde_json.specs.Data.{Data, null, object, Items, no_items, item, Members, no_members, member}
 use Rattle.serde_json.specs.Find.{get, as_str}
 use Rattle.odb_doc.specs.declared.member.Object.{Object}
-use Rattle.odb_doc.specs.declared.member.Object.TheVariants.{Document, Request}
+use Rattle.odb_doc.specs.declared.member.Object.TheVariants.{Document, Request, Outcomes, Outcome}
 
 abbrev pub list_of : Items → List Data
 list_of no_items = []
@@ -34,6 +34,8 @@ abbrev pub members_of : Object → List (List ℕ)
 members_of Document = codes "requests" ∷ []
 members_of Request =
     codes "id" ∷ codes "method" ∷ codes "url" ∷ codes "atomicityGroup" ∷ codes "dependsOn" ∷ codes "if" ∷ codes "headers" ∷ codes "body" ∷ []
+members_of Outcomes = codes "outcomes" ∷ []
+members_of Outcome = codes "id" ∷ codes "status" ∷ codes "headers" ∷ codes "body" ∷ []
 
 -- the name holds `@`
 abbrev pub is_annotation : List ℕ → Bool
@@ -49,3 +51,11 @@ is_unknown known name = not (is_annotation name) && not (is_one_of known name)
 -- some member is no annotation, and none that the object may have
 abbrev pub HasUnknown : Object → Data → Type 0
 HasUnknown owner d = list_any (is_unknown (members_of owner)) (names_in d) ≡ true
+
+-- the name is not one of these
+abbrev pub is_further : List (List ℕ) → List ℕ → Bool
+is_further known name = not (is_one_of known name)
+
+-- some member, also an annotation, is none that the object may have
+abbrev pub HasFurther : Object → Data → Type 0
+HasFurther owner d = list_any (is_further (members_of owner)) (names_in d) ≡ true

@@ -11,6 +11,10 @@ pub enum Place {
     Batch,
     /// The request at this position of `requests`, counted from 0.
     Request(usize),
+    /// The document of recorded outcomes as a whole.
+    Outcomes,
+    /// The outcome at this position of `outcomes`, counted from 0.
+    Outcome(usize),
 }
 
 /// A rule that a document as a whole breaks (OData JSON Format 4.01, section 19.1).

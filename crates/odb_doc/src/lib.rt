@@ -18,6 +18,7 @@ mod headers;
 mod media_type;
 mod member;
 mod outcome;
+mod outcome_fault;
 mod reference;
 mod request;
 #[cfg(test)]
@@ -29,5 +30,6 @@ pub use device::{DeviceFault, Input, MAX_READS, Output};
 pub use document::{MAX_DOCUMENT_BYTES, parse};
 pub use fault::{DocFault, DocumentRule, Place, RequestRule};
 pub use outcome::Outcome;
+pub use outcome_fault::{OutcomeFault, OutcomeRule};
 pub use request::Request;
 pub use whole::{TextFault, is_whole};

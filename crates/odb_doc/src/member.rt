@@ -7,11 +7,13 @@ ghost use Rattle.odb_doc.specs.Members as spec;
 
 use serde_json::{Map, Value};
 
-/// The objects of a batch document, each with members of its own.
+/// The objects of a batch document and of a document of outcomes, each with members of its own.
 #[derive(Clone, Copy)]
 pub(crate) enum Object {
     Document,
     Request,
+    Outcomes,
+    Outcome,
 }
 
 impl Object {
@@ -25,6 +27,8 @@ impl Object {
                 name,
                 "id" | "method" | "url" | "atomicityGroup" | "dependsOn" | "if" | "headers" | "body"
             ),
+            Object::Outcomes => name == "outcomes",
+            Object::Outcome => matches!(name, "id" | "status" | "headers" | "body"),
         }
     }
 
@@ -48,6 +52,23 @@ impl Object {
     {
         match value.as_object() {
             Some(members) => self.has_unknown_among(members),
+            None => false,
+        }
+    }
+
+    fn has_further_among(self, members: &Map<String, Value>) -> bool
+        ensures { result ≡ list_any (λ name. spec.is_further (spec.members_of self)
+            (string_bytes name)) (keys members.now) }
+    {
+        members.keys().any(|name| !self.may_have(name.as_str()))
+    }
+
+    /// Whether some member of the value, also an annotation, is none that the object may have.
+    pub(crate) fn has_further(self, value: &Value) -> bool
+        ensures { IsTrue result ↔ spec.HasFurther self (view value.now) }
+    {
+        match value.as_object() {
+            Some(members) => self.has_further_among(members),
             None => false,
         }
     }
