@@ -12,7 +12,7 @@ fn fault_line(alloc: Global, fault: CheckFault) -> Result<String, AllocError> {
     match fault {
         CheckFault::Request { .. } => match fault.place() {
             Place::Request(at) => format!(in alloc; "{} {} {at}", fault.code(), fault.name()),
-            Place::Batch => format!(in alloc; "{} {} batch", fault.code(), fault.name()),
+            place => format!(in alloc; "{} {} {place:?}", fault.code(), fault.name()),
         },
         CheckFault::OutOfMemory => Err(AllocError),
     }

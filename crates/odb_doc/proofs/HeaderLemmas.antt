@@ -84,7 +84,7 @@ head_apart : (name other : List ℕ) (names rest : List (List ℕ)) → AllByRec
 head_apart name other [] rest all = all.0
 head_apart name other (x ∷ names) rest all = head_apart name other names rest all.1
 
-not_distinct : (names : List (List ℕ)) (name : List ℕ) (rest : List (List ℕ)) → IsDistinct bytes_eq (names ++ name ∷ rest) → list_any (bytes_eq name) names ≡ true → ⊥
+pub not_distinct : (names : List (List ℕ)) (name : List ℕ) (rest : List (List ℕ)) → IsDistinct bytes_eq (names ++ name ∷ rest) → list_any (bytes_eq name) names ≡ true → ⊥
 not_distinct [] name rest distinct any = absurd (cc (any))
 not_distinct (other ∷ names) name rest distinct any =
     not_distinct names name rest (IsDistinct-tail bytes_eq other (names ++ name ∷ rest) distinct)

@@ -3,6 +3,7 @@ mod DistinctLemmas
 mod ElementLemmas
 mod HeaderLemmas
 mod ListedLemmas
+mod MovedHeaders
 mod MemberLemmas
 pub mod NameLemmas
 mod OneHeaders

@@ -49,7 +49,7 @@ names_step name names (Some text) (Some rest) headers more is =
     let same : (name, text) ∷ rest ≡ headers = cc (is) in
     subst (λ (hs : List Header). str_to_ascii_lowercase name ∷ names ≡ keys_of (map folded hs)) same (ap (λ others. str_to_ascii_lowercase name ∷ others) (more rest refl))
 
-names_of-text_members : (ms : Members) (headers : List Header) → text_members ms ≡ Some headers → map str_to_ascii_lowercase (names_of ms) ≡ keys_of (map folded headers)
+pub names_of-text_members : (ms : Members) (headers : List Header) → text_members ms ≡ Some headers → map str_to_ascii_lowercase (names_of ms) ≡ keys_of (map folded headers)
 names_of-text_members no_members headers is = let same : [] ≡ headers = cc (is) in subst (λ (hs : List Header). [] ≡ keys_of (map folded hs)) same refl
 names_of-text_members (member name d ms) headers is =
     names_step name (map str_to_ascii_lowercase (names_of ms)) (as_str d) (text_members ms) headers (λ more found. names_of-text_members ms more found) is

@@ -1,9 +1,11 @@
--- The headers of a request (OData JSON Format 4.01, section 19.1, `headers`; RFC 9110, section 5).
-use Rattle.std.specs.Prelude.{◌≡◌, ℕ, List, [], ◌∷◌, map, Option, Some, None, option_and_then, option_map, unwrap_or, codes, string_bytes, String}
+-- The headers of a request or of an outcome (OData JSON Format 4.01, sections 19.1 and 19.4, `headers`; RFC
+-- 9110, section 5).
+use Rattle.std.specs.Prelude.{◌≡◌, ℕ, List, [], ◌∷◌, map, Option, Some, None, IsSome, option_and_then, option_map, unwrap_or, codes, bytes_eq, string_bytes, String}
 use Rattle.std.specs.declared.alloc.Global.{Global}
 use Rattle.std.specs.Borrow.{Bor}
 use Rattle.std.specs.BTreeMap.{BTreeMap}
 use Rattle.std.specs.Cmp.Lexicographic.{slice_cmp}
+use Rattle.std.specs.List.{IsDistinct}
 use Rattle.std.specs.List.Sorted.{IsPermutation, IsStrictlySortedBy}
 use Rattle.std.specs.Map.{keys_of}
 use Rattle.std.specs.Ordering.{nat_cmp}
@@ -31,20 +33,35 @@ abbrev pub text_members_in : Option Data → Option (List Header)
 text_members_in None = Some []
 text_members_in (Some d) = option_and_then text_members (as_object d)
 
--- the members of `headers`, which counts as absent where it is null
+-- the members of the value at `headers`, which counts as absent where it is null
+abbrev pub listed_in : Option Data → Option (List Header)
+listed_in o = text_members_in (given o)
+
 abbrev pub listed_headers : Data → Option (List Header)
-listed_headers d = text_members_in (given (get (codes "headers") d))
+listed_headers d = listed_in (get (codes "headers") d)
 
--- the names of the members of `headers` in lower case, whatever their values are
+-- the names of the members of the value in lower case, whatever their values are
+abbrev pub folded_names : Option Data → List (List ℕ)
+folded_names o = map str_to_ascii_lowercase (names_in (unwrap_or o null))
+
 abbrev pub header_names : Data → List (List ℕ)
-header_names d = map str_to_ascii_lowercase (names_in (unwrap_or (get (codes "headers") d) null))
+header_names d = folded_names (get (codes "headers") d)
 
--- the members of `headers` with their names in lower case, each name once, in byte order of the names
-pub record HasHeaders (d : Data) (headers : List Header) : Type 0 where
+-- absent, null, or an object of strings of which no two have one name in lower case
+pub record IsHeaders (o : Option Data) : Type 0 where
+  pub texts : IsSome (listed_in o)
+  pub apart : IsDistinct bytes_eq (folded_names o)
+
+-- the members of the value with their names in lower case, each name once, in byte order of the names
+pub record HoldsHeaders (o : Option Data) (headers : List Header) : Type 0 where
   pub listed : List Header
-  pub are : listed_headers d ≡ Some listed
+  pub are : listed_in o ≡ Some listed
   pub same : IsPermutation (map folded listed) headers
   pub ordered : IsStrictlySortedBy (slice_cmp nat_cmp) (keys_of headers)
+
+-- the same of the member `headers`
+abbrev pub HasHeaders : Data → List Header → Type 0
+HasHeaders d headers = HoldsHeaders (get (codes "headers") d) headers
 
 -- what a pair of references points to
 abbrev pub header_in : Bor (List ℕ) × Bor (List ℕ) → Header

@@ -16,3 +16,5 @@ pub mod Batches
 pub mod WholeNumbers
 pub mod TextFaults
 pub mod OutcomeFaults
+pub mod Outcomes
+pub mod LeastOutcomeFault

@@ -1,16 +1,17 @@
-ghost use Rattle.std.specs.Prelude.{◌≡◌, true, false, ◌∷◌, map, option_map, string_bytes, IsTrue, OnOk, IfOk, IfErr, IfSome, IfNone, bytes_eq};
+ghost use Rattle.std.specs.Prelude.{◌≡◌, true, false, ◌∷◌, map, Some, option_map, string_bytes, IsTrue, OnOk, IfOk, IfErr, IfSome, IfNone, bytes_eq};
 ghost use Rattle.std.specs.Cmp.Lexicographic.{slice_cmp};
 ghost use Rattle.std.specs.List.{IsDistinct, list_any};
 ghost use Rattle.std.specs.List.Sorted.{IsPermutation, IsStrictlySortedBy};
 ghost use Rattle.std.specs.Map.{keys_of};
 ghost use Rattle.std.specs.Ordering.{nat_cmp};
 ghost use Rattle.std.specs.Str.{str_to_ascii_lowercase};
+ghost use Rattle.serde_json.specs.Data.{object};
 ghost use Rattle.serde_json.specs.View.{view, members_view};
-ghost use Rattle.odb_doc.specs.Headers.{HasHeaders, folded, text_members, listed_headers, header_in, headers_in};
+ghost use Rattle.odb_doc.specs.Headers.{HasHeaders, HoldsHeaders, IsHeaders, folded, text_members, listed_headers, header_in, headers_in};
 ghost use Rattle.odb_doc.specs.LeastFault.{BreaksNoneBelow, IsFaultAt};
 
 use crate::fault::{DocFault, RequestRule};
-use crate::member::given;
+use crate::member::{given, members_of, text_of, unless_null};
 use serde_json::{Map, Value};
 use std::alloc::{AllocError, Global};
 use std::collections::BTreeMap;
@@ -51,34 +52,32 @@ fn listed_headers<'a>(
 }
 
 /// The text in lower case.
-fn lowercase(alloc: Global, text: &str) -> Result<String, AllocError>
-    ensures { IfOk result (λ folded. string_bytes folded ≡ str_to_ascii_lowercase text.now) }
+fn lowercase(text: String) -> String
+    ensures { string_bytes result ≡ str_to_ascii_lowercase (string_bytes text) }
 {
-    let mut folded = String::from_str(alloc, text)?;
+    let mut folded = text;
     folded.make_ascii_lowercase();
-    Ok(folded)
+    folded
 }
 
 /// Puts a header in by its name in lower case, and says whether that name is new. Where it is not,
 /// the map is of no use.
 fn put(
-    alloc: Global,
     headers: &mut BTreeMap<String, String>,
-    name: &str,
-    value: &str,
+    name: String,
+    value: String,
 ) -> Result<bool, AllocError>
     ensures added { IfOk result (λ is_new. IsTrue is_new
-        → IsPermutation (folded (name.now, value.now) ∷ headers_in headers.old)
+        → IsPermutation (folded (string_bytes name, string_bytes value) ∷ headers_in headers.old)
         (headers_in headers.new)) }
     ensures ordered { IfOk result (λ _. IsStrictlySortedBy (slice_cmp nat_cmp)
         (keys_of (headers_in headers.new))) }
     ensures twice { IfOk result (λ is_new. is_new ≡ false
-        → list_any (bytes_eq (str_to_ascii_lowercase name.now))
+        → list_any (bytes_eq (str_to_ascii_lowercase (string_bytes name)))
         (keys_of (headers_in headers.old)) ≡ true) }
 {
-    let name = lowercase(alloc, name)?;
-    let value = String::from_str(alloc, value)?;
-    Ok(headers.insert(name, value)?.is_none())
+    let folded = lowercase(name);
+    Ok(headers.insert(folded, value)?.is_none())
 }
 
 /// The headers by their names in lower case, or `None` where two of these names are equal.
@@ -95,7 +94,9 @@ fn folded_headers(
 {
     let mut headers = BTreeMap::new(alloc);
     for (name, value) in listed {
-        if !put(alloc, &mut headers, name, value)? {
+        let name = String::from_str(alloc, name)?;
+        let value = String::from_str(alloc, value)?;
+        if !put(&mut headers, name, value)? {
             return Ok(None);
         }
     }
@@ -122,4 +123,47 @@ pub(crate) fn headers_of(
         Some(headers) => Ok(headers),
         None => Err(broken(RequestRule::HeaderTwice)),
     }
+}
+
+/// The headers that an object says, moved out of it, by their names in lower case, or `None` where a
+/// value is no string or two of these names are equal.
+fn moved_headers(
+    alloc: Global,
+    members: Map<String, Value>,
+) -> Result<Option<BTreeMap<String, String>>, AllocError>
+    ensures has { IfOk result (λ found. IfSome found (λ headers. HoldsHeaders
+        (Some (object (members_view members.entries))) (headers_in headers))) }
+    ensures none { IfOk result (λ found. IfNone found
+        (¬ IsHeaders (Some (object (members_view members.entries))))) }
+{
+    let mut headers = BTreeMap::new(alloc);
+    for (name, value) in members {
+        let Some(text) = text_of(value) else {
+            return Ok(None);
+        };
+        if !put(&mut headers, name, text)? {
+            return Ok(None);
+        }
+    }
+    Ok(Some(headers))
+}
+
+/// The headers that the member `headers` says, moved out of it, by their names in lower case, or
+/// `None` where it is there, is not null and is no object of strings, or two of these names are
+/// equal.
+pub(crate) fn headers_from(
+    alloc: Global,
+    member: Option<Value>,
+) -> Result<Option<BTreeMap<String, String>>, AllocError>
+    ensures has { IfOk result (λ found. IfSome found (λ headers. HoldsHeaders
+        (option_map view member) (headers_in headers))) }
+    ensures none { IfOk result (λ found. IfNone found (¬ IsHeaders (option_map view member))) }
+{
+    let Some(value) = unless_null(member) else {
+        return Ok(Some(BTreeMap::new(alloc)));
+    };
+    let Some(members) = members_of(value) else {
+        return Ok(None);
+    };
+    moved_headers(alloc, members)
 }

@@ -1,11 +1,11 @@
 ghost use Rattle.std.specs.Prelude.{◌≡◌, ◌↔◌, IsTrue, option_map, string_bytes};
 ghost use Rattle.std.specs.List.{list_any};
 ghost use Rattle.std.specs.BTreeMap.{keys};
-ghost use Rattle.serde_json.specs.Find.{get};
-ghost use Rattle.serde_json.specs.View.{view};
+ghost use Rattle.serde_json.specs.Find.{get, as_str, as_number, as_object};
+ghost use Rattle.serde_json.specs.View.{view, number_view, members_view};
 ghost use Rattle.odb_doc.specs.Members as spec;
 
-use serde_json::{Map, Value};
+use serde_json::{Map, Number, Value};
 
 /// The objects of a batch document and of a document of outcomes, each with members of its own.
 #[derive(Clone, Copy)]
@@ -93,4 +93,38 @@ pub(crate) fn given<'a>(value: &'a Value, name: &str) -> Option<&'a Value>
     ensures { option_map (λ v. view v.now) result ≡ spec.given (get name.now (view value.now)) }
 {
     value.get(name).filter(|member| !member.is_null())
+}
+
+/// The string that the value is, moved out of it.
+pub(crate) fn text_of(value: Value) -> Option<String>
+    ensures { option_map string_bytes result ≡ as_str (view value) }
+{
+    match value {
+        Value::String(text) => Some(text),
+        _ => None,
+    }
+}
+
+/// The number that the value is.
+pub(crate) fn number_of(value: &Value) -> Option<Number>
+    ensures { option_map number_view result ≡ as_number (view value.now) }
+{
+    value.as_number().copied()
+}
+
+/// The members that the value has as an object, moved out of it.
+pub(crate) fn members_of(value: Value) -> Option<Map<String, Value>>
+    ensures { option_map (λ members. members_view members.entries) result ≡ as_object (view value) }
+{
+    match value {
+        Value::Object(members) => Some(members),
+        _ => None,
+    }
+}
+
+/// The value, where null counts as absent.
+pub(crate) fn unless_null(value: Option<Value>) -> Option<Value>
+    ensures { option_map view result ≡ spec.given (option_map view value) }
+{
+    value.filter(|member| !member.is_null())
 }

@@ -7,11 +7,13 @@ loop-name-init c = IsFoldedUpTo-zero c.args.listed.now c.new-headers.result c.ne
 
 pub returns-then-not-branch-clause-twice : goal.returns-then-not-branch-clause-twice
 returns-then-not-branch-clause-twice c =
-    IsFoldedUpTo-twice c.args.listed.now _ c.loop-name.name-index no_header c.loop-name-test.true c.loop-name.invariant (c.in_ok-put.ensures.twice c.if-not-branch.true)
+    let twice = rw c.in_ok-name.ensures.ok at (c.in_ok-put.ensures.twice c.if-not-branch.true) in
+    IsFoldedUpTo-twice c.args.listed.now _ c.loop-name.name-index no_header c.loop-name-test.true c.loop-name.invariant twice
 
 pub loop-name-preserved : goal.loop-name-preserved
 loop-name-preserved c =
-    IsFoldedUpTo-more c.args.listed.now _ _ c.loop-name.name-index no_header c.loop-name-test.true c.loop-name.invariant (c.in_ok-put.ensures.added c.if-not-branch.false) c.in_ok-put.ensures.ordered
+    let added = rw (c.in_ok-name.ensures.ok, c.in_ok-value.ensures.ok) at (c.in_ok-put.ensures.added c.if-not-branch.false) in
+    IsFoldedUpTo-more c.args.listed.now _ _ c.loop-name.name-index no_header c.loop-name-test.true c.loop-name.invariant added c.in_ok-put.ensures.ordered
 
 pub returns-clause-same : goal.returns-clause-same
 returns-clause-same c = IsFoldedUpTo-all c.args.listed.now _ c.loop-name.name-index (omega arith) c.loop-name.invariant

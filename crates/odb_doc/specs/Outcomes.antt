@@ -1,0 +1,76 @@
+-- Recorded outcomes: what the elements of `outcomes` are, and what they say. An outcome is what a service
+-- answered to a request (OData JSON Format 4.01, section 19.4); the document of many is this product's own.
+use Rattle.std.specs.Prelude.{◌≡◌, ◌≤◌, ℕ, List, [], Option, Some, IsSome, IfSome, map, option_and_then, option_map, unwrap_or, codes, string_bytes, String}
+use Rattle.std.specs.declared.alloc.Global.{Global}
+use Rattle.std.specs.List.{AllZip, filter_map}
+use Rattle.serde_json.specs.Data.{Data, Num, unsigned, negative, float, Items}
+use Rattle.serde_json.specs.Find.{get, as_array, as_number}
+use Rattle.serde_json.specs.View.{view}
+use Rattle.odb_doc.specs.declared.member.Object.TheVariants as objects
+use Rattle.odb_doc.specs.declared.outcome.Outcome.{Outcome}
+use Rattle.odb_doc.specs.Bodies.{body_of}
+use Rattle.odb_doc.specs.Headers.{HasHeaders, IsHeaders, headers_in}
+use Rattle.odb_doc.specs.Members.{list_of, text_at, HasFurther}
+use Rattle.odb_doc.specs.WholeNumbers.{IsWhole}
+
+-- the array at `outcomes`
+abbrev pub outcomes_in : Data → Option Items
+outcomes_in d = option_and_then as_array (get (codes "outcomes") d)
+
+-- the elements of `outcomes`
+abbrev pub elements : Data → List Data
+elements d = unwrap_or (option_map list_of (outcomes_in d)) []
+
+-- an object whose one member is `outcomes`, an array
+pub record IsOutcomesObject (d : Data) : Type 0 where
+  pub one : ¬ HasFurther objects.Outcomes d
+  pub array : IsSome (outcomes_in d)
+
+-- the string at `id`
+abbrev pub id_of : Data → Option (List ℕ)
+id_of d = text_at (codes "id") d
+
+-- the number at `status`
+abbrev pub status_of : Data → Option Num
+status_of d = option_and_then as_number (get (codes "status") d)
+
+-- an object with a string `id` and a number `status`, maybe `headers` and a `body`, and no other member
+pub record IsOutcomeObject (d : Data) : Type 0 where
+  pub known : ¬ HasFurther objects.Outcome d
+  pub id : IsSome (id_of d)
+  pub status : IsSome (status_of d)
+  pub headers : IsHeaders (get (codes "headers") d)
+
+-- a status that an outcome may have: a whole number from 200 to 599
+abbrev pub IsStatus : Num → Type 0
+IsStatus (unsigned n) = (200 ≤ n) × (n ≤ 599)
+IsStatus (negative z) = ⊥
+IsStatus (float x) = ⊥
+
+-- the ids of the elements, as far as they have some
+abbrev pub ids : List Data → List (List ℕ)
+ids ds = filter_map id_of ds
+
+-- an outcome with the id of the request that it is for
+abbrev pub Recorded : Type 0
+Recorded = List ℕ × Outcome
+
+abbrev pub recorded : String Global × Outcome → Recorded
+recorded entry = (string_bytes entry.0, entry.1)
+
+-- the element says this id and this outcome
+pub record Says (d : Data) (entry : Recorded) : Type 0 where
+  pub id : id_of d ≡ Some entry.0
+  pub status : status_of d ≡ Some (unsigned entry.1.status)
+  pub headers : HasHeaders d (headers_in entry.1.headers)
+  pub body : body_of d ≡ option_map view entry.1.body
+
+-- the elements of the document say these outcomes, one by one
+abbrev pub AreOutcomesOf : Data → List Recorded → Type 0
+AreOutcomesOf d entries = AllZip Says (elements d) entries
+
+-- what is so of each outcome that was read: its status is from 200 to 599, and its body holds whole numbers alone
+pub record IsSoundOutcome (entry : Recorded) : Type 0 where
+  pub low : 200 ≤ entry.1.status
+  pub high : entry.1.status ≤ 599
+  pub whole : IfSome (option_map view entry.1.body) IsWhole
