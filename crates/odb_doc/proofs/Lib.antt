@@ -4,6 +4,7 @@ mod ElementLemmas
 mod HeaderLemmas
 mod ListedLemmas
 mod MovedHeaders
+mod PartLemmas
 mod MemberLemmas
 pub mod NameLemmas
 mod OneHeaders

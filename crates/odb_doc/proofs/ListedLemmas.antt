@@ -54,7 +54,7 @@ names_of-text_members no_members headers is = let same : [] ≡ headers = cc (is
 names_of-text_members (member name d ms) headers is =
     names_step name (map str_to_ascii_lowercase (names_of ms)) (as_str d) (text_members ms) headers (λ more found. names_of-text_members ms more found) is
 
-names_in-text_members_in : (o : Option Data) (headers : List Header) → text_members_in (given o) ≡ Some headers → map str_to_ascii_lowercase (names_in (unwrap_or o null)) ≡ keys_of (map folded headers)
+pub names_in-text_members_in : (o : Option Data) (headers : List Header) → text_members_in (given o) ≡ Some headers → map str_to_ascii_lowercase (names_in (unwrap_or o null)) ≡ keys_of (map folded headers)
 names_in-text_members_in None headers is = let same : [] ≡ headers = cc (is) in subst (λ (hs : List Header). [] ≡ keys_of (map folded hs)) same refl
 names_in-text_members_in (Some null) headers is = let same : [] ≡ headers = cc (is) in subst (λ (hs : List Header). [] ≡ keys_of (map folded hs)) same refl
 names_in-text_members_in (Some (boolean b)) headers is = absurd (cc (is))

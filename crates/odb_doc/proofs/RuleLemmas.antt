@@ -1,5 +1,5 @@
 -- The rules from F18 on, one after the other: what keeps a request from breaking them.
-use Rattle.std.proofs.Common.{◌≡◌, ◌∙◌, Bool, true, false, List, [], ◌∷◌, Option, None, Some, IsNone, map, get_or, ◌==◌, bytes_eq, refl, ap, sym, subst, arith}
+use Rattle.std.proofs.Common.{◌≡◌, ◌∙◌, Bool, true, false, List, [], ◌∷◌, Option, None, Some, IsSome, IsNone, codes, map, get_or, ◌==◌, bytes_eq, refl, ap, sym, subst, arith}
 use Rattle.std.specs.Char.{to_ascii_lowercase}
 use Rattle.std.specs.Cmp.Lexicographic.{slice_cmp}
 use Rattle.std.specs.List.{IsDistinct, AllByRecursion}
@@ -11,15 +11,16 @@ use Rattle.std.proofs.lemmas.List.Sorted.{IsPermutation-sym, IsPermutation-map}
 use Rattle.std.proofs.lemmas.Map.Keys.{IsDistinct-from_sorted, IsDistinct-IsPermutation}
 use Rattle.std.proofs.lemmas.Map.Text.{is_eq-slice_cmp}
 use Rattle.serde_json.specs.Data.{Data}
+use Rattle.serde_json.specs.Find.{get}
 use Rattle.odb_names.specs.Methods.{method_name, takes_body}
 use Rattle.odb_names.specs.declared.method.Method.{Method}
 use Rattle.odb_names.specs.declared.method.Method.TheVariants.{Delete, Get, Patch, Post, Put}
 use Rattle.odb_doc.specs.declared.fault.RequestRule.TheVariants as request
 use Rattle.odb_doc.specs.Bodies.{body_of, asked_kind, IsOfKind}
-use Rattle.odb_doc.specs.Headers.{Header, HasHeaders, folded, listed_headers}
+use Rattle.odb_doc.specs.Headers.{Header, HoldsHeaders, HasHeaders, IsHeaders, folded, folded_names, listed_in, listed_headers}
 use Rattle.odb_doc.specs.LeastFault.{BreaksNoneBelow, IsRequestObject}
 use Rattle.odb_doc.specs.Shapes.{HasMethod, BreaksRequest}
-use Rattle.odb_doc.proofs.ListedLemmas.{header_names-listed}
+use Rattle.odb_doc.proofs.ListedLemmas.{header_names-listed, names_in-text_members_in}
 use Rattle.odb_doc.proofs.OneHeaders.{one_headers}
 
 -- ---- no rule up to this one is broken
@@ -69,13 +70,24 @@ unfolding IsDistinct
 IsDistinct-same e f same [] distinct = tt
 IsDistinct-same e f same (x ∷ xs) distinct = (All-same (e x) (f x) (same x) xs distinct.0, IsDistinct-same e f same xs distinct.1)
 
-pub headers_not_twice : (d : Data) (headers : List Header) → HasHeaders d headers → ¬ BreaksRequest request.HeaderTwice d
-headers_not_twice d headers has twice =
+-- headers in order of their names have each name once, and so has what says them
+pub HoldsHeaders-apart : (o : Option Data) (headers : List Header) → HoldsHeaders o headers → IsDistinct bytes_eq (folded_names o)
+HoldsHeaders-apart o headers has =
     let sorted = IsDistinct-from_sorted (slice_cmp nat_cmp) (keys_of headers) has.ordered in
     let apart = IsDistinct-same (eq_by_cmp (slice_cmp nat_cmp)) bytes_eq is_eq-slice_cmp (keys_of headers) sorted in
     let names = IsPermutation-map (λ (h : Header). h.0) headers (map folded has.listed) (IsPermutation-sym (map folded has.listed) headers has.same) in
     let before = IsDistinct-IsPermutation bytes_eq nat_list_eq_equiv.symm (keys_of headers) (keys_of (map folded has.listed)) names apart in
-    twice (subst (IsDistinct bytes_eq) (sym (header_names-listed d has.listed has.are)) before)
+    subst (IsDistinct bytes_eq) (sym (names_in-text_members_in o has.listed has.are)) before
+
+pub headers_not_twice : (d : Data) (headers : List Header) → HasHeaders d headers → ¬ BreaksRequest request.HeaderTwice d
+headers_not_twice d headers has twice = twice (HoldsHeaders-apart (get (codes "headers") d) headers has)
+
+texts_some : (o : Option (List Header)) (listed : List Header) → o ≡ Some listed → IsSome o
+texts_some None listed is = absurd (cc (is))
+texts_some (Some other) listed is = refl
+
+pub IsHeaders-from : (o : Option Data) (headers : List Header) → HoldsHeaders o headers → IsHeaders o
+IsHeaders-from o headers has = record { texts = texts_some (listed_in o) has.listed has.are; apart = HoldsHeaders-apart o headers has }
 
 -- ---- the body
 

@@ -18,3 +18,4 @@ pub mod TextFaults
 pub mod OutcomeFaults
 pub mod Outcomes
 pub mod LeastOutcomeFault
+pub mod OutcomeShapes

@@ -1,4 +1,12 @@
-use serde_json::Value;
+ghost use Rattle.std.specs.Prelude.{◌≡◌, MatchOption, IfOk};
+ghost use Rattle.serde_json.specs.View.{view};
+ghost use Rattle.odb_doc.specs.Outcomes.{IsOutcomeObject};
+ghost use Rattle.odb_doc.specs.OutcomeShapes.{ArePartsOf, IsShapeOf};
+
+use crate::headers::headers_from;
+use crate::member::{Object, members_of, number_of, text_of, unless_null};
+use serde_json::{Number, Value};
+use std::alloc::{AllocError, Global};
 use std::collections::BTreeMap;
 
 /// How a request ended: what its service answered (OData JSON Format 4.01, section 19.4).
@@ -10,4 +18,67 @@ pub struct Outcome {
     pub headers: BTreeMap<String, String>,
     /// The body of the answer, where it has one.
     pub body: Option<Value>,
+}
+
+/// The members that an outcome may have, moved out of its object.
+#[derive(Drop)]
+pub(crate) struct Parts {
+    pub(crate) id: Option<Value>,
+    pub(crate) status: Option<Value>,
+    pub(crate) headers: Option<Value>,
+    pub(crate) body: Option<Value>,
+}
+
+/// What an object of the shape of an outcome says.
+#[derive(Drop)]
+pub(crate) struct Shape {
+    pub(crate) id: String,
+    pub(crate) status: Number,
+    pub(crate) headers: BTreeMap<String, String>,
+    pub(crate) body: Option<Value>,
+}
+
+fn parts_of(element: Value) -> Option<Parts>
+    ensures { MatchOption result (¬ IsOutcomeObject (view element)) (ArePartsOf (view element)) }
+{
+    let mut members = members_of(element)?;
+    let id = members.remove("id");
+    let status = members.remove("status");
+    let headers = members.remove("headers");
+    let body = members.remove("body");
+    Some(Parts {
+        id,
+        status,
+        headers,
+        body,
+    })
+}
+
+/// What the element says, or `None` where it has not the shape of an outcome.
+pub(crate) fn shape_of(alloc: Global, element: Value) -> Result<Option<Shape>, AllocError>
+    ensures { IfOk result (λ found. MatchOption found (¬ IsOutcomeObject (view element))
+        (IsShapeOf (view element))) }
+{
+    if Object::Outcome.has_further(&element) {
+        return Ok(None);
+    }
+    let Some(parts) = parts_of(element) else {
+        return Ok(None);
+    };
+    let Some(id) = parts.id.and_then(|value| text_of(value)) else {
+        return Ok(None);
+    };
+    let Some(status) = parts.status.and_then(|value| number_of(&value)) else {
+        return Ok(None);
+    };
+    let Some(headers) = headers_from(alloc, parts.headers)? else {
+        return Ok(None);
+    };
+    let body = unless_null(parts.body);
+    Ok(Some(Shape {
+        id,
+        status,
+        headers,
+        body,
+    }))
 }

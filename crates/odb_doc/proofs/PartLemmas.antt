@@ -1,0 +1,39 @@
+-- The members that are left in an object once others were moved out of it.
+use Rattle.std.proofs.Common.{◌≡◌, ◌∙◌, ℕ, false, None, Some, Option, List, option_map, cond, bytes_eq, String, string_bytes, BTreeMap, ap, sym}
+use Rattle.std.specs.declared.alloc.Global.{Global}
+use Rattle.std.specs.BTreeMap as tree
+use Rattle.std.specs.Cmp.Lexicographic.{slice_cmp}
+use Rattle.std.specs.Ordering.{nat_cmp}
+use Rattle.std.specs.String.{string_cmp}
+use Rattle.std.proofs.lemmas.Map.Text.{btree_map_updates_text}
+use Rattle.serde_json.specs.Data.{Data, null, boolean, number, string, array, object, Members}
+use Rattle.serde_json.specs.Find.{get, get_member, as_object}
+use Rattle.serde_json.specs.View.{view, members_view}
+use Rattle.serde_json.specs.declared.value.Value.{Value}
+use Rattle.serde_json.proofs.Views.{view-lookup}
+
+abbrev pub Object : Type 0
+Object = BTreeMap (String Global) Value
+
+-- the value at a name, as the map has it
+abbrev pub at : List ℕ → Object → Option Value
+at name m = tree.get_by_text m name
+
+-- another name was taken out
+abbrev pub Lacks : List ℕ → Object → Object → Type 0
+Lacks gone m n = tree.UpdatesBy string_cmp (λ k. slice_cmp nat_cmp gone (string_bytes k)) m n None
+
+pub at-lacks : (gone name : List ℕ) (m n : Object) → Lacks gone m n → bytes_eq gone name ≡ false → at name n ≡ at name m
+at-lacks gone name m n lacks apart = btree_map_updates_text gone m n None lacks name ∙ ap (λ b. cond b None (at name m)) apart
+
+get-as_object : (name : List ℕ) (d : Data) (ms : Members) → as_object d ≡ Some ms → get name d ≡ get_member name ms
+get-as_object name null ms is = absurd (cc (is))
+get-as_object name (boolean b) ms is = absurd (cc (is))
+get-as_object name (number n) ms is = absurd (cc (is))
+get-as_object name (string s) ms is = absurd (cc (is))
+get-as_object name (array ds) ms is = absurd (cc (is))
+get-as_object name (object xs) ms is = let same : xs ≡ ms = cc (is) in ap (get_member name) same
+
+-- what the map has at a name is what the object has there
+pub get-at : (name : List ℕ) (d : Data) (m : Object) → as_object d ≡ Some (members_view m.entries) → option_map view (at name m) ≡ get name d
+get-at name d m is = view-lookup name m.entries ∙ sym (get-as_object name d (members_view m.entries) is)

@@ -1,0 +1,28 @@
+use Rattle.std.proofs.Common.{◌≡◌, ◌∙◌, Some, IsSome, codes, option_map, string_bytes, ap, refl, sym, rules}
+use Rattle.serde_json.specs.Find.{get}
+use Rattle.serde_json.specs.View.{view, number_view}
+use Rattle.odb_doc.specs.Headers.{HoldsHeaders, headers_in}
+use Rattle.odb_doc.specs.Members.{given}
+use Rattle.odb_doc.specs.Outcomes.{IsOutcomeObject, id_of, status_of}
+use Rattle.odb_doc.proofs.RuleLemmas.{IsHeaders-from}
+use Rattle.odb_doc.proofs.outcome.shape_of.Goals as goal
+
+pub returns : goal.returns
+returns c =
+    let d = view c.args.element in
+    let id : id_of d ≡ Some (string_bytes c.in-Some-and_then.id) = search rules in
+    let status : status_of d ≡ Some (number_view c.in-Some-and_then-2.status) = search rules in
+    let holds : HoldsHeaders (option_map view c.in-Some.parts.headers) (headers_in c.in-Some-2.headers) = search rules in
+    let headers = rw c.in-Some.ensures.headers at holds in
+    record {
+      object = record {
+        known = search rules;
+        id = rw id;
+        status = rw status;
+        headers = IsHeaders-from (get (codes "headers") d) (headers_in c.in-Some-2.headers) headers;
+      };
+      id = id;
+      status = status;
+      headers = headers;
+      body = ap given (sym c.in-Some.ensures.body) ∙ sym c.unless_null-body.ensures;
+    }

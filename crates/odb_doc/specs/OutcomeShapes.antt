@@ -1,0 +1,25 @@
+-- What is moved out of an element of `outcomes` while it is read.
+use Rattle.std.specs.Prelude.{◌≡◌, Some, option_map, codes, string_bytes}
+use Rattle.serde_json.specs.Data.{Data}
+use Rattle.serde_json.specs.Find.{get}
+use Rattle.serde_json.specs.View.{view, number_view}
+use Rattle.odb_doc.specs.declared.outcome.Parts.{Parts}
+use Rattle.odb_doc.specs.declared.outcome.Shape.{Shape}
+use Rattle.odb_doc.specs.Bodies.{body_of}
+use Rattle.odb_doc.specs.Headers.{HasHeaders, headers_in}
+use Rattle.odb_doc.specs.Outcomes.{IsOutcomeObject, id_of, status_of}
+
+-- the values at the four members
+pub record ArePartsOf (d : Data) (parts : Parts) : Type 0 where
+  pub id : option_map view parts.id ≡ get (codes "id") d
+  pub status : option_map view parts.status ≡ get (codes "status") d
+  pub headers : option_map view parts.headers ≡ get (codes "headers") d
+  pub body : option_map view parts.body ≡ get (codes "body") d
+
+-- the element has the shape of an outcome, and says this
+pub record IsShapeOf (d : Data) (shape : Shape) : Type 0 where
+  pub object : IsOutcomeObject d
+  pub id : id_of d ≡ Some (string_bytes shape.id)
+  pub status : status_of d ≡ Some (number_view shape.status)
+  pub headers : HasHeaders d (headers_in shape.headers)
+  pub body : body_of d ≡ option_map view shape.body
