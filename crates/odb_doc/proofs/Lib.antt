@@ -8,6 +8,8 @@ mod PartLemmas
 mod MemberLemmas
 pub mod NameLemmas
 mod OneHeaders
+mod OutcomeLemmas
+mod OutcomeListLemmas
 mod ReferenceLemmas
 mod RequestLemmas
 mod RuleLemmas

@@ -1,5 +1,5 @@
 -- The members that are left in an object once others were moved out of it.
-use Rattle.std.proofs.Common.{◌≡◌, ◌∙◌, ℕ, false, None, Some, Option, List, option_map, cond, bytes_eq, String, string_bytes, BTreeMap, ap, sym}
+use Rattle.std.proofs.Common.{◌≡◌, ◌∙◌, ℕ, false, None, Some, Option, List, option_map, cond, bytes_eq, String, string_bytes, BTreeMap, refl, ap, sym}
 use Rattle.std.specs.declared.alloc.Global.{Global}
 use Rattle.std.specs.BTreeMap as tree
 use Rattle.std.specs.Cmp.Lexicographic.{slice_cmp}
@@ -37,3 +37,12 @@ get-as_object name (object xs) ms is = let same : xs ≡ ms = cc (is) in ap (get
 -- what the map has at a name is what the object has there
 pub get-at : (name : List ℕ) (d : Data) (m : Object) → as_object d ≡ Some (members_view m.entries) → option_map view (at name m) ≡ get name d
 get-at name d m is = view-lookup name m.entries ∙ sym (get-as_object name d (members_view m.entries) is)
+
+-- a value that is no object has nothing anywhere
+pub get-none : (name : List ℕ) (d : Data) → as_object d ≡ None → get name d ≡ None
+get-none name null is = refl
+get-none name (boolean b) is = refl
+get-none name (number n) is = refl
+get-none name (string s) is = refl
+get-none name (array ds) is = refl
+get-none name (object ms) is = absurd (cc (is))

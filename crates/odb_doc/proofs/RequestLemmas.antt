@@ -15,7 +15,7 @@ pub record IsReadUpTo (ds : List Data) (rs : List Record) (n : ℕ) : Type 0 whe
   pub says : AllZip Says (take n ds) rs
   pub count : length rs ≡ n
 
-AllZip-push : {A B : Type 0} (R : A → B → Type 0) (xs : List A) (ys : List B) (x : A) (y : B) → AllZip R xs ys → R x y → AllZip R (xs ++ x ∷ []) (ys ++ y ∷ [])
+pub AllZip-push : {A B : Type 0} (R : A → B → Type 0) (xs : List A) (ys : List B) (x : A) (y : B) → AllZip R xs ys → R x y → AllZip R (xs ++ x ∷ []) (ys ++ y ∷ [])
 AllZip-push R [] [] x y all here = (here, tt)
 AllZip-push R [] (b ∷ bs) x y all here = absurd all
 AllZip-push R (a ∷ xs) [] x y all here = absurd all

@@ -1,6 +1,6 @@
 -- Where each rule of an outcome is broken, and which fault of a document of outcomes is told: that of the whole,
 -- and else the least by position and number.
-use Rattle.std.specs.Prelude.{ℕ, ◌<◌, List, take, slice_get, IsSomeAnd, Contains}
+use Rattle.std.specs.Prelude.{◌≡◌, ℕ, ◌<◌, List, take, slice_get, IsSomeAnd, Contains}
 use Rattle.serde_json.specs.Data.{Data}
 use Rattle.odb_doc.specs.declared.outcome_fault.OutcomeRule.{OutcomeRule}
 use Rattle.odb_doc.specs.declared.outcome_fault.OutcomeRule.TheVariants as rules
@@ -17,6 +17,17 @@ BreaksOutcome rules.BadOutcomes before d = ¬ IsOutcomeObject d
 BreaksOutcome rules.OutcomeTwice before d = IsSomeAnd (id_of d) (Contains before)
 BreaksOutcome rules.BadStatus before d = IsSomeAnd (status_of d) (λ status. ¬ IsStatus status)
 BreaksOutcome rules.NotWhole before d = IsSomeAnd (body_of d) (λ body. ¬ IsWhole body)
+
+-- the rule is broken by an element behind others with these ids, and none with a smaller number is
+pub record IsLeastBroken (before : List (List ℕ)) (d : Data) (rule : OutcomeRule) : Type 0 where
+  pub broken : BreaksOutcome rule before d
+  pub least : (other : OutcomeRule) → rule_number other < rule_number rule → ¬ BreaksOutcome other before d
+
+-- the fault is that of the element at the position. Want of memory says nothing.
+abbrev pub IsFaultBehind : ℕ → List (List ℕ) → Data → OutcomeFault → Type 0
+IsFaultBehind at before d faults.Document = ⊥
+IsFaultBehind at before d (faults.Outcome place rule) = (place ≡ at) × IsLeastBroken before d rule
+IsFaultBehind at before d faults.OutOfMemory = Unit {0}
 
 -- the rule is broken at this position
 abbrev pub BreaksAt : OutcomeRule → List Data → ℕ → Type 0

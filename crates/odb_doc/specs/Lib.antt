@@ -19,3 +19,4 @@ pub mod OutcomeFaults
 pub mod Outcomes
 pub mod LeastOutcomeFault
 pub mod OutcomeShapes
+pub mod OutcomeLists

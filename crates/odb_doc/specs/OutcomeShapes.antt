@@ -1,5 +1,6 @@
 -- What is moved out of an element of `outcomes` while it is read.
-use Rattle.std.specs.Prelude.{◌≡◌, Some, option_map, codes, string_bytes}
+use Rattle.std.specs.Prelude.{◌≡◌, ℕ, List, Some, map, option_map, codes, string_bytes, String}
+use Rattle.std.specs.declared.alloc.Global.{Global}
 use Rattle.serde_json.specs.Data.{Data}
 use Rattle.serde_json.specs.Find.{get}
 use Rattle.serde_json.specs.View.{view, number_view}
@@ -8,6 +9,9 @@ use Rattle.odb_doc.specs.declared.outcome.Shape.{Shape}
 use Rattle.odb_doc.specs.Bodies.{body_of}
 use Rattle.odb_doc.specs.Headers.{HasHeaders, headers_in}
 use Rattle.odb_doc.specs.Outcomes.{IsOutcomeObject, id_of, status_of}
+
+abbrev pub texts : List (String Global) → List (List ℕ)
+texts strings = map string_bytes strings
 
 -- the values at the four members
 pub record ArePartsOf (d : Data) (parts : Parts) : Type 0 where

@@ -19,6 +19,7 @@ mod media_type;
 mod member;
 mod outcome;
 mod outcome_fault;
+mod outcomes;
 mod reference;
 mod request;
 #[cfg(test)]
@@ -31,5 +32,6 @@ pub use document::{MAX_DOCUMENT_BYTES, parse};
 pub use fault::{DocFault, DocumentRule, Place, RequestRule};
 pub use outcome::Outcome;
 pub use outcome_fault::{OutcomeFault, OutcomeRule};
+pub use outcomes::Outcomes;
 pub use request::Request;
 pub use whole::{TextFault, is_whole};

@@ -1,8 +1,8 @@
 ghost use Rattle.std.specs.Prelude.{◌≡◌, ◌↔◌, IsTrue, option_map, string_bytes};
 ghost use Rattle.std.specs.List.{list_any};
 ghost use Rattle.std.specs.BTreeMap.{keys};
-ghost use Rattle.serde_json.specs.Find.{get, as_str, as_number, as_object};
-ghost use Rattle.serde_json.specs.View.{view, number_view, members_view};
+ghost use Rattle.serde_json.specs.Find.{get, as_str, as_number, as_array, as_object};
+ghost use Rattle.serde_json.specs.View.{view, number_view, items_view, members_view};
 ghost use Rattle.odb_doc.specs.Members as spec;
 
 use serde_json::{Map, Number, Value};
@@ -120,6 +120,24 @@ pub(crate) fn members_of(value: Value) -> Option<Map<String, Value>>
         Value::Object(members) => Some(members),
         _ => None,
     }
+}
+
+/// The elements that the value has as an array, moved out of it.
+pub(crate) fn array_of(value: Value) -> Option<Vec<Value>>
+    ensures { option_map (λ elements. items_view elements.items) result ≡ as_array (view value) }
+{
+    match value {
+        Value::Array(elements) => Some(elements),
+        _ => None,
+    }
+}
+
+/// The value at a member, moved out of the object that has it.
+pub(crate) fn member_of(value: Value, name: &str) -> Option<Value>
+    ensures { option_map view result ≡ get name.now (view value) }
+{
+    let mut members = members_of(value)?;
+    members.remove(name)
 }
 
 /// The value, where null counts as absent.

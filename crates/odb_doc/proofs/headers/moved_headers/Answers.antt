@@ -1,8 +1,6 @@
-use Rattle.std.proofs.Common.{◌≡◌, ◌∙◌, ◌∷◌, ◌++◌, [], Some, map, ap, sym, subst, append_assoc, append-nil, rules}
+use Rattle.std.proofs.Common.{◌∙◌, ◌∷◌, ◌++◌, [], ap, sym, append_assoc, append-nil, rules}
 use Rattle.std.proofs.lemmas.Map.Iter.{rest_more, rest_all}
-use Rattle.serde_json.specs.Data.{object}
-use Rattle.serde_json.specs.View.{members_view}
-use Rattle.odb_doc.specs.Headers.{HoldsHeaders, IsHeaders, headers_in}
+use Rattle.odb_doc.specs.Headers.{headers_in}
 use Rattle.odb_doc.proofs.MovedHeaders.{Entry, HoldsHeaders-none, HoldsHeaders-more, IsHeaders-other, IsHeaders-twice}
 use Rattle.odb_doc.proofs.headers.moved_headers.Goals as goal
 

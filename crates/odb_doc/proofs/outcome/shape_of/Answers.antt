@@ -1,9 +1,9 @@
-use Rattle.std.proofs.Common.{◌≡◌, ◌∙◌, Some, IsSome, codes, option_map, string_bytes, ap, refl, sym, rules}
+use Rattle.std.proofs.Common.{◌≡◌, ◌∙◌, Some, codes, option_map, string_bytes, ap, sym, rules}
 use Rattle.serde_json.specs.Find.{get}
 use Rattle.serde_json.specs.View.{view, number_view}
 use Rattle.odb_doc.specs.Headers.{HoldsHeaders, headers_in}
 use Rattle.odb_doc.specs.Members.{given}
-use Rattle.odb_doc.specs.Outcomes.{IsOutcomeObject, id_of, status_of}
+use Rattle.odb_doc.specs.Outcomes.{id_of, status_of}
 use Rattle.odb_doc.proofs.RuleLemmas.{IsHeaders-from}
 use Rattle.odb_doc.proofs.outcome.shape_of.Goals as goal
 

@@ -1,0 +1,190 @@
+ghost use Rattle.std.specs.Prelude.{◌≡◌, ◌++◌, ◌∷◌, ◌↔◌, ◌<◌, length, slice_get, Some, [], false, not, map, option_map, string_bytes, bytes_eq, IsTrue, IfSome, IfNone, OnSome, MatchOption, IfOk, IfErr, OnOk, All};
+ghost use Rattle.std.specs.List.{AllZip, IsDistinct, list_any};
+ghost use Rattle.std.specs.Map.{keys_of};
+ghost use Rattle.std.proofs.Props.{props};
+ghost use Rattle.serde_json.specs.Data.{unsigned};
+ghost use Rattle.serde_json.specs.View.{view, number_view};
+ghost use Rattle.odb_doc.specs.declared.outcome_fault.OutcomeRule.{OutcomeRule};
+ghost use Rattle.odb_doc.specs.LeastOutcomeFault.{AreOutcomes, BreaksOutcome, IsFaultBehind, IsOutcomesDocument, RefusesElements, RefusesOutcomes};
+ghost use Rattle.odb_doc.specs.Outcomes.{AreOutcomesOf, IsOutcomesObject, IsStatus, IsSoundOutcome, Says, elements, recorded};
+ghost use Rattle.odb_doc.specs.OutcomeShapes.{texts};
+ghost use Rattle.odb_doc.specs.WholeNumbers.{IsWhole};
+
+use crate::member::{Object, array_of, member_of};
+use crate::outcome::{Outcome, shape_of};
+use crate::outcome_fault::{OutcomeFault, OutcomeRule};
+use crate::whole::is_whole;
+use indexmap::IndexSet;
+use serde_json::{Number, Value};
+use std::alloc::{AllocError, Global};
+
+/// The status, or `None` where it is no whole number from 200 to 599.
+fn status_of(status: Number) -> Option<u16>
+    ensures { MatchOption result (¬ IsStatus (number_view status))
+        (λ code. IsStatus (number_view status) × (number_view status ≡ unsigned code)) }
+{
+    let code = status.as_u64()?;
+    if (200..=599).contains(&code) {
+        Some(code as u16)
+    } else {
+        None
+    }
+}
+
+/// Whether the body, if any, holds whole numbers alone.
+fn has_whole_body(body: &Option<Value>) -> bool
+    ensures { IsTrue result ↔ IfSome (option_map view body.now) IsWhole }
+{
+    match body {
+        Some(value) => is_whole(value),
+        None => true,
+    }
+}
+
+/// Notes the id, and says whether it is new.
+fn note(seen: &mut IndexSet<String>, id: String) -> Result<bool, AllocError>
+    ensures is_new { IfOk result (λ is_new. is_new
+        ≡ not (list_any (bytes_eq (string_bytes id)) (texts seen.old.keys))) }
+    ensures noted { IfOk result (λ is_new. IsTrue is_new
+        → texts seen.new.keys ≡ texts seen.old.keys ++ string_bytes id ∷ []) }
+{
+    Ok(seen.insert(id)?)
+}
+
+/// The id and the outcome that an element says behind others with the ids in `seen`, or the first of
+/// the rules that it breaks, as a fault that lies at `at`.
+fn read_outcome(
+    alloc: Global,
+    at: usize,
+    seen: &mut IndexSet<String>,
+    element: Value,
+) -> Result<(String, Outcome), OutcomeFault>
+    ensures sound { OnOk result ((rule : OutcomeRule)
+        → ¬ BreaksOutcome rule (texts seen.old.keys) (view element)) }
+    ensures says { IfOk result (λ entry. Says (view element) (recorded entry)) }
+    ensures fit { IfOk result (λ entry. IsSoundOutcome (recorded entry)) }
+    ensures is_new { IfOk result (λ entry. list_any (bytes_eq (string_bytes entry.0))
+        (texts seen.old.keys) ≡ false) }
+    ensures noted { IfOk result (λ entry. texts seen.new.keys
+        ≡ texts seen.old.keys ++ string_bytes entry.0 ∷ []) }
+    ensures first { IfErr result (IsFaultBehind at (texts seen.old.keys) (view element)) }
+{
+    let broken = |rule| OutcomeFault::Outcome { at, rule };
+    let Some(shape) = shape_of(alloc, element)? else {
+        return Err(broken(OutcomeRule::BadOutcomes));
+    };
+    if !note(seen, shape.id.clone()?)? {
+        return Err(broken(OutcomeRule::OutcomeTwice));
+    }
+    let Some(status) = status_of(shape.status) else {
+        return Err(broken(OutcomeRule::BadStatus));
+    };
+    if !has_whole_body(&shape.body) {
+        return Err(broken(OutcomeRule::NotWhole));
+    }
+    let outcome = Outcome {
+        status,
+        headers: shape.headers,
+        body: shape.body,
+    };
+    Ok((shape.id, outcome))
+}
+
+/// The ids and outcomes that the elements say, or the first fault among them.
+fn outcomes_from(
+    alloc: Global,
+    elements: Vec<Value>,
+) -> Result<Vec<(String, Outcome)>, OutcomeFault>
+    ensures sound { OnOk result (AreOutcomes (map view elements.items)) }
+    ensures says { IfOk result (λ found. AllZip Says (map view elements.items)
+        (map recorded found.items)) }
+    ensures apart { IfOk result (λ found. IsDistinct bytes_eq
+        (keys_of (map recorded found.items))) }
+    ensures fit { IfOk result (λ found. All IsSoundOutcome (map recorded found.items)) }
+    ensures first { IfErr result (λ fault. RefusesElements fault (map view elements.items)) }
+{
+    let mut entries = Vec::with_capacity(alloc, elements.len())?;
+    let mut seen = IndexSet::with_capacity(alloc, elements.len())?;
+    for element in elements {
+        let entry = read_outcome(alloc, entries.len(), &mut seen, element)?;
+        entries.push(entry)?;
+    }
+    Ok(entries)
+}
+
+/// The array that is the one member of the document, moved out of it.
+fn elements_of(document: Value) -> Option<Vec<Value>>
+    ensures none { IfNone result (¬ IsOutcomesObject (view document)) }
+    ensures object { OnSome result (IsOutcomesObject (view document)) }
+    ensures elements { IfSome result (λ found. elements (view document) ≡ map view found.items) }
+{
+    if Object::Outcomes.has_further(&document) {
+        return None;
+    }
+    array_of(member_of(document, "outcomes")?)
+}
+
+/// Recorded outcomes of requests, in the order of their document. No two have one id, each status is
+/// from 200 to 599, and each body holds whole numbers alone.
+#[derive(Debug, Drop)]
+pub struct Outcomes {
+    entries: Vec<(String, Outcome)>,
+    ghost apart: { IsDistinct bytes_eq (keys_of (map recorded entries.items)) } by { Prim.hlevel props },
+    ghost sound: { All IsSoundOutcome (map recorded entries.items) } by { Prim.hlevel props },
+}
+
+impl Outcomes {
+    ghost use Rattle.odb_doc.specs.OutcomeLists.{entries};
+
+    /// The outcomes of a document: an object whose one member is `outcomes`, an array of objects with
+    /// an `id`, a `status`, maybe `headers` and a `body`.
+    ///
+    /// `document` is the value that [`crate::parse`] made. Its ids, headers and bodies are moved out of
+    /// it; `alloc` is asked for the list of outcomes, for a set of their ids and for the maps of their
+    /// headers. The ids need not be identifiers of requests.
+    ///
+    /// # Errors
+    ///
+    /// `Document`, which is F60 of the whole, where the document is no such object; else, at the first
+    /// element that has a fault, the least of F60 to F63 by number. `OutOfMemory` where memory was
+    /// refused, in place of any of them.
+    pub fn read(alloc: Global, document: Value) -> Result<Outcomes, OutcomeFault>
+        ensures good { OnOk result (IsOutcomesDocument (view document)) }
+        ensures outcomes { IfOk result (λ outcomes. AreOutcomesOf (view document) (entries outcomes)) }
+        ensures least { IfErr result (λ fault. RefusesOutcomes fault (view document)) }
+    {
+        let Some(elements) = elements_of(document) else {
+            return Err(OutcomeFault::Document);
+        };
+        let entries = outcomes_from(alloc, elements)?;
+        Ok(Outcomes { entries })
+    }
+
+    /// How many outcomes there are.
+    pub fn len(&self) -> usize
+        ensures count { result ≡ length (entries self.now) }
+        ensures apart { IsDistinct bytes_eq (keys_of (entries self.now)) }
+    {
+        self.entries.len()
+    }
+
+    /// The id and the outcome at a position, counted from 0.
+    pub fn entry(&self, k: usize) -> (&str, &Outcome)
+        requires { k < length (entries self.now) }
+        ensures value { slice_get (entries self.now) k ≡ Some (result.0.now, result.1.now) }
+        ensures sound { IsSoundOutcome (result.0.now, result.1.now) }
+    {
+        let entry = &self.entries[k];
+        (entry.0.as_str(), &entry.1)
+    }
+
+    /// The ids and the outcomes, in the order of the document. It takes no memory.
+    pub fn into_vec(self) -> Vec<(String, Outcome)>
+        ensures value { map recorded result.items ≡ entries self }
+        ensures apart { IsDistinct bytes_eq (keys_of (entries self)) }
+        ensures sound { All IsSoundOutcome (entries self) }
+    {
+        let Outcomes { entries } = self;
+        entries
+    }
+}
