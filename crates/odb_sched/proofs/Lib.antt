@@ -16,3 +16,4 @@ pub mod KeptLemmas
 pub mod TakenLemmas
 pub mod ChoiceLemmas
 pub mod CourseLemmas
+pub mod RecordedLemmas

@@ -16,5 +16,6 @@ pub mod Ended
 pub mod Refusals
 pub mod Choosing
 pub mod Courses
+pub mod Recordings
 pub mod ExecFaults
 pub mod Advances

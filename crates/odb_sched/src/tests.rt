@@ -5,6 +5,7 @@ mod embedding;
 mod executions;
 mod lists;
 mod model;
+mod recordings;
 
 ghost use Rattle.std.specs.Prelude.{◌≡◌, ◌<◌, length, All, IfOk};
 ghost use Rattle.odb_check.specs.Plans.{plan_records};

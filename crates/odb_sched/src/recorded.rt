@@ -1,0 +1,116 @@
+ghost use Rattle.std.specs.Prelude.{◌≡◌, ◌<◌, ℕ, None, Some, length, map, replicate, slice_set, string_bytes, IfOk, Err, String};
+ghost use Rattle.std.specs.declared.alloc.Global.{Global};
+ghost use Rattle.odb_check.specs.Plans.{plan_records};
+ghost use Rattle.odb_sched.specs.Recordings.{recorded_for, noted_at};
+ghost use Rattle.odb_check.specs.Units.{position_of};
+ghost use Rattle.odb_doc.specs.Outcomes.{recorded};
+ghost use Rattle.odb_doc.specs.OutcomeLists.{entries};
+
+use crate::service::{Service, ServiceFault};
+use odb_check::Plan;
+use odb_doc::{Outcome, Outcomes, Request};
+use std::alloc::{AllocError, Global};
+use std::marker::Model;
+
+/// A service that gives recorded outcomes, each once: one for a request whose id they name, and none
+/// for the others (OData JSON Format 4.01, section 19.4).
+#[derive(Drop)]
+pub struct Recorded {
+    outcomes: Vec<Option<Outcome>>,
+}
+
+impl Model for Recorded {
+    ghost use Rattle.std.specs.Prelude.{List, Option};
+    ghost use Rattle.odb_doc.specs.declared.outcome.Outcome.{Outcome};
+
+    ghost Value = { List (Option Outcome) };
+
+    ghost use Rattle.odb_doc.specs.contracts.outcome.Outcome as outcome;
+    ghost use Rattle.std.specs.Coded.{codes};
+
+    ghost coded = { Prim.hlevel (codes, outcome.the_row.coded) };
+
+    ghost view = { λ s. s.outcomes.items };
+}
+
+/// No outcome for as many requests.
+fn none_for_each(alloc: Global, count: u32) -> Result<Vec<Option<Outcome>>, AllocError>
+    ensures { IfOk result (λ outcomes. outcomes.items ≡ replicate count None) }
+{
+    let mut outcomes = Vec::with_capacity(alloc, count as usize)?;
+    for _ in 0..count {
+        outcomes.push(None)?;
+    }
+    Ok(outcomes)
+}
+
+/// Notes the outcome of the request at a position.
+fn put(outcomes: &mut [Option<Outcome>], i: u32, outcome: Outcome)
+    requires { i < length outcomes.old }
+    ensures { outcomes.new ≡ slice_set outcomes.old i (Some outcome) }
+{
+    outcomes[i as usize] = Some(outcome);
+}
+
+/// Notes the outcome of the request with an id. One that is no id of the plan is not used.
+fn note(plan: &Plan<'_>, outcomes: &mut [Option<Outcome>], id: &str, outcome: Outcome)
+    requires { length outcomes.old ≡ length (plan_records plan.now) }
+    ensures { outcomes.new ≡ noted_at (position_of (plan_records plan.now) id.now) outcomes.old
+        outcome }
+{
+    if let Some(i) = plan.position_of(id) {
+        put(outcomes, i, outcome);
+    }
+}
+
+/// What is recorded for each request of the plan.
+fn by_position(
+    alloc: Global,
+    plan: &Plan<'_>,
+    mut entries: Vec<(String, Outcome)>,
+) -> Result<Vec<Option<Outcome>>, AllocError>
+    ensures { IfOk result (λ outcomes. outcomes.items
+        ≡ recorded_for (plan_records plan.now) (map recorded entries.items)) }
+{
+    let mut outcomes = none_for_each(alloc, plan.len())?;
+    while let Some((id, outcome)) = entries.pop() {
+        note(plan, &mut outcomes, &id, outcome);
+    }
+    Ok(outcomes)
+}
+
+impl Recorded {
+    /// A service of the outcomes that are recorded for the requests of a plan. One whose id is no id
+    /// of the plan is not used.
+    pub fn new(
+        alloc: Global,
+        plan: &Plan<'_>,
+        outcomes: Outcomes,
+    ) -> Result<Recorded, AllocError>
+        ensures { IfOk result (λ recorded. recorded
+            ≡ recorded_for (plan_records plan.now) (entries outcomes)) }
+    {
+        Ok(Recorded {
+            outcomes: by_position(alloc, plan, outcomes.into_vec())?,
+        })
+    }
+}
+
+impl Service for Recorded {
+    ghost use Rattle.odb_sched.specs.Recordings.{OffersRecorded, offered};
+    ghost use Rattle.std.specs.Prelude.{slice_index_or};
+    ghost use Rattle.odb_sched.specs.declared.service.ServiceFault.TheVariants.{NoOutcome};
+
+    ghost offers = { OffersRecorded };
+
+    fn perform(&mut self, i: u32, _request: &Request<'_>) -> Result<Outcome, ServiceFault>
+        ensures given { result ≡ offered (slice_index_or self.old i None) }
+        ensures moved_out { self.new ≡ slice_set self.old i None }
+        ensures unchanged { result ≡ Err NoOutcome → self.new ≡ self.old }
+    {
+        match self.outcomes.get_mut(i as usize) {
+            Some(outcome) => outcome.take().ok_or(ServiceFault::NoOutcome),
+            None => Err(ServiceFault::NoOutcome),
+        }
+    }
+}
