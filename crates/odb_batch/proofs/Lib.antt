@@ -1,3 +1,2 @@
 mod GroupLemmas
 mod ReadLemmas
-mod WriteLemmas

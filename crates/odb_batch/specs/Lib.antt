@@ -1,5 +1,4 @@
 pub mod Inputs
-pub mod Outputs
 pub mod Groups
 pub mod Lines
 pub mod Verdicts

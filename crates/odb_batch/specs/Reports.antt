@@ -4,7 +4,7 @@ use Rattle.std.specs.Io.KnownBytes.{Appends}
 use Rattle.odb_batch.specs.declared.verdict.Subject.{Subject}
 use Rattle.odb_batch.specs.declared.verdict.Verdict.{Verdict}
 use Rattle.odb_batch.specs.declared.verdict.Ended.{Ended}
-use Rattle.odb_batch.specs.Outputs.{AppendsFront}
+use Rattle.odb_reply.specs.Outputs.{AppendsFront}
 use Rattle.odb_batch.specs.Verdicts.{IsVerdictOn, printed, ended_of}
 
 -- the writer has gained what is printed of the verdict on the bytes, and the command ended so

@@ -7,8 +7,8 @@ ghost use Rattle.odb_batch.specs.Reports.{Reports, ReportsInPart};
 
 use crate::reading::{ReadFault, read_document};
 use crate::verdict::{Ended, Subject, Verdict};
-use crate::writing::{WriteFault, write_text};
 use odb_doc::{Input, Output};
+use odb_reply::{WriteFault, write_text};
 use std::alloc::{AllocError, Global};
 use std::io::{Read, Write};
 use thiserror::Error;

@@ -15,7 +15,6 @@ mod reading;
 #[cfg(test)]
 mod tests;
 mod verdict;
-mod writing;
 
 use clap::error::ErrorKind;
 use command_line::Task;

@@ -1,9 +1,9 @@
 use Rattle.std.proofs.Common.{◌≡◌, [], rules, arith}
 use Rattle.std.proofs.lemmas.List.{nil_from_length}
 use Rattle.std.proofs.lemmas.Bool.Decides.{nat_tests}
-use Rattle.odb_batch.specs.Outputs.{AppendsFront}
-use Rattle.odb_batch.proofs.WriteLemmas.{HasWritten-none, HasWritten-more, HasWritten-kept, HasWritten-all}
-use Rattle.odb_batch.proofs.writing.write_text.Goals as goal
+use Rattle.odb_reply.specs.Outputs.{AppendsFront}
+use Rattle.odb_reply.proofs.WriteLemmas.{HasWritten-none, HasWritten-more, HasWritten-kept, HasWritten-all}
+use Rattle.odb_reply.proofs.writing.write_text.Goals as goal
 
 pub loop-rest-init : goal.loop-rest-init
 loop-rest-init g c =

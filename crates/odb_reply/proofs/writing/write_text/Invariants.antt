@@ -1,6 +1,6 @@
 use Rattle.std.proofs.Common.{◌≡◌, false, length}
-use Rattle.odb_batch.specs.Outputs.{HasWritten}
-use Rattle.odb_batch.proofs.writing.write_text.Given as goal
+use Rattle.odb_reply.specs.Outputs.{HasWritten}
+use Rattle.odb_reply.proofs.writing.write_text.Given as goal
 
 abbrev pub invariant-loop-rest : goal.invariant-loop-rest
 invariant-loop-rest g l =

@@ -1,6 +1,6 @@
 ghost use Rattle.std.specs.Prelude.{◌≡◌, ◌↔◌, false, IsTrue, IsErr, OnOk, OnErr};
 ghost use Rattle.std.specs.Io.KnownBytes.{Appends};
-ghost use Rattle.odb_batch.specs.Outputs.{AppendsFront};
+ghost use Rattle.odb_reply.specs.Outputs.{AppendsFront};
 
 use odb_doc::{DeviceFault, Output};
 use std::io::Write;
