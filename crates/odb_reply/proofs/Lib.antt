@@ -1,1 +1,6 @@
 pub mod WriteLemmas
+pub mod QuoteLemmas
+pub mod PartLemmas
+pub mod HeaderLemmas
+pub mod RestLemmas
+pub mod OneLemmas

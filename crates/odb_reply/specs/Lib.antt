@@ -1,1 +1,5 @@
 pub mod Outputs
+pub mod Responses
+pub mod Parts
+pub mod OnePerId
+pub mod NotWhole

@@ -1,0 +1,108 @@
+-- Each id of a batch is that of exactly one response.
+use Rattle.std.proofs.Common.{◌≡◌, ◌∙◌, ◌≢◌, ℕ, zero, suc, ◌+◌, ◌<◌, List, [], ◌∷◌, length, Option, Some, None, option_map, Bool, true, false, cond, codes, refl, sym, ap, subst, arith, count_by, get_or, unwrap_or, bytes_eq, inl, inr}
+use Rattle.std.proofs.lemmas.Bool.{cases_order}
+use Rattle.std.specs.Option.{IsSomeAnd}
+use Rattle.std.proofs.lemmas.List.Sums.{sum_by-cons}
+use Rattle.std.proofs.lemmas.Slice.Eq.{bytes_eq-Decides}
+use Rattle.serde_json.specs.Data.{Data, string, object, put, no_members}
+use Rattle.serde_json.specs.View.{items_of}
+use Rattle.odb_doc.specs.Members.{list_of, text_at}
+use Rattle.odb_doc.specs.Records.{Record}
+use Rattle.odb_doc.specs.declared.outcome.Outcome.{Outcome}
+use Rattle.odb_check.specs.LeastNameFault.{HasGoodNames}
+use Rattle.odb_check.specs.Positions.{id_at, IsId, IsIdBefore}
+use Rattle.odb_check.specs.declared.fault.NameRule.TheVariants.{IdTwice}
+use Rattle.odb_check.specs.Plans.{plan_records}
+use Rattle.odb_sched.specs.Answers.{answer}
+use Rattle.odb_sched.specs.State.{State}
+use Rattle.odb_reply.specs.Responses.{with_some, response, responses_from, responses, response_value}
+use Rattle.odb_reply.specs.OnePerId.{responses_in, has_id, HasOnePerId}
+
+-- the member `id`, whatever other members there are
+id_among : (group body headers : Option Data) (id : List ℕ) (status : Data)
+    → text_at (codes "id") (object (with_some (codes "atomicityGroup") group (with_some (codes "body") body (with_some (codes "headers") headers (put (codes "id") (string id) (put (codes "status") status no_members)))))) ≡ Some id
+id_among None None None id status = refl
+id_among None None (Some headers) id status = refl
+id_among None (Some body) None id status = refl
+id_among None (Some body) (Some headers) id status = refl
+id_among (Some group) None None id status = refl
+id_among (Some group) None (Some headers) id status = refl
+id_among (Some group) (Some body) None id status = refl
+id_among (Some group) (Some body) (Some headers) id status = refl
+
+id_of_response : (request : Record) (answer : Option Outcome) → text_at (codes "id") (response request answer) ≡ Some request.id
+id_of_response request answer = id_among _ _ _ request.id _
+
+list_of-items_of : (ds : List Data) → list_of (items_of ds) ≡ ds
+list_of-items_of [] = refl
+list_of-items_of (d ∷ ds) = ap (λ rest. d ∷ rest) (list_of-items_of ds)
+
+responses_in-value : (state : State) → responses_in (response_value state) ≡ responses state
+responses_in-value state = list_of-items_of (responses state)
+
+has_id-response : (id : List ℕ) (request : Record) (answer : Option Outcome) → has_id id (response request answer) ≡ bytes_eq id request.id
+has_id-response id request answer = ap (λ found. unwrap_or (option_map (bytes_eq id) found) false) (id_of_response request answer)
+
+-- as many responses have an id as requests
+count_by-responses : (id : List ℕ) (state : State) (i : ℕ) (requests : List Record) → count_by (has_id id) (responses_from state i requests) ≡ count_by (λ request. bytes_eq id request.id) requests
+count_by-responses id state i [] = refl
+count_by-responses id state i (request ∷ requests) =
+    let named : List ℕ → ℕ = λ other. cond (bytes_eq id other) 1 0 in
+    sum_by-cons (λ d. cond (has_id id d) 1 0) (response request (answer state i)) (responses_from state (i + 1) requests)
+    ∙ rw (has_id-response id request (answer state i), count_by-responses id state (i + 1) requests) (sym (sum_by-cons (λ (r : Record). named r.id) request requests))
+
+-- no id stands twice
+abbrev IsOnce : List Record → Type 0
+IsOnce requests = (i j : ℕ) (id : List ℕ) → id_at requests i ≡ Some id → id_at requests j ≡ Some id → i ≡ j
+
+unlike : (id other : List ℕ) (same : Bool) → bytes_eq id other ≡ same → id ≢ other → same ≡ false
+unlike id other true is apart = absurd (apart ((bytes_eq-Decides id other).0 is))
+unlike id other false is apart = refl
+
+count_none : (requests : List Record) (id : List ℕ) → ((i : ℕ) → id_at requests i ≢ Some id) → count_by (λ request. bytes_eq id request.id) requests ≡ 0
+count_none [] id none = refl
+count_none (request ∷ requests) id none =
+    let other : bytes_eq id request.id ≡ false = unlike id request.id _ refl (λ same. none 0 (ap Some (sym same))) in
+    sum_by-cons (λ (r : Record). cond (bytes_eq id r.id) 1 0) request requests ∙ rw (other, count_none requests id (λ i. none (suc i))) refl
+
+count_one : (requests : List Record) (i : ℕ) (id : List ℕ) → IsOnce requests → id_at requests i ≡ Some id → count_by (λ request. bytes_eq id request.id) requests ≡ 1
+count_one [] i id once is = absurd cc
+count_one (request ∷ requests) zero id once is =
+    let same : request.id ≡ id = cc in
+    let here : bytes_eq id request.id ≡ true = rw same ((bytes_eq-Decides id id).1 refl) in
+    let none = count_none requests id (λ i later. absurd (omega (arith, once 0 (suc i) id is later))) in
+    sum_by-cons (λ (r : Record). cond (bytes_eq id r.id) 1 0) request requests ∙ rw (here, none) refl
+count_one (request ∷ requests) (suc i) id once is =
+    let other : bytes_eq id request.id ≡ false = unlike id request.id _ refl (λ same. absurd (omega (arith, once 0 (suc i) id (ap Some (sym same)) is))) in
+    let later : IsOnce requests = λ j k name first second. omega (arith, once (suc j) (suc k) name first second) in
+    sum_by-cons (λ (r : Record). cond (bytes_eq id r.id) 1 0) request requests ∙ rw (other, count_one requests i id later is) refl
+
+-- the names of a plan are good, so no id stands twice
+once_in_plan : (requests : List Record) → HasGoodNames requests → IsOnce requests
+once_in_plan requests good i j id here there =
+    let twice : (k l : ℕ) → k < l → id_at requests k ≡ Some id → id_at requests l ≡ Some id → ⊥ =
+    λ k l less first second. good IdTwice l (subst (λ found. IsSomeAnd found (λ name. IsIdBefore requests name l)) (sym second) (k, less, first)) in
+    elim (cases_order i j) [
+      | inl same ↦ same
+      | inr less ↦ elim less [ inl i_less ↦ absurd (twice i j i_less here there) | inr j_less ↦ absurd (twice j i j_less there here) ]
+    ]
+
+some_further : (found : Option (List ℕ)) (request : Record) (requests : List Record) → IsSomeAnd found (IsId requests) → IsSomeAnd found (IsId (request ∷ requests))
+some_further None request requests known = known
+some_further (Some id) request requests known = (suc known.0, known.1)
+
+known_from : (state : State) (i : ℕ) (requests : List Record) (k : ℕ) (d : Data) → k < length (responses_from state i requests) → get_or (responses_from state i requests) k d ≡ d
+    → IsSomeAnd (text_at (codes "id") d) (IsId requests)
+known_from state i [] k d within is = absurd (omega arith)
+known_from state i (request ∷ requests) zero d within is =
+    let named : text_at (codes "id") d ≡ Some request.id = ap (λ e. text_at (codes "id") e) (sym is) ∙ id_of_response request (answer state i) in
+    rw named (0, refl)
+known_from state i (request ∷ requests) (suc k) d within is = some_further (text_at (codes "id") d) request requests (known_from state (i + 1) requests k d (omega arith) is)
+
+pub one_per_id : (state : State) → HasGoodNames (plan_records state.plan) → HasOnePerId (plan_records state.plan) (response_value state)
+one_per_id state good =
+    let requests = plan_records state.plan in
+    record {
+      one = λ i id is. rw (responses_in-value state, count_by-responses id state 0 requests) (count_one requests i id (once_in_plan requests good) is);
+      known = λ d among. let found = rw responses_in-value at among in known_from state 0 requests found.0 d found.1 found.2;
+    }

@@ -1,0 +1,43 @@
+-- The text of the responses, response by response.
+use Rattle.std.proofs.Common.{◌≡◌, ◌∙◌, ℕ, ◌+◌, ◌≤◌, List, ◌∷◌, ◌++◌, length, Some, nat_lt, true, drop, refl, ap, codes, arith, append_assoc, lt-ltb}
+use Rattle.std.proofs.lemmas.List.{drop_more, drop_all}
+use Rattle.std.proofs.lemmas.Option.{slice_get_within, get_or_from_slice_get}
+use Rattle.std.specs.Prelude.{slice_get}
+use Rattle.serde_json.specs.Written.{compact_text, comma_if}
+use Rattle.serde_json.proofs.OnLiterals.{serde_json_on_literals}
+use Rattle.odb_doc.specs.Records.{Record, IsSoundRecord}
+use Rattle.odb_check.specs.Plans.{plan_records}
+use Rattle.odb_sched.specs.Answers.{answer, status_of}
+use Rattle.odb_sched.specs.State.{State}
+use Rattle.odb_reply.specs.Responses.{response, response_text, answer_body, answer_headers, headers_value}
+use Rattle.odb_reply.specs.Parts.{rest_text, head, body_part, tail}
+use Rattle.odb_reply.proofs.PartLemmas.{response-parts}
+
+-- the whole text is its front, and then the responses
+pub response_text-front : (state : State) → response_text state ≡ codes "{\"responses\":[" ++ rest_text state 0
+unfolding response_text rest_text serde_json_on_literals
+response_text-front state = refl
+
+-- after the last response stands the end
+pub rest_text-none : (state : State) (i : ℕ) → length (plan_records state.plan) ≤ i → rest_text state i ≡ codes "]}"
+unfolding rest_text
+rest_text-none state i end = rw (drop_all i (plan_records state.plan) end) refl
+
+drop_at : (requests : List Record) (i : ℕ) (request : Record) → slice_get requests i ≡ Some request → drop i requests ≡ request ∷ drop (i + 1) requests
+drop_at requests i request is =
+    drop_more requests i request (slice_get_within requests i request is) ∙ ap (λ r. r ∷ drop (i + 1) requests) (get_or_from_slice_get requests i request request is)
+
+-- the response to a request, and then the rest
+pub rest_text-more : (state : State) (i : ℕ) (request : Record) → slice_get (plan_records state.plan) i ≡ Some request
+    → rest_text state i ≡ (comma_if (nat_lt 0 i) ++ compact_text (response request (answer state i))) ++ rest_text state (i + 1)
+unfolding rest_text
+rest_text-more state i request is =
+    let later : nat_lt 0 (i + 1) ≡ true = lt-ltb 0 (i + 1) (omega arith) in
+    rw (drop_at (plan_records state.plan) i request is, later) (simp append_assoc)
+
+-- the parts of a response, and then the rest
+pub rest_text-parts : (state : State) (i : ℕ) (request : Record) → slice_get (plan_records state.plan) i ≡ Some request → IsSoundRecord request
+    → rest_text state i
+    ≡ (head (nat_lt 0 i) request.group (answer_body (answer state i)) ++ (body_part (answer_body (answer state i)) ++ tail (answer_body (answer state i)) (headers_value (answer_headers (answer state i))) request.id (status_of (answer state i)))) ++ rest_text state (i + 1)
+rest_text-parts state i request is sound =
+    rest_text-more state i request is ∙ ap (λ text. text ++ rest_text state (i + 1)) (response-parts (nat_lt 0 i) request (answer state i) sound)

@@ -1,0 +1,20 @@
+-- One response per id (OData JSON Format 4.01, section 19.4).
+use Rattle.std.specs.Prelude.{◌≡◌, ℕ, Bool, false, List, [], Some, option_map, option_and_then, unwrap_or, bytes_eq, codes, count_by, Contains, IsSomeAnd}
+use Rattle.serde_json.specs.Data.{Data}
+use Rattle.serde_json.specs.Find.{get, as_array}
+use Rattle.odb_doc.specs.Members.{list_of, text_at}
+use Rattle.odb_doc.specs.Records.{Record}
+use Rattle.odb_check.specs.Positions.{id_at, IsId}
+
+-- the elements of `responses`
+abbrev pub responses_in : Data → List Data
+responses_in value = unwrap_or (option_map list_of (option_and_then as_array (get (codes "responses") value))) []
+
+-- whether the response has this id
+abbrev pub has_id : List ℕ → Data → Bool
+has_id id response = unwrap_or (option_map (bytes_eq id) (text_at (codes "id") response)) false
+
+-- each id of the batch is that of exactly one response, and no response has another id
+pub record HasOnePerId (requests : List Record) (value : Data) : Type 0 where
+  pub one : (i : ℕ) (id : List ℕ) → id_at requests i ≡ Some id → count_by (has_id id) (responses_in value) ≡ 1
+  pub known : (response : Data) → Contains (responses_in value) response → IsSomeAnd (text_at (codes "id") response) (IsId requests)

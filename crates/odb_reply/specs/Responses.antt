@@ -1,0 +1,68 @@
+-- The response to a batch whose run has finished (OData JSON Format 4.01, section 19.4).
+use Rattle.std.specs.Prelude.{ℕ, ◌+◌, List, [], ◌∷◌, map, Option, Some, None, option_map, String, string_bytes, codes}
+use Rattle.std.specs.declared.alloc.Global.{Global}
+use Rattle.serde_json.specs.Data.{Data, unsigned, number, string, array, object, Members, no_members, put}
+use Rattle.serde_json.specs.View.{view, items_of, members_of}
+use Rattle.serde_json.specs.Written.{compact_text}
+use Rattle.odb_doc.specs.Records.{Record}
+use Rattle.odb_doc.specs.declared.outcome.Outcome.{Outcome}
+use Rattle.odb_check.specs.Plans.{plan_records}
+use Rattle.odb_sched.specs.Answers.{answer, status_of}
+use Rattle.odb_sched.specs.State.{State}
+
+-- a map of texts, by their names
+abbrev pub Headers : Type 0
+Headers = List (String Global × String Global)
+
+-- the members of an object that has these headers
+abbrev pub header_members : Headers → Members
+header_members headers = members_of (map (λ header. (header.0, string (string_bytes header.1))) headers)
+
+-- the object of these headers, if there are any
+abbrev pub headers_value : Headers → Option Data
+headers_value [] = None
+headers_value (header ∷ headers) = Some (object (header_members (header ∷ headers)))
+
+-- the headers that are answered. A failed dependency has none
+abbrev pub answer_headers : Option Outcome → Headers
+answer_headers None = []
+answer_headers (Some outcome) = outcome.headers.entries
+
+-- the body that is answered, if any. A failed dependency has none
+abbrev pub answer_body : Option Outcome → Option Data
+answer_body None = None
+answer_body (Some outcome) = option_map view outcome.body
+
+-- with this member, where there is a value for it
+abbrev pub with_some : List ℕ → Option Data → Members → Members
+with_some name None members = members
+with_some name (Some d) members = put name d members
+
+-- the members of the response to a request that is answered so
+abbrev pub response_members : Record → Option Outcome → Members
+response_members request answer =
+    with_some (codes "atomicityGroup") (option_map string request.group) (
+    with_some (codes "body") (answer_body answer) (
+    with_some (codes "headers") (headers_value (answer_headers answer)) (
+    put (codes "id") (string request.id) (
+    put (codes "status") (number (unsigned (status_of answer))) no_members))))
+
+abbrev pub response : Record → Option Outcome → Data
+response request answer = object (response_members request answer)
+
+-- the responses to these requests, of which the first stands at a position
+abbrev pub responses_from : State → ℕ → List Record → List Data
+responses_from state i [] = []
+responses_from state i (request ∷ requests) = response request (answer state i) ∷ responses_from state (i + 1) requests
+
+-- the responses to all requests, in their order
+abbrev pub responses : State → List Data
+responses state = responses_from state 0 (plan_records state.plan)
+
+-- the response to the batch
+abbrev pub response_value : State → Data
+response_value state = object (put (codes "responses") (array (items_of (responses state))) no_members)
+
+-- its text, where each number in it is whole
+unfoldable pub response_text : State → List ℕ
+response_text state = compact_text (response_value state)
