@@ -4,3 +4,4 @@ pub mod PartLemmas
 pub mod HeaderLemmas
 pub mod RestLemmas
 pub mod OneLemmas
+pub mod SendLemmas

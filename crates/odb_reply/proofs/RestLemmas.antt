@@ -1,5 +1,5 @@
 -- The text of the responses, response by response.
-use Rattle.std.proofs.Common.{◌≡◌, ◌∙◌, ℕ, ◌+◌, ◌≤◌, List, ◌∷◌, ◌++◌, length, Some, nat_lt, true, drop, refl, ap, codes, arith, append_assoc, lt-ltb}
+use Rattle.std.proofs.Common.{sym, ◌≡◌, ◌∙◌, ℕ, ◌+◌, ◌≤◌, List, ◌∷◌, ◌++◌, length, Some, nat_lt, true, drop, refl, ap, codes, arith, append_assoc, lt-ltb}
 use Rattle.std.proofs.lemmas.List.{drop_more, drop_all}
 use Rattle.std.proofs.lemmas.Option.{slice_get_within, get_or_from_slice_get}
 use Rattle.std.specs.Prelude.{slice_get}
@@ -22,6 +22,10 @@ response_text-front state = refl
 pub rest_text-none : (state : State) (i : ℕ) → length (plan_records state.plan) ≤ i → rest_text state i ≡ codes "]}"
 unfolding rest_text
 rest_text-none state i end = rw (drop_all i (plan_records state.plan) end) refl
+
+-- with the end, what was gathered is the whole rest
+pub rest_text-last : (state : State) (i : ℕ) (gathered last : List ℕ) → length (plan_records state.plan) ≤ i → last ≡ gathered ++ codes "]}" → gathered ++ rest_text state i ≡ last
+rest_text-last state i gathered last end is = ap (λ text. gathered ++ text) (rest_text-none state i end) ∙ sym is
 
 drop_at : (requests : List Record) (i : ℕ) (request : Record) → slice_get requests i ≡ Some request → drop i requests ≡ request ∷ drop (i + 1) requests
 drop_at requests i request is =

@@ -3,3 +3,4 @@ pub mod Responses
 pub mod Parts
 pub mod OnePerId
 pub mod NotWhole
+pub mod ReplyFaults

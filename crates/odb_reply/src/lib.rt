@@ -2,9 +2,12 @@
 #![tactic(auto)]
 
 mod parts;
+mod reply;
+mod sending;
 mod text;
 mod whole;
 mod writing;
 
+pub use reply::{ReplyFault, write_responses};
 pub use text::response_text;
 pub use writing::{WriteFault, write_text};

@@ -1,0 +1,13 @@
+use Rattle.std.proofs.Common.{◌≡◌, ◌++◌, false, string_bytes}
+use Rattle.odb_reply.specs.Outputs.{HasWritten}
+use Rattle.odb_reply.specs.Parts.{rest_text}
+use Rattle.odb_reply.specs.Responses.{response_text}
+use Rattle.odb_reply.proofs.sending.send_responses.Given as goal
+
+-- what was gathered and the responses that are left are what is not written of the whole
+abbrev pub invariant-loop-i : goal.invariant-loop-i
+invariant-loop-i g l =
+    record {
+      works : l.output.failed ≡ false;
+      written : HasWritten (g.W.Write.contents l.fn.output.writer) (g.W.Write.contents l.output.writer) (response_text l.done) (string_bytes l.gathered ++ rest_text l.done l.i);
+    }
