@@ -4,6 +4,8 @@
 mod parts;
 mod reply;
 mod sending;
+#[cfg(test)]
+mod tests;
 mod text;
 mod whole;
 mod writing;
