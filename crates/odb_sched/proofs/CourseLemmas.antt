@@ -1,5 +1,5 @@
 -- An execution from step to step.
-use Rattle.std.proofs.Common.{◌≡◌, ℕ, ◌<◌, ◌≤◌, ◌+◌, ◌*◌, ◌∙◌, ap, sym, refl, subst, arith, Bool, true, false, ◌&&◌, List, [], ◌∷◌, ◌++◌, length, map, replicate, slice_set, inl, inr, ◌⊎◌, Contains, Result, Ok, Err}
+use Rattle.std.proofs.Common.{◌≡◌, ℕ, ◌<◌, ◌≤◌, ◌+◌, ◌*◌, ◌∙◌, ap, sym, refl, subst, arith, Bool, true, false, ◌&&◌, List, [], ◌∷◌, ◌++◌, length, map, replicate, slice_set, inl, inr, ◌⊎◌, zero, suc, get_or, All, Option, Some, is_some, unwrap_or, Result, Ok, Err}
 use Rattle.std.proofs.lemmas.Bool.{both_ways, and_parts, cases_eq, true≢false}
 use Rattle.std.specs.List.{sum_by}
 use Rattle.std.proofs.lemmas.List.Sums.{sum_by-set}
@@ -26,14 +26,16 @@ use Rattle.odb_sched.specs.Phases.{is_running, is_reported}
 use Rattle.odb_sched.specs.State.{State, size, phase_at, shape, at_first, after, started, reported}
 use Rattle.odb_sched.specs.Steps.{may_start, may_report, may_come, is_finished}
 use Rattle.odb_sched.specs.Runs.{position_of, after_all, IsRunFrom}
+use Rattle.odb_sched.specs.Answers.{outcome_of, reported as reported_at}
 use Rattle.odb_sched.specs.Reached.{IsReached}
 use Rattle.odb_sched.specs.Choosing.{Positions, positions_of, IsAmong}
 use Rattle.odb_sched.specs.Courses.{Allowance, Offer, ready_set, running_set, IsAllowed, IsOffered, step_of, AreChosen, IsCourse, IsDue, IsFinishedBy, IsCausedBy}
 use Rattle.odb_sched.specs.Advances.{position_in, MayTake, IsNext, IsTaken}
 use Rattle.odb_sched.proofs.ChoiceLemmas.{positions-listed, listed-in}
 use Rattle.odb_sched.proofs.PlanLemmas.{length-shape}
+use Rattle.odb_sched.proofs.PhaseLemmas.{get_or-set_cases, get_or-replicate_Unstarted}
 use Rattle.odb_sched.proofs.ReachedLemmas.{reached_after}
-use Rattle.odb_sched.proofs.RunLemmas.{reached_after_all, reached_at_first, joined, after_all-push, shape-after_all, mode-after_all}
+use Rattle.odb_sched.proofs.RunLemmas.{reached_after_all, reached_at_first, joined, after_all-push, shape-after, shape-after_all, mode-after_all}
 use Rattle.odb_sched.proofs.EventLemmas.{left, IsMove, move_start, move_report}
 
 -- what is picked from the two lists may come next
@@ -242,3 +244,56 @@ module _ (source : Plan) (mode : Mode) (width : ℕ) where
 
     pub same-mode : state.mode ≡ mode
     same-mode = ap (λ s. s.mode) far.state_is ∙ mode-after_all (at_first source mode width) far.events
+
+-- each step is of a request that there is
+pub steps-within : (state : State) (events : List Event) → IsRunFrom state events → All (λ s. position_in s < size state) (map step_of events)
+steps-within state [] run k d within = absurd (omega arith)
+steps-within state (e ∷ es) run zero d within = subst (λ i. i < size state) (sym (position-step e)) run.0
+steps-within state (e ∷ es) run (suc k) d within =
+    subst (λ shape. position_in (get_or (map step_of es) k d) < length shape.units) (shape-after state e) (steps-within (after state e) es run.2 k d (omega arith))
+
+-- what is reported after an event was reported before it, or by it
+reported_by : (state : State) (event : Event) (i : ℕ) (outcome : Outcome) → phase_at (after state event) i ≡ Reported outcome → (phase_at state i ≡ Reported outcome) ⊎ (event ≡ Report i outcome)
+reported_by state (Start j) i outcome e = elim (get_or-set_cases state.phases j i Running) [
+  | inl written ↦ absurd (true≢false (sym (ap is_reported e) ∙ ap is_reported written.1))
+  | inr kept ↦ inl (sym kept ∙ e)
+]
+reported_by state (Report j other) i outcome e = elim (get_or-set_cases state.phases j i (Reported other)) [
+  | inl written ↦
+      let same : other ≡ outcome = ap (λ phase. unwrap_or (outcome_of phase) outcome) (sym written.1 ∙ e) in
+      inr (ap (λ k. Report k other) (sym written.0) ∙ ap (Report i) same)
+  | inr kept ↦ inl (sym kept ∙ e)
+]
+
+-- what is reported after a course was reported before it, or is offered
+offered_after : (allows : Allowance) (offers : Offer) (state : State) (events : List Event) (i : ℕ) (outcome : Outcome) → AreChosen allows offers state events
+    → phase_at (after_all state events) i ≡ Reported outcome → (phase_at state i ≡ Reported outcome) ⊎ offers i (Ok outcome)
+offered_after allows offers state [] i outcome chosen e = inl e
+offered_after allows offers state (event ∷ es) i outcome chosen e = elim (offered_after allows offers (after state event) es i outcome chosen.2 e) [
+  | inl early ↦ elim (reported_by state event i outcome early) [
+    | inl before ↦ inl before
+    | inr now ↦ inr (subst (IsOffered offers) now chosen.1)
+  ]
+  | inr later ↦ inr later
+]
+
+Reported-is : (phase : Phase) (outcome : Outcome) → outcome_of phase ≡ Some outcome → phase ≡ Reported outcome
+Reported-is Unstarted outcome e = absurd (true≢false (sym (ap is_some e)))
+Reported-is Running outcome e = absurd (true≢false (sym (ap is_some e)))
+Reported-is (Reported other) outcome e = ap (λ found. Reported (unwrap_or found outcome)) e
+
+module _ (source : Plan) (mode : Mode) (width : ℕ) (allows : Allowance) (offers : Offer) (steps : List Step) (last : State) (course : IsFinishedBy allows offers (at_first source mode width) steps last) where
+  pub finished-within : All (λ s. position_in s < size last) steps
+  finished-within = subst (λ xs. All (λ s. position_in s < size last) xs) (sym course.steps_are)
+      (subst (λ n. All (λ s. position_in s < n) (map step_of course.events))
+        (sym (ap size course.last_is ∙ ap (λ shape. length shape.units) (shape-after_all (at_first source mode width) course.events)))
+        (steps-within (at_first source mode width) course.events course.course.run))
+
+  -- each outcome that is reported was offered
+  pub finished-offered : (i : ℕ) (outcome : Outcome) → reported_at last i ≡ Some outcome → offers i (Ok outcome)
+  finished-offered i outcome e =
+      elim (offered_after allows offers (at_first source mode width) course.events i outcome course.course.chosen
+        (ap (λ s. phase_at s i) (sym course.last_is) ∙ Reported-is (phase_at last i) outcome e)) [
+        | inl early ↦ absurd (true≢false (sym (ap is_reported early) ∙ ap is_reported (get_or-replicate_Unstarted (length (shape source).units) i)))
+        | inr offer ↦ offer
+      ]

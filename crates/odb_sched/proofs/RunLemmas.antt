@@ -28,7 +28,7 @@ pub after_all-push : (state : State) (events : List Event) (event : Event) → a
 after_all-push state [] event = refl
 after_all-push state (e ∷ es) event = after_all-push (after state e) es event
 
-shape-after : (state : State) (event : Event) → (after state event).shape ≡ state.shape
+pub shape-after : (state : State) (event : Event) → (after state event).shape ≡ state.shape
 shape-after state (Start i) = refl
 shape-after state (Report i outcome) = refl
 

@@ -1,4 +1,4 @@
-ghost use Rattle.std.specs.Prelude.{◌≡◌, ◌≢◌, ◌<◌, ◌≤◌, ◌+◌, ◌*◌, ℕ, true, List, length, Result, IfOk, IfErr, OnOk, Option, IfSome, None, IsTrue, ◌↔◌};
+ghost use Rattle.std.specs.Prelude.{◌≡◌, ◌≢◌, ◌<◌, ◌≤◌, ◌+◌, ◌*◌, ℕ, true, List, length, Result, IfOk, IfErr, OnOk, Option, IfSome, None, Some, Ok, All, IsTrue, ◌↔◌};
 ghost use Rattle.odb_check.specs.Plans.{plan_records};
 ghost use Rattle.odb_sched.specs.declared.policy.Mode.TheVariants.{Continue};
 ghost use Rattle.odb_sched.specs.declared.event.Event.{Event};
@@ -9,6 +9,7 @@ ghost use Rattle.odb_sched.specs.Steps.{is_finished};
 ghost use Rattle.odb_sched.specs.Choosing.{Positions, positions_of, IsAmong};
 ghost use Rattle.odb_sched.specs.Courses.{IsCourse, IsDue, IsFinishedBy, IsCausedBy};
 ghost use Rattle.odb_sched.specs.Advances.{position_in, MayTake, IsNext, IsTaken};
+ghost use Rattle.odb_sched.specs.Answers.{reported};
 ghost use Rattle.odb_sched.specs.Laws as laws;
 
 use crate::chooser::{Choice, Chooser};
@@ -141,6 +142,10 @@ pub fn execute<'p, S: Service>(
 ) -> Result<Trace<'p>, ExecFault>
     ensures course { IfOk result (λ trace. IsFinishedBy (allows chooser.old) (S.offers service.old)
         (at_first plan.now policy.mode policy.width) trace.steps.items trace.done) }
+    ensures within { IfOk result (λ trace.
+        All (λ step. position_in step < size trace.done) trace.steps.items) }
+    ensures offered { IfOk result (λ trace. (i : ℕ) (outcome : Outcome)
+        → reported trace.done i ≡ Some outcome → S.offers service.old i (Ok outcome)) }
     ensures few_steps { IfOk result (λ trace.
         length trace.steps.items ≤ 2 * length (plan_records plan.now)) }
     ensures fault { IfErr result (IsCausedBy (S.offers service.old) (IsDue (allows chooser.old)
