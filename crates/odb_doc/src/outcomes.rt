@@ -164,6 +164,7 @@ impl Outcomes {
     pub fn len(&self) -> usize
         ensures count { result ≡ length (entries self.now) }
         ensures apart { IsDistinct bytes_eq (keys_of (entries self.now)) }
+        ensures sound { All IsSoundOutcome (entries self.now) }
     {
         self.entries.len()
     }

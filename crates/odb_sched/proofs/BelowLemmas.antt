@@ -1,12 +1,12 @@
 -- Tests of the numbers below a number, and of the elements of a list, against 'there is one' and 'for each'.
-use Rattle.std.proofs.Common.{◌≡◌, ℕ, zero, suc, ◌<◌, ◌≤◌, ◌*◌, ◌∙◌, ap, sym, refl, arith, Bool, true, false, ◌&&◌, not, cond, List, [], ◌∷◌, length, get_or, inl, inr, Contains, Some, is_none, count_by, All, Decides, find}
+use Rattle.std.proofs.Common.{◌≡◌, ℕ, zero, suc, ◌<◌, ◌≤◌, ◌*◌, ◌∙◌, ap, sym, refl, arith, Bool, true, false, ◌&&◌, not, cond, List, [], ◌∷◌, length, get_or, inl, inr, Contains, Some, is_none, count_by, All, Decides, find, if◌then◌else◌}
 use Rattle.std.specs.List.{list_any, list_all}
 use Rattle.std.proofs.lemmas.Bool.{cases_Bool, true≢false}
 use Rattle.std.proofs.lemmas.Bool.Decides.{Decides-below_or, Decides-below_and}
 use Rattle.std.proofs.lemmas.List.Folds.{list_any_at, Any-from_list_any}
 use Rattle.std.proofs.lemmas.List.Sums.{list_all-from_AllPass, AllPass-from_list_all, sum_by-le}
 use Rattle.std.proofs.lemmas.List.Elements.{All-contains, Contains-get_or}
-use Rattle.odb_sched.specs.Below.{any_below, all_below}
+use Rattle.odb_sched.specs.Below.{any_below, all_below, passing_below}
 
 pub any_below-Decides : (n : ℕ) (test : ℕ → Bool) → Decides (any_below n test) ((k : ℕ) × (k < n) × (test k ≡ true))
 any_below-Decides n test = Decides-below_or test (λ k. test k ≡ true) (λ m. any_below m test) (λ k. ((λ e. e), (λ e. e))) refl (λ _. refl) n
@@ -59,3 +59,13 @@ find-all test (x ∷ xs) = at (test x) (find-all test xs)
     at : (b : Bool) → is_none (find (λ y. not (test y)) xs) ≡ list_all test xs → is_none (cond (not b) (Some x) (find (λ y. not (test y)) xs)) ≡ (b && list_all test xs)
     at true rest = rest
     at false rest = refl
+
+-- the numbers below n that pass are below n
+pub passing_below-within : (n : ℕ) (test : ℕ → Bool) → All (λ i. i < n) (passing_below n test)
+passing_below-within zero test = λ k d within. absurd (omega arith)
+passing_below-within (suc n) test = at (test n) (passing_below-within n test)
+  where
+    at : (b : Bool) → All (λ i. i < n) (passing_below n test) → All (λ i. i < suc n) (if b then n ∷ passing_below n test else passing_below n test)
+    at true rest zero d within = omega arith
+    at true rest (suc k) d within = let below : get_or (passing_below n test) k d < n = rest k d (omega arith) in omega arith
+    at false rest k d within = let below : get_or (passing_below n test) k d < n = rest k d within in omega arith

@@ -1,4 +1,4 @@
-ghost use Rattle.std.specs.Prelude.{option_map, ◌≡◌, ◌<◌, true, length, IfOk};
+ghost use Rattle.std.specs.Prelude.{All, option_map, ◌≡◌, ◌<◌, true, length, IfOk};
 ghost use Rattle.odb_check.specs.Shape as shapes;
 ghost use Rattle.odb_check.specs.Plans.{plan_records};
 ghost use Rattle.odb_sched.specs.State as states;
@@ -135,7 +135,9 @@ impl<'p> Done<'p> {
     /// The positions whose requests reported a success that has to be undone, since their unit did
     /// not succeed: from the last to the first.
     pub fn undone(&self, alloc: Global) -> Result<Vec<u32>, AllocError>
-        ensures { IfOk result (λ positions. positions.items ≡ answers.undone self.now) }
+        ensures value { IfOk result (λ positions. positions.items ≡ answers.undone self.now) }
+        ensures within { IfOk result (λ positions.
+            All (λ i. i < states.size self.now) positions.items) }
     {
         let mut positions = Vec::new(alloc);
         for i in (0..size(self.plan)).rev() {
