@@ -1,2 +1,4 @@
 mod GroupLemmas
 mod ReadLemmas
+mod TraceLemmas
+mod ReplayLemmas

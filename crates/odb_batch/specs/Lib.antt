@@ -3,3 +3,5 @@ pub mod Groups
 pub mod Lines
 pub mod Verdicts
 pub mod Reports
+pub mod Traces
+pub mod Replays

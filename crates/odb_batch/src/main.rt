@@ -12,8 +12,10 @@ mod engine;
 mod groups;
 mod lines;
 mod reading;
+mod replay;
 #[cfg(test)]
 mod tests;
+mod trace;
 mod verdict;
 
 use clap::error::ErrorKind;

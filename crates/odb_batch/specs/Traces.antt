@@ -1,0 +1,36 @@
+-- The steps of an execution, as they are printed.
+use Rattle.std.specs.Prelude.{ℕ, List, [], ◌∷◌, ◌++◌, unwrap_or, codes}
+use Rattle.std.specs.Fmt.{decimal}
+use Rattle.odb_check.specs.Plans.{plan_records}
+use Rattle.odb_check.specs.Positions.{id_at}
+use Rattle.odb_sched.specs.declared.step.Step.{Step}
+use Rattle.odb_sched.specs.declared.step.Step.TheVariants as step
+use Rattle.odb_sched.specs.State.{State}
+use Rattle.odb_sched.specs.Answers.{reported, status_of, undone}
+use Rattle.odb_batch.specs.Lines.{newline}
+
+-- the id of the request at a position
+abbrev pub id_text : State → ℕ → List ℕ
+id_text state i = unwrap_or (id_at (plan_records state.plan) i) []
+
+-- `report ID STATUS`
+abbrev pub report_line : List ℕ → ℕ → List ℕ
+report_line id status = codes "report " ++ id ++ codes " " ++ decimal status ++ newline ∷ []
+
+-- `start ID`, or `report ID STATUS` with the status that was reported
+abbrev pub step_line : State → Step → List ℕ
+step_line state (step.Start i) = codes "start " ++ id_text state i ++ newline ∷ []
+step_line state (step.Report i) = report_line (id_text state i) (status_of (reported state i))
+
+-- `undo ID`
+abbrev pub undo_line : State → ℕ → List ℕ
+undo_line state i = codes "undo " ++ id_text state i ++ newline ∷ []
+
+-- the lines of some things, one after another
+abbrev pub lines : {X : Type 0} → (X → List ℕ) → List X → List ℕ
+lines line [] = []
+lines line (x ∷ xs) = line x ++ lines line xs
+
+-- the steps in their order, and then what is undone
+abbrev pub trace_text : State → List Step → List ℕ
+trace_text state steps = lines (step_line state) steps ++ lines (undo_line state) (undone state)
