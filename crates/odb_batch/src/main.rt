@@ -19,9 +19,11 @@ mod trace;
 mod verdict;
 
 use clap::error::ErrorKind;
-use command_line::Task;
+use command_line::{Misuse, Order, Replay, Task};
 use engine::{EngineFault, check_batch, plan_batch};
 use odb_doc::{Input, Output};
+use odb_sched::{Chooser, First, Last, Wide};
+use replay::replay_batch;
 use std::process::ExitCode;
 use std::rt::Runtime;
 use std::{env, fs, io};
@@ -102,11 +104,49 @@ fn plan<R: Runtime + AllocGlobal>(rt: &R, path: &str) -> Status {
     }
 }
 
+fn replay_by<R: Runtime + AllocGlobal>(
+    rt: &R,
+    replay: Replay<'_>,
+    chooser: &mut dyn Chooser,
+) -> Status {
+    let mut batch = match open(rt, replay.file) {
+        Ok(input) => input,
+        Err(status) => return status,
+    };
+    let mut outcomes = match open(rt, replay.outcomes) {
+        Ok(input) => input,
+        Err(status) => return status,
+    };
+    let mut output = Output::new(io::writer(rt));
+    let ended = replay_batch(
+        rt.alloc(),
+        replay.policy,
+        chooser,
+        replay.traced,
+        &mut batch,
+        &mut outcomes,
+        &mut output,
+    );
+    status_of(rt, ended)
+}
+
+fn replay_in_order<R: Runtime + AllocGlobal>(rt: &R, replay: Replay<'_>) -> Status {
+    match replay.order {
+        Order::First => replay_by(rt, replay, &mut First),
+        Order::Last => replay_by(rt, replay, &mut Last),
+        Order::Wide => replay_by(rt, replay, &mut Wide),
+    }
+}
+
 fn run<R: Runtime + AllocGlobal>(rt: &R, words: &[String]) -> Status {
     match Task::read(rt.alloc(), words) {
         Ok(Task::Check { file }) => check(rt, file),
         Ok(Task::Plan { file }) => plan(rt, file),
-        Err(error) => explain(rt, &error),
+        Ok(Task::Replay(task)) => replay_in_order(rt, task),
+        Err(Misuse::Words(error)) => explain(rt, &error),
+        Err(Misuse::Width) => {
+            failed(rt, "the width is no number from 1 to 10000", Status::WrongWords)
+        }
     }
 }
 
