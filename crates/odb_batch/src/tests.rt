@@ -1,4 +1,7 @@
-//! The engine over readers and writers that behave, and over some that do not.
+//! The engines over readers and writers that behave, and over some that do not.
+
+mod replays;
+
 use crate::engine::{EngineFault, check_batch, plan_batch};
 use crate::verdict::Ended;
 use odb_doc::{Input, Output};
