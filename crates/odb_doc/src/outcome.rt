@@ -14,7 +14,7 @@ use std::collections::BTreeMap;
 pub struct Outcome {
     /// The HTTP status. A run takes those from 200 to 599.
     pub status: u16,
-    /// The headers of the answer by their names.
+    /// The headers of the answer by their names, which are in lower case where a document gave them.
     pub headers: BTreeMap<String, String>,
     /// The body of the answer, where it has one.
     pub body: Option<Value>,

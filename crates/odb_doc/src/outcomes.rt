@@ -18,6 +18,15 @@ use indexmap::IndexSet;
 use serde_json::{Number, Value};
 use std::alloc::{AllocError, Global};
 
+/// Recorded outcomes of requests, in the order of their document. No two have one id, each status is
+/// from 200 to 599, and each body holds whole numbers alone.
+#[derive(Debug, Drop)]
+pub struct Outcomes {
+    entries: Vec<(String, Outcome)>,
+    ghost apart: { IsDistinct bytes_eq (keys_of (map recorded entries.items)) } by { Prim.hlevel props },
+    ghost sound: { All IsSoundOutcome (map recorded entries.items) } by { Prim.hlevel props },
+}
+
 /// The status, or `None` where it is no whole number from 200 to 599.
 fn status_of(status: Number) -> Option<u16>
     ensures { MatchOption result (¬ IsStatus (number_view status))
@@ -122,15 +131,6 @@ fn elements_of(document: Value) -> Option<Vec<Value>>
         return None;
     }
     array_of(member_of(document, "outcomes")?)
-}
-
-/// Recorded outcomes of requests, in the order of their document. No two have one id, each status is
-/// from 200 to 599, and each body holds whole numbers alone.
-#[derive(Debug, Drop)]
-pub struct Outcomes {
-    entries: Vec<(String, Outcome)>,
-    ghost apart: { IsDistinct bytes_eq (keys_of (map recorded entries.items)) } by { Prim.hlevel props },
-    ghost sound: { All IsSoundOutcome (map recorded entries.items) } by { Prim.hlevel props },
 }
 
 impl Outcomes {

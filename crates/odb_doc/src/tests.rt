@@ -3,6 +3,7 @@
 mod devices;
 mod documents;
 mod order;
+mod outcomes;
 mod records;
 mod requests;
 mod whole_numbers;
