@@ -12,7 +12,7 @@ pub enum OutcomeRule {
     /// `body`; `id` is absent or no string; `status` is absent or no number; `headers` is there, is
     /// not null and is not an object of strings; or two names of headers are equal once they are
     /// folded in ASCII.
-    #[error("it is no object of an `id`, a `status`, `headers` and a `body`")]
+    #[error("it is not an object with `id` and `status`, and maybe `headers` and `body`")]
     BadOutcomes,
     /// F61: an earlier outcome has the same `id`.
     #[error("an earlier outcome has the same `id`")]
@@ -29,7 +29,7 @@ pub enum OutcomeRule {
 #[derive(Clone, Copy, Debug, PartialEq, Eq, Error)]
 pub enum OutcomeFault {
     /// F60: the document is not an object whose one member is `outcomes`, an array.
-    #[error("the document is no object of an array `outcomes`")]
+    #[error("the document is not an object whose one member is `outcomes`, an array")]
     Document,
     /// The outcome at this position, counted from 0, breaks this rule.
     #[error("outcome {at}: {rule}")]
