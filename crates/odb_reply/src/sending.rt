@@ -76,7 +76,7 @@ fn write_long<W: Write>(
     Ok(())
 }
 
-/// Gathers a short text, and before it writes what was gathered, if that is much.
+/// Gathers a short text. What was gathered before is written first, where it is much.
 fn gather<W: Write>(
     output: &mut Output<W>,
     gathered: &mut String,
@@ -118,7 +118,7 @@ fn send_text<W: Write>(
     }
 }
 
-/// Writes the response to the request at a position, or gathers it.
+/// Writes or gathers the response to the request at a position.
 fn send_response<W: Write>(
     alloc: Global,
     output: &mut Output<W>,

@@ -17,7 +17,11 @@ impl From<DeviceFault> for WriteFault {
     }
 }
 
-/// Writes the text whole. After a fault the output has a front of it.
+/// Writes a text to an output whole, in as many writes as its writer takes.
+///
+/// # Errors
+///
+/// `WriteFault` exactly where the output failed. It has a front of the text then.
 pub fn write_text<W: Write>(output: &mut Output<W>, text: &str) -> Result<(), WriteFault>
     requires { output.old.failed ≡ false }
     ensures fault { IsErr result ↔ IsTrue output.new.failed }
