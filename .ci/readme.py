@@ -1,31 +1,70 @@
-"""Runs the commands of a page's console blocks, and compares what they print with what it shows.
+"""Compares the blocks of a page with the repository.
 
 In a block that begins ```console, a line that begins with `$ ` is a command, and the lines up to the
 next command or the end of the block are what it prints, on standard output and standard error.
-Commands run by bash at the top of the repository.
+Commands run by bash at the top of the repository. A block that begins ```rust, and in it with a
+comment that names a file, as `// crates/NAME/src/tests.rt`, shows lines of that file: what follows
+the comment has to stand there word for word.
 """
 
+import re
 import subprocess
 import sys
 
 
-def examples(page):
-    """The commands of the page, each with its line number and the lines that it is to print."""
+def blocks(page, kind):
+    """The blocks of this kind: of each the number of its first line, and its lines."""
     found, inside = [], False
     for number, line in enumerate(page.splitlines(), 1):
         if line.startswith("```"):
-            inside = line == "```console"
-        elif inside and line.startswith("$ "):
-            found.append((number, line[2:], []))
-        elif inside and found:
-            found[-1][2].append(line)
+            inside = line == "```" + kind
+            if inside:
+                found.append((number + 1, []))
+        elif inside:
+            found[-1][1].append(line)
     return found
+
+
+def examples(page):
+    """The commands of the page, each with its line number and the lines that it is to print."""
+    found = []
+    for first, lines in blocks(page, "console"):
+        commands = []
+        for number, line in enumerate(lines, first):
+            if line.startswith("$ "):
+                commands.append((number, line[2:], []))
+            elif commands:
+                commands[-1][2].append(line)
+        found += commands
+    return found
+
+
+def excerpts(page):
+    """The blocks of the page that show a file: line number, the file's path and its lines."""
+    found = []
+    for number, lines in blocks(page, "rust"):
+        named = re.fullmatch(r"// (\S+/\S+\.rt)", lines[0]) if lines else None
+        if named:
+            found.append((number, named[1], lines[1:]))
+    return found
+
+
+def stands_in(path, lines):
+    """Whether the file has these lines, one after another."""
+    try:
+        with open(path, encoding="utf-8") as file:
+            all_lines = file.read().splitlines()
+    except OSError:
+        return False
+    starts = range(len(all_lines) - len(lines) + 1)
+    return bool(lines) and any(all_lines[i : i + len(lines)] == lines for i in starts)
 
 
 def main():
     path = sys.argv[1]
     with open(path, encoding="utf-8") as file:
-        cases = examples(file.read())
+        page = file.read()
+    cases, shown = examples(page), excerpts(page)
     failed = 0
     for number, command, wanted in cases:
         run = subprocess.run(
@@ -41,7 +80,11 @@ def main():
             print("  shown:   " + "\n           ".join(wanted))
             print("  printed: " + "\n           ".join(run.stdout.splitlines()))
     print(f"{path}: {len(cases) - failed} commands as shown, {failed} not")
-    return 1 if failed or not cases else 0
+    differ = [it for it in shown if not stands_in(it[1], it[2])]
+    for number, source, _ in differ:
+        print(f"{path}:{number}: {source} does not have these lines")
+    print(f"{path}: {len(shown) - len(differ)} excerpts as in their files, {len(differ)} not")
+    return 1 if failed or differ or not cases else 0
 
 
 sys.exit(main())
