@@ -10,7 +10,7 @@ use Rattle.std.proofs.lemmas.List.Sums.{sum_by-cons}
 use Rattle.std.proofs.lemmas.List.Elements.{Contains-get_or}
 use Rattle.odb_sched.specs.Below.{passing_below, ListsOnce}
 use Rattle.odb_sched.proofs.ListLemmas.{none_listed}
-use Rattle.odb_sched.specs.Choosing.{Positions, positions_of, IsLeast, IsGreatest, IsNone}
+use Rattle.odb_sched.specs.Choosing.{positions_of, IsLeast, IsGreatest, IsNone}
 
 -- some element passes exactly where more than none is counted
 any_counted : (test : ℕ → Bool) (xs : List ℕ) → list_any test xs ≡ nat_lt 0 (count_by test xs)
@@ -41,6 +41,7 @@ more n test rest i = elim (cases_eq n i) [
     at_here : (b : Bool) → test n ≡ b → list_any (λ x. nat_eq x n) (if b then n ∷ passing_below n test else passing_below n test) ≡ b
     at_here true e = rw (eq-eqb n n refl) refl
     at_here false e = rest n ∙ ap (λ b. b && test n) (le-ltb n n (omega arith))
+
     at_other : (n ≡ i → ⊥) → (b : Bool) → test n ≡ b → list_any (λ x. nat_eq x i) (if b then n ∷ passing_below n test else passing_below n test) ≡ list_any (λ x. nat_eq x i) (passing_below n test)
     at_other elsewhere true e = rw (ne_eqb n i elsewhere) refl
     at_other elsewhere false e = refl

@@ -1,5 +1,5 @@
 -- An execution from step to step.
-use Rattle.std.proofs.Common.{◌≡◌, ℕ, ◌<◌, ◌≤◌, ◌+◌, ◌*◌, ◌∙◌, ap, sym, refl, subst, arith, Bool, true, false, ◌&&◌, List, [], ◌∷◌, ◌++◌, length, map, replicate, slice_set, inl, inr, ◌⊎◌, zero, suc, get_or, All, Option, Some, is_some, unwrap_or, Result, Ok, Err}
+use Rattle.std.proofs.Common.{◌≡◌, ℕ, ◌<◌, ◌≤◌, ◌+◌, ◌*◌, ◌∙◌, ap, sym, refl, subst, arith, Bool, true, false, List, [], ◌∷◌, ◌++◌, length, map, replicate, slice_set, inl, inr, ◌⊎◌, zero, suc, get_or, All, Some, is_some, unwrap_or, Result, Ok, Err}
 use Rattle.std.proofs.lemmas.Bool.{both_ways, and_parts, cases_eq, true≢false}
 use Rattle.std.specs.List.{sum_by}
 use Rattle.std.proofs.lemmas.List.Sums.{sum_by-set}
@@ -34,9 +34,8 @@ use Rattle.odb_sched.specs.Advances.{position_in, MayTake, IsNext, IsTaken}
 use Rattle.odb_sched.proofs.ChoiceLemmas.{positions-listed, listed-in}
 use Rattle.odb_sched.proofs.PlanLemmas.{length-shape}
 use Rattle.odb_sched.proofs.PhaseLemmas.{get_or-set_cases, get_or-replicate_Unstarted}
-use Rattle.odb_sched.proofs.ReachedLemmas.{reached_after}
 use Rattle.odb_sched.proofs.RunLemmas.{reached_after_all, reached_at_first, joined, after_all-push, shape-after, shape-after_all, mode-after_all}
-use Rattle.odb_sched.proofs.EventLemmas.{left, IsMove, move_start, move_report}
+use Rattle.odb_sched.proofs.EventLemmas.{left, move_start, move_report}
 
 -- what is picked from the two lists may come next
 pub next-from : (allows : Allowance) (state : State) (ready running : List ℕ) (step : Step)
@@ -128,11 +127,13 @@ is_report (step.Report i) = true
 -- a request that is not reported after a step was not reported before it, and was not the one reported
 still_open : (state : State) (event : Event) (i : ℕ) → IsReached state → position_of event < size state → may_come state event ≡ true → is_reported (phase_at (after state event) i) ≡ false
     → (is_reported (phase_at state i) ≡ false) × (step_of event ≡ step.Report i → ⊥)
-still_open state (Start j) i reached within may fresh = let move = move_start state j reached within may in
-    (elim (cases_eq i j) [
-      | inl here ↦ rw (here, move.stood) refl
-      | inr elsewhere ↦ ap is_reported (sym (move.others i elsewhere)) ∙ fresh
-    ], λ same. true≢false (sym (ap is_report same)))
+still_open state (Start j) i reached within may fresh = let move = move_start state j reached within may in (
+  elim (cases_eq i j) [
+    | inl here ↦ rw (here, move.stood) refl
+    | inr elsewhere ↦ ap is_reported (sym (move.others i elsewhere)) ∙ fresh
+  ],
+  λ same. true≢false (sym (ap is_report same)),
+)
 still_open state (Report j outcome) i reached within may fresh = let move = move_report state j outcome reached within may in
     elim (cases_eq i j) [
       | inl here ↦ absurd (both_ways _ fresh (rw (here, move.stands) refl))
@@ -286,14 +287,14 @@ module _ (source : Plan) (mode : Mode) (width : ℕ) (allows : Allowance) (offer
   pub finished-within : All (λ s. position_in s < size last) steps
   finished-within = subst (λ xs. All (λ s. position_in s < size last) xs) (sym course.steps_are)
       (subst (λ n. All (λ s. position_in s < n) (map step_of course.events))
-        (sym (ap size course.last_is ∙ ap (λ shape. length shape.units) (shape-after_all (at_first source mode width) course.events)))
-        (steps-within (at_first source mode width) course.events course.course.run))
+      (sym (ap size course.last_is ∙ ap (λ shape. length shape.units) (shape-after_all (at_first source mode width) course.events)))
+      (steps-within (at_first source mode width) course.events course.course.run))
 
   -- each outcome that is reported was offered
   pub finished-offered : (i : ℕ) (outcome : Outcome) → reported_at last i ≡ Some outcome → offers i (Ok outcome)
   finished-offered i outcome e =
       elim (offered_after allows offers (at_first source mode width) course.events i outcome course.course.chosen
-        (ap (λ s. phase_at s i) (sym course.last_is) ∙ Reported-is (phase_at last i) outcome e)) [
+      (ap (λ s. phase_at s i) (sym course.last_is) ∙ Reported-is (phase_at last i) outcome e)) [
         | inl early ↦ absurd (true≢false (sym (ap is_reported early) ∙ ap is_reported (get_or-replicate_Unstarted (length (shape source).units) i)))
         | inr offer ↦ offer
       ]

@@ -1,6 +1,6 @@
 -- Recorded outcomes by id and by position.
-use Rattle.std.proofs.Common.{◌≡◌, ◌≢◌, ℕ, zero, suc, ◌<◌, ◌∙◌, ap, sym, refl, subst, arith, Bool, true, false, cond, List, [], ◌∷◌, ◌++◌, length, take, drop, append-nil, append_assoc, map, set, get_or, replicate, inl, inr, ◌⊎◌, is_some, Option, Some, None, option_map, unwrap_or, slice_get, bytes_eq, IsSomeAnd, get_or-set_same, get_or-set_other}
-use Rattle.std.proofs.lemmas.Bool.{cases_Bool, cases_eq, cases_lt, both_ways, true≢false, false_from_ne_true}
+use Rattle.std.proofs.Common.{◌≡◌, ℕ, zero, suc, ◌<◌, ◌∙◌, ap, sym, refl, subst, arith, Bool, true, false, cond, List, [], ◌∷◌, ◌++◌, length, take, drop, append-nil, append_assoc, set, get_or, replicate, inl, inr, ◌⊎◌, is_some, Option, Some, None, option_map, unwrap_or, slice_get, bytes_eq, IsSomeAnd, get_or-set_same, get_or-set_other}
+use Rattle.std.proofs.lemmas.Bool.{cases_eq, cases_lt, true≢false, false_from_ne_true}
 use Rattle.std.proofs.lemmas.List.{length-set, length-map}
 use Rattle.std.proofs.Math.Seq.{take-append_seam}
 use Rattle.std.proofs.lemmas.Option.{slice_get-map, unwrap_or-slice_get}
@@ -98,17 +98,17 @@ recorded-found batch id outcome rest i good found =
     same_lists None (recorded_for batch ((id, outcome) ∷ rest)) (set (recorded_for batch rest) i (Some outcome))
     (length-recorded batch ((id, outcome) ∷ rest) ∙ sym (length-set (recorded_for batch rest) i (Some outcome) ∙ length-recorded batch rest))
     (λ k inside.
-      let inside : k < length batch = subst (λ n. k < n) (length-recorded batch ((id, outcome) ∷ rest)) inside in
-      let (request, here) = element_at batch k inside in
-      let name : id_at batch k ≡ Some request.id = ap (option_map (λ r. r.id)) here in
-      recorded-at batch ((id, outcome) ∷ rest) k request here ∙ elim (cases_eq k i) [
-        | inl same ↦
-            let is : bytes_eq id request.id ≡ true = ap (is_text id) (sym name ∙ ap (id_at batch) same) ∙ passes in
-            outcome-first id request.id outcome rest true is ∙ rw same (sym (get_or-set_same (recorded_for batch rest) i (Some outcome) None (subst (λ n. i < n) (sym (length-recorded batch rest)) within)))
-        | inr other ↦
-            let is_not : bytes_eq id request.id ≡ false = false_from_ne_true (bytes_eq id request.id) (λ e. other (same_place batch id k i good (name ∙ ap Some (sym ((bytes_eq-Decides id request.id).0 e))) stands)) in
-            outcome-first id request.id outcome rest false is_not ∙ sym (recorded-at batch rest k request here) ∙ sym (get_or-set_other (recorded_for batch rest) i k (Some outcome) None other)
-      ])
+    let inside : k < length batch = subst (λ n. k < n) (length-recorded batch ((id, outcome) ∷ rest)) inside in
+    let (request, here) = element_at batch k inside in
+    let name : id_at batch k ≡ Some request.id = ap (option_map (λ r. r.id)) here in
+    recorded-at batch ((id, outcome) ∷ rest) k request here ∙ elim (cases_eq k i) [
+      | inl same ↦
+          let is : bytes_eq id request.id ≡ true = ap (is_text id) (sym name ∙ ap (id_at batch) same) ∙ passes in
+          outcome-first id request.id outcome rest true is ∙ rw same (sym (get_or-set_same (recorded_for batch rest) i (Some outcome) None (subst (λ n. i < n) (sym (length-recorded batch rest)) within)))
+      | inr other ↦
+          let is_not : bytes_eq id request.id ≡ false = false_from_ne_true (bytes_eq id request.id) (λ e. other (same_place batch id k i good (name ∙ ap Some (sym ((bytes_eq-Decides id request.id).0 e))) stands)) in
+          outcome-first id request.id outcome rest false is_not ∙ sym (recorded-at batch rest k request here) ∙ sym (get_or-set_other (recorded_for batch rest) i k (Some outcome) None other)
+    ])
 
 -- an outcome for no request of the batch is not used
 recorded-unknown : (batch : List Record) (id : List ℕ) (outcome : Outcome) (rest : List (List ℕ × Outcome)) → position_of batch id ≡ None → recorded_for batch ((id, outcome) ∷ rest) ≡ recorded_for batch rest
@@ -116,11 +116,11 @@ recorded-unknown batch id outcome rest unknown =
     same_lists None (recorded_for batch ((id, outcome) ∷ rest)) (recorded_for batch rest)
     (length-recorded batch ((id, outcome) ∷ rest) ∙ sym (length-recorded batch rest))
     (λ k inside.
-      let inside : k < length batch = subst (λ n. k < n) (length-recorded batch ((id, outcome) ∷ rest)) inside in
-      let (request, here) = element_at batch k inside in
-      let name : id_at batch k ≡ Some request.id = ap (option_map (λ r. r.id)) here in
-      let is_not : bytes_eq id request.id ≡ false = ap (is_text id) (sym name) ∙ first_none (length batch) (λ j. is_text id (id_at batch j)) unknown k inside in
-      recorded-at batch ((id, outcome) ∷ rest) k request here ∙ outcome-first id request.id outcome rest false is_not ∙ sym (recorded-at batch rest k request here))
+    let inside : k < length batch = subst (λ n. k < n) (length-recorded batch ((id, outcome) ∷ rest)) inside in
+    let (request, here) = element_at batch k inside in
+    let name : id_at batch k ≡ Some request.id = ap (option_map (λ r. r.id)) here in
+    let is_not : bytes_eq id request.id ≡ false = ap (is_text id) (sym name) ∙ first_none (length batch) (λ j. is_text id (id_at batch j)) unknown k inside in
+    recorded-at batch ((id, outcome) ∷ rest) k request here ∙ outcome-first id request.id outcome rest false is_not ∙ sym (recorded-at batch rest k request here))
 
 -- nothing is recorded before any outcome
 pub recorded-none : (batch : List Record) → recorded_for batch [] ≡ replicate (length batch) None

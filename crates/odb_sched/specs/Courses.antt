@@ -1,8 +1,6 @@
 -- Executions of a plan: runs whose steps one has chosen, and whose outcomes a service has given.
-use Rattle.std.specs.Prelude.{◌≡◌, ℕ, ◌<◌, ◌≤◌, true, false, not, List, [], ◌∷◌, length, map, Result, Ok, Err}
-use Rattle.odb_check.specs.declared.plan.Plan.{Plan}
+use Rattle.std.specs.Prelude.{◌≡◌, ℕ, ◌<◌, true, false, List, [], ◌∷◌, map, Result, Ok, Err}
 use Rattle.odb_doc.specs.declared.outcome.Outcome.{Outcome}
-use Rattle.odb_sched.specs.declared.policy.Policy.{Policy}
 use Rattle.odb_sched.specs.declared.event.Event.{Event}
 use Rattle.odb_sched.specs.declared.event.Event.TheVariants.{Start, Report}
 use Rattle.odb_sched.specs.declared.step.Step.{Step}
@@ -14,7 +12,7 @@ use Rattle.odb_sched.specs.declared.fault.ExecFault.TheVariants as fault
 use Rattle.odb_sched.specs.Below.{passing_below}
 use Rattle.odb_sched.specs.Statuses.{is_status}
 use Rattle.odb_sched.specs.Phases.{is_running}
-use Rattle.odb_sched.specs.State.{State, size, phase_at, at_first, after}
+use Rattle.odb_sched.specs.State.{State, size, phase_at, after}
 use Rattle.odb_sched.specs.Steps.{may_start, is_finished}
 use Rattle.odb_sched.specs.Runs.{IsRunFrom, after_all}
 use Rattle.odb_sched.specs.Choosing.{Positions, positions_of}

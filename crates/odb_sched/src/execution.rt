@@ -152,7 +152,7 @@ pub fn execute<'p, S: Service>(
         (S.offers service.old) (at_first plan.now policy.mode policy.width))) }
     ensures dependencies_first { OnOk result ((events : List Event)
         → IsCourse (allows chooser.old) (S.offers service.old)
-            (at_first plan.now policy.mode policy.width) events
+        (at_first plan.now policy.mode policy.width) events
         → laws.StartsLast (plan_records plan.now) events) }
     ensures one_result { policy.mode ≡ Continue
         → IfOk result (λ trace. laws.HasOneResult trace.done) }

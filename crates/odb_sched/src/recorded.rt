@@ -82,11 +82,7 @@ fn by_position(
 impl Recorded {
     /// A service of the outcomes that are recorded for the requests of a plan. One whose id is no id
     /// of the plan is not used.
-    pub fn new(
-        alloc: Global,
-        plan: &Plan<'_>,
-        outcomes: Outcomes,
-    ) -> Result<Recorded, AllocError>
+    pub fn new(alloc: Global, plan: &Plan<'_>, outcomes: Outcomes) -> Result<Recorded, AllocError>
         ensures { IfOk result (λ recorded. recorded
             ≡ recorded_for (plan_records plan.now) (entries outcomes)) }
     {

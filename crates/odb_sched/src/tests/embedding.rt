@@ -89,10 +89,7 @@ fn drives_and_executes_a_plan(rt: HostRuntime) -> Result<(), Fail> {
     let alloc = rt.alloc();
     for (document, want) in [
         (THREE, "Some([500, 200, 424]) [200, 200, 200]"),
-        (
-            PASSED_ON,
-            "Some([500, 424, 424, 424]) [200, 200, 200, 200]",
-        ),
+        (PASSED_ON, "Some([500, 424, 424, 424]) [200, 200, 200, 200]"),
         (
             r#"{"requests":[{"id":"a","method":"post","url":"X","body":{"Name":"A"}},
                 {"id":"b","method":"get","url":"X"}]}"#,

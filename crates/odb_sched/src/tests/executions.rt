@@ -2,8 +2,8 @@
 
 use super::{GROUP, PASSED_ON, THREE, outcome};
 use crate::{
-    Choice, Chooser, Done, ExecFault, First, Last, Mode, Policy, Service, ServiceFault, Step, Trace, Wide,
-    execute,
+    Choice, Chooser, Done, ExecFault, First, Last, Mode, Policy, Service, ServiceFault, Step,
+    Trace, Wide, execute,
 };
 use odb_check::{Plan, check};
 use odb_doc::{Batch, Outcome, Request, parse};
@@ -140,9 +140,7 @@ fn executed(
     match execute(alloc, plan, policy, chooser, &mut service) {
         Ok(trace) => story(alloc, &trace),
         Err(ExecFault::OutOfMemory) => Err(AllocError),
-        Err(fault) => {
-            format!(in alloc; "{} {} {:?}", fault.code(), fault.name(), fault.place())
-        }
+        Err(fault) => { format!(in alloc; "{} {} {:?}", fault.code(), fault.name(), fault.place()) }
     }
 }
 
@@ -247,12 +245,7 @@ fn starts_all_before_it_reports(rt: HostRuntime) -> Result<(), Fail> {
     let one = Policy::new(Mode::Continue, 1).unwrap_or(go_on);
     let two = Policy::new(Mode::Continue, 2).unwrap_or(go_on);
     for (document, policy, statuses, want) in [
-        (
-            r#"{"requests":[]}"#,
-            go_on,
-            &[][..],
-            "| []",
-        ),
+        (r#"{"requests":[]}"#, go_on, &[][..], "| []"),
         (
             USUAL,
             go_on,

@@ -9,10 +9,7 @@ use std::alloc::{AllocError, Global};
 use std::test::Fail;
 
 /// What a service gave.
-fn given(
-    alloc: Global,
-    answer: Result<Outcome, ServiceFault>,
-) -> Result<String, AllocError> {
+fn given(alloc: Global, answer: Result<Outcome, ServiceFault>) -> Result<String, AllocError> {
     match answer {
         Ok(outcome) => {
             let body = match &outcome.body {
@@ -67,10 +64,16 @@ fn given_for_value(
 fn gives_each_outcome_once(rt: HostRuntime) -> Result<(), Fail> {
     let alloc = rt.alloc();
     let value = parse(alloc, THREE.as_bytes())?;
-    let document = parse(alloc, br#"{"outcomes":[{"id":"s","status":201,"headers":{"Location":"S"}},
-        {"id":"unknown","status":500},{"id":"r","status":200,"body":[1]}]}"#)?;
+    let document = parse(
+        alloc,
+        br#"{"outcomes":[{"id":"s","status":201,"headers":{"Location":"S"}},
+        {"id":"unknown","status":500},{"id":"r","status":200,"body":[1]}]}"#,
+    )?;
     let outcomes = Outcomes::read(alloc, document)?;
     let found = given_for_value(alloc, &value, outcomes, &[0, 1, 0, 2, 2])?;
-    assert_eq!(rt; found.as_str(), "200 {} Some(\"[1]\") NoOutcome NoOutcome 201 {\"location\": \"S\"} None NoOutcome ");
+    assert_eq!(rt;
+        found.as_str(),
+        "200 {} Some(\"[1]\") NoOutcome NoOutcome 201 {\"location\": \"S\"} None NoOutcome "
+    );
     Ok(())
 }

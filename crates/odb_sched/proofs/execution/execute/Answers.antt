@@ -32,11 +32,11 @@ take-requires-clause-request g c =
 pub returns-in_err-take-clause-fault : goal.returns-in_err-take-clause-fault
 returns-in_err-take-clause-fault g c =
     let cause = caused-first
-        ((goal.Chooser-dyn g c.args.chooser.now).allows c.args.chooser.now.1) ((goal.Chooser-dyn g c.loop-step.chooser.now).allows c.loop-step.chooser.now.1)
-        ((goal.Chooser-dyn g c.loop-step.chooser.now).allows c.loop-step.chooser.now.1)
-        (g.S.Service.offers c.args.service.now) (g.S.Service.offers c.loop-step.service) (g.S.Service.offers c.loop-step.service)
-        (at_first c.args.plan.now c.args.policy.mode c.args.policy.width) c.loop-step.scheduler c.loop-step.scheduler c.loop-step.steps.items c.in-Some.step
-        c.loop-step.invariant.far c.in-Some.ensures.next c.in_err-take.field-0.0 c.in_err-take.ensures.fault in
+    ((goal.Chooser-dyn g c.args.chooser.now).allows c.args.chooser.now.1) ((goal.Chooser-dyn g c.loop-step.chooser.now).allows c.loop-step.chooser.now.1)
+    ((goal.Chooser-dyn g c.loop-step.chooser.now).allows c.loop-step.chooser.now.1)
+    (g.S.Service.offers c.args.service.now) (g.S.Service.offers c.loop-step.service) (g.S.Service.offers c.loop-step.service)
+    (at_first c.args.plan.now c.args.policy.mode c.args.policy.width) c.loop-step.scheduler c.loop-step.scheduler c.loop-step.steps.items c.in-Some.step
+    c.loop-step.invariant.far c.in-Some.ensures.next c.in_err-take.field-0.0 c.in_err-take.ensures.fault in
     search (rules, cause)
 
 pub unwrap-requires : goal.unwrap-requires
@@ -77,7 +77,7 @@ loop-step-preserved g c =
     let offers_later = g.S.Service.offers c.take.new.service in
     let first = at_first plan c.args.policy.mode c.args.policy.width in
     let items : c.push.new.self.items ≡ c.loop-step.steps.items ++ c.in-Some.step ∷ [] =
-        subst (λ told. c.push.new.self.items ≡ (if is_ok told then c.loop-step.steps.items ++ c.in-Some.step ∷ [] else c.loop-step.steps.items)) c.unwrap.ensures c.push.ensures.items in
+    subst (λ told. c.push.new.self.items ≡ (if is_ok told then c.loop-step.steps.items ++ c.in-Some.step ∷ [] else c.loop-step.steps.items)) c.unwrap.ensures c.push.ensures.items in
     let longer : length c.push.new.self.items ≡ length c.loop-step.steps.items + 1 = ap length items ∙ length-append c.loop-step.steps.items (c.in-Some.step ∷ []) in
     let more : vec_capacity c.loop-step.steps ≤ vec_capacity c.push.new.self = c.push.ensures.capacity in
     record {

@@ -1,5 +1,5 @@
 -- Entry by entry from the last, each is noted at its position.
-use Rattle.std.proofs.Common.{◌≡◌, ◌∙◌, ap, sym, subst, [], ◌∷◌, ◌++◌, length, map, replicate, List, Option, None, string_bytes}
+use Rattle.std.proofs.Common.{◌≡◌, ◌∙◌, ap, sym, [], ◌∷◌, ◌++◌, length, map, replicate, List, Option, None, string_bytes}
 use Rattle.std.proofs.lemmas.List.{map-append, nil_from_length}
 use Rattle.odb_doc.specs.declared.outcome.Outcome.{Outcome}
 use Rattle.odb_doc.specs.Outcomes.{recorded}
@@ -23,10 +23,10 @@ loop-id-preserved c =
     let old : List (Option Outcome) = c.loop-id.outcomes.items in
     let new : List (Option Outcome) = c.note.new.outcomes in
     let last : map recorded c.loop-id.entries.items ≡ left ++ recorded (c.in-Some.id, c.in-Some.outcome) ∷ [] =
-        ap (map recorded) c.in-Some.ensures.items ∙ map-append recorded c.pop.new.self.items ((c.in-Some.id, c.in-Some.outcome) ∷ []) in
+    ap (map recorded) c.in-Some.ensures.items ∙ map-append recorded c.pop.new.self.items ((c.in-Some.id, c.in-Some.outcome) ∷ []) in
     let name : c.deref.result.now ≡ string_bytes c.in-Some.id = c.deref.ensures in
     let note : new ≡ noted_at (position_of batch (string_bytes c.in-Some.id)) old c.in-Some.outcome =
-        c.note.ensures ∙ ap (λ id. noted_at (position_of batch id) c.deref_mut.result.now c.in-Some.outcome) name ∙ ap (λ xs. noted_at (position_of batch (string_bytes c.in-Some.id)) xs c.in-Some.outcome) c.deref_mut.ensures.value in
+    c.note.ensures ∙ ap (λ id. noted_at (position_of batch id) c.deref_mut.result.now c.in-Some.outcome) name ∙ ap (λ xs. noted_at (position_of batch (string_bytes c.in-Some.id)) xs c.in-Some.outcome) c.deref_mut.ensures.value in
     let same : length new ≡ length old = ap length note ∙ length-noted_at (position_of batch (string_bytes c.in-Some.id)) old c.in-Some.outcome in
     noted-more batch (map recorded c.args.entries.items) (map recorded c.loop-id.entries.items) left (string_bytes c.in-Some.id) c.in-Some.outcome old _
     c.len.ensures.good c.loop-id.invariant last (written_over old new c.loop-id.outcomes.len same c.loop-id.outcomes.ok.0 ∙ note)
