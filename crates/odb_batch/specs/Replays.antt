@@ -24,7 +24,9 @@ use Rattle.odb_sched.specs.declared.step.Step.{Step}
 use Rattle.odb_sched.specs.State.{State, at_first}
 use Rattle.odb_sched.specs.Courses.{Allowance, Offer, IsDue, IsFinishedBy}
 use Rattle.odb_sched.specs.Recordings.{recorded_for, OffersRecorded}
-use Rattle.odb_reply.specs.Responses.{response_text}
+use Rattle.odb_reply.specs.Responses.{response_text, response_value}
+use Rattle.odb_reply.specs.OnePerId.{HasOnePerId}
+use Rattle.odb_sched.specs.Laws.{StartsLast}
 use Rattle.odb_batch.specs.declared.verdict.Ended.{Ended}
 use Rattle.odb_batch.specs.declared.verdict.Ended.TheVariants.{Done, Refused}
 use Rattle.odb_batch.specs.Lines.{newline, fault_line}
@@ -51,13 +53,16 @@ result_text traced state steps = (if traced then trace_text state steps else [])
 abbrev pub offers_of : Plan → List Recorded → Offer
 offers_of plan entries = OffersRecorded (recorded_for (plan_records plan) entries)
 
--- the result of a finished course of the plan, under the policy, by the chooser and by the recorded outcomes
+-- The result of a finished course of the plan, under the policy, by the chooser and by the recorded outcomes. In it no
+-- request starts before all that it names has ended with 2xx, and the response has exactly one element per id.
 pub record IsResult (allows : Allowance) (policy : Policy) (traced : Bool) (plan : Plan) (entries : List Recorded) (ended : Ended) (text : List ℕ) : Type 0 where
   pub ends : ended ≡ Done
   pub steps : List Step
   pub last : State
   pub course : IsFinishedBy allows (offers_of plan entries) (at_first plan policy.mode policy.width) steps last
   pub result : text ≡ result_text traced last steps
+  pub dependencies_first : StartsLast (plan_records plan) course.events
+  pub one_per_id : HasOnePerId (plan_records plan) (response_value last)
 
 -- a request whose report is due after some course has no outcome
 pub record LacksOutcome (allows : Allowance) (policy : Policy) (plan : Plan) (entries : List Recorded) (ended : Ended) (text : List ℕ) : Type 0 where

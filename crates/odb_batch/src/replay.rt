@@ -1,11 +1,13 @@
-ghost use Rattle.std.specs.Prelude.{◌≡◌, ◌<◌, ◌≤◌, ◌↔◌, ◌⊎◌, false, All, IsTrue, IfOk, string_bytes};
+ghost use Rattle.std.specs.Prelude.{◌≡◌, ◌<◌, ◌≤◌, ◌↔◌, ◌⊎◌, false, All, IsTrue, IfOk, OnOk, string_bytes};
 ghost use Rattle.serde_json.specs.View.{view};
 ghost use Rattle.odb_doc.specs.Batches.{records};
 ghost use Rattle.odb_doc.specs.OutcomeLists.{entries};
 ghost use Rattle.odb_doc.specs.declared.device.TheConstants.{MAX_READS};
 ghost use Rattle.odb_sched.specs.State.{size};
 ghost use Rattle.odb_sched.specs.Advances.{position_in};
+ghost use Rattle.odb_check.specs.Plans.{plan_records};
 ghost use Rattle.odb_reply.specs.NotWhole.{HasWholeBodies};
+ghost use Rattle.odb_reply.specs.OnePerId.{HasOnePerId};
 ghost use Rattle.odb_reply.specs.Responses as responses;
 ghost use Rattle.odb_batch.specs.Inputs.{SomeDocument, GivesFew};
 ghost use Rattle.odb_check.specs.LeastNameFault.{HasGoodNames};
@@ -46,7 +48,10 @@ fn refusal(alloc: Global, code: &str, name: &str, place: Place) -> Result<Report
 /// The response to a run whose bodies hold whole numbers alone.
 fn whole_response(alloc: Global, trace: &Trace<'_>) -> Result<String, AllocError>
     requires { HasWholeBodies trace.now.done }
-    ensures { IfOk result (λ text. string_bytes text ≡ responses.response_text trace.now.done) }
+    ensures text { IfOk result (λ text. string_bytes text
+        ≡ responses.response_text trace.now.done) }
+    ensures one_per_id { HasOnePerId (plan_records trace.now.done.plan)
+        (responses.response_value trace.now.done) }
 {
     match response_text(alloc, &trace.done) {
         Ok(text) => Ok(text),
@@ -59,8 +64,10 @@ fn whole_response(alloc: Global, trace: &Trace<'_>) -> Result<String, AllocError
 fn result_text(alloc: Global, trace: &Trace<'_>, traced: bool) -> Result<String, AllocError>
     requires within { All (λ step. position_in step < size trace.now.done) trace.now.steps.items }
     requires whole { HasWholeBodies trace.now.done }
-    ensures { IfOk result (λ text. string_bytes text
+    ensures text { IfOk result (λ text. string_bytes text
         ≡ replays.result_text traced trace.now.done trace.now.steps.items) }
+    ensures one_per_id { OnOk result (HasOnePerId (plan_records trace.now.done.plan)
+        (responses.response_value trace.now.done)) }
 {
     let mut text = if traced {
         trace_text(alloc, trace)?

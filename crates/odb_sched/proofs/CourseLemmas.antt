@@ -34,7 +34,7 @@ use Rattle.odb_sched.specs.Advances.{position_in, MayTake, IsNext, IsTaken}
 use Rattle.odb_sched.proofs.ChoiceLemmas.{positions-listed, listed-in}
 use Rattle.odb_sched.proofs.PlanLemmas.{length-shape}
 use Rattle.odb_sched.proofs.PhaseLemmas.{get_or-set_cases, get_or-replicate_Unstarted}
-use Rattle.odb_sched.proofs.RunLemmas.{reached_after_all, reached_at_first, joined, after_all-push, shape-after, shape-after_all, mode-after_all}
+use Rattle.odb_sched.proofs.RunLemmas.{reached_after_all, reached_at_first, joined, after_all-push, shape-after, shape-after_all, mode-after_all, plan-after_all}
 use Rattle.odb_sched.proofs.EventLemmas.{left, move_start, move_report}
 
 -- what is picked from the two lists may come next
@@ -289,6 +289,9 @@ module _ (source : Plan) (mode : Mode) (width : ℕ) (allows : Allowance) (offer
       (subst (λ n. All (λ s. position_in s < n) (map step_of course.events))
       (sym (ap size course.last_is ∙ ap (λ shape. length shape.units) (shape-after_all (at_first source mode width) course.events)))
       (steps-within (at_first source mode width) course.events course.course.run))
+
+  pub finished-plan : last.plan ≡ source
+  finished-plan = ap (λ s. s.plan) course.last_is ∙ plan-after_all (at_first source mode width) course.events
 
   -- each outcome that is reported was offered
   pub finished-offered : (i : ℕ) (outcome : Outcome) → reported_at last i ≡ Some outcome → offers i (Ok outcome)

@@ -61,3 +61,11 @@ mode-after state (Report i outcome) = refl
 pub mode-after_all : (state : State) (events : List Event) → (after_all state events).mode ≡ state.mode
 mode-after_all state [] = refl
 mode-after_all state (e ∷ es) = mode-after_all (after state e) es ∙ mode-after state e
+
+plan-after : (state : State) (event : Event) → (after state event).plan ≡ state.plan
+plan-after state (Start i) = refl
+plan-after state (Report i outcome) = refl
+
+pub plan-after_all : (state : State) (events : List Event) → (after_all state events).plan ≡ state.plan
+plan-after_all state [] = refl
+plan-after_all state (e ∷ es) = plan-after_all (after state e) es ∙ plan-after state e

@@ -142,6 +142,7 @@ pub fn execute<'p, S: Service>(
 ) -> Result<Trace<'p>, ExecFault>
     ensures course { IfOk result (λ trace. IsFinishedBy (allows chooser.old) (S.offers service.old)
         (at_first plan.now policy.mode policy.width) trace.steps.items trace.done) }
+    ensures plan { IfOk result (λ trace. trace.done.plan ≡ plan.now) }
     ensures within { IfOk result (λ trace.
         All (λ step. position_in step < size trace.done) trace.steps.items) }
     ensures offered { IfOk result (λ trace. (i : ℕ) (outcome : Outcome)

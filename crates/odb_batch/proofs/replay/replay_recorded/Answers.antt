@@ -1,11 +1,15 @@
 -- An execution by recorded outcomes.
-use Rattle.std.proofs.Common.{◌≡◌, ◌∙◌, subst, sym, refl, rules, Some, Ok, inl, inr, ℕ, string_bytes}
+use Rattle.std.proofs.Common.{◌≡◌, ◌∙◌, subst, sym, refl, rules, Some, Ok, inl, inr, ℕ, List, string_bytes}
 use Rattle.std.proofs.lemmas.Result.{IfOk-weaker}
 use Rattle.odb_doc.specs.declared.outcome.Outcome.{Outcome}
 use Rattle.odb_doc.specs.OutcomeLists.{entries}
 use Rattle.odb_check.specs.Plans.{plan_records}
 use Rattle.odb_sched.specs.Answers.{reported}
-use Rattle.odb_sched.specs.Courses.{IsFinishedBy, IsDue, IsCausedBy}
+use Rattle.odb_sched.specs.Courses.{IsCourse, IsFinishedBy, IsDue, IsCausedBy}
+use Rattle.odb_sched.specs.declared.event.Event.{Event}
+use Rattle.odb_sched.specs.Laws.{StartsLast}
+use Rattle.odb_reply.specs.OnePerId.{HasOnePerId}
+use Rattle.odb_reply.specs.Responses.{response_value}
 use Rattle.odb_sched.specs.ExecFaults.{IsNumbered, exec_code, exec_name, exec_place}
 use Rattle.odb_sched.specs.Recordings.{recorded_for, OffersRecorded}
 use Rattle.odb_sched.specs.State.{at_first}
@@ -18,14 +22,21 @@ result_text-requires-clause-whole g c =
     (subst (λ s. (i : ℕ) (outcome : Outcome) → reported c.in-Ok.trace.done i ≡ Some outcome → OffersRecorded s i (Ok outcome)) c.in_ok-service.ensures c.in-Ok.ensures.offered)
 
 pub returns-in-Ok : goal.returns-in-Ok
-returns-in-Ok g c = inl (record {
-  ends = refl;
-  steps = c.in-Ok.trace.steps.items;
-  last = c.in-Ok.trace.done;
-  course = subst (λ s. IsFinishedBy ((goal.Chooser-dyn g c.args.chooser.now).allows c.args.chooser.now.1) (OffersRecorded s) (at_first c.args.plan.now c.args.policy.mode c.args.policy.width) c.in-Ok.trace.steps.items c.in-Ok.trace.done)
-      c.in_ok-service.ensures c.in-Ok.ensures.course;
-  result = c.in_ok-result_text-in-Ok.ensures;
-})
+returns-in-Ok g c =
+    let allows = (goal.Chooser-dyn g c.args.chooser.now).allows c.args.chooser.now.1 in
+    let first = at_first c.args.plan.now c.args.policy.mode c.args.policy.width in
+    let batch = plan_records c.args.plan.now in
+    let course = subst (λ s. IsFinishedBy allows (OffersRecorded s) first c.in-Ok.trace.steps.items c.in-Ok.trace.done) c.in_ok-service.ensures c.in-Ok.ensures.course in
+    let law = subst (λ s. (events : List Event) → IsCourse allows (OffersRecorded s) first events → StartsLast batch events) c.in_ok-service.ensures c.in-Ok.ensures.dependencies_first in
+    inl (record {
+      ends = refl;
+      steps = c.in-Ok.trace.steps.items;
+      last = c.in-Ok.trace.done;
+      course = course;
+      result = c.in_ok-result_text-in-Ok.ensures.text;
+      dependencies_first = law course.events course.course;
+      one_per_id = subst (λ plan. HasOnePerId (plan_records plan) (response_value c.in-Ok.trace.done)) c.in-Ok.ensures.plan c.in_ok-result_text-in-Ok.ensures.one_per_id;
+    })
 
 pub returns : goal.returns
 returns g c =

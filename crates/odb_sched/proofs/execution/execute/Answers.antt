@@ -7,7 +7,7 @@ use Rattle.odb_sched.specs.State.{at_first}
 use Rattle.odb_sched.specs.declared.step.Step.TheVariants as step
 use Rattle.odb_sched.specs.Courses.{IsFinishedBy}
 use Rattle.odb_sched.proofs.RunLemmas.{reached_at_first}
-use Rattle.odb_sched.proofs.CourseLemmas.{SoFar, events_left, so_far-first, room-first, one_more, fewer-left, caused-first, finished-by, few-steps, next-within, reached-so_far, same-mode, finished-within, finished-offered}
+use Rattle.odb_sched.proofs.CourseLemmas.{SoFar, events_left, so_far-first, room-first, one_more, fewer-left, caused-first, finished-by, few-steps, next-within, reached-so_far, same-mode, finished-within, finished-plan, finished-offered}
 use Rattle.odb_sched.proofs.execution.execute.Goals as goal
 
 pub loop-step-init : goal.loop-step-init
@@ -124,4 +124,9 @@ returns-clause-within g c =
 pub returns-clause-offered : goal.returns-clause-offered
 returns-clause-offered g c =
     finished-offered c.args.plan.now c.args.policy.mode c.args.policy.width ((goal.Chooser-dyn g c.args.chooser.now).allows c.args.chooser.now.1) (g.S.Service.offers c.args.service.now)
+    c.loop-step.steps.items c.close.result (returns-clause-course g c)
+
+pub returns-clause-plan : goal.returns-clause-plan
+returns-clause-plan g c =
+    finished-plan c.args.plan.now c.args.policy.mode c.args.policy.width ((goal.Chooser-dyn g c.args.chooser.now).allows c.args.chooser.now.1) (g.S.Service.offers c.args.service.now)
     c.loop-step.steps.items c.close.result (returns-clause-course g c)
