@@ -1,5 +1,5 @@
 -- Runs by recorded outcomes: what is offered was recorded, so it is sound.
-use Rattle.std.proofs.Common.{◌≡◌, ◌≢◌, ℕ, zero, suc, ◌<◌, ◌≤◌, ◌∙◌, ap, sym, refl, subst, arith, Bool, true, false, cond, ◌&&◌, nat_le, nat_lt, List, [], ◌∷◌, length, get_or, All, Contains, Option, Some, None, is_some, unwrap_or, option_map, not, if◌then◌else◌, IfSome, find, bytes_eq, Result, Ok, Err}
+use Rattle.std.proofs.Common.{◌≡◌, ℕ, zero, suc, ◌≤◌, ◌∙◌, ap, sym, refl, subst, arith, Bool, true, false, cond, ◌&&◌, List, [], ◌∷◌, get_or, All, Contains, Option, Some, None, is_some, unwrap_or, option_map, not, if◌then◌else◌, IfSome, find, bytes_eq, Result, Ok, Err}
 use Rattle.std.proofs.lemmas.Bool.{true≢false, both_ways}
 use Rattle.std.proofs.lemmas.Bool.Decides.{nat_tests}
 use Rattle.std.proofs.lemmas.List.Elements.{All-contains, Contains-append_right}
@@ -20,10 +20,10 @@ use Rattle.odb_sched.specs.declared.service.ServiceFault.TheVariants as service
 use Rattle.odb_sched.specs.declared.fault.ExecFault.{ExecFault}
 use Rattle.odb_sched.specs.declared.fault.ExecFault.TheVariants as fault
 use Rattle.odb_sched.specs.Answers.{answer, answer_of, outcome_of, reported}
-use Rattle.odb_sched.specs.Courses.{Allowance, Offer, IsDue, IsCausedBy}
+use Rattle.odb_sched.specs.Courses.{Allowance, IsDue, IsCausedBy}
 use Rattle.odb_sched.specs.ExecFaults.{IsNumbered, exec_code, exec_name, exec_place}
 use Rattle.odb_sched.specs.Recordings.{outcome_for, recorded_for, offered, OffersRecorded}
-use Rattle.odb_sched.specs.State.{State, size, phase_at, at_first}
+use Rattle.odb_sched.specs.State.{State, phase_at, at_first}
 use Rattle.odb_sched.specs.Statuses.{is_status, is_success}
 use Rattle.odb_sched.specs.Steps.{unit_succeeded}
 use Rattle.odb_reply.specs.NotWhole.{HasWholeBody, HasWholeBodies}

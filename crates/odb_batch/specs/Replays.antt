@@ -1,7 +1,6 @@
 -- What a run by recorded outcomes writes of a batch.
 use Rattle.std.specs.Prelude.{◌≡◌, ◌⊎◌, ℕ, Bool, List, [], ◌∷◌, ◌++◌, Option, Err, codes, if◌then◌else◌}
 use Rattle.serde_json.specs.Data.{Data}
-use Rattle.odb_doc.specs.declared.outcome.Outcome.{Outcome}
 use Rattle.odb_doc.specs.declared.fault.Place.{Place}
 use Rattle.odb_doc.specs.declared.fault.Place.TheVariants as places
 use Rattle.odb_doc.specs.declared.fault.DocFault.{DocFault}

@@ -94,10 +94,9 @@ fn replay_command<'a>(alloc: Global) -> Result<Command<'a>, AllocError> {
         .long("stop")
         .action(ArgAction::SetTrue)
         .help("Start nothing more after a status from 400 to 599");
-    let width = Arg::new(alloc, "width")
-        .long("width")
-        .value_name("N")
-        .help("How many requests may run at once, from 1 to 10000 [default: 10000]");
+    let width = Arg::new(alloc, "width").long("width").value_name("N").help(
+        "How many requests may run at once, from 1 to 10000 [default: 10000]",
+    );
     let trace = Arg::new(alloc, "trace")
         .long("trace")
         .action(ArgAction::SetTrue)

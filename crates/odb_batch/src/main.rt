@@ -145,7 +145,11 @@ fn run<R: Runtime + AllocGlobal>(rt: &R, words: &[String]) -> Status {
         Ok(Task::Replay(task)) => replay_in_order(rt, task),
         Err(Misuse::Words(error)) => explain(rt, &error),
         Err(Misuse::Width) => {
-            failed(rt, "the width is no number from 1 to 10000", Status::WrongWords)
+            failed(
+                rt,
+                "the width is no number from 1 to 10000",
+                Status::WrongWords,
+            )
         }
     }
 }

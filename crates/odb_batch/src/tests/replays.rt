@@ -105,17 +105,29 @@ fn a_policy_stops_and_narrows_a_replay(rt: HostRuntime) -> Result<(), Fail> {
     let failing = r#"{"outcomes":[{"id":"a","status":200},{"id":"b","status":503},
         {"id":"c","status":201}]}"#;
     let (_, text) = replayed(alloc, THREE, failing, stop, &mut First, true)?;
-    assert_eq!(rt; text.as_slice(), b"start a\nreport a 200\nstart b\nreport b 503\n\
+    assert_eq!(rt;
+        text.as_slice(),
+        b"start a\nreport a 200\nstart b\nreport b 503\n\
         {\"responses\":[{\"id\":\"a\",\"status\":200},{\"id\":\"b\",\"status\":503},\
-        {\"id\":\"c\",\"status\":424}]}\n".as_slice());
+        {\"id\":\"c\",\"status\":424}]}\n"
+            .as_slice()
+    );
     let (_, text) = replayed(alloc, THREE, failing, two, &mut Wide, true)?;
-    assert_eq!(rt; text.as_slice(), b"start a\nstart b\nreport a 200\nstart c\nreport b 503\n\
+    assert_eq!(rt;
+        text.as_slice(),
+        b"start a\nstart b\nreport a 200\nstart c\nreport b 503\n\
         report c 201\n{\"responses\":[{\"id\":\"a\",\"status\":200},\
-        {\"id\":\"b\",\"status\":503},{\"id\":\"c\",\"status\":201}]}\n".as_slice());
+        {\"id\":\"b\",\"status\":503},{\"id\":\"c\",\"status\":201}]}\n"
+            .as_slice()
+    );
     let moved = r#"{"outcomes":[{"id":"a","status":304},{"id":"b","status":200}]}"#;
     let (_, text) = replayed(alloc, THREE, moved, stop, &mut First, false)?;
-    assert_eq!(rt; text.as_slice(), b"{\"responses\":[{\"id\":\"a\",\"status\":304},\
-        {\"id\":\"b\",\"status\":200},{\"id\":\"c\",\"status\":424}]}\n".as_slice());
+    assert_eq!(rt;
+        text.as_slice(),
+        b"{\"responses\":[{\"id\":\"a\",\"status\":304},\
+        {\"id\":\"b\",\"status\":200},{\"id\":\"c\",\"status\":424}]}\n"
+            .as_slice()
+    );
     Ok(())
 }
 
@@ -275,6 +287,9 @@ fn a_byte_at_a_time_is_enough(rt: HostRuntime) -> Result<(), Fail> {
         &mut output,
     )?;
     assert_eq!(rt; ended, Ended::Done);
-    assert_eq!(rt; output.into_inner().bytes.as_slice(), LENT_RESPONSE.as_bytes());
+    assert_eq!(rt;
+        output.into_inner().bytes.as_slice(),
+        LENT_RESPONSE.as_bytes()
+    );
     Ok(())
 }

@@ -1,5 +1,5 @@
 -- An execution by recorded outcomes.
-use Rattle.std.proofs.Common.{◌≡◌, ◌∙◌, subst, sym, refl, rules, Some, Ok, inl, inr, ℕ, List, string_bytes}
+use Rattle.std.proofs.Common.{◌≡◌, subst, refl, rules, Some, Ok, inl, inr, ℕ, List, string_bytes}
 use Rattle.std.proofs.lemmas.Result.{IfOk-weaker}
 use Rattle.odb_doc.specs.declared.outcome.Outcome.{Outcome}
 use Rattle.odb_doc.specs.OutcomeLists.{entries}
@@ -11,7 +11,7 @@ use Rattle.odb_sched.specs.Laws.{StartsLast}
 use Rattle.odb_reply.specs.OnePerId.{HasOnePerId}
 use Rattle.odb_reply.specs.Responses.{response_value}
 use Rattle.odb_sched.specs.ExecFaults.{IsNumbered, exec_code, exec_name, exec_place}
-use Rattle.odb_sched.specs.Recordings.{recorded_for, OffersRecorded}
+use Rattle.odb_sched.specs.Recordings.{OffersRecorded}
 use Rattle.odb_sched.specs.State.{at_first}
 use Rattle.odb_batch.proofs.ReplayLemmas.{whole-bodies, lacks-outcome, refusal-as}
 use Rattle.odb_batch.proofs.replay.replay_recorded.Goals as goal
@@ -45,4 +45,4 @@ returns g c =
     let caused = subst (λ s. IsCausedBy (OffersRecorded s) (IsDue allows (OffersRecorded s) (at_first c.args.plan.now c.args.policy.mode c.args.policy.width)) cause) c.in_ok-service.ensures c.in-Err.ensures.fault in
     let numbered : IsNumbered cause = search rules in
     IfOk-weaker c.refusal.result _ _ (λ report is. inr (lacks-outcome allows c.args.policy c.args.plan.now (entries c.args.outcomes) cause report.ended (string_bytes report.text) c.len-count.ensures.sound numbered caused
-        (refusal-as _ (exec_code cause) _ (exec_name cause) _ (exec_place cause) report.ended (string_bytes report.text) c.code.ensures c.name.ensures c.place.ensures is))) c.refusal.ensures
+    (refusal-as _ (exec_code cause) _ (exec_name cause) _ (exec_place cause) report.ended (string_bytes report.text) c.code.ensures c.name.ensures c.place.ensures is))) c.refusal.ensures

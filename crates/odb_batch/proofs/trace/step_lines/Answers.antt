@@ -1,4 +1,4 @@
-use Rattle.std.proofs.Common.{◌≡◌, ◌++◌, ◌∙◌, ap, sym, take, string_bytes}
+use Rattle.std.proofs.Common.{◌++◌, ◌∙◌, ap, sym, take}
 use Rattle.odb_batch.specs.Traces.{step_line, lines}
 use Rattle.odb_batch.proofs.TraceLemmas.{lines-more}
 use Rattle.odb_batch.proofs.trace.step_lines.Goals as goal
