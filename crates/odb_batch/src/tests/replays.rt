@@ -34,6 +34,14 @@ const THREE: &str = r#"{"requests":[{"id":"a","method":"get","url":"X"},
     {"id":"b","method":"get","url":"X"},
     {"id":"c","method":"get","url":"X","dependsOn":["a"]}]}"#;
 
+/// What a replay of `THREE` that stops writes, in two orders, where `b` ends with 503.
+const STOPPED_LAST: &str = "start b\nreport b 503\n{\"responses\":[\
+    {\"id\":\"a\",\"status\":424},{\"id\":\"b\",\"status\":503},{\"id\":\"c\",\"status\":424}]}\n";
+
+const STOPPED_WIDE: &str = "start a\nstart b\nreport a 200\nstart c\nreport b 503\n\
+    report c 201\n{\"responses\":[{\"id\":\"a\",\"status\":200},{\"id\":\"b\",\"status\":503},\
+    {\"id\":\"c\",\"status\":201}]}\n";
+
 /// How a replay ends, and what it writes.
 fn replayed(
     alloc: Global,
@@ -120,6 +128,22 @@ fn a_policy_stops_and_narrows_a_replay(rt: HostRuntime) -> Result<(), Fail> {
         {\"id\":\"b\",\"status\":503},{\"id\":\"c\",\"status\":201}]}\n"
             .as_slice()
     );
+    for (order, text) in [("last", STOPPED_LAST), ("wide", STOPPED_WIDE)] {
+        let found = if order == "last" {
+            replayed(alloc, THREE, failing, stop, &mut Last, true)?
+        } else {
+            replayed(alloc, THREE, failing, stop, &mut Wide, true)?
+        };
+        assert_eq!(rt; found.1.as_slice(), text.as_bytes(), "{order}");
+    }
+    let missing = r#"{"outcomes":[{"id":"a","status":404},{"id":"b","status":200}]}"#;
+    let (_, text) = replayed(alloc, THREE, missing, stop, &mut First, false)?;
+    assert_eq!(rt;
+        text.as_slice(),
+        b"{\"responses\":[{\"id\":\"a\",\"status\":404},\
+        {\"id\":\"b\",\"status\":424},{\"id\":\"c\",\"status\":424}]}\n"
+            .as_slice()
+    );
     let moved = r#"{"outcomes":[{"id":"a","status":304},{"id":"b","status":200}]}"#;
     let (_, text) = replayed(alloc, THREE, moved, stop, &mut First, false)?;
     assert_eq!(rt;
@@ -160,6 +184,11 @@ fn the_first_fault_is_told(rt: HostRuntime) -> Result<(), Fail> {
             THREE,
             r#"{"outcomes":[{"id":"unknown","status":199}]}"#,
             "fault F62 BadStatus /outcomes/0\n",
+        ),
+        (
+            THREE,
+            r#"{"outcomes":[{"id":"a","status":200},{"id":"b","status":600}]}"#,
+            "fault F62 BadStatus /outcomes/1\n",
         ),
         (
             THREE,
@@ -268,6 +297,33 @@ fn a_write_that_fails_leaves_a_front(rt: HostRuntime) {
         );
         assert_eq!(rt; ended, Err(EngineFault::Write));
         assert_eq!(rt; output.into_inner().bytes.as_slice(), front.as_bytes());
+    }
+}
+
+#[test]
+fn each_write_may_fail(rt: HostRuntime) {
+    let alloc = rt.alloc();
+    for room in 0..NOT_LENT_RESPONSE.len() {
+        let mut batch = Input::new(LENDING.as_bytes());
+        let mut outcomes = Input::new(NOT_LENT.as_bytes());
+        let mut output = Output::new(Narrow::new(alloc, 1, room));
+        let ended = replay_batch(
+            alloc,
+            Policy::free(Mode::Continue),
+            &mut Last,
+            false,
+            &mut batch,
+            &mut outcomes,
+            &mut output,
+        );
+        assert_eq!(rt; ended, Err(EngineFault::Write));
+        let written = output.into_inner();
+        assert_eq!(rt; written.bytes.len(), room);
+        assert!(rt;
+            NOT_LENT_RESPONSE
+                .as_bytes()
+                .starts_with(written.bytes.as_slice())
+        );
     }
 }
 
