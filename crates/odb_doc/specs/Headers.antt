@@ -1,4 +1,4 @@
--- The headers of a request or of an outcome (OData JSON Format 4.01, sections 19.1 and 19.4, `headers`; RFC
+-- The headers of a request or of an outcome (OData JSON Format 4.01, sections 19.1 and 19.5, `headers`; RFC
 -- 9110, section 5).
 use Rattle.std.specs.Prelude.{◌≡◌, ℕ, List, [], ◌∷◌, map, Option, Some, None, IsSome, option_and_then, option_map, unwrap_or, codes, bytes_eq, string_bytes, String}
 use Rattle.std.specs.declared.alloc.Global.{Global}

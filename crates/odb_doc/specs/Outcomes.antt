@@ -1,5 +1,5 @@
 -- Recorded outcomes: what the elements of `outcomes` are, and what they say. An outcome is what a service
--- answered to a request (OData JSON Format 4.01, section 19.4); the document of many is this product's own.
+-- answered to a request (OData JSON Format 4.01, section 19.5); the document of many is this product's own.
 use Rattle.std.specs.Prelude.{◌≡◌, ◌≤◌, ℕ, List, [], Option, Some, IsSome, IfSome, option_and_then, option_map, unwrap_or, codes, string_bytes, String}
 use Rattle.std.specs.declared.alloc.Global.{Global}
 use Rattle.std.specs.List.{AllZip, filter_map}

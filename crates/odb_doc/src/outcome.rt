@@ -9,7 +9,7 @@ use serde_json::{Number, Value};
 use std::alloc::{AllocError, Global};
 use std::collections::BTreeMap;
 
-/// How a request ended: what its service answered (OData JSON Format 4.01, section 19.4).
+/// How a request ended: what its service answered (OData JSON Format 4.01, section 19.5).
 #[derive(Debug, Drop)]
 pub struct Outcome {
     /// The HTTP status. A run takes those from 200 to 599.

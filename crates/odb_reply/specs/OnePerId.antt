@@ -1,4 +1,4 @@
--- One response per id (OData JSON Format 4.01, section 19.4).
+-- One response per id (OData JSON Format 4.01, section 19.5).
 use Rattle.std.specs.Prelude.{◌≡◌, ℕ, Bool, false, List, [], Some, option_map, option_and_then, unwrap_or, bytes_eq, codes, count_by, Contains, IsSomeAnd}
 use Rattle.serde_json.specs.Data.{Data}
 use Rattle.serde_json.specs.Find.{get, as_array}

@@ -1,4 +1,4 @@
--- The response to a batch whose run has finished (OData JSON Format 4.01, section 19.4).
+-- The response to a batch whose run has finished (OData JSON Format 4.01, section 19.5).
 use Rattle.std.specs.Prelude.{ℕ, ◌+◌, List, [], ◌∷◌, map, Option, Some, None, option_map, String, string_bytes, codes}
 use Rattle.std.specs.declared.alloc.Global.{Global}
 use Rattle.serde_json.specs.Data.{Data, unsigned, number, string, array, object, Members, no_members, put}

@@ -80,7 +80,7 @@ impl From<SendFault> for ReplyFault {
     }
 }
 
-/// Writes the response to a batch whose run has finished (OData JSON Format 4.01, section 19.4): the
+/// Writes the response to a batch whose run has finished (OData JSON Format 4.01, section 19.5): the
 /// text that [`crate::response_text`] gives, response by response.
 ///
 /// Bodies are written from the outcomes of the run. `alloc` is asked for the text of one body or

@@ -46,7 +46,7 @@ fn whole_text(alloc: Global, done: &Done<'_>) -> Result<String, AllocError>
 }
 
 /// The text of the response to a batch whose run has finished (OData JSON Format 4.01, section
-/// 19.4): compact JSON, with one response per request in the order of the requests.
+/// 19.5): compact JSON, with one response per request in the order of the requests.
 ///
 /// `alloc` is asked for the text, and for that of one body or header at a time.
 ///

@@ -1,4 +1,4 @@
--- What the requests of a finished run are answered (OData JSON Format 4.01, section 19.4).
+-- What the requests of a finished run are answered (OData JSON Format 4.01, section 19.5).
 use Rattle.std.specs.Prelude.{ℕ, ◌&&◌, Bool, false, not, List, Option, Some, None, if◌then◌else◌}
 use Rattle.odb_doc.specs.declared.outcome.Outcome.{Outcome}
 use Rattle.odb_check.specs.Shape.{unit_of}

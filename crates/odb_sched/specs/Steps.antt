@@ -1,4 +1,4 @@
--- Which event may come (OData JSON Format 4.01, section 19.2; OData Protocol 4.01, sections 8.2.8.3 and 11.7).
+-- Which event may come (OData JSON Format 4.01, section 19.4; OData Protocol 4.01, sections 8.2.8.3 and 11.7).
 use Rattle.std.specs.Prelude.{ℕ, ◌==◌, ◌&&◌, ◌||◌, Bool, true, false, not, nat_lt, nat_le, List, length, slice_index_or, Option, Some, None, count_by, find, if◌then◌else◌}
 use Rattle.std.specs.List.{list_any, list_all}
 use Rattle.odb_doc.specs.declared.outcome.Outcome.{Outcome}

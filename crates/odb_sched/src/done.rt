@@ -16,7 +16,7 @@ use odb_doc::Outcome;
 use std::alloc::{AllocError, Global};
 use std::marker::Model;
 
-/// What a request of a finished run is answered (OData JSON Format 4.01, section 19.4).
+/// What a request of a finished run is answered (OData JSON Format 4.01, section 19.5).
 #[derive(Clone, Copy, Debug)]
 pub enum Answer<'a> {
     /// The outcome that was reported.
@@ -39,7 +39,7 @@ impl Answer<'_> {
     }
 }
 
-/// A finished run, with its answers (OData JSON Format 4.01, section 19.4).
+/// A finished run, with its answers (OData JSON Format 4.01, section 19.5).
 #[derive(Drop)]
 pub struct Done<'p> {
     plan: &'p Plan<'p>,

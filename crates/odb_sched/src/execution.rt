@@ -122,7 +122,7 @@ fn take<S: Service>(
 }
 
 /// Runs a plan to its end. The chooser says what comes next, and the service gives the outcome of a
-/// request when its report is chosen (OData JSON Format 4.01, section 19.2; OData Protocol 4.01,
+/// request when its report is chosen (OData JSON Format 4.01, section 19.4; OData Protocol 4.01,
 /// section 11.7).
 ///
 /// There are two steps to a request at most, and their memory is taken before the first. A run is

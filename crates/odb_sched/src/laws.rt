@@ -1,5 +1,5 @@
 //! What is true of every run of a plan, in each mode, at each width, and whatever is reported
-//! (OData JSON Format 4.01, sections 19.1 and 19.2; OData Protocol 4.01, section 11.7).
+//! (OData JSON Format 4.01, sections 19.1 and 19.4; OData Protocol 4.01, section 11.7).
 //!
 //! The laws are clauses of functions that change nothing. They speak of lists of events, and of the
 //! same words that the clauses of the scheduler use.

@@ -1,10 +1,10 @@
 //! Runs of an OData JSON batch: which request may start, and what each is answered in the end.
 //!
-//! A [`Scheduler`] drives one run of a plan (OData JSON Format 4.01, sections 19.1 and 19.2; OData
+//! A [`Scheduler`] drives one run of a plan (OData JSON Format 4.01, sections 19.1 and 19.4; OData
 //! Protocol 4.01, section 11.7). It is told which requests were started and what they reported, and
 //! refuses what may not come. It calls no service, and decides no order beyond what the requests
 //! depend on. [`run`] takes a whole list of events. A finished run is [`Done`] and has the answers
-//! (section 19.4). What holds of every run is said in [`laws`].
+//! (section 19.5). What holds of every run is said in [`laws`].
 #![tactic(auto)]
 
 mod chooser;

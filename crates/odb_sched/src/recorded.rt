@@ -13,7 +13,7 @@ use std::alloc::{AllocError, Global};
 use std::marker::Model;
 
 /// A service that gives recorded outcomes, each once: one for a request whose id they name, and none
-/// for the others (OData JSON Format 4.01, section 19.4).
+/// for the others (OData JSON Format 4.01, section 19.5).
 #[derive(Drop)]
 pub struct Recorded {
     outcomes: Vec<Option<Outcome>>,

@@ -15,7 +15,7 @@ pub enum ServiceFault {
     OutOfMemory,
 }
 
-/// Performs requests (OData JSON Format 4.01, section 19.2).
+/// Performs requests (OData JSON Format 4.01, section 19.4).
 ///
 /// What a service may answer is a relation of its own. An answer for one request changes nothing of
 /// what it may answer for another.
