@@ -69,12 +69,14 @@ fn result_text(alloc: Global, trace: &Trace<'_>, traced: bool) -> Result<String,
     ensures one_per_id { OnOk result (HasOnePerId (plan_records trace.now.done.plan)
         (responses.response_value trace.now.done)) }
 {
+    let response = whole_response(alloc, trace)?;
     let mut text = if traced {
-        trace_text(alloc, trace)?
+        let mut trace = trace_text(alloc, trace)?;
+        trace.push_str(&response)?;
+        trace
     } else {
-        String::new(alloc)
+        response
     };
-    text.push_str(&whole_response(alloc, trace)?)?;
     text.push_str("\n")?;
     Ok(text)
 }
