@@ -1,5 +1,6 @@
 -- The steps of an execution, as they are printed.
 use Rattle.std.specs.Prelude.{ℕ, List, [], ◌∷◌, ◌++◌, unwrap_or, codes}
+use Rattle.std.specs.List.{flat_map}
 use Rattle.std.specs.Fmt.{decimal}
 use Rattle.odb_check.specs.Plans.{plan_records}
 use Rattle.odb_check.specs.Positions.{id_at}
@@ -26,11 +27,6 @@ step_line state (step.Report i) = report_line (id_text state i) (status_of (repo
 abbrev pub undo_line : State → ℕ → List ℕ
 undo_line state i = codes "undo " ++ id_text state i ++ newline ∷ []
 
--- the lines of some things, one after another
-abbrev pub lines : {X : Type 0} → (X → List ℕ) → List X → List ℕ
-lines line [] = []
-lines line (x ∷ xs) = line x ++ lines line xs
-
 -- the steps in their order, and then what is undone
 abbrev pub trace_text : State → List Step → List ℕ
-trace_text state steps = lines (step_line state) steps ++ lines (undo_line state) (undone state)
+trace_text state steps = flat_map (step_line state) steps ++ flat_map (undo_line state) (undone state)

@@ -1,5 +1,6 @@
 ghost use Rattle.std.specs.Prelude.{◌≡◌, ◌<◌, All, IfOk, string_bytes};
 ghost use Rattle.odb_sched.specs.Answers.{reported, status_of};
+ghost use Rattle.std.specs.List.{flat_map};
 ghost use Rattle.odb_sched.specs.State.{size};
 ghost use Rattle.odb_sched.specs.Advances.{position_in};
 ghost use Rattle.odb_batch.specs.Traces as traces;
@@ -52,7 +53,7 @@ fn undo_line(alloc: Global, done: &Done<'_>, i: u32) -> Result<String, AllocErro
 fn step_lines(alloc: Global, done: &Done<'_>, steps: &[Step]) -> Result<String, AllocError>
     requires { All (λ step. position_in step < size done.now) steps.now }
     ensures { IfOk result (λ text. string_bytes text
-        ≡ traces.lines (traces.step_line done.now) steps.now) }
+        ≡ flat_map (traces.step_line done.now) steps.now) }
 {
     let mut text = String::new(alloc);
     for step in steps {
@@ -65,7 +66,7 @@ fn step_lines(alloc: Global, done: &Done<'_>, steps: &[Step]) -> Result<String, 
 fn undo_lines(alloc: Global, done: &Done<'_>, positions: &[u32]) -> Result<String, AllocError>
     requires { All (λ i. i < size done.now) positions.now }
     ensures { IfOk result (λ text. string_bytes text
-        ≡ traces.lines (traces.undo_line done.now) positions.now) }
+        ≡ flat_map (traces.undo_line done.now) positions.now) }
 {
     let mut text = String::new(alloc);
     for i in positions {
