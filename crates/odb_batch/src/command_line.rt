@@ -171,3 +171,29 @@ impl<'a> Task<'a> {
         })
     }
 }
+
+#[cfg(test)]
+mod tests {
+    use super::width_of;
+
+    #[test]
+    fn a_width_is_decimal_digits_within_the_limits(rt: HostRuntime) {
+        for (text, want) in [
+            ("1", Some(1)),
+            ("10000", Some(10_000)),
+            ("0007", Some(7)),
+            ("00000000000010000", Some(10_000)),
+            ("0", None),
+            ("10001", None),
+            ("99999999999999999999", None),
+            ("", None),
+            ("+5", None),
+            ("-5", None),
+            (" 5", None),
+            ("5 ", None),
+            ("1e3", None),
+        ] {
+            assert_eq!(rt; width_of(text), want, "{text}");
+        }
+    }
+}
