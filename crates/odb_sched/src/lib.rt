@@ -3,8 +3,10 @@
 //! A [`Scheduler`] drives one run of a plan (OData JSON Format 4.01, sections 19.1 and 19.4; OData
 //! Protocol 4.01, section 11.7). It is told which requests were started and what they reported, and
 //! refuses what may not come. It calls no service, and decides no order beyond what the requests
-//! depend on. [`run`] takes a whole list of events. A finished run is [`Done`] and has the answers
-//! (section 19.5). What holds of every run is said in [`laws`].
+//! depend on. [`run`] takes a whole list of events, and [`execute`] runs a plan to its end: a
+//! [`Chooser`] decides the order, and a [`Service`] performs the requests, as [`Recorded`] does by the
+//! outcomes of a record. A finished run is [`Done`] and has the answers (section 19.5). What holds of
+//! every run is said in [`laws`].
 #![tactic(auto)]
 
 mod chooser;
