@@ -1,0 +1,19 @@
+-- What a set of numbers is made of.
+use Rattle.std.specs.Prelude.{◌≡◌, ℕ, ◌<◌, ◌≤◌, Bool, List, Option, Some, None, length, map, is_some, count_by, slice_index, slice_index_or}
+use Rattle.odb_dense.specs.declared.positions.Positions.TheInside.{Inside}
+
+-- which numbers are in a set
+abbrev pub members : Inside → List Bool
+members s = map is_some s.places.items
+
+-- the front of the list has the numbers that have a place, each at its place
+pub record ArePlaced (items : List ℕ) (places : List (Option ℕ)) (count : ℕ) : Type 0 where
+  pub few : length places ≤ 4294967295
+  pub room : length items ≡ length places
+  pub counted : count ≡ count_by is_some places
+  pub placed : (k : ℕ) → k < count → slice_index_or places (slice_index items k) None ≡ Some k
+  pub listed : (i k : ℕ) → slice_index_or places i None ≡ Some k → (k < count) × (slice_index items k ≡ i)
+
+-- what a set keeps
+abbrev pub IsPlaced : Inside → Type 0
+IsPlaced s = ArePlaced s.items.items s.places.items s.count

@@ -1,0 +1,156 @@
+ghost use Rattle.std.specs.Prelude.{◌≡◌, ◌<◌, ◌≤◌, ◌==◌, ℕ, false, true, None, length, count_by, replicate, slice_index_or, slice_set, IfOk, IfSome};
+ghost use Rattle.odb_dense.specs.Extremes.{IsLeastOf, IsGreatestOf};
+ghost use Rattle.odb_dense.specs.Lists.{ListsOnce};
+
+use crate::positions::Positions;
+use std::alloc::{AllocError, Global};
+use std::marker::Model;
+
+/// A set of the numbers below a bound of which the least and the greatest can be asked for.
+///
+/// No number of the set is below `low`, and none is at `high` or above. They move towards each
+/// other only where an end is asked for, so that a walk through the set from one end takes a step
+/// for each number that it passes.
+#[derive(Drop)]
+pub struct OrderedPositions {
+    set: Positions,
+    low: u32,
+    high: u32,
+}
+
+impl Model for OrderedPositions {
+    ghost use Rattle.std.specs.Prelude.{List, Bool};
+
+    ghost Value = { List Bool };
+
+    ghost use Rattle.odb_dense.specs.Extremes.{members, IsBetween};
+
+    ghost view = { members };
+
+    ghost invariant = { IsBetween };
+}
+
+/// The least number of a set that is not below `low`.
+fn walk_up(set: &Positions, low: u32) -> Option<u32>
+    requires lower { (i : ℕ) → i < low → slice_index_or set.now i false ≡ false }
+    ensures none { result ≡ None → (i : ℕ) → slice_index_or set.now i false ≡ false }
+    ensures some { IfSome result (IsLeastOf set.now) }
+{
+    for i in low..set.bound() {
+        if set.contains(i) {
+            return Some(i);
+        }
+    }
+    None
+}
+
+/// The greatest number of a set that is below `high`.
+fn walk_down(set: &Positions, high: u32) -> Option<u32>
+    requires bound { high ≤ length set.now }
+    requires upper { (i : ℕ) → high ≤ i → slice_index_or set.now i false ≡ false }
+    ensures none { result ≡ None → (i : ℕ) → slice_index_or set.now i false ≡ false }
+    ensures some { IfSome result (IsGreatestOf set.now) }
+{
+    for i in (0..high).rev() {
+        if set.contains(i) {
+            return Some(i);
+        }
+    }
+    None
+}
+
+impl OrderedPositions {
+    /// The empty set of the numbers below a bound.
+    ///
+    /// # Errors
+    ///
+    /// Where memory for the bound is not to be had.
+    pub fn new(alloc: Global, bound: u32) -> Result<OrderedPositions, AllocError>
+        ensures { IfOk result (λ s. s ≡ replicate bound false) }
+    {
+        Ok(OrderedPositions {
+            set: Positions::new(alloc, bound)?,
+            low: 0,
+            high: 0,
+        })
+    }
+
+    /// The numbers of the set, each once, in an order that is open.
+    pub fn as_slice(&self) -> &[u32]
+        ensures len { length result.now ≡ count_by (λ b. b) self.now }
+        ensures listed { ListsOnce (length self.now) (λ i. slice_index_or self.now i false)
+            result.now }
+    {
+        self.set.as_slice()
+    }
+
+    /// How many numbers are in the set.
+    pub fn len(&self) -> usize
+        ensures { result ≡ count_by (λ b. b) self.now }
+    {
+        self.set.len()
+    }
+
+    /// Whether no number is in the set.
+    pub fn is_empty(&self) -> bool
+        ensures { result ≡ (count_by (λ b. b) self.now == 0) }
+    {
+        self.set.is_empty()
+    }
+
+    /// Whether a number below the bound is in the set.
+    pub fn contains(&self, i: u32) -> bool
+        requires { i < length self.now }
+        ensures { result ≡ slice_index_or self.now i false }
+    {
+        self.set.contains(i)
+    }
+
+    /// Puts a number below the bound into the set, if it is not in it.
+    pub fn insert(&mut self, i: u32)
+        requires { i < length self.old }
+        ensures { self.new ≡ slice_set self.old i true }
+    {
+        self.set.insert(i);
+        self.low = self.low.min(i);
+        self.high = self.high.max(i + 1);
+    }
+
+    /// Takes a number below the bound out of the set, if it is in it.
+    pub fn remove(&mut self, i: u32)
+        requires { i < length self.old }
+        ensures { self.new ≡ slice_set self.old i false }
+    {
+        self.set.remove(i);
+    }
+
+    /// The least number of the set, or `None` where it is empty. A call takes a step for each
+    /// number that it passes.
+    pub fn least(&mut self) -> Option<u32>
+        ensures same { self.new ≡ self.old }
+        ensures none { result ≡ None → (i : ℕ) → slice_index_or self.old i false ≡ false }
+        ensures some { IfSome result (IsLeastOf self.old) }
+    {
+        if self.set.is_empty() {
+            return None;
+        }
+        let least = walk_up(&self.set, self.low)?;
+        self.low = least;
+        Some(least)
+    }
+
+    /// The greatest number of the set, or `None` where it is empty. A call takes a step for each
+    /// number that it passes.
+    pub fn greatest(&mut self) -> Option<u32>
+        ensures same { self.new ≡ self.old }
+        ensures none { result ≡ None → (i : ℕ) → slice_index_or self.old i false ≡ false }
+        ensures some { IfSome result (IsGreatestOf self.old) }
+    {
+        if self.set.is_empty() {
+            return None;
+        }
+        let greatest = walk_down(&self.set, self.high)?;
+        self.high = greatest + 1;
+        Some(greatest)
+    }
+}

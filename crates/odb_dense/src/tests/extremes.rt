@@ -1,0 +1,257 @@
+//! Worked examples of sets that tell their least and greatest number: what these are after a few
+//! steps, and on the way through a set from either end.
+
+ghost use Rattle.std.specs.Prelude.{◌≡◌, ◌<◌, length};
+
+use super::BOUND;
+use crate::OrderedPositions;
+use std::alloc::{AllocError, Global};
+use std::process::Abort;
+use std::test::Fail;
+
+/// A step of a set: a number goes in or out, an end is asked for, or the number at an end, which
+/// has to be this one, goes out.
+#[derive(Clone, Copy)]
+enum Step {
+    In(u32),
+    Out(u32),
+    Least(Option<u32>),
+    Greatest(Option<u32>),
+    OutLeast(u32),
+    OutGreatest(u32),
+}
+
+use Step::{Greatest, In, Least, Out, OutGreatest, OutLeast};
+
+/// Steps of a set that is empty at first, each list with its name.
+const STORIES: &[(&str, &[Step])] = &[
+    (
+        "no number",
+        &[Least(None), Greatest(None), Out(3), Least(None)],
+    ),
+    ("one number", &[In(3), Least(Some(3)), Greatest(Some(3))]),
+    (
+        "the first number",
+        &[In(0), Greatest(Some(0)), OutLeast(0), Greatest(None)],
+    ),
+    (
+        "the last number",
+        &[In(5), Least(Some(5)), OutGreatest(5), Least(None)],
+    ),
+    (
+        "asked twice, put in twice and taken out between the ends",
+        &[
+            In(2),
+            In(4),
+            In(1),
+            Least(Some(1)),
+            Least(Some(1)),
+            Greatest(Some(4)),
+            Greatest(Some(4)),
+            In(1),
+            Out(2),
+            Least(Some(1)),
+            Greatest(Some(4)),
+        ],
+    ),
+    (
+        "up to the greatest",
+        &[
+            In(4),
+            In(0),
+            In(5),
+            In(2),
+            OutLeast(0),
+            OutLeast(2),
+            OutLeast(4),
+            OutLeast(5),
+            Least(None),
+            Greatest(None),
+        ],
+    ),
+    (
+        "down to the least",
+        &[
+            In(4),
+            In(0),
+            In(5),
+            In(2),
+            OutGreatest(5),
+            OutGreatest(4),
+            OutGreatest(2),
+            OutGreatest(0),
+            Greatest(None),
+            Least(None),
+        ],
+    ),
+    (
+        "from both ends to the middle",
+        &[
+            In(1),
+            In(2),
+            In(3),
+            In(4),
+            OutLeast(1),
+            OutGreatest(4),
+            OutLeast(2),
+            Greatest(Some(3)),
+            OutLeast(3),
+            Greatest(None),
+        ],
+    ),
+    (
+        "below the least after a walk up",
+        &[
+            In(2),
+            In(4),
+            OutLeast(2),
+            Least(Some(4)),
+            In(1),
+            Least(Some(1)),
+            Greatest(Some(4)),
+        ],
+    ),
+    (
+        "into a set that a walk up left empty",
+        &[
+            In(2),
+            In(4),
+            OutLeast(2),
+            OutLeast(4),
+            Least(None),
+            In(0),
+            Greatest(Some(0)),
+            Least(Some(0)),
+        ],
+    ),
+    (
+        "above the greatest after a walk down",
+        &[
+            In(1),
+            In(3),
+            OutGreatest(3),
+            Greatest(Some(1)),
+            In(4),
+            Greatest(Some(4)),
+            Least(Some(1)),
+        ],
+    ),
+    (
+        "into a set that a walk down left empty",
+        &[
+            In(1),
+            In(3),
+            OutGreatest(3),
+            OutGreatest(1),
+            Greatest(None),
+            In(5),
+            Least(Some(5)),
+            Greatest(Some(5)),
+        ],
+    ),
+];
+
+/// Takes the steps of a story with this name, and compares what they tell.
+fn takes(rt: &impl Abort, set: &mut OrderedPositions, name: &str, steps: &[Step])
+    requires { length set.old ≡ 6 }
+    ensures { length set.new ≡ 6 }
+{
+    for (at, step) in steps.iter().enumerate() {
+        match *step {
+            In(i) => {
+                assert!(rt; i < BOUND);
+                set.insert(i);
+            }
+            Out(i) => {
+                assert!(rt; i < BOUND);
+                set.remove(i);
+            }
+            Least(wanted) => assert_eq!(rt; set.least(), wanted, "{name}: step {at}"),
+            Greatest(wanted) => assert_eq!(rt; set.greatest(), wanted, "{name}: step {at}"),
+            OutLeast(i) => {
+                assert!(rt; i < BOUND);
+                assert_eq!(rt; set.least(), Some(i), "{name}: step {at}");
+                set.remove(i);
+            }
+            OutGreatest(i) => {
+                assert!(rt; i < BOUND);
+                assert_eq!(rt; set.greatest(), Some(i), "{name}: step {at}");
+                set.remove(i);
+            }
+        }
+    }
+}
+
+#[test]
+fn tells_the_least_and_the_greatest(rt: HostRuntime) -> Result<(), Fail> {
+    for (name, steps) in STORIES {
+        let mut set = OrderedPositions::new(rt.alloc(), BOUND)?;
+        takes(&rt, &mut set, name, steps);
+    }
+    Ok(())
+}
+
+/// Puts a number into an empty set, asks for both ends, and takes it out.
+fn is_alone(rt: &impl Abort, set: &mut OrderedPositions, i: u32)
+    requires { i < length set.old }
+    ensures { length set.new ≡ length set.old }
+{
+    set.insert(i);
+    assert_eq!(rt; set.least(), Some(i));
+    assert_eq!(rt; set.greatest(), Some(i));
+    set.remove(i);
+}
+
+/// Goes through the numbers below a bound, up and then down, with one at a time in the set.
+fn goes_up_and_down(rt: &impl Abort, alloc: Global, bound: u32) -> Result<(), AllocError> {
+    let mut set = OrderedPositions::new(alloc, bound)?;
+    for i in 0..bound {
+        is_alone(rt, &mut set, i);
+    }
+    for i in (0..bound).rev() {
+        is_alone(rt, &mut set, i);
+    }
+    Ok(())
+}
+
+// Where a step of the set forgot how far the walks came, this would take longer than a test may.
+#[test]
+fn passes_no_number_again(rt: HostRuntime) -> Result<(), Fail> {
+    goes_up_and_down(&rt, rt.alloc(), 1_000_000)?;
+    Ok(())
+}
+
+#[test]
+fn has_what_was_put_in_after_its_ends_were_asked_for(rt: HostRuntime) -> Result<(), Fail> {
+    let alloc = rt.alloc();
+    let mut set = OrderedPositions::new(alloc, BOUND)?;
+    assert!(rt; set.is_empty());
+    let steps = [
+        In(4),
+        In(1),
+        In(3),
+        Least(Some(1)),
+        Greatest(Some(4)),
+        Out(3),
+    ];
+    takes(&rt, &mut set, "what is in it", &steps);
+    let mut items = Vec::from_slice(alloc, set.as_slice())?;
+    items.sort()?;
+    assert_eq!(rt; items.as_slice(), [1, 4].as_slice());
+    assert_eq!(rt; set.len(), 2);
+    assert!(rt; !set.is_empty());
+    for i in 0..BOUND {
+        assert_eq!(rt; set.contains(i), i == 1 || i == 4, "{i}");
+    }
+    Ok(())
+}
+
+#[test]
+fn is_empty_below_a_bound_of_0(rt: HostRuntime) -> Result<(), Fail> {
+    let mut set = OrderedPositions::new(rt.alloc(), 0)?;
+    assert_eq!(rt; set.least(), None);
+    assert_eq!(rt; set.greatest(), None);
+    assert!(rt; set.is_empty());
+    assert!(rt; set.as_slice().is_empty());
+    Ok(())
+}
