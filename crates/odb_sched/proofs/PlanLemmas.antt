@@ -1,13 +1,13 @@
 -- The units and needs of a plan, position by position, as those of its requests.
-use Rattle.std.proofs.Common.{Option, Some, None, ◌≡◌, ℕ, zero, suc, ◌<◌, ◌∙◌, refl, arith, List, [], ◌∷◌, length, get_or, inl, inr, length-append}
+use Rattle.std.proofs.Common.{Option, Some, None, ◌≡◌, ℕ, zero, suc, ◌<◌, ◌≤◌, ◌∙◌, refl, arith, Bool, true, false, cond, List, [], ◌∷◌, length, get_or, inl, inr, length-append}
 use Rattle.std.proofs.lemmas.Bool.{cases_lt}
 use Rattle.std.proofs.lemmas.List.{get_or_append_left, get_or_at}
 use Rattle.odb_check.specs.declared.plan.Plan.{Plan}
 use Rattle.odb_doc.specs.Records.{Record}
 use Rattle.odb_check.specs.Plans.{plan_records}
 use Rattle.odb_check.specs.Positions.{group_at}
-use Rattle.odb_check.specs.Firsts.{list_below}
-use Rattle.odb_check.specs.Units.{unit_at, unit_count}
+use Rattle.odb_check.specs.Firsts.{count_below, list_below}
+use Rattle.odb_check.specs.Units.{begins_unit, unit_at, unit_count}
 use Rattle.odb_check.specs.Needs.{needs_at}
 use Rattle.odb_check.specs.Units.{HasMembers}
 use Rattle.odb_check.specs.Shape.{HasNamesAsNeeds, IsPlan, shape_of, unit_of, needs_of}
@@ -66,3 +66,15 @@ group_at-within [] j group e = absurd (nothing group e)
     nothing g h = cc
 group_at-within (r ∷ rs) zero group e = omega arith
 group_at-within (r ∷ rs) (suc j) group e = let later : j < length rs = group_at-within rs j group e in omega arith
+
+count_below-few : (n : ℕ) (test : ℕ → Bool) → count_below n test ≤ n
+count_below-few zero test = omega arith
+count_below-few (suc n) test = at (test n) (count_below-few n test)
+  where
+    at : (b : Bool) → count_below n test ≤ n → cond b (suc (count_below n test)) (count_below n test) ≤ suc n
+    at true few = omega arith
+    at false few = omega arith
+
+-- there are at most as many units as requests
+pub few_units : (source : Plan) → (shape source).unit_count ≤ length (shape source).units
+few_units source = rw (length-shape source, unit_count-shape source) (count_below-few (length (plan_records source)) (begins_unit (plan_records source)))

@@ -6,6 +6,8 @@ use Rattle.odb_sched.specs.declared.step.Step.{Step}
 use Rattle.odb_sched.specs.declared.step.Step.TheVariants as step
 use Rattle.odb_sched.specs.declared.chooser.Choice.{Choice}
 use Rattle.odb_sched.specs.declared.chooser.Choice.TheVariants as choice
+use Rattle.odb_sched.specs.declared.order.Order.{Order}
+use Rattle.odb_sched.specs.declared.order.Order.TheVariants as order
 
 -- a set of positions
 abbrev pub Positions : Type 0
@@ -55,3 +57,9 @@ AllowsLast ready running (step.Start i) = IsNone running × IsGreatest ready i
 abbrev pub AllowsWide : Positions → Positions → Step → Type 0
 AllowsWide ready running (step.Start i) = IsLeast ready i
 AllowsWide ready running (step.Report i) = IsNone ready × IsLeast running i
+
+-- the steps that an order allows
+abbrev pub AllowsOrder : Order → Positions → Positions → Step → Type 0
+AllowsOrder order.First = AllowsFirst
+AllowsOrder order.Last = AllowsLast
+AllowsOrder order.Wide = AllowsWide

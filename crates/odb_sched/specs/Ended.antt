@@ -1,10 +1,11 @@
 -- What a finished run keeps.
-use Rattle.std.specs.Prelude.{◌≡◌, true}
+use Rattle.std.specs.Prelude.{◌≡◌, true, length}
 use Rattle.odb_sched.specs.declared.done.Done.TheInside.{Inside}
-use Rattle.odb_sched.specs.State.{State}
+use Rattle.odb_sched.specs.State.{State, shape}
 use Rattle.odb_sched.specs.Steps.{is_finished}
 use Rattle.odb_sched.specs.Plans.{state_of}
 use Rattle.odb_sched.specs.Reached.{IsReached}
+use Rattle.odb_sched.specs.Tallies.{ArePending}
 
 -- the state in which the run has ended
 abbrev pub state_in : Inside → State
@@ -13,3 +14,5 @@ state_in s = state_of s.plan.now s.policy s.phases.items
 pub record IsEnded (s : Inside) : Type 0 where
   pub reached : IsReached (state_in s)
   pub finished : is_finished (state_in s) ≡ true
+  pub members : length s.pending.items ≡ (shape s.plan.now).unit_count
+  pub pending : ArePending (shape s.plan.now) s.phases.items s.pending.items

@@ -9,12 +9,16 @@ pub mod Steps
 pub mod Runs
 pub mod Answers
 pub mod Laws
-pub mod Views
 pub mod Reached
+pub mod Tallies
+pub mod NeedPairs
+pub mod FirstCounts
+pub mod Passing
 pub mod Kept
 pub mod Ended
 pub mod Refusals
 pub mod Choosing
+pub mod Ends
 pub mod Courses
 pub mod Recordings
 pub mod ExecFaults

@@ -1,6 +1,8 @@
 ghost use Rattle.std.specs.Prelude.{◌<◌, length, slice_index_or};
 ghost use Rattle.odb_sched.specs.Choosing.{positions_of, IsLeast, IsGreatest};
 
+use crate::order::Order;
+
 /// Which step of a run comes next: a place, counted from 0, in one of the two slices that were lent.
 #[derive(Clone, Copy, Debug, PartialEq, Eq)]
 pub enum Choice {
@@ -15,9 +17,9 @@ pub enum Choice {
 /// What a chooser may pick is a relation of its own over the sets of positions that may start and
 /// that run, so it does not hang on the order in which they are lent.
 pub trait Chooser {
-    ghost use Rattle.std.specs.Prelude.{◌≡◌, ◌<◌, ◌+◌, length};
+    ghost use Rattle.std.specs.Prelude.{◌≡◌, ◌<◌, ◌+◌, length, IfSome};
     ghost use Rattle.odb_sched.specs.declared.step.Step.{Step};
-    ghost use Rattle.odb_sched.specs.Choosing.{Positions, positions_of, IsInRange, picked};
+    ghost use Rattle.odb_sched.specs.Choosing.{Positions, positions_of, IsInRange, picked, AllowsOrder};
 
     /// Which steps it allows for the positions that may start and those that run.
     ghost allows: { Self → Positions → Positions → Step → Type 0 };
@@ -30,6 +32,15 @@ pub trait Chooser {
             (picked ready.now running.now result) }
         ensures narrows { (ready running : Positions) (step : Step)
             → allows self.new ready running step → allows self.old ready running step };
+
+    /// The order that it goes by, where that is one of [`Order`]: an execution goes by it then and does
+    /// not ask for each step.
+    fn order(&self) -> Option<Order>
+        ensures { IfSome result (λ order. (ready running : Positions) (step : Step)
+            → AllowsOrder order ready running step → allows self.now ready running step) }
+    {
+        None
+    }
 }
 
 /// Where the least position stands.
@@ -79,6 +90,10 @@ impl Chooser for First {
             Choice::Report(least_place(running))
         }
     }
+
+    fn order(&self) -> Option<Order> {
+        Some(Order::First)
+    }
 }
 
 /// Reports before it starts, and takes the greatest position.
@@ -97,6 +112,10 @@ impl Chooser for Last {
             Choice::Report(greatest_place(running))
         }
     }
+
+    fn order(&self) -> Option<Order> {
+        Some(Order::Last)
+    }
 }
 
 /// Starts all that may start before it reports, and takes the least position.
@@ -114,5 +133,9 @@ impl Chooser for Wide {
         } else {
             Choice::Start(least_place(ready))
         }
+    }
+
+    fn order(&self) -> Option<Order> {
+        Some(Order::Wide)
     }
 }

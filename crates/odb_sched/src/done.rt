@@ -6,11 +6,11 @@ ghost use Rattle.odb_sched.specs.Steps as steps;
 ghost use Rattle.odb_sched.specs.Laws as laws;
 ghost use Rattle.odb_sched.specs.Reached.{IsReached};
 ghost use Rattle.odb_sched.specs.Plans.{state_of};
+ghost use Rattle.odb_sched.specs.Tallies.{ArePending};
 
 use crate::phase::{Phase, is_success};
 use crate::policy::Policy;
 use crate::shape::{size, unit_of};
-use crate::units::unit_succeeded;
 use odb_check::Plan;
 use odb_doc::Outcome;
 use std::alloc::{AllocError, Global};
@@ -45,6 +45,7 @@ pub struct Done<'p> {
     plan: &'p Plan<'p>,
     policy: Policy,
     phases: Vec<Phase>,
+    pending: Vec<u32>,
 }
 
 impl<'p> Model for Done<'p> {
@@ -68,17 +69,34 @@ impl<'p> Model for Done<'p> {
 impl<'p> Done<'p> {
     ghost use Rattle.odb_sched.specs.Answers as answers;
 
-    /// The end of a run whose requests stand so.
-    pub(crate) fn new(plan: &'p Plan<'p>, policy: Policy, phases: Vec<Phase>) -> Done<'p>
+    /// The end of a run whose requests stand so, where `pending` says of each unit how many members
+    /// have not reported a success.
+    pub(crate) fn new(
+        plan: &'p Plan<'p>,
+        policy: Policy,
+        phases: Vec<Phase>,
+        pending: Vec<u32>,
+    ) -> Done<'p>
         requires reached { IsReached (state_of plan.now policy phases.items) }
         requires finished { steps.is_finished (state_of plan.now policy phases.items) ≡ true }
+        requires members { length pending.items ≡ (states.shape plan.now).unit_count }
+        requires pending { ArePending (states.shape plan.now) phases.items pending.items }
         ensures { result ≡ state_of plan.now policy phases.items }
     {
         Done {
             plan,
             policy,
             phases,
+            pending,
         }
+    }
+
+    /// Whether each member of the unit of a request has reported a success.
+    fn unit_succeeded(&self, i: u32) -> bool
+        requires { i < states.size self.now }
+        ensures { result ≡ steps.unit_succeeded self.now (shapes.unit_of self.now.shape i) }
+    {
+        self.pending[unit_of(self.plan, i) as usize] == 0
     }
 
     /// The plan that was run.
@@ -100,8 +118,7 @@ impl<'p> Done<'p> {
     {
         match &self.phases[i as usize] {
             Phase::Reported(outcome) => {
-                let succeeded = unit_succeeded(self.plan, &self.phases, unit_of(self.plan, i));
-                if is_success(outcome.status) && !succeeded {
+                if is_success(outcome.status) && !self.unit_succeeded(i) {
                     Answer::FailedDependency
                 } else {
                     Answer::Reported(outcome)
@@ -128,8 +145,7 @@ impl<'p> Done<'p> {
         requires { i < states.size self.now }
         ensures { result ≡ answers.is_undone self.now i }
     {
-        self.phases[i as usize].has_succeeded()
-            && !unit_succeeded(self.plan, &self.phases, unit_of(self.plan, i))
+        self.phases[i as usize].has_succeeded() && !self.unit_succeeded(i)
     }
 
     /// The positions whose requests reported a success that has to be undone, since their unit did

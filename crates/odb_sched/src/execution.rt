@@ -49,8 +49,8 @@ fn pick(chooser: &mut dyn Chooser, ready: &[u32], running: &[u32]) -> Step
     }
 }
 
-/// The next step, or `None` where the run is finished.
-fn next_step(scheduler: &Scheduler<'_>, chooser: &mut dyn Chooser) -> Option<Step>
+/// The next step that the chooser picks, or `None` where the run is finished.
+fn next_choice(scheduler: &Scheduler<'_>, chooser: &mut dyn Chooser) -> Option<Step>
     ensures finished { result ≡ None → is_finished scheduler.now ≡ true }
     ensures next { IfSome result (IsNext (allows chooser.old) scheduler.now) }
     ensures narrows { (ready running : Positions) (step : Step)
@@ -60,6 +60,21 @@ fn next_step(scheduler: &Scheduler<'_>, chooser: &mut dyn Chooser) -> Option<Ste
         return None;
     }
     Some(pick(chooser, scheduler.ready(), scheduler.running()))
+}
+
+/// The next step, or `None` where the run is finished. A chooser that goes by an order is not asked
+/// for it.
+fn next_step(scheduler: &mut Scheduler<'_>, chooser: &mut dyn Chooser) -> Option<Step>
+    ensures same { scheduler.new ≡ scheduler.old }
+    ensures finished { result ≡ None → is_finished scheduler.old ≡ true }
+    ensures next { IfSome result (IsNext (allows chooser.old) scheduler.old) }
+    ensures narrows { (ready running : Positions) (step : Step)
+        → allows chooser.new ready running step → allows chooser.old ready running step }
+{
+    match chooser.order() {
+        Some(order) => scheduler.next_in(order),
+        None => next_choice(scheduler, chooser),
+    }
 }
 
 /// The fault of a request whose outcome is not taken.
@@ -164,7 +179,7 @@ pub fn execute<'p, S: Service>(
     every_run(plan);
     let mut scheduler = Scheduler::new(alloc, plan, policy)?;
     let mut steps = Vec::with_capacity(alloc, 2 * plan.len() as usize)?;
-    while let Some(step) = next_step(&scheduler, chooser) {
+    while let Some(step) = next_step(&mut scheduler, chooser) {
         take(&mut scheduler, plan, service, step)?;
         steps.push(step).unwrap();
     }

@@ -4,9 +4,9 @@
 //! Protocol 4.01, section 11.7). It is told which requests were started and what they reported, and
 //! refuses what may not come. It calls no service, and decides no order beyond what the requests
 //! depend on. [`run`] takes a whole list of events, and [`execute`] runs a plan to its end: a
-//! [`Chooser`] decides the order, and a [`Service`] performs the requests, as [`Recorded`] does by the
-//! outcomes of a record. A finished run is [`Done`] and has the answers (section 19.5). What holds of
-//! every run is said in [`laws`].
+//! [`Chooser`] decides the order, step by step or by an [`Order`] that it names, and a [`Service`]
+//! performs the requests, as [`Recorded`] does by the outcomes of a record. A finished run is [`Done`]
+//! and has the answers (section 19.5). What holds of every run is said in [`laws`].
 #![tactic(auto)]
 
 mod chooser;
@@ -15,6 +15,10 @@ mod event;
 mod execution;
 mod fault;
 pub mod laws;
+mod leaving;
+mod meeting;
+mod needers;
+mod order;
 mod phase;
 mod policy;
 mod recorded;
@@ -22,10 +26,13 @@ mod refusal;
 mod scheduler;
 mod service;
 mod shape;
+mod spreading;
+mod starting;
 mod step;
+mod tally;
 #[cfg(test)]
 mod tests;
-mod units;
+mod unmet;
 mod views;
 
 pub use chooser::{Choice, Chooser, First, Last, Wide};
@@ -33,6 +40,7 @@ pub use done::{Answer, Done};
 pub use event::{Event, run};
 pub use execution::{Trace, execute};
 pub use fault::ExecFault;
+pub use order::Order;
 pub use policy::{Mode, Policy};
 pub use recorded::Recorded;
 pub use refusal::{ReportRefusal, RunRefusal, StartRefusal};

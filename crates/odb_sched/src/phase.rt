@@ -40,6 +40,12 @@ impl Phase {
         matches!(self, Phase::Running)
     }
 
+    pub(crate) fn is_reported(&self) -> bool
+        ensures { result ≡ phases.is_reported self.now }
+    {
+        matches!(self, Phase::Reported(_))
+    }
+
     /// Whether a status from 200 to 299 was reported.
     pub(crate) fn has_succeeded(&self) -> bool
         ensures { result ≡ phases.has_succeeded self.now }

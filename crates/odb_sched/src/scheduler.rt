@@ -1,4 +1,4 @@
-ghost use Rattle.std.specs.Prelude.{◌≡◌, ◌<◌, ◌≤◌, ◌↔◌, ℕ, true, false, List, Some, length, slice_set, replicate, IsTrue, IsOk, IfOk, IfErr, OnOk, OnErr, All};
+ghost use Rattle.std.specs.Prelude.{◌≡◌, ◌<◌, ◌≤◌, ◌↔◌, ℕ, true, false, List, Some, length, slice_set, replicate, IsTrue, IsOk, IfOk, IfErr, IfSome, OnOk, OnErr, None, All};
 ghost use Rattle.odb_check.specs.Plans.{plan_records};
 ghost use Rattle.odb_sched.specs.declared.policy.Mode.TheVariants as modes;
 ghost use Rattle.odb_sched.specs.declared.phase.Phase.TheVariants.{Unstarted};
@@ -6,14 +6,20 @@ ghost use Rattle.odb_sched.specs.Below.{ListsOnce};
 ghost use Rattle.odb_sched.specs.Phases as tests;
 ghost use Rattle.odb_sched.specs.State as states;
 ghost use Rattle.odb_sched.specs.Steps as steps;
+ghost use Rattle.odb_sched.specs.Advances.{IsNext};
+ghost use Rattle.odb_sched.specs.Choosing.{IsNone, AllowsOrder};
+ghost use Rattle.odb_sched.specs.Courses as courses;
+ghost use Rattle.odb_sched.specs.Ends.{IsAt, ReportsFirst, StartsFirst};
 ghost use Rattle.odb_sched.specs.Laws as laws;
 
 use crate::done::Done;
+use crate::order::{End, Order};
 use crate::phase::{Phase, is_status};
 use crate::policy::Policy;
 use crate::refusal::{ReportRefusal, StartRefusal};
 use crate::shape::{size, unit_of};
-use crate::units::first_unmet;
+use crate::step::Step;
+use crate::unmet::first_unmet;
 use crate::views::Views;
 use odb_check::Plan;
 use odb_doc::Outcome;
@@ -21,6 +27,9 @@ use std::alloc::{AllocError, Global};
 use std::marker::Model;
 
 /// One run of a plan, as far as it has come (OData Protocol 4.01, section 11.7).
+///
+/// A start takes a time in proportion to what the request needs, and all reports together one in
+/// proportion to the requests and what they need. What is asked between events is at hand.
 #[derive(Drop)]
 pub struct Scheduler<'p> {
     plan: &'p Plan<'p>,
@@ -79,14 +88,11 @@ impl<'p> Scheduler<'p> {
         ensures size { IfOk result (λ scheduler. states.size scheduler
             ≡ length (plan_records plan.now)) }
     {
-        let phases = all_unstarted(alloc, size(plan))?;
-        let mut views = Views::new(alloc, plan)?;
-        views.refresh(plan, policy, &phases);
         Ok(Scheduler {
             plan,
             policy,
-            phases,
-            views,
+            phases: all_unstarted(alloc, size(plan))?,
+            views: Views::new(alloc, plan, policy)?,
         })
     }
 
@@ -104,7 +110,7 @@ impl<'p> Scheduler<'p> {
         if self.views.failed(unit_of(self.plan, i)) {
             return Some(StartRefusal::UnitFailed);
         }
-        if let Some(need) = first_unmet(self.plan, &self.phases, i) {
+        if let Some(need) = first_unmet(self.plan, &self.phases, self.views.pending(), i) {
             return Some(StartRefusal::Waiting(need));
         }
         if self.views.running().len() >= self.policy.width as usize {
@@ -129,7 +135,7 @@ impl<'p> Scheduler<'p> {
             return Err(cause);
         }
         put(&mut self.phases, i, Phase::Running);
-        self.views.refresh(self.plan, self.policy, &self.phases);
+        self.views.start(self.plan, self.policy, &self.phases, i);
         Ok(())
     }
 
@@ -164,7 +170,7 @@ impl<'p> Scheduler<'p> {
             return Err((cause, outcome));
         }
         put(&mut self.phases, i, Phase::Reported(outcome));
-        self.views.refresh(self.plan, self.policy, &self.phases);
+        self.views.report(self.plan, self.policy, &self.phases, i);
         Ok(())
     }
 
@@ -173,7 +179,7 @@ impl<'p> Scheduler<'p> {
         ensures listed { ListsOnce (states.size self.now) (steps.may_start self.now) result.now }
         ensures within { All (λ i. i < states.size self.now) result.now }
     {
-        self.views.ready()
+        self.views.ready(self.policy)
     }
 
     /// The positions that run, each once, in an order that is open.
@@ -186,6 +192,76 @@ impl<'p> Scheduler<'p> {
         self.views.running()
     }
 
+    /// The position at one end of those that may start.
+    fn ready_at(&mut self, end: End) -> Option<u32>
+        ensures same { self.new ≡ self.old }
+        ensures none { result ≡ None → IsNone (courses.ready_set self.old) }
+        ensures finished { result ≡ None → IsNone (courses.running_set self.old)
+            → steps.is_finished self.old ≡ true }
+        ensures some { IfSome result (λ i. (i < states.size self.old)
+            × (steps.may_start self.old i ≡ true) × IsAt end (courses.ready_set self.old) i) }
+    {
+        self.views.ready_at(self.policy, end)
+    }
+
+    /// The position at one end of those that run.
+    fn running_at(&mut self, end: End) -> Option<u32>
+        ensures same { self.new ≡ self.old }
+        ensures none { result ≡ None → IsNone (courses.running_set self.old) }
+        ensures finished { result ≡ None → IsNone (courses.ready_set self.old)
+            → steps.is_finished self.old ≡ true }
+        ensures some { IfSome result (λ i. (i < states.size self.old)
+            × (tests.is_running (states.phase_at self.old i) ≡ true)
+            × IsAt end (courses.running_set self.old) i) }
+    {
+        self.views.running_at(end)
+    }
+
+    /// The report at one end of the positions that run, or else the start at that end of those that
+    /// may start.
+    fn report_or_start(&mut self, end: End) -> Option<Step>
+        ensures same { self.new ≡ self.old }
+        ensures finished { result ≡ None → steps.is_finished self.old ≡ true }
+        ensures next { IfSome result (IsNext (ReportsFirst end) self.old) }
+    {
+        if let Some(i) = self.running_at(end) {
+            return Some(Step::Report(i));
+        }
+        match self.ready_at(end) {
+            Some(i) => Some(Step::Start(i)),
+            None => None,
+        }
+    }
+
+    /// The start at one end of the positions that may start, or else the report at that end of those
+    /// that run.
+    fn start_or_report(&mut self, end: End) -> Option<Step>
+        ensures same { self.new ≡ self.old }
+        ensures finished { result ≡ None → steps.is_finished self.old ≡ true }
+        ensures next { IfSome result (IsNext (StartsFirst end) self.old) }
+    {
+        if let Some(i) = self.ready_at(end) {
+            return Some(Step::Start(i));
+        }
+        match self.running_at(end) {
+            Some(i) => Some(Step::Report(i)),
+            None => None,
+        }
+    }
+
+    /// The next step in an order, or `None` where the run is finished.
+    pub(crate) fn next_in(&mut self, order: Order) -> Option<Step>
+        ensures same { self.new ≡ self.old }
+        ensures finished { result ≡ None → steps.is_finished self.old ≡ true }
+        ensures next { IfSome result (IsNext (AllowsOrder order) self.old) }
+    {
+        match order {
+            Order::First => self.report_or_start(End::Least),
+            Order::Last => self.report_or_start(End::Greatest),
+            Order::Wide => self.start_or_report(End::Least),
+        }
+    }
+
     /// Whether no event may come any more: none runs, and the run is stopped or each request was
     /// reported or will never start.
     pub fn is_finished(&self) -> bool
@@ -194,7 +270,7 @@ impl<'p> Scheduler<'p> {
             → (steps.may_start self.now i ≡ false)
             × (tests.is_running (states.phase_at self.now i) ≡ false)) }
     {
-        self.views.is_idle()
+        self.views.is_finished()
     }
 
     /// Ends a finished run.
@@ -210,8 +286,8 @@ impl<'p> Scheduler<'p> {
             plan,
             policy,
             phases,
-            views: _,
+            views,
         } = self;
-        Done::new(plan, policy, phases)
+        Done::new(plan, policy, phases, views.into_pending())
     }
 }

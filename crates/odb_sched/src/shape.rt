@@ -30,10 +30,11 @@ pub(crate) fn unit_of(plan: &Plan<'_>, i: u32) -> u32
     plan.unit_of(i)
 }
 
-/// The members of a unit.
+/// The members of a unit: one at least.
 pub(crate) fn members_of(plan: &Plan<'_>, u: u32) -> Range<u32>
     requires { u < (shape plan.now).unit_count }
-    ensures { IsSpan (shape plan.now) u result.start result.end }
+    ensures span { IsSpan (shape plan.now) u result.start result.end }
+    ensures some { result.start < result.end }
 {
     plan.members(u)
 }

@@ -1,136 +1,99 @@
-ghost use Rattle.std.specs.Prelude.{◌≡◌, ◌<◌, ◌≤◌, ◌&&◌, ◌==◌, ℕ, false, not, length, take, count_by, slice_index_or, IfOk};
-ghost use Rattle.std.specs.List.{list_any, list_all};
+ghost use Rattle.std.specs.Prelude.{◌≡◌, ◌<◌, ◌&&◌, ◌||◌, ◌==◌, true, false, not, nat_lt, length, slice_index_or, slice_set, count_by, IfOk, IfSome, IsSome, None, ℕ};
 ghost use Rattle.odb_check.specs.Shape as shapes;
-ghost use Rattle.odb_sched.specs.declared.phase.Phase.TheVariants.{Unstarted};
-ghost use Rattle.odb_sched.specs.Below.{ListsOnce};
+ghost use Rattle.odb_dense.specs.declared.worklist.Standing.TheVariants.{Sound};
+ghost use Rattle.odb_dense.specs.Lists.{ListsOnce};
+ghost use Rattle.odb_dense.specs.Standings.{is_passed};
+ghost use Rattle.odb_sched.specs.declared.phase.Phase.TheVariants.{Unstarted, Running};
 ghost use Rattle.odb_sched.specs.Phases as tests;
-ghost use Rattle.odb_sched.specs.Steps.{met_in, stopped_in};
+ghost use Rattle.odb_sched.specs.State as states;
 ghost use Rattle.odb_sched.specs.State.{shape};
-ghost use Rattle.odb_sched.specs.Views as views;
+ghost use Rattle.odb_sched.specs.Steps.{stops};
+ghost use Rattle.odb_sched.specs.Plans.{state_of};
+ghost use Rattle.odb_sched.specs.Ends.{IsEndOf};
+ghost use Rattle.odb_sched.specs.Tallies as tallies;
 
+use crate::meeting::succeed;
+use crate::needers::needers_of;
+use crate::order::End;
 use crate::phase::Phase;
 use crate::policy::{Mode, Policy};
-use crate::shape::{size, unit_count, unit_of};
-use crate::units::{all_met, mark_failed};
+use crate::spreading::fail;
+use crate::starting::begin;
+use crate::tally::Tally;
 use odb_check::Plan;
+use odb_dense::Rows;
 use std::alloc::{AllocError, Global};
 
-/// Whether a status from 400 to 599 was reported.
-fn any_erred(phases: &[Phase]) -> bool
-    ensures { result ≡ list_any tests.has_erred phases.now }
+/// Whether a run is stopped, or the report of a request stops it.
+fn is_stopped(stopped: bool, policy: Policy, phase: &Phase) -> bool
+    ensures { result ≡ (stopped || (stops policy.mode && tests.has_erred phase.now)) }
 {
-    phases.iter().any(|phase| phase.has_erred())
+    stopped || (policy.mode == Mode::Stop && phase.has_erred())
 }
 
-/// Whether an error has stopped a run.
-fn is_stopped(mode: Mode, phases: &[Phase]) -> bool
-    ensures { result ≡ stopped_in mode phases.now }
-{
-    match mode {
-        Mode::Continue => false,
-        Mode::Stop => any_erred(phases),
-    }
-}
-
-/// Writes the positions that run to the front of `out`, and returns how many there are.
-fn list_running(phases: &[Phase], out: &mut [u32]) -> usize
-    requires few { length phases.now ≤ 10000 }
-    requires room { length out.old ≡ length phases.now }
-    ensures count { result ≡ count_by tests.is_running phases.now }
-    ensures within { result ≤ length out.new }
-    ensures listed { ListsOnce (length phases.now)
-        (λ i. tests.is_running (slice_index_or phases.now i Unstarted)) (take result out.new) }
-{
-    let mut count = 0;
-    for (i, phase) in phases.iter().enumerate() {
-        if phase.is_running() {
-            out[count] = i as u32;
-            count += 1;
-        }
-    }
-    count
-}
-
-/// Whether a request may start in a run that goes on and has room.
-fn could_start(plan: &Plan<'_>, phases: &[Phase], failed: &[bool], i: u32) -> bool
+/// A request that ran has reported, as its phase says.
+fn take_report(plan: &Plan<'_>, phases: &[Phase], needers: &Rows, i: u32, tally: &mut Tally)
     requires laws { shapes.IsPlan (shape plan.now) }
     requires each { length phases.now ≡ length (shape plan.now).units }
-    requires marks { length failed.now ≡ (shape plan.now).unit_count }
     requires request { i < length (shape plan.now).units }
-    ensures { result ≡ views.could_start (shape plan.now) phases.now failed.now i }
+    requires needers { tallies.AreNeeders (shape plan.now) needers.now }
+    requires reported { tests.is_reported (slice_index_or phases.now i Unstarted) ≡ true }
+    requires counts { tallies.AreCounts (shape plan.now) (slice_set phases.now i Running) tally.old }
+    ensures { tallies.AreCounts (shape plan.now) phases.now tally.new }
 {
-    phases[i as usize].is_unstarted()
-        && !failed[unit_of(plan, i) as usize]
-        && all_met(plan, phases, i)
-}
-
-/// Writes the positions that could start in a run that goes on and has room to the front of `out`,
-/// and returns how many there are.
-fn list_ready(plan: &Plan<'_>, phases: &[Phase], failed: &[bool], out: &mut [u32]) -> usize
-    requires laws { shapes.IsPlan (shape plan.now) }
-    requires each { length phases.now ≡ length (shape plan.now).units }
-    requires marks { length failed.now ≡ (shape plan.now).unit_count }
-    requires room { length out.old ≡ length phases.now }
-    ensures within { result ≤ length out.new }
-    ensures listed { ListsOnce (length phases.now)
-        (views.could_start (shape plan.now) phases.now failed.now) (take result out.new) }
-{
-    let mut count = 0;
-    for i in 0..size(plan) {
-        if could_start(plan, phases, failed, i) {
-            out[count] = i;
-            count += 1;
-        }
+    if phases[i as usize].has_succeeded() {
+        succeed(plan, phases, needers, i, tally);
+    } else {
+        fail(plan, phases, needers, i, tally);
     }
-    count
 }
 
-/// What follows from where the requests stand, and is asked for between events.
+/// What is kept of a run beside where its requests stand: who needs what, what is counted, and
+/// whether an error has stopped it.
 #[derive(Drop)]
 pub(crate) struct Views {
-    stopped: bool,
-    failed: Vec<bool>,
-    ready: Vec<u32>,
-    ready_count: usize,
-    running: Vec<u32>,
-    running_count: usize,
+    pub(crate) needers: Rows,
+    pub(crate) tally: Tally,
+    pub(crate) stopped: bool,
 }
 
 impl Views {
-    ghost use Rattle.odb_sched.specs.Kept.{AreViews, IsRoomFor};
-    ghost use Rattle.odb_sched.specs.Plans.{state_of};
+    ghost use Rattle.odb_sched.specs.Kept.{AreViews};
 
-    /// Views that are told nothing yet.
-    pub(crate) fn new(alloc: Global, plan: &Plan<'_>) -> Result<Views, AllocError>
-        ensures { IfOk result (IsRoomFor (shape plan.now)) }
+    /// The views of a run before its first event.
+    pub(crate) fn new(alloc: Global, plan: &Plan<'_>, policy: Policy) -> Result<Views, AllocError>
+        ensures { IfOk result (AreViews (states.at_first plan.now policy.mode policy.width)) }
     {
-        let requests = size(plan) as usize;
-        let units = unit_count(plan) as usize;
         Ok(Views {
+            needers: needers_of(alloc, plan)?,
+            tally: Tally::new(alloc, plan)?,
             stopped: false,
-            failed: vec![in alloc; false; units]?,
-            ready: vec![in alloc; 0_u32; requests]?,
-            ready_count: 0,
-            running: vec![in alloc; 0_u32; requests]?,
-            running_count: 0,
         })
     }
 
-    /// Tells the views where the requests stand now.
-    pub(crate) fn refresh(&mut self, plan: &Plan<'_>, policy: Policy, phases: &[Phase])
+    /// Tells the views that a request has started, as its phase says.
+    pub(crate) fn start(&mut self, plan: &Plan<'_>, policy: Policy, phases: &[Phase], i: u32)
         requires laws { shapes.IsPlan (shape plan.now) }
         requires each { length phases.now ≡ length (shape plan.now).units }
-        requires room { IsRoomFor (shape plan.now) self.old }
+        requires request { i < length (shape plan.now).units }
+        requires runs { tests.is_running (slice_index_or phases.now i Unstarted) ≡ true }
+        requires views { AreViews (state_of plan.now policy (slice_set phases.now i Unstarted)) self.old }
         ensures { AreViews (state_of plan.now policy phases.now) self.new }
     {
-        self.stopped = is_stopped(policy.mode, phases);
-        mark_failed(plan, phases, &mut self.failed);
-        self.running_count = list_running(phases, &mut self.running);
-        self.ready_count = if self.stopped || self.running_count >= policy.width as usize {
-            0
-        } else {
-            list_ready(plan, phases, &self.failed, &mut self.ready)
-        };
+        begin(plan, phases, i, &mut self.tally);
+    }
+
+    /// Tells the views that a request that ran has reported, as its phase says.
+    pub(crate) fn report(&mut self, plan: &Plan<'_>, policy: Policy, phases: &[Phase], i: u32)
+        requires laws { shapes.IsPlan (shape plan.now) }
+        requires each { length phases.now ≡ length (shape plan.now).units }
+        requires request { i < length (shape plan.now).units }
+        requires reported { tests.is_reported (slice_index_or phases.now i Unstarted) ≡ true }
+        requires views { AreViews (state_of plan.now policy (slice_set phases.now i Running)) self.old }
+        ensures { AreViews (state_of plan.now policy phases.now) self.new }
+    {
+        take_report(plan, phases, &self.needers, i, &mut self.tally);
+        self.stopped = is_stopped(self.stopped, policy, &phases[i as usize]);
     }
 
     /// Whether an error has stopped the run.
@@ -142,32 +105,87 @@ impl Views {
 
     /// Whether a unit has failed.
     pub(crate) fn failed(&self, u: u32) -> bool
-        requires { u < length self.now.failed.items }
-        ensures { result ≡ slice_index_or self.now.failed.items u false }
+        requires { u < length self.now.tally.units }
+        ensures { result ≡ is_passed (slice_index_or self.now.tally.units u Sound) }
     {
-        self.failed[u as usize]
+        self.tally.units.is_passed(u)
     }
 
-    /// Whether no position may start and none runs.
-    pub(crate) fn is_idle(&self) -> bool
-        ensures { result ≡ ((self.now.ready_count == 0) && (self.now.running_count == 0)) }
+    /// Of each unit, how many members have not reported a success.
+    pub(crate) fn pending(&self) -> &[u32]
+        ensures { result.now ≡ self.now.tally.pending.items }
     {
-        self.ready_count == 0 && self.running_count == 0
+        &self.tally.pending
+    }
+
+    /// Of each unit, how many members have not reported a success, at the end of a run.
+    pub(crate) fn into_pending(self) -> Vec<u32>
+        ensures { result ≡ self.tally.pending }
+    {
+        let tally = self.tally;
+        tally.pending
+    }
+
+    /// Whether nothing may start now, since the run is stopped or as many run as the width allows.
+    fn is_closed(&self, policy: Policy) -> bool
+        ensures { result ≡ (self.now.stopped
+            || not (nat_lt (count_by (λ runs. runs) self.now.tally.running) policy.width)) }
+    {
+        self.stopped || self.tally.running.len() >= policy.width as usize
+    }
+
+    /// Whether no position may start any more and none runs.
+    pub(crate) fn is_finished(&self) -> bool
+        ensures { result ≡ ((count_by (λ runs. runs) self.now.tally.running == 0)
+            && (self.now.stopped || (self.now.tally.left == 0))) }
+    {
+        self.tally.running.is_empty() && (self.stopped || self.tally.left == 0)
     }
 
     /// The positions that may start.
-    pub(crate) fn ready(&self) -> &[u32]
-        requires { self.now.ready_count ≤ length self.now.ready.items }
-        ensures { result.now ≡ take self.now.ready_count self.now.ready.items }
+    pub(crate) fn ready(&self, policy: Policy) -> &[u32]
+        ensures { ListsOnce (length self.now.tally.ready)
+            (λ i. slice_index_or self.now.tally.ready i false && not self.now.stopped
+            && nat_lt (count_by (λ runs. runs) self.now.tally.running) policy.width) result.now }
     {
-        &self.ready[..self.ready_count]
+        if self.is_closed(policy) {
+            return &[];
+        }
+        self.tally.ready.as_slice()
+    }
+
+    /// The position at one end of those that may start.
+    pub(crate) fn ready_at(&mut self, policy: Policy, end: End) -> Option<u32>
+        ensures same { self.new ≡ self.old }
+        ensures none { result ≡ None → (i : ℕ)
+            → (slice_index_or self.old.tally.ready i false && not self.old.stopped
+            && nat_lt (count_by (λ runs. runs) self.old.tally.running) policy.width) ≡ false }
+        ensures some { IfSome result (IsEndOf end self.old.tally.ready) }
+        ensures goes { IsSome result → (self.old.stopped ≡ false)
+            × (nat_lt (count_by (λ runs. runs) self.old.tally.running) policy.width ≡ true) }
+    {
+        if self.is_closed(policy) {
+            return None;
+        }
+        end.of(&mut self.tally.ready)
+    }
+
+    /// The position at one end of those that run.
+    pub(crate) fn running_at(&mut self, end: End) -> Option<u32>
+        ensures same { self.new ≡ self.old }
+        ensures none { result ≡ None
+            → (i : ℕ) → slice_index_or self.old.tally.running i false ≡ false }
+        ensures some { IfSome result (IsEndOf end self.old.tally.running) }
+    {
+        end.of(&mut self.tally.running)
     }
 
     /// The positions that run.
     pub(crate) fn running(&self) -> &[u32]
-        requires { self.now.running_count ≤ length self.now.running.items }
-        ensures { result.now ≡ take self.now.running_count self.now.running.items }
+        ensures count { length result.now ≡ count_by (λ runs. runs) self.now.tally.running }
+        ensures listed { ListsOnce (length self.now.tally.running)
+            (λ i. slice_index_or self.now.tally.running i false) result.now }
     {
-        &self.running[..self.running_count]
+        self.tally.running.as_slice()
     }
 }

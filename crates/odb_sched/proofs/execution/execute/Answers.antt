@@ -3,7 +3,8 @@ use Rattle.std.proofs.Common.{◌≡◌, ◌≤◌, ◌+◌, ◌*◌, ◌∙◌,
 use Rattle.std.proofs.lemmas.List.{length-append}
 use Rattle.std.specs.Vec.{vec_capacity, vec_len}
 use Rattle.odb_check.specs.Plans.{plan_records}
-use Rattle.odb_sched.specs.State.{at_first}
+use Rattle.odb_sched.specs.State.{State, at_first}
+use Rattle.odb_sched.specs.Advances.{IsTaken}
 use Rattle.odb_sched.specs.declared.step.Step.TheVariants as step
 use Rattle.odb_sched.specs.Courses.{IsFinishedBy}
 use Rattle.odb_sched.proofs.RunLemmas.{reached_at_first}
@@ -47,7 +48,8 @@ unwrap-requires g c =
     let offers = g.S.Service.offers c.args.service.now in
     let offers_now = g.S.Service.offers c.loop-step.service in
     let reached = reached-so_far plan c.args.policy.mode c.args.policy.width allows allows_now offers offers_now c.loop-step.scheduler c.loop-step.steps.items c.loop-step.invariant.far c.len.ensures.laws c.args.policy.wide in
-    let fewer : events_left c.take.new.scheduler + 1 ≡ events_left c.loop-step.scheduler = fewer-left allows_now offers_now c.loop-step.scheduler c.take.new.scheduler c.in-Some.step reached c.in-Some.ensures.next c.in_ok-take.ensures.taken in
+    let taken = subst (λ state. IsTaken (g.S.Service.offers c.loop-step.service) state c.take.new.scheduler c.in-Some.step) c.next_step.ensures.same c.in_ok-take.ensures.taken in
+    let fewer : events_left c.take.new.scheduler + 1 ≡ events_left c.loop-step.scheduler = fewer-left allows_now offers_now c.loop-step.scheduler c.take.new.scheduler c.in-Some.step reached c.in-Some.ensures.next taken in
     let room : length c.loop-step.steps.items + events_left c.loop-step.scheduler ≤ vec_capacity c.loop-step.steps = c.loop-step.invariant.room in
     let len : vec_len c.loop-step.steps ≡ length c.loop-step.steps.items = c.loop-step.steps.ok.0 in
     c.push.ensures.succeeds (omega arith)
@@ -60,7 +62,8 @@ loop-step-smaller g c =
     let offers = g.S.Service.offers c.args.service.now in
     let offers_now = g.S.Service.offers c.loop-step.service in
     let reached = reached-so_far plan c.args.policy.mode c.args.policy.width allows allows_now offers offers_now c.loop-step.scheduler c.loop-step.steps.items c.loop-step.invariant.far c.len.ensures.laws c.args.policy.wide in
-    let fewer : events_left c.take.new.scheduler + 1 ≡ events_left c.loop-step.scheduler = fewer-left allows_now offers_now c.loop-step.scheduler c.take.new.scheduler c.in-Some.step reached c.in-Some.ensures.next c.in_ok-take.ensures.taken in
+    let taken = subst (λ state. IsTaken (g.S.Service.offers c.loop-step.service) state c.take.new.scheduler c.in-Some.step) c.next_step.ensures.same c.in_ok-take.ensures.taken in
+    let fewer : events_left c.take.new.scheduler + 1 ≡ events_left c.loop-step.scheduler = fewer-left allows_now offers_now c.loop-step.scheduler c.take.new.scheduler c.in-Some.step reached c.in-Some.ensures.next taken in
     omega arith
 
 pub loop-step-preserved : goal.loop-step-preserved
@@ -71,7 +74,8 @@ loop-step-preserved g c =
     let offers = g.S.Service.offers c.args.service.now in
     let offers_now = g.S.Service.offers c.loop-step.service in
     let reached = reached-so_far plan c.args.policy.mode c.args.policy.width allows allows_now offers offers_now c.loop-step.scheduler c.loop-step.steps.items c.loop-step.invariant.far c.len.ensures.laws c.args.policy.wide in
-    let fewer : events_left c.take.new.scheduler + 1 ≡ events_left c.loop-step.scheduler = fewer-left allows_now offers_now c.loop-step.scheduler c.take.new.scheduler c.in-Some.step reached c.in-Some.ensures.next c.in_ok-take.ensures.taken in
+    let taken = subst (λ state. IsTaken (g.S.Service.offers c.loop-step.service) state c.take.new.scheduler c.in-Some.step) c.next_step.ensures.same c.in_ok-take.ensures.taken in
+    let fewer : events_left c.take.new.scheduler + 1 ≡ events_left c.loop-step.scheduler = fewer-left allows_now offers_now c.loop-step.scheduler c.take.new.scheduler c.in-Some.step reached c.in-Some.ensures.next taken in
     let room : length c.loop-step.steps.items + events_left c.loop-step.scheduler ≤ vec_capacity c.loop-step.steps = c.loop-step.invariant.room in
     let allows_later = (goal.Chooser-dyn g (c.loop-step.chooser.now.0, c.next_step.new.chooser)).allows c.next_step.new.chooser in
     let offers_later = g.S.Service.offers c.take.new.service in
@@ -84,7 +88,7 @@ loop-step-preserved g c =
       far = subst (λ steps. SoFar allows allows_later offers offers_later first c.take.new.scheduler steps) (sym items)
           (one_more allows allows_now allows_later offers offers_now offers_later first c.loop-step.scheduler c.take.new.scheduler c.loop-step.steps.items c.in-Some.step
           (reached_at_first plan c.args.policy.mode c.args.policy.width c.len.ensures.laws c.args.policy.wide)
-          c.loop-step.invariant.far c.in-Some.ensures.next c.in_ok-take.ensures.taken c.in-Some.ensures.narrows c.in_ok-take.ensures.narrows);
+          c.loop-step.invariant.far c.in-Some.ensures.next taken c.in-Some.ensures.narrows c.in_ok-take.ensures.narrows);
       room = omega arith;
     }
 
@@ -95,7 +99,7 @@ returns-clause-course g c =
     let offers = g.S.Service.offers c.args.service.now in
     let offers_now = g.S.Service.offers c.loop-step.service in
     let first = at_first c.args.plan.now c.args.policy.mode c.args.policy.width in
-    subst (λ done. IsFinishedBy allows offers first c.loop-step.steps.items done) (sym c.close.ensures.state)
+    subst (λ done. IsFinishedBy allows offers first c.loop-step.steps.items done) (sym (c.close.ensures.state ∙ c.next_step.ensures.same))
     (finished-by allows allows_now allows_now offers offers_now offers_now first c.loop-step.scheduler c.loop-step.scheduler c.loop-step.steps.items (step.Start 0)
     c.loop-step.invariant.far (c.next_step.ensures.finished c.in_default.is))
 
@@ -111,7 +115,7 @@ returns-clause-dependencies_first g c events course = c.every_run.ensures.depend
 
 pub returns-clause-one_result : goal.returns-clause-one_result
 returns-clause-one_result g c continues =
-    c.close.ensures.one_result (same-mode c.args.plan.now c.args.policy.mode c.args.policy.width
+    c.close.ensures.one_result (ap (λ (state : State). state.mode) c.next_step.ensures.same ∙ same-mode c.args.plan.now c.args.policy.mode c.args.policy.width
     ((goal.Chooser-dyn g c.args.chooser.now).allows c.args.chooser.now.1) ((goal.Chooser-dyn g c.loop-step.chooser.now).allows c.loop-step.chooser.now.1)
     (g.S.Service.offers c.args.service.now) (g.S.Service.offers c.loop-step.service)
     c.loop-step.scheduler c.loop-step.steps.items c.loop-step.invariant.far ∙ continues)

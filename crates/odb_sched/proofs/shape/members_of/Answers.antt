@@ -5,5 +5,5 @@ use Rattle.odb_sched.proofs.shape.members_of.Goals as goal
 pub members-requires : goal.members-requires
 members-requires c = rw (← unit_count-shape _) c.requires
 
-pub returns : goal.returns
-returns c = span-shape _ _ _ _ c.members.ensures
+pub returns-clause-span : goal.returns-clause-span
+returns-clause-span c = span-shape _ _ _ _ c.members.ensures

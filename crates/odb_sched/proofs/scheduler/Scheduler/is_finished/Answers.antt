@@ -4,11 +4,12 @@ use Rattle.odb_sched.specs.Phases.{is_running}
 use Rattle.odb_sched.specs.State.{size, phase_at}
 use Rattle.odb_sched.specs.Steps.{is_finished, may_start}
 use Rattle.odb_sched.specs.Reached.{IsReached}
-use Rattle.odb_sched.proofs.KeptLemmas.{idle_finished, finished_idle}
+use Rattle.odb_sched.proofs.KeptLemmas.{finished_idle}
+use Rattle.odb_sched.proofs.CountedLemmas.{finished_is}
 use Rattle.odb_sched.proofs.scheduler.Scheduler.is_finished.Goals as goal
 
 pub returns-clause-value : goal.returns-clause-value
-returns-clause-value c = c.is_idle.ensures ∙ idle_finished _ _ c.self.invariant.reached c.self.invariant.views ∙ ap is_finished c.self.view_is
+returns-clause-value c = c.is_finished.ensures ∙ finished_is _ _ c.self.invariant.reached c.self.invariant.views ∙ ap is_finished c.self.view_is
 
 pub returns-clause-idle : goal.returns-clause-idle
 returns-clause-idle c = subst (λ answer. IsTrue answer ↔ ((i : ℕ) → i < size c.args.self.now → (may_start c.args.self.now i ≡ false) × (is_running (phase_at c.args.self.now i) ≡ false)))

@@ -1,0 +1,32 @@
+ghost use Rattle.std.specs.Prelude.{◌≡◌, ◌<◌, true, length, map, slice_index_or, slice_set};
+ghost use Rattle.odb_check.specs.Shape as shapes;
+ghost use Rattle.odb_sched.specs.declared.phase.Phase.TheVariants.{Unstarted, Running};
+ghost use Rattle.odb_sched.specs.State.{shape};
+ghost use Rattle.odb_sched.specs.Tallies as tallies;
+ghost use Rattle.odb_sched.specs.Phases as tests;
+
+use crate::phase::Phase;
+use crate::shape::unit_of;
+use crate::tally::Tally;
+use odb_check::Plan;
+
+/// A request that ran has reported, as its phase says: it runs no longer, and is open no longer.
+pub(crate) fn leave(plan: &Plan<'_>, phases: &[Phase], i: u32, tally: &mut Tally)
+    requires laws { shapes.IsPlan (shape plan.now) }
+    requires each { length phases.now ≡ length (shape plan.now).units }
+    requires request { i < length (shape plan.now).units }
+    requires reported { tests.is_reported (slice_index_or phases.now i Unstarted) ≡ true }
+    requires units { length tally.old.units ≡ (shape plan.now).unit_count }
+    requires running { tally.old.running ≡ map tests.is_running (slice_set phases.now i Running) }
+    requires left { tally.old.left ≡ tallies.open_count (shape plan.now)
+        (tallies.is_gone (shape plan.now) tally.old.units) (slice_set phases.now i Running) }
+    ensures running { tally.new.running ≡ map tests.is_running phases.now }
+    ensures left { tally.new.left ≡ tallies.open_count (shape plan.now)
+        (tallies.is_gone (shape plan.now) tally.old.units) phases.now }
+    ensures rest { tally.new ≡ record tally.old { running = tally.new.running; left = tally.new.left } }
+{
+    tally.running.remove(i);
+    if !tally.units.is_passed(unit_of(plan, i)) {
+        tally.left -= 1;
+    }
+}

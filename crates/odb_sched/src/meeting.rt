@@ -1,0 +1,119 @@
+ghost use Rattle.std.specs.Prelude.{◌≡◌, ◌<◌, ◌≤◌, ◌+◌, ◌-◌, ◌==◌, ℕ, true, length, slice_index_or, slice_set, count_by, All};
+ghost use Rattle.odb_check.specs.Shape as shapes;
+ghost use Rattle.odb_sched.specs.declared.phase.Phase.TheVariants.{Unstarted, Running};
+ghost use Rattle.odb_sched.specs.State.{shape};
+ghost use Rattle.odb_sched.specs.Tallies as tallies;
+ghost use Rattle.odb_sched.specs.Phases as tests;
+
+use crate::leaving::leave;
+use crate::needers::unit_key;
+use crate::phase::Phase;
+use crate::shape::unit_of;
+use crate::tally::Tally;
+use odb_check::Plan;
+use odb_dense::Rows;
+
+/// One need of a request is met: the last one makes it ready, where it has not started and its unit
+/// has not failed.
+fn meet(plan: &Plan<'_>, phases: &[Phase], i: u32, tally: &mut Tally)
+    requires laws { shapes.IsPlan (shape plan.now) }
+    requires each { length phases.now ≡ length (shape plan.now).units }
+    requires request { i < length (shape plan.now).units }
+    requires units { length tally.old.units ≡ (shape plan.now).unit_count }
+    requires some { 0 < slice_index_or tally.old.unmet.items i 0 }
+    requires ready { tallies.AreReady (shape plan.now) (tallies.is_gone (shape plan.now) tally.old.units)
+        phases.now tally.old.unmet.items tally.old.ready }
+    ensures ready { tallies.AreReady (shape plan.now) (tallies.is_gone (shape plan.now) tally.old.units)
+        phases.now tally.new.unmet.items tally.new.ready }
+    ensures unmet { tally.new.unmet.items
+        ≡ slice_set tally.old.unmet.items i (slice_index_or tally.old.unmet.items i 0 - 1) }
+    ensures rest { tally.new ≡ record tally.old { unmet = tally.new.unmet; ready = tally.new.ready } }
+{
+    let at = i as usize;
+    tally.unmet[at] -= 1;
+    if tally.unmet[at] == 0
+        && phases[at].is_unstarted()
+        && !tally.units.is_passed(unit_of(plan, i))
+    {
+        tally.ready.insert(i);
+    }
+}
+
+/// One need is met for each entry of a list.
+fn meet_each(plan: &Plan<'_>, phases: &[Phase], list: &[u32], tally: &mut Tally)
+    requires laws { shapes.IsPlan (shape plan.now) }
+    requires each { length phases.now ≡ length (shape plan.now).units }
+    requires units { length tally.old.units ≡ (shape plan.now).unit_count }
+    requires within { All (λ i. i < length (shape plan.now).units) list.now }
+    requires enough { (i : ℕ) → i < length (shape plan.now).units
+        → count_by (λ j. j == i) list.now ≤ slice_index_or tally.old.unmet.items i 0 }
+    requires ready { tallies.AreReady (shape plan.now) (tallies.is_gone (shape plan.now) tally.old.units)
+        phases.now tally.old.unmet.items tally.old.ready }
+    ensures ready { tallies.AreReady (shape plan.now) (tallies.is_gone (shape plan.now) tally.old.units)
+        phases.now tally.new.unmet.items tally.new.ready }
+    ensures fallen { (i : ℕ) → i < length (shape plan.now).units
+        → slice_index_or tally.new.unmet.items i 0 + count_by (λ j. j == i) list.now
+        ≡ slice_index_or tally.old.unmet.items i 0 }
+    ensures rest { tally.new ≡ record tally.old { unmet = tally.new.unmet; ready = tally.new.ready } }
+{
+    for i in list {
+        meet(plan, phases, *i, tally);
+    }
+}
+
+/// What needs a unit has one need less, where the last member of the unit has reported a success.
+fn meet_unit(plan: &Plan<'_>, phases: &[Phase], needers: &Rows, u: u32, tally: &mut Tally)
+    requires laws { shapes.IsPlan (shape plan.now) }
+    requires each { length phases.now ≡ length (shape plan.now).units }
+    requires needers { tallies.AreNeeders (shape plan.now) needers.now }
+    requires unit { u < (shape plan.now).unit_count }
+    requires units { length tally.old.units ≡ (shape plan.now).unit_count }
+    requires members { length tally.old.pending.items ≡ (shape plan.now).unit_count }
+    requires pending { slice_index_or tally.old.pending.items u 0
+        ≡ tallies.pending_in (shape plan.now) phases.now u }
+    requires enough { (i : ℕ) → i < length (shape plan.now).units
+        → tallies.met_by_unit (shape plan.now) phases.now u i
+        ≤ slice_index_or tally.old.unmet.items i 0 }
+    requires ready { tallies.AreReady (shape plan.now) (tallies.is_gone (shape plan.now) tally.old.units)
+        phases.now tally.old.unmet.items tally.old.ready }
+    ensures ready { tallies.AreReady (shape plan.now) (tallies.is_gone (shape plan.now) tally.old.units)
+        phases.now tally.new.unmet.items tally.new.ready }
+    ensures fallen { (i : ℕ) → i < length (shape plan.now).units
+        → slice_index_or tally.new.unmet.items i 0
+        + tallies.met_by_unit (shape plan.now) phases.now u i
+        ≡ slice_index_or tally.old.unmet.items i 0 }
+    ensures rest { tally.new ≡ record tally.old { unmet = tally.new.unmet; ready = tally.new.ready } }
+{
+    if tally.pending[u as usize] == 0 {
+        meet_each(plan, phases, needers.row(unit_key(plan, u)), tally);
+    }
+}
+
+/// A member of a unit has reported a success.
+fn settle(u: u32, tally: &mut Tally)
+    requires unit { u < length tally.old.pending.items }
+    requires some { 0 < slice_index_or tally.old.pending.items u 0 }
+    ensures pending { tally.new.pending.items
+        ≡ slice_set tally.old.pending.items u (slice_index_or tally.old.pending.items u 0 - 1) }
+    ensures rest { tally.new ≡ record tally.old { pending = tally.new.pending } }
+{
+    tally.pending[u as usize] -= 1;
+}
+
+/// A request that ran has reported a success, as its phase says: what needs it has one need less, and
+/// what needs its unit, where it was the last of its members.
+pub(crate) fn succeed(plan: &Plan<'_>, phases: &[Phase], needers: &Rows, i: u32, tally: &mut Tally)
+    requires laws { shapes.IsPlan (shape plan.now) }
+    requires each { length phases.now ≡ length (shape plan.now).units }
+    requires request { i < length (shape plan.now).units }
+    requires needers { tallies.AreNeeders (shape plan.now) needers.now }
+    requires succeeded { tests.has_succeeded (slice_index_or phases.now i Unstarted) ≡ true }
+    requires counts { tallies.AreCounts (shape plan.now) (slice_set phases.now i Running) tally.old }
+    ensures { tallies.AreCounts (shape plan.now) phases.now tally.new }
+{
+    leave(plan, phases, i, tally);
+    let unit = unit_of(plan, i);
+    settle(unit, tally);
+    meet_each(plan, phases, needers.row(i), tally);
+    meet_unit(plan, phases, needers, unit, tally);
+}

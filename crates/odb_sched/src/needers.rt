@@ -1,0 +1,65 @@
+ghost use Rattle.std.specs.Prelude.{◌≡◌, ◌<◌, ◌+◌, ◌++◌, length, IfOk, OnOk};
+ghost use Rattle.odb_check.specs.Shape as shapes;
+ghost use Rattle.odb_sched.specs.NeedPairs.{need_pairs, all_pairs};
+ghost use Rattle.odb_sched.specs.Plans.{IsNeed};
+ghost use Rattle.odb_sched.specs.State.{shape};
+ghost use Rattle.odb_sched.specs.Tallies as tallies;
+
+use crate::shape::{needs_of, size, unit_count};
+use odb_check::{Need, Plan};
+use odb_dense::Rows;
+use std::alloc::{AllocError, Global};
+
+/// The key of a unit: those of the units come after those of all positions.
+pub(crate) fn unit_key(plan: &Plan<'_>, u: u32) -> u32
+    requires { u < (shape plan.now).unit_count }
+    ensures { result ≡ length (shape plan.now).units + u }
+{
+    size(plan) + u
+}
+
+/// The key of what is needed.
+fn key_of(plan: &Plan<'_>, need: Need) -> u32
+    requires { IsNeed (shape plan.now) need }
+    ensures { result ≡ tallies.key_of (shape plan.now) need }
+{
+    match need {
+        Need::One(r) => r,
+        Need::Group(u) => unit_key(plan, u),
+    }
+}
+
+/// Adds a pair for each need of a request: the key of what is needed, and the request.
+fn push_needs(plan: &Plan<'_>, i: u32, pairs: &mut Vec<(u32, u32)>) -> Result<(), AllocError>
+    requires laws { shapes.IsPlan (shape plan.now) }
+    requires request { i < length (shape plan.now).units }
+    ensures { OnOk result (pairs.new.items ≡ pairs.old.items ++ need_pairs (shape plan.now) i) }
+{
+    for need in needs_of(plan, i) {
+        pairs.push((key_of(plan, *need), i))?;
+    }
+    Ok(())
+}
+
+/// The pairs of all requests, in order.
+fn pairs_of(alloc: Global, plan: &Plan<'_>) -> Result<Vec<(u32, u32)>, AllocError>
+    ensures { IfOk result (λ pairs. pairs.items ≡ all_pairs (shape plan.now)) }
+{
+    let mut pairs = Vec::new(alloc);
+    for i in 0..size(plan) {
+        push_needs(plan, i, &mut pairs)?;
+    }
+    Ok(pairs)
+}
+
+/// Of each key, the requests that need what has the key.
+///
+/// # Errors
+///
+/// Where memory for the keys and the needs is not to be had.
+pub(crate) fn needers_of(alloc: Global, plan: &Plan<'_>) -> Result<Rows, AllocError>
+    ensures { IfOk result (tallies.AreNeeders (shape plan.now)) }
+{
+    let keys = size(plan) as usize + unit_count(plan) as usize;
+    Rows::of(alloc, keys, &pairs_of(alloc, plan)?)
+}

@@ -1,0 +1,36 @@
+ghost use Rattle.std.specs.Prelude.{◌≡◌, ℕ, false, None, slice_index_or, IfSome};
+ghost use Rattle.odb_sched.specs.Ends.{IsEndOf};
+
+use odb_dense::OrderedPositions;
+
+/// An order of steps that an execution can go by itself, without a search through all positions.
+#[derive(Clone, Copy, Debug, PartialEq, Eq)]
+pub enum Order {
+    /// That of [`crate::First`].
+    First,
+    /// That of [`crate::Last`].
+    Last,
+    /// That of [`crate::Wide`].
+    Wide,
+}
+
+/// One end of a set of positions.
+#[derive(Clone, Copy, Debug)]
+pub(crate) enum End {
+    Least,
+    Greatest,
+}
+
+impl End {
+    /// The position at this end of a set, or `None` where the set is empty.
+    pub(crate) fn of(self, set: &mut OrderedPositions) -> Option<u32>
+        ensures same { set.new ≡ set.old }
+        ensures none { result ≡ None → (i : ℕ) → slice_index_or set.old i false ≡ false }
+        ensures some { IfSome result (IsEndOf self set.old) }
+    {
+        match self {
+            End::Least => set.least(),
+            End::Greatest => set.greatest(),
+        }
+    }
+}

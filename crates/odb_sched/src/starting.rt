@@ -1,0 +1,23 @@
+ghost use Rattle.std.specs.Prelude.{◌≡◌, ◌<◌, true, length, slice_index_or, slice_set};
+ghost use Rattle.odb_check.specs.Shape as shapes;
+ghost use Rattle.odb_sched.specs.declared.phase.Phase.TheVariants.{Unstarted};
+ghost use Rattle.odb_sched.specs.State.{shape};
+ghost use Rattle.odb_sched.specs.Tallies as tallies;
+ghost use Rattle.odb_sched.specs.Phases as tests;
+
+use crate::phase::Phase;
+use crate::tally::Tally;
+use odb_check::Plan;
+
+/// A request has started, as its phase says.
+pub(crate) fn begin(plan: &Plan<'_>, phases: &[Phase], i: u32, tally: &mut Tally)
+    requires laws { shapes.IsPlan (shape plan.now) }
+    requires each { length phases.now ≡ length (shape plan.now).units }
+    requires request { i < length (shape plan.now).units }
+    requires runs { tests.is_running (slice_index_or phases.now i Unstarted) ≡ true }
+    requires counts { tallies.AreCounts (shape plan.now) (slice_set phases.now i Unstarted) tally.old }
+    ensures { tallies.AreCounts (shape plan.now) phases.now tally.new }
+{
+    tally.ready.remove(i);
+    tally.running.insert(i);
+}

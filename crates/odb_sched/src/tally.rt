@@ -1,0 +1,88 @@
+ghost use Rattle.std.specs.Prelude.{◌≡◌, ◌<◌, ◌==◌, ℕ, false, length, replicate, slice_index_or, IfOk, All};
+ghost use Rattle.odb_sched.specs.declared.phase.Phase.TheVariants.{Unstarted};
+ghost use Rattle.odb_sched.specs.FirstCounts as first;
+ghost use Rattle.odb_sched.specs.State.{shape};
+ghost use Rattle.odb_sched.specs.Tallies.{AreCounts};
+
+use crate::shape::{members_of, needs_of, size, unit_count};
+use odb_check::Plan;
+use odb_dense::{OrderedPositions, Worklist};
+use std::alloc::{AllocError, Global};
+
+/// What is counted of a run, beside where its requests stand.
+#[derive(Drop)]
+pub(crate) struct Tally {
+    /// Of each request, how many of its needs are not met.
+    pub(crate) unmet: Vec<usize>,
+    /// Of each unit, how many members have not reported a success.
+    pub(crate) pending: Vec<u32>,
+    /// The units that have failed.
+    pub(crate) units: Worklist,
+    /// The requests that may start where the run goes on and has room.
+    pub(crate) ready: OrderedPositions,
+    /// The requests that run.
+    pub(crate) running: OrderedPositions,
+    /// How many requests are neither reported nor in a unit that has failed.
+    pub(crate) left: usize,
+}
+
+/// Of each request, how many needs it has.
+fn need_counts(alloc: Global, plan: &Plan<'_>) -> Result<Vec<usize>, AllocError>
+    ensures { IfOk result (λ counts. counts.items ≡ first.need_counts (shape plan.now)) }
+{
+    let mut counts = Vec::with_capacity(alloc, size(plan) as usize)?;
+    for i in 0..size(plan) {
+        counts.push(needs_of(plan, i).len())?;
+    }
+    Ok(counts)
+}
+
+/// Of each unit, how many members it has.
+fn member_counts(alloc: Global, plan: &Plan<'_>) -> Result<Vec<u32>, AllocError>
+    ensures counts { IfOk result (λ counts. counts.items ≡ first.member_counts (shape plan.now)) }
+    ensures some { IfOk result (λ counts. All (λ count. 0 < count) counts.items) }
+{
+    let mut counts = Vec::with_capacity(alloc, unit_count(plan) as usize)?;
+    for u in 0..unit_count(plan) {
+        let members = members_of(plan, u);
+        counts.push(members.end - members.start)?;
+    }
+    Ok(counts)
+}
+
+/// The requests that need nothing.
+fn without_needs(alloc: Global, plan: &Plan<'_>) -> Result<OrderedPositions, AllocError>
+    ensures each { IfOk result (λ free. length free ≡ length (shape plan.now).units) }
+    ensures exact { IfOk result (λ free. (i : ℕ) → i < length (shape plan.now).units
+        → slice_index_or free i false ≡ (first.needs_in (shape plan.now) i == 0)) }
+{
+    let mut free = OrderedPositions::new(alloc, size(plan))?;
+    for i in 0..size(plan) {
+        if needs_of(plan, i).is_empty() {
+            free.insert(i);
+        }
+    }
+    Ok(free)
+}
+
+impl Tally {
+    /// What is counted before the first event of a run: each request has all its needs before it, each
+    /// unit all its members, and no request has failed or runs.
+    ///
+    /// # Errors
+    ///
+    /// Where memory for the requests and the units is not to be had.
+    pub(crate) fn new(alloc: Global, plan: &Plan<'_>) -> Result<Tally, AllocError>
+        ensures { IfOk result (AreCounts (shape plan.now)
+            (replicate (length (shape plan.now).units) Unstarted)) }
+    {
+        Ok(Tally {
+            unmet: need_counts(alloc, plan)?,
+            pending: member_counts(alloc, plan)?,
+            units: Worklist::new(alloc, unit_count(plan))?,
+            ready: without_needs(alloc, plan)?,
+            running: OrderedPositions::new(alloc, size(plan))?,
+            left: size(plan) as usize,
+        })
+    }
+}

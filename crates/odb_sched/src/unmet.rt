@@ -1,0 +1,51 @@
+ghost use Rattle.std.specs.Prelude.{◌≡◌, ◌<◌, length, find, not};
+ghost use Rattle.odb_check.specs.Shape as shapes;
+ghost use Rattle.odb_sched.specs.Steps.{met_in};
+ghost use Rattle.odb_sched.specs.Plans.{IsNeed};
+ghost use Rattle.odb_sched.specs.State.{shape};
+ghost use Rattle.odb_sched.specs.Tallies.{ArePending};
+
+use crate::phase::Phase;
+use crate::shape::needs_of;
+use odb_check::{Need, Plan};
+
+/// Whether what is needed has reported a success, where `pending` says of each unit how many members
+/// have not.
+fn is_met(plan: &Plan<'_>, phases: &[Phase], pending: &[u32], need: Need) -> bool
+    requires each { length phases.now ≡ length (shape plan.now).units }
+    requires members { length pending.now ≡ (shape plan.now).unit_count }
+    requires pending { ArePending (shape plan.now) phases.now pending.now }
+    requires known { IsNeed (shape plan.now) need }
+    ensures { result ≡ met_in (shape plan.now) phases.now need }
+{
+    match need {
+        Need::One(r) => phases[r as usize].has_succeeded(),
+        Need::Group(u) => pending[u as usize] == 0,
+    }
+}
+
+/// The first need of a request that is not met, where `pending` says of each unit how many members
+/// have not reported a success.
+pub(crate) fn first_unmet(
+    plan: &Plan<'_>,
+    phases: &[Phase],
+    pending: &[u32],
+    i: u32,
+) -> Option<Need>
+    requires laws { shapes.IsPlan (shape plan.now) }
+    requires each { length phases.now ≡ length (shape plan.now).units }
+    requires members { length pending.now ≡ (shape plan.now).unit_count }
+    requires pending { ArePending (shape plan.now) phases.now pending.now }
+    requires request { i < length (shape plan.now).units }
+    ensures { result
+        ≡ find (λ need. not (met_in (shape plan.now) phases.now need))
+        (shapes.needs_of (shape plan.now) i) }
+{
+    let needs = needs_of(plan, i);
+    for need in needs {
+        if !is_met(plan, phases, pending, *need) {
+            return Some(*need);
+        }
+    }
+    None
+}
