@@ -3,6 +3,7 @@
 
 mod embedding;
 mod executions;
+mod large;
 mod lists;
 mod model;
 mod recordings;
