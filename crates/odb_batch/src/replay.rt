@@ -26,6 +26,7 @@ use odb_sched::{Chooser, ExecFault, Policy, Recorded, Trace, execute};
 use serde_json::Value;
 use std::alloc::{AllocError, Global};
 use std::io::{Read, Write};
+use std::mem::forget;
 
 /// What a command writes, and how it ends then.
 #[derive(Debug, Drop)]
@@ -96,10 +97,15 @@ fn replay_recorded(
     let _count = outcomes.len();
     let mut service = Recorded::new(alloc, plan, outcomes)?;
     match execute(alloc, plan, policy, chooser, &mut service) {
-        Ok(trace) => Ok(Report {
-            ended: Ended::Done,
-            text: result_text(alloc, &trace, traced)?,
-        }),
+        Ok(trace) => {
+            let text = result_text(alloc, &trace, traced)?;
+            // What is held is left to the end of the program: letting it go takes long.
+            forget(trace);
+            Ok(Report {
+                ended: Ended::Done,
+                text,
+            })
+        }
         Err(ExecFault::OutOfMemory) => Err(AllocError),
         Err(fault) => refusal(alloc, fault.code(), fault.name(), fault.place()),
     }
@@ -228,7 +234,10 @@ fn replay_document<S: Read>(
         Err(DocFault::OutOfMemory) => return Err(ReadFault::OutOfMemory),
         Err(fault) => return Ok(refusal(alloc, fault.code(), fault.name(), fault.place())?),
     };
-    replay_value(alloc, &value, policy, chooser, traced, outcomes)
+    let report = replay_value(alloc, &value, policy, chooser, traced, outcomes);
+    // The value is left to the end of the program: letting it go takes long.
+    forget(value);
+    report
 }
 
 /// Replays the batch in a document by the recorded outcomes in another: writes the response, behind
@@ -236,7 +245,7 @@ fn replay_document<S: Read>(
 ///
 /// The chooser says in which order, and the policy whether an error stops the run and how many
 /// requests may run at once. The second input is read only where the first has a batch that the
-/// check accepts.
+/// check accepts. The values of both documents are left to the end of the program.
 ///
 /// # Errors
 ///

@@ -33,9 +33,9 @@ returns-in-Ok g c =
       steps = c.in-Ok.trace.steps.items;
       last = c.in-Ok.trace.done;
       course = course;
-      result = c.in_ok-result_text-in-Ok.ensures.text;
+      result = c.in_ok-text-in-Ok.ensures.text;
       dependencies_first = law course.events course.course;
-      one_per_id = subst (λ plan. HasOnePerId (plan_records plan) (response_value c.in-Ok.trace.done)) c.in-Ok.ensures.plan c.in_ok-result_text-in-Ok.ensures.one_per_id;
+      one_per_id = subst (λ plan. HasOnePerId (plan_records plan) (response_value c.in-Ok.trace.done)) c.in-Ok.ensures.plan c.in_ok-text-in-Ok.ensures.one_per_id;
     })
 
 pub returns : goal.returns
