@@ -1,0 +1,51 @@
+"""What the program has to print on a workload, made by plain rules of a few lines.
+
+They hold for the workloads here alone: every name is that of an earlier request or group, no URL
+refers to a request, and all outcomes are 2xx.
+"""
+
+import json
+
+
+def check_line(requests):
+    """The line of `check`."""
+    groups = {request["atomicityGroup"] for request in requests if "atomicityGroup" in request}
+    return f"ok {len(requests)} requests {len(groups)} groups\n"
+
+
+def plan_text(requests):
+    """The lines of `plan`."""
+    level_of, lines = {}, []
+    for position, request in enumerate(requests):
+        names, group = request.get("dependsOn", []), request.get("atomicityGroup")
+        level = max((level_of[name] + 1 for name in names), default=0)
+        level_of[request["id"]] = level
+        if group is not None:
+            level_of[group] = max(level, level_of.get(group, 0))
+        needs = ",".join(names) or "*"
+        lines.append(f"{position} {request['id']} level {level} group {group or '*'} needs {needs}\n")
+    return "".join(lines)
+
+
+def responses(requests, outcomes):
+    """The responses of `replay`, as a value: one for each request, in their order."""
+    outcome_of = {outcome["id"]: outcome for outcome in outcomes}
+    answered = []
+    for request in requests:
+        response = dict(outcome_of[request["id"]])
+        if "headers" in response:
+            response["headers"] = {name.lower(): value for name, value in response["headers"].items()}
+        if "atomicityGroup" in request:
+            response["atomicityGroup"] = request["atomicityGroup"]
+        answered.append(response)
+    return {"responses": answered}
+
+
+def is_response(text, wanted):
+    """Whether this is one line of JSON with the wanted value."""
+    if not text.endswith("\n") or text.count("\n") != 1:
+        return False
+    try:
+        return json.loads(text) == wanted
+    except ValueError:
+        return False

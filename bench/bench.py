@@ -1,0 +1,140 @@
+#!/usr/bin/env python3
+"""Measures the program on workloads that this script makes, and prints tables in Markdown.
+
+The workloads are in shapes.py, how a run is measured is in measure.py, and what the columns mean is
+in tables.py. The documents lie in a scratch folder that is removed at the end.
+"""
+
+import argparse
+import os
+import signal
+import subprocess
+import sys
+import tempfile
+
+sys.dont_write_bytecode = True
+
+import tables
+import turns
+import workloads
+from measure import BenchFault, adopt_orphans
+
+ROOT = os.path.dirname(os.path.dirname(os.path.realpath(__file__)))
+TURNS = 7
+
+
+class Parser(argparse.ArgumentParser):
+    """A parser that tells of wrong words in one line."""
+
+    def error(self, message):
+        self.exit(2, f"{self.prog}: {message}\n")
+
+
+def turn_count(word):
+    """The number of turns that a word says."""
+    if not (word.isascii() and word.isdigit() and int(word) > 0):
+        raise argparse.ArgumentTypeError(f"{word!r} is no number of turns from 1")
+    return int(word)
+
+
+def workload_names(word):
+    """The workloads that a word names, each once, in the order of the tables."""
+    wanted = word.split(",")
+    for name in wanted:
+        if name not in workloads.NAMES:
+            known = ", ".join(workloads.NAMES)
+            raise argparse.ArgumentTypeError(f"there is no workload {name!r}, but {known}")
+    return [name for name in workloads.NAMES if name in wanted]
+
+
+def read_words(words):
+    """The words of the command line."""
+    parser = Parser(description="Measures odb_batch on workloads made here, and prints tables in Markdown.")
+    option = parser.add_argument
+    option("--short", action="store_true", help="small sizes and one turn: a few seconds")
+    option("--turns", type=turn_count, metavar="N", help=f"how often each run is made; {TURNS}, in short 1")
+    option("--program", metavar="PATH", help="the program to measure; else that of this repository")
+    option(
+        "--only",
+        type=workload_names,
+        default=list(workloads.NAMES),
+        metavar="WORD,..",
+        help="the workloads to measure, of " + ", ".join(workloads.NAMES),
+    )
+    return parser.parse_args(words)
+
+
+def tell(line):
+    """Tells on standard error how far the measuring is."""
+    print(f"bench: {line}", file=sys.stderr, flush=True)
+
+
+def built_program():
+    """The program of this repository, built where it has to be."""
+    usual = os.path.join(ROOT, "examples", "usual.json")
+    command = [os.path.join(ROOT, "bin", "odb_batch"), "check", usual]
+    try:
+        subprocess.run(command, stdin=subprocess.DEVNULL, stdout=subprocess.DEVNULL, check=True)
+    except (OSError, subprocess.CalledProcessError) as error:
+        raise BenchFault(f"bin/odb_batch: {error}") from None
+    return os.path.join(ROOT, "crates", "odb_batch", "out", "odb_batch")
+
+
+def given_program(path):
+    """The program at a path, which has to be one that can be run."""
+    if not (os.path.isfile(path) and os.access(path, os.X_OK)):
+        raise BenchFault(f"{path} is no program")
+    return os.path.realpath(path)
+
+
+def prepare(program, folder, names, short):
+    """Makes the workloads, and tries each job on them once. Gives the cases and the jobs."""
+    cases, jobs = [], [turns.start_job(program, workloads.write_tiny(folder))]
+    for case, content in workloads.cases(folder, ROOT, names, short):
+        cases.append(case)
+        for job in turns.case_jobs(program, case):
+            turns.try_job(job, content, folder)
+            jobs.append(job)
+    return cases, jobs
+
+
+def load():
+    """How many processes the machine ran or had waiting in the last minute."""
+    return f"{os.getloadavg()[0]:.1f}"
+
+
+def measured_text(words, program, folder):
+    """The tables of a whole run."""
+    tell("making the workloads, and trying each command on them")
+    cases, jobs = prepare(program, folder, words.only, words.short)
+    count = words.turns or (1 if words.short else TURNS)
+    before = load()
+    measures = turns.measure_in_turns(jobs, count, tell)
+    start = measures["start", 1, "check"]
+    facts = (
+        f"{tables.machine()}; load {before} before and {load()} after; turns: {count}; "
+        f"one start: {tables.milliseconds(start.processor)} ms processor, {tables.megabytes(start.memory)} MB"
+    )
+    parts = [facts, tables.case_table(cases), tables.command_table(cases, measures), tables.LEGEND]
+    growth = tables.growth_table(cases, measures)
+    return "\n\n".join(parts + ([growth, tables.GROWTH_LEGEND] if growth else []))
+
+
+def main():
+    words = read_words(sys.argv[1:])
+    signal.signal(signal.SIGTERM, lambda *_: sys.exit(143))
+    try:
+        adopt_orphans()
+        program = given_program(words.program) if words.program else built_program()
+        with tempfile.TemporaryDirectory(prefix="odb_batch_bench_") as folder:
+            print(measured_text(words, program, folder))
+    except (BenchFault, OSError) as fault:
+        tell(fault)
+        return 1
+    except KeyboardInterrupt:
+        return 130
+    return 0
+
+
+if __name__ == "__main__":
+    sys.exit(main())

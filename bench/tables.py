@@ -1,0 +1,124 @@
+"""The tables in Markdown, and what their columns mean."""
+
+import os
+
+from turns import COMMANDS, READ_BATCH, READ_OUTCOMES, Measure
+from workloads import PARTS
+
+LEGEND = """\
+*time* is that of the clock from start to end, and *processor* the time of the user and the system, which also
+has the fork of a shell (some tenths of a millisecond); both are medians over the turns. *memory* is the
+greatest that the process held, over all turns, with the pages of its code.
+
+*reading* is the floor: what the program takes to start once and read the same documents into values. It is
+measured by `check` of documents which it refuses once it has read them whole into a value: with F04
+(NoRequests), since they have no member `requests`. For `check` and `plan` the floor is `check` of the batch
+with its member `requests` renamed to `messages`. For `replay` it is that, plus `check` of the outcomes, minus
+one start; so also for memory, as a replay holds the values of both documents. *checks* is another floor, of
+`replay` alone, and holds more: `check` of the batch as it is, plus `check` of the outcomes, minus one start.
+One start is `check` of a batch without requests. The columns with `/` say how many times the floor's a
+command's processor time and memory are."""
+
+GROWTH_LEGEND = """\
+Processor time in milliseconds at 1/8, 1/4, 1/2 and all of the requests, medians over the turns. *all : 1/4* is
+the last by that at 1/4: 4 where time grows as the requests do, 16 where it grows as their square."""
+
+
+def machine():
+    """The facts of the machine, in one line."""
+    model = "unknown model"
+    with open("/proc/cpuinfo", encoding="utf-8") as file:
+        for line in file:
+            if line.startswith("model name"):
+                model = line.split(":", 1)[1].strip()
+                break
+    return f"{os.cpu_count()} processors, {model}"
+
+
+def row(cells):
+    """A row of a table."""
+    return "| " + " | ".join(cells) + " |"
+
+
+def table(heads, rows, texts):
+    """A table with these heads and rows, whose first columns, as many as `texts`, hold texts."""
+    rule = ["---" if column < texts else "---:" for column in range(len(heads))]
+    return "\n".join(row(cells) for cells in [heads, rule, *rows])
+
+
+def milliseconds(seconds):
+    """The time in milliseconds, with as many digits as tell something."""
+    value = seconds * 1000
+    return f"{value:,.0f}" if value >= 100 else f"{value:.1f}"
+
+
+def megabytes(count):
+    """The number of bytes in millions."""
+    return f"{count / 1e6:.1f}"
+
+
+def case_table(cases):
+    """Which workloads there are: their requests, and the bytes of their documents."""
+    heads = ["workload", "what it is", "requests", "batch bytes", "outcomes bytes"]
+    rows = [
+        [case.name, case.words, f"{case.requests:,}"]
+        + [f"{os.path.getsize(path):,}" for path in (case.batch, case.outcomes)]
+        for case in cases
+        if case.is_whole()
+    ]
+    return table(heads, rows, 2)
+
+
+def both(first, second, start):
+    """The measure of two readings in one process: their sum minus one start."""
+    return Measure(
+        wall=first.wall + second.wall - start.wall,
+        processor=first.processor + second.processor - start.processor,
+        memory=first.memory + second.memory - start.memory,
+    )
+
+
+def floors(measures, name, command):
+    """The floors of a command on a workload: reading, and for `replay` the checks."""
+    unread = measures[name, 1, READ_BATCH]
+    if command != "replay":
+        return unread, None
+    start, outcomes = measures["start", 1, "check"], measures[name, 1, READ_OUTCOMES]
+    return both(unread, outcomes, start), both(measures[name, 1, "check"], outcomes, start)
+
+
+def ratios(measured, floor):
+    """How many times the floor this is, in processor time and in memory."""
+    if floor is None:
+        return ["", ""]
+    return [f"{measured.processor / floor.processor:.2f}", f"{measured.memory / floor.memory:.2f}"]
+
+
+def command_table(cases, measures):
+    """What each command takes on each workload, and how many times the floors."""
+    heads = ["workload", "command", "time ms", "processor ms", "memory MB", "reading ms", "reading MB"]
+    heads += ["processor / reading", "memory / reading", "processor / checks", "memory / checks"]
+    rows = []
+    for case in cases:
+        for command in COMMANDS if case.is_whole() else ():
+            measured = measures[case.name, 1, command]
+            reading, checks = floors(measures, case.name, command)
+            cells = [case.name, command, milliseconds(measured.wall), milliseconds(measured.processor)]
+            cells += [megabytes(measured.memory), milliseconds(reading.processor), megabytes(reading.memory)]
+            rows.append(cells + ratios(measured, reading) + ratios(measured, checks))
+    return table(heads, rows, 2)
+
+
+def growth_table(cases, measures):
+    """How the processor time of each command grows with the number of requests; nothing where no
+    workload has smaller sizes."""
+    sizes = {(case.name, case.part): case.requests for case in cases}
+    heads = ["workload", "command", "requests", "at 1/8", "at 1/4", "at 1/2", "at all", "all : 1/4"]
+    rows = []
+    for name in [case.name for case in cases if case.part == PARTS[0]]:
+        for command in COMMANDS:
+            times = [measures[name, part, command].processor for part in PARTS]
+            counts = f"{sizes[name, PARTS[0]]:,} to {sizes[name, 1]:,}"
+            cells = [name, command, counts, *(milliseconds(time) for time in times)]
+            rows.append(cells + [f"{times[3] / times[1]:.2f}"])
+    return table(heads, rows, 2) if rows else ""

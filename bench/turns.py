@@ -1,0 +1,110 @@
+"""What is run, whether it answers what it has to, and its measures in turns."""
+
+import os
+import statistics
+from dataclasses import dataclass
+
+import answers
+from measure import BenchFault, run
+
+COMMANDS = ("check", "plan", "replay")
+READ_BATCH = "read batch"
+READ_OUTCOMES = "read outcomes"
+ONLY_READ = "fault F04 NoRequests batch\n"
+
+
+@dataclass(frozen=True)
+class Job:
+    """A run that is measured in each turn: the name, part and command that it is filed under, the
+    words of the command line and the exit status that it has to have."""
+
+    name: str
+    part: int
+    command: str
+    words: tuple
+    status: int
+
+
+def start_job(program, tiny):
+    """One start of the program: the check of a batch without requests."""
+    return Job("start", 1, "check", (program, "check", tiny), 0)
+
+
+def case_jobs(program, case):
+    """The jobs of a case: each command, and at the whole size the readings."""
+    words = {
+        "check": ("check", case.batch),
+        "plan": ("plan", case.batch),
+        "replay": ("replay", case.batch, case.outcomes),
+    }
+    if case.is_whole():
+        words[READ_BATCH] = ("check", case.unread)
+        words[READ_OUTCOMES] = ("check", case.outcomes)
+    return [
+        Job(case.name, case.part, command, (program, *given), 0 if command in COMMANDS else 1)
+        for command, given in words.items()
+    ]
+
+
+def label(job):
+    """What the job is, in words."""
+    return f"{job.command} of {job.name} at 1/{job.part} of its size"
+
+
+def run_job(job, output=os.devnull):
+    """Runs a job and measures it."""
+    measured = run(job.words, output)
+    if measured.status != job.status:
+        raise BenchFault(f"{label(job)} ended with status {measured.status}, and not {job.status}")
+    return measured
+
+
+def is_right(job, content, text):
+    """Whether the job printed what it has to print."""
+    if job.command == "check":
+        return text == answers.check_line(content.requests)
+    if job.command == "plan":
+        return text == answers.plan_text(content.requests)
+    if job.command == "replay":
+        return answers.is_response(text, answers.responses(content.requests, content.outcomes))
+    return text == ONLY_READ
+
+
+def try_job(job, content, folder):
+    """Runs a job once, and fails where it does not print what it has to."""
+    output = os.path.join(folder, "printed")
+    run_job(job, output)
+    with open(output, encoding="utf-8", errors="replace", newline="") as file:
+        text = file.read()
+    if not is_right(job, content, text):
+        raise BenchFault(f"{label(job)} gave a wrong answer")
+
+
+@dataclass(frozen=True)
+class Measure:
+    """The measures of a job over the turns: median seconds of time and of processor time, and the
+    greatest memory in bytes."""
+
+    wall: float
+    processor: float
+    memory: int
+
+
+def summary(runs):
+    """The measure of some runs of one job."""
+    return Measure(
+        wall=statistics.median(it.wall for it in runs),
+        processor=statistics.median(it.processor for it in runs),
+        memory=max(it.memory for it in runs),
+    )
+
+
+def measure_in_turns(jobs, turns, tell):
+    """Runs all jobs in their order, and again in each turn. Gives the measure of each by its name,
+    part and command."""
+    runs = {(job.name, job.part, job.command): [] for job in jobs}
+    for turn in range(turns):
+        tell(f"turn {turn + 1} of {turns}")
+        for job in jobs:
+            runs[job.name, job.part, job.command].append(run_job(job))
+    return {key: summary(measured) for key, measured in runs.items()}

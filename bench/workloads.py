@@ -1,0 +1,132 @@
+"""The workloads: which shapes at which sizes, and their documents in the scratch folder."""
+
+import json
+import os
+from dataclasses import dataclass
+from typing import Callable
+
+import shapes
+from measure import BenchFault
+
+MAX_DOCUMENT_BYTES = 16_777_216
+SHORT_DIVISOR = 20
+PARTS = (8, 4, 2, 1)
+
+# A batch document whose member `requests` has this name instead, of as many bytes, is read into a
+# value like the batch, and then refused since it has no requests.
+UNREAD_MEMBER = "messages"
+
+
+@dataclass(frozen=True)
+class Shape:
+    """A shape: what makes its lists, its whole size, whether smaller sizes show how time grows, and
+    what it is in words."""
+
+    make: Callable
+    size: int
+    grows: bool
+    words: str
+
+
+SHAPES = {
+    "plain": Shape(shapes.plain, 10_000, True, "requests that need nothing"),
+    "chain": Shape(shapes.chain, 10_000, True, "each needs the one before it"),
+    "fan": Shape(shapes.fan, 10_000, True, "all need the first"),
+    "dense": Shape(shapes.dense, 2_000, True, "each needs the 50 before it"),
+    "group": Shape(shapes.group, 10_000, True, "one atomicity group"),
+    "groups": Shape(shapes.groups, 10_000, True, "groups of 10, each request needs the group before"),
+    "posts": Shape(shapes.posts, 1_000, False, "a body of 15 KB of JSON each"),
+    "text": Shape(shapes.text, 15_000_000, False, "one body, a long text"),
+    "echo": Shape(shapes.echo, 15_000_000, False, "one body, a long text, which its outcome has too"),
+}
+
+USUAL = "usual"
+USUAL_WORDS = "the small batch of `examples/usual.json`, and `lent.json`"
+NAMES = (*SHAPES, USUAL)
+
+
+@dataclass(frozen=True)
+class Case:
+    """The documents of a workload at one size: paths of the batch, of the same batch under another
+    member than `requests`, and of the outcomes."""
+
+    name: str
+    part: int
+    words: str
+    requests: int
+    batch: str
+    unread: str
+    outcomes: str
+
+    def is_whole(self):
+        """Whether this is the workload at its whole size."""
+        return self.part == 1
+
+
+@dataclass(frozen=True)
+class Content:
+    """What the documents of a case hold: requests, and an outcome for each of them."""
+
+    requests: list
+    outcomes: list
+
+
+def write_document(path, text):
+    """Writes a document, which has to be one that the program takes."""
+    data = text.encode("utf-8")
+    if len(data) > MAX_DOCUMENT_BYTES:
+        raise BenchFault(f"{os.path.basename(path)} has more bytes than a document may have")
+    with open(path, "wb") as file:
+        file.write(data)
+
+
+def compact(member, elements):
+    """The text of a document with one member, an array."""
+    return json.dumps({member: elements}, separators=(",", ":"))
+
+
+def write_case(folder, name, part, words, texts, count):
+    """Writes the two documents of a case, and the batch under another member."""
+    batch, outcomes = texts
+    paths = [os.path.join(folder, f"{name}_{part}_{kind}.json") for kind in ("batch", "unread", "outcomes")]
+    unread = batch.replace('"requests"', f'"{UNREAD_MEMBER}"', 1)
+    for path, text in zip(paths, (batch, unread, outcomes)):
+        write_document(path, text)
+    return Case(name, part, words, count, *paths)
+
+
+def shape_cases(folder, name, short):
+    """Gives each size of a shape, the smaller ones first: a case and its content."""
+    shape = SHAPES[name]
+    size = shape.size // SHORT_DIVISOR if short else shape.size
+    for part in PARTS if shape.grows else PARTS[-1:]:
+        requests, outcomes = shape.make(size // part)
+        texts = compact("requests", requests), compact("outcomes", outcomes)
+        case = write_case(folder, name, part, shape.words, texts, len(requests))
+        yield case, Content(requests, outcomes)
+
+
+def usual_case(folder, root):
+    """The small batch of the examples: a case and its content."""
+    texts = []
+    for name in ("usual.json", "lent.json"):
+        with open(os.path.join(root, "examples", name), encoding="utf-8") as file:
+            texts.append(file.read())
+    content = Content(json.loads(texts[0])["requests"], json.loads(texts[1])["outcomes"])
+    return write_case(folder, USUAL, 1, USUAL_WORDS, texts, len(content.requests)), content
+
+
+def cases(folder, root, names, short):
+    """Gives the cases of the workloads with these names, each with its content."""
+    for name in names:
+        if name == USUAL:
+            yield usual_case(folder, root)
+        else:
+            yield from shape_cases(folder, name, short)
+
+
+def write_tiny(folder):
+    """Writes a batch without requests, on which the program does little but start."""
+    path = os.path.join(folder, "tiny.json")
+    write_document(path, compact("requests", []))
+    return path
