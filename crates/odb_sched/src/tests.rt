@@ -1,11 +1,15 @@
 //! Worked examples of runs: what each event is told, which requests may start and run after the
 //! events, and what each is answered in the end.
 
+mod batches;
+mod draws;
 mod embedding;
 mod executions;
 mod large;
 mod lists;
 mod model;
+mod plain;
+mod random;
 mod recordings;
 
 ghost use Rattle.std.specs.Prelude.{◌≡◌, ◌<◌, length, All, IfOk};
