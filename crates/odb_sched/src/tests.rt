@@ -8,6 +8,7 @@ mod executions;
 mod large;
 mod lists;
 mod model;
+mod orders;
 mod plain;
 mod random;
 mod recordings;
