@@ -99,7 +99,7 @@ fn replay_recorded(
     match execute(alloc, plan, policy, chooser, &mut service) {
         Ok(trace) => {
             let text = result_text(alloc, &trace, traced)?;
-            // What is held is left to the end of the program: letting it go takes long.
+            // This and what was read is left to the end of the program: letting it go takes long.
             forget(trace);
             Ok(Report {
                 ended: Ended::Done,
@@ -128,8 +128,12 @@ fn replay_bytes(
         Err(DocFault::OutOfMemory) => return Err(AllocError),
         Err(fault) => return refusal(alloc, fault.code(), fault.name(), Place::Outcomes),
     };
-    match Outcomes::read(alloc, document) {
-        Ok(outcomes) => replay_recorded(alloc, plan, policy, chooser, traced, outcomes),
+    match Outcomes::split(alloc, document) {
+        Ok((outcomes, emptied)) => {
+            let report = replay_recorded(alloc, plan, policy, chooser, traced, outcomes);
+            forget(emptied);
+            report
+        }
         Err(OutcomeFault::OutOfMemory) => Err(AllocError),
         Err(fault) => refusal(alloc, fault.code(), fault.name(), fault.place()),
     }
@@ -208,7 +212,9 @@ fn replay_value<S: Read>(
         Err(DocFault::OutOfMemory) => return Err(ReadFault::OutOfMemory),
         Err(fault) => return Ok(refusal(alloc, fault.code(), fault.name(), fault.place())?),
     };
-    replay_checked(alloc, &batch, policy, chooser, traced, outcomes)
+    let report = replay_checked(alloc, &batch, policy, chooser, traced, outcomes);
+    forget(batch);
+    report
 }
 
 /// What the bytes of a batch document and the outcomes document of an input give.
@@ -235,7 +241,6 @@ fn replay_document<S: Read>(
         Err(fault) => return Ok(refusal(alloc, fault.code(), fault.name(), fault.place())?),
     };
     let report = replay_value(alloc, &value, policy, chooser, traced, outcomes);
-    // The value is left to the end of the program: letting it go takes long.
     forget(value);
     report
 }
@@ -245,7 +250,7 @@ fn replay_document<S: Read>(
 ///
 /// The chooser says in which order, and the policy whether an error stops the run and how many
 /// requests may run at once. The second input is read only where the first has a batch that the
-/// check accepts. The values of both documents are left to the end of the program.
+/// check accepts. What was read of both documents is left to the end of the program.
 ///
 /// # Errors
 ///

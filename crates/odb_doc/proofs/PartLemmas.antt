@@ -1,5 +1,5 @@
--- The members that are left in an object once others were moved out of it.
-use Rattle.std.proofs.Common.{◌≡◌, ◌∙◌, ℕ, false, None, Some, Option, List, option_map, cond, bytes_eq, String, string_bytes, BTreeMap, refl, ap, sym}
+-- The members of an object once others were moved out of it.
+use Rattle.std.proofs.Common.{◌≡◌, ◌∙◌, ℕ, false, None, Some, Option, IsSome, List, option_map, cond, bytes_eq, String, string_bytes, BTreeMap, refl, ap, sym}
 use Rattle.std.specs.declared.alloc.Global.{Global}
 use Rattle.std.specs.BTreeMap as tree
 use Rattle.std.specs.Cmp.Lexicographic.{slice_cmp}
@@ -19,12 +19,12 @@ Object = BTreeMap (String Global) Value
 abbrev pub at : List ℕ → Object → Option Value
 at name m = tree.get_by_text m name
 
--- another name was taken out
-abbrev pub Lacks : List ℕ → Object → Object → Type 0
-Lacks gone m n = tree.UpdatesBy string_cmp (λ k. slice_cmp nat_cmp gone (string_bytes k)) m n None
+-- a value was written in the place of that at a name
+abbrev pub Writes : List ℕ → Object → Value → Object → Type 0
+Writes name m value n = tree.WritesThrough string_cmp (λ k. slice_cmp nat_cmp name (string_bytes k)) m value n
 
-pub at-lacks : (gone name : List ℕ) (m n : Object) → Lacks gone m n → bytes_eq gone name ≡ false → at name n ≡ at name m
-at-lacks gone name m n lacks apart = btree_map_updates_text gone m n None lacks name ∙ ap (λ b. cond b None (at name m)) apart
+pub at-writes : (name : List ℕ) (m n : Object) (value : Value) → Writes name m value n → IsSome (at name m) → (other : List ℕ) → bytes_eq name other ≡ false → at other n ≡ at other m
+at-writes name m n value writes there other apart = btree_map_updates_text name m n (Some value) (writes.3 there) other ∙ ap (λ b. cond b (Some value) (at other m)) apart
 
 get-as_object : (name : List ℕ) (d : Data) (ms : Members) → as_object d ≡ Some ms → get name d ≡ get_member name ms
 get-as_object name null ms is = absurd (cc (is))

@@ -33,6 +33,6 @@ pub use document::{MAX_DOCUMENT_BYTES, parse};
 pub use fault::{DocFault, DocumentRule, Place, RequestRule};
 pub use outcome::Outcome;
 pub use outcome_fault::{OutcomeFault, OutcomeRule};
-pub use outcomes::Outcomes;
+pub use outcomes::{Emptied, Outcomes};
 pub use request::Request;
 pub use whole::{TextFault, is_whole};

@@ -1,11 +1,12 @@
-ghost use Rattle.std.specs.Prelude.{◌≡◌, MatchOption, IfOk};
+ghost use Rattle.std.specs.Prelude.{◌≡◌, ℕ, List, false, bytes_eq, MatchOption, IfOk};
+ghost use Rattle.std.specs.BTreeMap.{get_by_text};
 ghost use Rattle.serde_json.specs.View.{view};
 ghost use Rattle.odb_doc.specs.Outcomes.{IsOutcomeObject};
 ghost use Rattle.odb_doc.specs.OutcomeShapes.{ArePartsOf, IsShapeOf};
 
 use crate::headers::headers_from;
-use crate::member::{Object, members_of, number_of, text_of, unless_null};
-use serde_json::{Number, Value};
+use crate::member::{Object, number_of, text_of, unless_null};
+use serde_json::{Map, Number, Value};
 use std::alloc::{AllocError, Global};
 use std::collections::BTreeMap;
 
@@ -38,14 +39,26 @@ pub(crate) struct Shape {
     pub(crate) body: Option<Value>,
 }
 
-fn parts_of(element: Value) -> Option<Parts>
-    ensures { MatchOption result (¬ IsOutcomeObject (view element)) (ArePartsOf (view element)) }
+/// The value at a member, moved out of its object, where null stays in its place.
+fn moved(members: &mut Map<String, Value>, name: &str) -> Option<Value>
+    ensures value { result ≡ get_by_text members.old name.now }
+    ensures others { (other : List ℕ) → bytes_eq name.now other ≡ false
+        → get_by_text members.new other ≡ get_by_text members.old other }
 {
-    let mut members = members_of(element)?;
-    let id = members.remove("id");
-    let status = members.remove("status");
-    let headers = members.remove("headers");
-    let body = members.remove("body");
+    let value = members.get_mut(name)?;
+    Some(value.take())
+}
+
+/// The members of an object of the kind, moved out of it.
+fn parts_of(element: &mut Value) -> Option<Parts>
+    ensures { MatchOption result (¬ IsOutcomeObject (view element.old))
+        (ArePartsOf (view element.old)) }
+{
+    let members = element.as_object_mut()?;
+    let id = moved(members, "id");
+    let status = moved(members, "status");
+    let headers = moved(members, "headers");
+    let body = moved(members, "body");
     Some(Parts {
         id,
         status,
@@ -54,12 +67,12 @@ fn parts_of(element: Value) -> Option<Parts>
     })
 }
 
-/// What the element says, or `None` where it has not the shape of an outcome.
-pub(crate) fn shape_of(alloc: Global, element: Value) -> Result<Option<Shape>, AllocError>
-    ensures { IfOk result (λ found. MatchOption found (¬ IsOutcomeObject (view element))
-        (IsShapeOf (view element))) }
+/// What the element says, moved out of it, or `None` where it has not the shape of an outcome.
+pub(crate) fn shape_of(alloc: Global, element: &mut Value) -> Result<Option<Shape>, AllocError>
+    ensures { IfOk result (λ found. MatchOption found (¬ IsOutcomeObject (view element.old))
+        (IsShapeOf (view element.old))) }
 {
-    if Object::Outcome.has_further(&element) {
+    if Object::Outcome.has_further(element) {
         return Ok(None);
     }
     let Some(parts) = parts_of(element) else {

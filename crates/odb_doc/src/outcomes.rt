@@ -27,6 +27,13 @@ pub struct Outcomes {
     ghost sound: { All IsSoundOutcome (map recorded entries.items) } by { Prim.hlevel props },
 }
 
+/// What is left of a document once its outcomes were moved out of it: emptied objects, which tell
+/// nothing. To let many of them go takes time, which a program that soon ends can do without.
+#[derive(Drop)]
+pub struct Emptied {
+    elements: Vec<Value>,
+}
+
 /// The status, or `None` where it is no whole number from 200 to 599.
 fn status_of(status: Number) -> Option<u16>
     ensures { MatchOption result (¬ IsStatus (number_view status))
@@ -60,23 +67,23 @@ fn note(seen: &mut IndexSet<String>, id: String) -> Result<bool, AllocError>
     Ok(seen.insert(id)?)
 }
 
-/// The id and the outcome that an element says behind others with the ids in `seen`, or the first of
-/// the rules that it breaks, as a fault that lies at `at`.
+/// The id and the outcome that an element says behind others with the ids in `seen`, moved out of it,
+/// or the first of the rules that it breaks, as a fault that lies at `at`.
 fn read_outcome(
     alloc: Global,
     at: usize,
     seen: &mut IndexSet<String>,
-    element: Value,
+    element: &mut Value,
 ) -> Result<(String, Outcome), OutcomeFault>
     ensures sound { OnOk result ((rule : OutcomeRule)
-        → ¬ BreaksOutcome rule (texts seen.old.keys) (view element)) }
-    ensures says { IfOk result (λ entry. Says (view element) (recorded entry)) }
+        → ¬ BreaksOutcome rule (texts seen.old.keys) (view element.old)) }
+    ensures says { IfOk result (λ entry. Says (view element.old) (recorded entry)) }
     ensures fit { IfOk result (λ entry. IsSoundOutcome (recorded entry)) }
     ensures is_new { IfOk result (λ entry. list_any (bytes_eq (string_bytes entry.0))
         (texts seen.old.keys) ≡ false) }
     ensures noted { IfOk result (λ entry. texts seen.new.keys
         ≡ texts seen.old.keys ++ string_bytes entry.0 ∷ []) }
-    ensures first { IfErr result (IsFaultBehind at (texts seen.old.keys) (view element)) }
+    ensures first { IfErr result (IsFaultBehind at (texts seen.old.keys) (view element.old)) }
 {
     let broken = |rule| OutcomeFault::Outcome { at, rule };
     let Some(shape) = shape_of(alloc, element)? else {
@@ -99,18 +106,18 @@ fn read_outcome(
     Ok((shape.id, outcome))
 }
 
-/// The ids and outcomes that the elements say, or the first fault among them.
+/// The ids and outcomes that the elements say, moved out of them, or the first fault among them.
 fn outcomes_from(
     alloc: Global,
-    elements: Vec<Value>,
+    elements: &mut Vec<Value>,
 ) -> Result<Vec<(String, Outcome)>, OutcomeFault>
-    ensures sound { OnOk result (AreOutcomes (map view elements.items)) }
-    ensures says { IfOk result (λ found. AllZip Says (map view elements.items)
+    ensures sound { OnOk result (AreOutcomes (map view elements.old.items)) }
+    ensures says { IfOk result (λ found. AllZip Says (map view elements.old.items)
         (map recorded found.items)) }
     ensures apart { IfOk result (λ found. IsDistinct bytes_eq
         (keys_of (map recorded found.items))) }
     ensures fit { IfOk result (λ found. All IsSoundOutcome (map recorded found.items)) }
-    ensures first { IfErr result (λ fault. RefusesElements fault (map view elements.items)) }
+    ensures first { IfErr result (λ fault. RefusesElements fault (map view elements.old.items)) }
 {
     let mut entries = Vec::with_capacity(alloc, elements.len())?;
     let mut seen = IndexSet::with_capacity(alloc, elements.len())?;
@@ -153,11 +160,25 @@ impl Outcomes {
         ensures outcomes { IfOk result (λ outcomes. AreOutcomesOf (view document) (entries outcomes)) }
         ensures least { IfErr result (λ fault. RefusesOutcomes fault (view document)) }
     {
-        let Some(elements) = elements_of(document) else {
+        let (outcomes, _emptied) = Outcomes::split(alloc, document)?;
+        Ok(outcomes)
+    }
+
+    /// The outcomes of a document, as [`Outcomes::read`] gives them, and what is left of it.
+    ///
+    /// # Errors
+    ///
+    /// Those of [`Outcomes::read`]. Nothing is left of the document then.
+    pub fn split(alloc: Global, document: Value) -> Result<(Outcomes, Emptied), OutcomeFault>
+        ensures good { OnOk result (IsOutcomesDocument (view document)) }
+        ensures outcomes { IfOk result (λ parts. AreOutcomesOf (view document) (entries parts.0)) }
+        ensures least { IfErr result (λ fault. RefusesOutcomes fault (view document)) }
+    {
+        let Some(mut elements) = elements_of(document) else {
             return Err(OutcomeFault::Document);
         };
-        let entries = outcomes_from(alloc, elements)?;
-        Ok(Outcomes { entries })
+        let entries = outcomes_from(alloc, &mut elements)?;
+        Ok((Outcomes { entries }, Emptied { elements }))
     }
 
     /// How many outcomes there are.

@@ -316,6 +316,26 @@ fn hands_on_what_was_read(rt: HostRuntime) -> Result<(), Fail> {
     Ok(())
 }
 
+#[test]
+fn splits_outcomes_from_what_is_left(rt: HostRuntime) -> Result<(), Fail> {
+    let alloc = rt.alloc();
+    let (outcomes, _emptied) = Outcomes::split(alloc, parse(alloc, OUTCOMES.as_bytes())?)?;
+    assert_eq!(rt; outcomes.len(), 4);
+    let (id, outcome) = outcomes.entry(0);
+    assert_eq!(rt; (id, outcome.status, outcome.headers.len()), ("a", 201, 3));
+    let body = outcome.body.as_ref().ok_or("a body")?;
+    assert_eq!(rt; body.to_string(alloc)?.as_str(), r#"{"n":[1,-2],"t":"x"}"#);
+    let (id, outcome) = outcomes.entry(3);
+    assert_eq!(rt; (id, outcome.status, outcome.headers.len()), ("d", 200, 0));
+    let twice = r#"{"outcomes":[{"id":"a","status":200},{"id":"a","status":200}]}"#;
+    let rule = OutcomeRule::OutcomeTwice;
+    assert_eq!(rt;
+        Outcomes::split(alloc, parse(alloc, twice.as_bytes())?).err(),
+        Some(OutcomeFault::Outcome { at: 1, rule })
+    );
+    Ok(())
+}
+
 /// A document of `count` outcomes with different ids, and then one more with this id.
 fn many(alloc: Global, count: usize, last: &str) -> Result<String, AllocError> {
     let mut text = String::from_str(alloc, "{\"outcomes\":[")?;

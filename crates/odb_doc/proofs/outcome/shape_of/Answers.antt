@@ -9,7 +9,7 @@ use Rattle.odb_doc.proofs.outcome.shape_of.Goals as goal
 
 pub returns : goal.returns
 returns c =
-    let d = view c.args.element in
+    let d = view c.args.element.now in
     let id : id_of d ≡ Some (string_bytes c.in-Some-and_then.id) = search rules in
     let status : status_of d ≡ Some (number_view c.in-Some-and_then-2.status) = search rules in
     let holds : HoldsHeaders (option_map view c.in-Some.parts.headers) (headers_in c.in-Some-2.headers) = search rules in

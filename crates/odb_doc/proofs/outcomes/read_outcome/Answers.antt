@@ -20,7 +20,7 @@ from_new true is_new same new = cc
 
 pub returns-then-not-branch-clause-first : goal.returns-then-not-branch-clause-first
 returns-then-not-branch-clause-first c =
-    let d = view c.args.element in
+    let d = view c.args.element.now in
     let before = texts c.args.seen.now.keys in
     let shape : IsShapeOf d c.in-Some.shape = search rules in
     let id = string_bytes c.in-Some.shape.id in
@@ -34,7 +34,7 @@ returns-then-not-branch-clause-first c =
 
 pub returns-in_default-status_of-clause-first : goal.returns-in_default-status_of-clause-first
 returns-in_default-status_of-clause-first c =
-    let d = view c.args.element in
+    let d = view c.args.element.now in
     let before = texts c.args.seen.now.keys in
     let shape : IsShapeOf d c.in-Some.shape = search rules in
     let id = string_bytes c.in-Some.shape.id in
@@ -49,7 +49,7 @@ returns-in_default-status_of-clause-first c =
 
 pub returns-then-not-has_whole_body-clause-first : goal.returns-then-not-has_whole_body-clause-first
 returns-then-not-has_whole_body-clause-first c =
-    let d = view c.args.element in
+    let d = view c.args.element.now in
     let before = texts c.args.seen.now.keys in
     let shape : IsShapeOf d c.in-Some.shape = search rules in
     let id = string_bytes c.in-Some.shape.id in
@@ -65,7 +65,7 @@ returns-then-not-has_whole_body-clause-first c =
 
 pub returns-clause-sound : goal.returns-clause-sound
 returns-clause-sound c =
-    let d = view c.args.element in
+    let d = view c.args.element.now in
     let before = texts c.args.seen.now.keys in
     let shape : IsShapeOf d c.in-Some.shape = search rules in
     let id = string_bytes c.in-Some.shape.id in
