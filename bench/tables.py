@@ -21,8 +21,10 @@ without requests. The columns with `/` say how many times the floor's a command'
 are."""
 
 GROWTH_LEGEND = """\
-Processor time in milliseconds at 1/8, 1/4, 1/2 and all of the requests, medians over the turns. *all : 1/4* is
-the last by that at 1/4: 4 where time grows as the requests do, 16 where it grows as their square."""
+Processor time in milliseconds at 1/8, 1/4, 1/2 and all of the requests, medians over the turns; *(reading)* is
+the floor of `replay`. *1/2 : 1/8* and *all : 1/4* say how many times as long four times the requests take: 4
+where time grows as the requests do, 16 where it grows as their square. The documents grow a little more, as ids
+get longer, and memory that a processor's caches cannot hold costs more than memory that they can."""
 
 
 def machine():
@@ -79,13 +81,13 @@ def both(first, second, start):
     )
 
 
-def floors(measures, name, command):
+def floors(measures, name, part, command):
     """The floors of a command on a workload: reading, and for `replay` the checks."""
-    unread = measures[name, 1, READ_BATCH]
+    unread = measures[name, part, READ_BATCH]
     if command != "replay":
         return unread, None
-    start, outcomes = measures["start", 1, "check"], measures[name, 1, READ_OUTCOMES]
-    return both(unread, outcomes, start), both(measures[name, 1, "check"], outcomes, start)
+    start, outcomes = measures["start", 1, "check"], measures[name, part, READ_OUTCOMES]
+    return both(unread, outcomes, start), both(measures[name, part, "check"], outcomes, start)
 
 
 def ratios(measured, floor):
@@ -103,23 +105,32 @@ def command_table(cases, measures):
     for case in cases:
         for command in COMMANDS if case.is_whole() else ():
             measured = measures[case.name, 1, command]
-            reading, checks = floors(measures, case.name, command)
+            reading, checks = floors(measures, case.name, 1, command)
             cells = [case.name, command, milliseconds(measured.wall), milliseconds(measured.processor)]
             cells += [megabytes(measured.memory), milliseconds(reading.processor), megabytes(reading.memory)]
             rows.append(cells + ratios(measured, reading) + ratios(measured, checks))
     return table(heads, rows, 2)
 
 
+def growths(measures, name):
+    """Gives the processor times of each command at each size of a workload, and of the reading for
+    `replay`."""
+    for command in COMMANDS:
+        yield command, [measures[name, part, command].processor for part in PARTS]
+    readings = [floors(measures, name, part, "replay")[0] for part in PARTS]
+    yield "(reading)", [reading.processor for reading in readings]
+
+
 def growth_table(cases, measures):
     """How the processor time of each command grows with the number of requests; nothing where no
     workload has smaller sizes."""
     sizes = {(case.name, case.part): case.requests for case in cases}
-    heads = ["workload", "command", "requests", "at 1/8", "at 1/4", "at 1/2", "at all", "all : 1/4"]
+    heads = ["workload", "command", "requests", "at 1/8", "at 1/4", "at 1/2", "at all"]
+    heads += ["1/2 : 1/8", "all : 1/4"]
     rows = []
     for name in [case.name for case in cases if case.part == PARTS[0]]:
-        for command in COMMANDS:
-            times = [measures[name, part, command].processor for part in PARTS]
-            counts = f"{sizes[name, PARTS[0]]:,} to {sizes[name, 1]:,}"
-            cells = [name, command, counts, *(milliseconds(time) for time in times)]
-            rows.append(cells + [f"{times[3] / times[1]:.2f}"])
+        counts = f"{sizes[name, PARTS[0]]:,} to {sizes[name, 1]:,}"
+        for what, times in growths(measures, name):
+            cells = [name, what, counts, *(milliseconds(time) for time in times)]
+            rows.append(cells + [f"{times[2] / times[0]:.2f}", f"{times[3] / times[1]:.2f}"])
     return table(heads, rows, 2) if rows else ""

@@ -31,15 +31,14 @@ def start_job(program, tiny):
 
 
 def case_jobs(program, case):
-    """The jobs of a case: each command, and at the whole size the readings."""
+    """The jobs of a case: each command, and the readings."""
     words = {
         "check": ("check", case.batch),
         "plan": ("plan", case.batch),
         "replay": ("replay", case.batch, case.outcomes),
+        READ_BATCH: ("check", case.unread),
+        READ_OUTCOMES: ("check", case.outcomes),
     }
-    if case.is_whole():
-        words[READ_BATCH] = ("check", case.unread)
-        words[READ_OUTCOMES] = ("check", case.outcomes)
     return [
         Job(case.name, case.part, command, (program, *given), 0 if command in COMMANDS else 1)
         for command, given in words.items()

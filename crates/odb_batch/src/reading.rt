@@ -14,6 +14,10 @@ pub const MAX_READ_BYTES: usize = MAX_DOCUMENT_BYTES + 1;
 
 const CHUNK_BYTES: usize = 8192;
 
+/// How much room is taken for a document at first. The system lends memory of this size page by page
+/// as it is written, and more of it without a copy.
+const ROOM_BYTES: usize = 262_144;
+
 /// Why a document was not read.
 #[derive(Clone, Copy, Debug, PartialEq, Eq, Error)]
 pub enum ReadFault {
@@ -49,7 +53,7 @@ pub fn read_document<R: Read>(alloc: Global, input: &mut Input<R>) -> Result<Vec
     ensures reads { input.new.reads ≤ MAX_READS }
     ensures given { GivesFew (R.remaining input.old.reader) (R.remaining input.new.reader) }
 {
-    let mut bytes = Vec::new(alloc);
+    let mut bytes = Vec::with_capacity(alloc, ROOM_BYTES)?;
     let mut chunk = [0u8; CHUNK_BYTES];
     while bytes.len() < MAX_READ_BYTES {
         let room = CHUNK_BYTES.min(MAX_READ_BYTES - bytes.len());

@@ -99,8 +99,9 @@ fn replay_recorded(
     match execute(alloc, plan, policy, chooser, &mut service) {
         Ok(trace) => {
             let text = result_text(alloc, &trace, traced)?;
-            // This and what was read is left to the end of the program: letting it go takes long.
+            // These and what was read are left to the end of the program: letting go takes long.
             forget(trace);
+            forget(service);
             Ok(Report {
                 ended: Ended::Done,
                 text,

@@ -32,13 +32,18 @@ fn push_response(
     push_tail(alloc, text, request.id, &answer)
 }
 
+/// How much room is taken for a response at first: that of an answer with a header and a short body.
+const ROOM_BYTES: usize = 128;
+
 /// The text of the response to a batch whose bodies hold whole numbers alone.
 fn whole_text(alloc: Global, done: &Done<'_>) -> Result<String, AllocError>
     requires { HasWholeBodies done.now }
     ensures { IfOk result (λ text. string_bytes text ≡ responses.response_text done.now) }
 {
-    let mut text = String::from_str(alloc, "{\"responses\":[")?;
-    for i in 0..done.plan().len() {
+    let count = done.plan().len();
+    let mut text = String::with_capacity(alloc, ROOM_BYTES * (count as usize))?;
+    text.push_str("{\"responses\":[")?;
+    for i in 0..count {
         push_response(alloc, &mut text, done, i)?;
     }
     text.push_str("]}")?;

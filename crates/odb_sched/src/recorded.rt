@@ -17,6 +17,8 @@ use std::marker::Model;
 #[derive(Drop)]
 pub struct Recorded {
     outcomes: Vec<Option<Outcome>>,
+    // Nobody asks for them. Letting go of them amid a run would leave gaps all over the memory.
+    ids: Vec<String>,
 }
 
 impl Model for Recorded {
@@ -63,11 +65,12 @@ fn note(plan: &Plan<'_>, outcomes: &mut [Option<Outcome>], id: &str, outcome: Ou
     }
 }
 
-/// What is recorded for each request of the plan.
+/// What is recorded for each request of the plan. The ids go into `ids`.
 fn by_position(
     alloc: Global,
     plan: &Plan<'_>,
     mut entries: Vec<(String, Outcome)>,
+    ids: &mut Vec<String>,
 ) -> Result<Vec<Option<Outcome>>, AllocError>
     ensures { IfOk result (λ outcomes. outcomes.items
         ≡ recorded_for (plan_records plan.now) (map recorded entries.items)) }
@@ -75,6 +78,7 @@ fn by_position(
     let mut outcomes = none_for_each(alloc, plan.len())?;
     while let Some((id, outcome)) = entries.pop() {
         note(plan, &mut outcomes, &id, outcome);
+        ids.push(id)?;
     }
     Ok(outcomes)
 }
@@ -86,9 +90,10 @@ impl Recorded {
         ensures { IfOk result (λ recorded. recorded
             ≡ recorded_for (plan_records plan.now) (entries outcomes)) }
     {
-        Ok(Recorded {
-            outcomes: by_position(alloc, plan, outcomes.into_vec())?,
-        })
+        let entries = outcomes.into_vec();
+        let mut ids = Vec::with_capacity(alloc, entries.len())?;
+        let outcomes = by_position(alloc, plan, entries, &mut ids)?;
+        Ok(Recorded { outcomes, ids })
     }
 }
 
