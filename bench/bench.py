@@ -20,7 +20,7 @@ import workloads
 from measure import BenchFault, adopt_orphans
 
 ROOT = os.path.dirname(os.path.dirname(os.path.realpath(__file__)))
-TURNS = 15
+TURNS = 11
 
 
 class Parser(argparse.ArgumentParser):

@@ -17,6 +17,9 @@ from dataclasses import dataclass
 
 SET_CHILD_SUBREAPER = 36
 
+# About half as much again as the greatest run of a workload that is measured at several sizes.
+STIRRED_BYTES = 96 * 2**20
+
 # The words are an output file and a command. The shell prints the number of the process that waits.
 LEAVE_WAITING = """
 output=$1
@@ -69,6 +72,19 @@ def leave_waiting(words, output):
         raise BenchFault(f"the shell did not start a program: {error}") from None
     finally:
         os.close(receiving)
+
+
+def stir_memory():
+    """Lets a process fill much memory and end, so that each run is handed memory of the same kind.
+    Without this a small run gets what the one before it has left in the processor's caches, and is
+    faster by up to a quarter, while a great one has to fetch most of its memory from further away."""
+    process = os.fork()
+    if process == 0:
+        try:
+            _filled = b"\1" * STIRRED_BYTES
+        finally:
+            os._exit(0)
+    os.waitpid(process, 0)
 
 
 def end(process):

@@ -8,7 +8,8 @@ from workloads import PARTS
 LEGEND = """\
 *time* is that of the clock from start to end, and *processor* the time of the user and the system, which also
 has the fork of a shell (some tenths of a millisecond); both are medians over the turns. *memory* is the
-greatest that the process held, over all turns, with the pages of its code.
+greatest that the process held, over all turns, with the pages of its code. Before each run another process
+fills 100 MB and ends, so that no run gains from what the one before it left in the processor's caches.
 
 *reading* is the floor: what the program takes to start once and read the same documents into values. It is
 measured by `check` of documents which it refuses once it has read them whole into a value: with F04
@@ -24,7 +25,7 @@ GROWTH_LEGEND = """\
 Processor time in milliseconds at 1/8, 1/4, 1/2 and all of the requests, medians over the turns; *(reading)* is
 the floor of `replay`. *1/2 : 1/8* and *all : 1/4* say how many times as long four times the requests take: 4
 where time grows as the requests do, 16 where it grows as their square. The documents grow a little more, as ids
-get longer, and memory that a processor's caches cannot hold costs more than memory that they can."""
+get longer."""
 
 
 def machine():

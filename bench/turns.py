@@ -5,7 +5,7 @@ import statistics
 from dataclasses import dataclass
 
 import answers
-from measure import BenchFault, run
+from measure import BenchFault, run, stir_memory
 
 COMMANDS = ("check", "plan", "replay")
 READ_BATCH = "read batch"
@@ -99,11 +99,12 @@ def summary(runs):
 
 
 def measure_in_turns(jobs, turns, tell):
-    """Runs all jobs in their order, and again in each turn. Gives the measure of each by its name,
-    part and command."""
+    """Runs all jobs in their order, and again in each turn, each on memory that was stirred. Gives
+    the measure of each by its name, part and command."""
     runs = {(job.name, job.part, job.command): [] for job in jobs}
     for turn in range(turns):
         tell(f"turn {turn + 1} of {turns}")
         for job in jobs:
+            stir_memory()
             runs[job.name, job.part, job.command].append(run_job(job))
     return {key: summary(measured) for key, measured in runs.items()}
