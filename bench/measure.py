@@ -76,8 +76,8 @@ def leave_waiting(words, output):
 
 def stir_memory():
     """Lets a process fill much memory and end, so that each run is handed memory of the same kind.
-    Without this a small run gets what the one before it has left in the processor's caches, and is
-    faster by up to a quarter, while a great one has to fetch most of its memory from further away."""
+    Without this, small runs were faster by up to a quarter and great ones were not, it seems since
+    a small run is handed memory that the one before it has left in the processor's caches."""
     process = os.fork()
     if process == 0:
         try:
