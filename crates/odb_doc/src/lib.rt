@@ -3,8 +3,9 @@
 //! A batch comes as a JSON document (OData JSON Format 4.01, section 19.1). [`parse`] makes a value
 //! of its bytes, and [`Batch::read`] makes the batch of that value, or tells the least fault of its
 //! shape. Whether the names that requests give each other fit together is decided by the crates
-//! above. [`Outcomes::read`] makes recorded outcomes of the value of a document of their own: an
-//! [`Outcome`] is what a request ended with. [`is_whole`] says which values may be written.
+//! above. [`Outcomes::read`] makes recorded outcomes of the value of a document of their own, and
+//! [`Outcomes::split`] hands back what is left of it besides: an [`Outcome`] is what a request ended
+//! with. [`is_whole`] says which values may be written.
 //! [`Input`] and [`Output`] are a reader and a writer that remember whether they failed.
 #![tactic(auto)]
 

@@ -49,7 +49,7 @@ fn moved(members: &mut Map<String, Value>, name: &str) -> Option<Value>
     Some(value.take())
 }
 
-/// The members of an object of the kind, moved out of it.
+/// The members that an outcome may have, moved out of the object.
 fn parts_of(element: &mut Value) -> Option<Parts>
     ensures { MatchOption result (¬ IsOutcomeObject (view element.old))
         (ArePartsOf (view element.old)) }

@@ -27,13 +27,11 @@ pub struct Outcomes {
     ghost sound: { All IsSoundOutcome (map recorded entries.items) } by { Prim.hlevel props },
 }
 
-/// What is left of a document once its outcomes were moved out of it: emptied objects, and the set in
-/// which the ids were looked up. It tells nothing. To let much of it go takes time, which a program
-/// that soon ends can do without.
+/// What is left of a document once its outcomes were moved out of it: emptied objects. It tells
+/// nothing. To let much of it go takes time, which a program that soon ends can do without.
 #[derive(Drop)]
 pub struct Emptied {
     elements: Vec<Value>,
-    ids: IndexSet<String>,
 }
 
 /// The status, or `None` where it is no whole number from 200 to 599.
@@ -108,14 +106,11 @@ fn read_outcome(
     Ok((shape.id, outcome))
 }
 
-/// The ids and outcomes that the elements say, moved out of them, or the first fault among them. A
-/// copy of each id goes into `seen`.
+/// The ids and outcomes that the elements say, moved out of them, or the first fault among them.
 fn outcomes_from(
     alloc: Global,
     elements: &mut Vec<Value>,
-    seen: &mut IndexSet<String>,
 ) -> Result<Vec<(String, Outcome)>, OutcomeFault>
-    requires { seen.old.keys ≡ [] }
     ensures sound { OnOk result (AreOutcomes (map view elements.old.items)) }
     ensures says { IfOk result (λ found. AllZip Says (map view elements.old.items)
         (map recorded found.items)) }
@@ -124,9 +119,10 @@ fn outcomes_from(
     ensures fit { IfOk result (λ found. All IsSoundOutcome (map recorded found.items)) }
     ensures first { IfErr result (λ fault. RefusesElements fault (map view elements.old.items)) }
 {
+    let mut seen = IndexSet::with_capacity(alloc, elements.len())?;
     let mut entries = Vec::with_capacity(alloc, elements.len())?;
     for element in elements {
-        let entry = read_outcome(alloc, entries.len(), seen, element)?;
+        let entry = read_outcome(alloc, entries.len(), &mut seen, element)?;
         entries.push(entry)?;
     }
     Ok(entries)
@@ -181,9 +177,8 @@ impl Outcomes {
         let Some(mut elements) = elements_of(document) else {
             return Err(OutcomeFault::Document);
         };
-        let mut ids = IndexSet::with_capacity(alloc, elements.len())?;
-        let entries = outcomes_from(alloc, &mut elements, &mut ids)?;
-        Ok((Outcomes { entries }, Emptied { elements, ids }))
+        let entries = outcomes_from(alloc, &mut elements)?;
+        Ok((Outcomes { entries }, Emptied { elements }))
     }
 
     /// How many outcomes there are.

@@ -17,8 +17,6 @@ use std::marker::Model;
 #[derive(Drop)]
 pub struct Recorded {
     outcomes: Vec<Option<Outcome>>,
-    // Nobody asks for them. Letting go of them amid a run would leave gaps all over the memory.
-    ids: Vec<String>,
 }
 
 impl Model for Recorded {
@@ -65,12 +63,11 @@ fn note(plan: &Plan<'_>, outcomes: &mut [Option<Outcome>], id: &str, outcome: Ou
     }
 }
 
-/// What is recorded for each request of the plan. The ids go into `ids`.
+/// What is recorded for each request of the plan.
 fn by_position(
     alloc: Global,
     plan: &Plan<'_>,
     mut entries: Vec<(String, Outcome)>,
-    ids: &mut Vec<String>,
 ) -> Result<Vec<Option<Outcome>>, AllocError>
     ensures { IfOk result (λ outcomes. outcomes.items
         ≡ recorded_for (plan_records plan.now) (map recorded entries.items)) }
@@ -78,7 +75,6 @@ fn by_position(
     let mut outcomes = none_for_each(alloc, plan.len())?;
     while let Some((id, outcome)) = entries.pop() {
         note(plan, &mut outcomes, &id, outcome);
-        ids.push(id)?;
     }
     Ok(outcomes)
 }
@@ -90,10 +86,8 @@ impl Recorded {
         ensures { IfOk result (λ recorded. recorded
             ≡ recorded_for (plan_records plan.now) (entries outcomes)) }
     {
-        let entries = outcomes.into_vec();
-        let mut ids = Vec::with_capacity(alloc, entries.len())?;
-        let outcomes = by_position(alloc, plan, entries, &mut ids)?;
-        Ok(Recorded { outcomes, ids })
+        let outcomes = by_position(alloc, plan, outcomes.into_vec())?;
+        Ok(Recorded { outcomes })
     }
 }
 

@@ -14,7 +14,7 @@ use Rattle.odb_doc.proofs.outcomes.outcomes_from.Goals as goal
 pub loop-element-init : goal.loop-element-init
 loop-element-init c = record {
   split = search rules;
-  seen = rw (c.requires, c.in_ok-entries.ensures.items) refl;
+  seen = rw (c.in_ok-seen.ensures.empty, c.in_ok-entries.ensures.items) refl;
   read = rw c.in_ok-entries.ensures.items AreRead-none;
 }
 

@@ -1,4 +1,4 @@
-use Rattle.std.proofs.Common.{length, map}
+use Rattle.std.proofs.Common.{map}
 use Rattle.odb_doc.specs.Outcomes.{recorded}
 use Rattle.odb_check.specs.Plans.{plan_records}
 use Rattle.odb_sched.proofs.RecordedLemmas.{AreNoted}
@@ -9,4 +9,4 @@ abbrev pub invariant-loop-id : goal.invariant-loop-id
 invariant-loop-id l = AreNoted (plan_records l.plan) (map recorded l.fn.entries.items) (map recorded l.entries.items) l.outcomes.items
 
 abbrev pub decreases-loop-id : goal.decreases-loop-id
-decreases-loop-id l = length l.entries.items
+decreases-loop-id l = goal.left-loop-id l
