@@ -89,13 +89,14 @@ def given_program(path):
 
 def prepare(program, folder, names, short):
     """Makes the workloads, and tries each job on them once. Gives the cases and the jobs."""
-    cases, jobs = [], [turns.start_job(program, workloads.write_tiny(folder))]
+    cases, jobs = [], []
     for case, content in workloads.cases(folder, ROOT, names, short):
         cases.append(case)
         for job in turns.case_jobs(program, case):
             turns.try_job(job, content, folder)
             jobs.append(job)
-    return cases, jobs
+    start = turns.start_job(program, workloads.write_tiny(folder))
+    return cases, [start, *turns.in_order(jobs, names)]
 
 
 def load():

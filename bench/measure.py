@@ -87,6 +87,17 @@ def stir_memory():
     os.waitpid(process, 0)
 
 
+@contextlib.contextmanager
+def staying_on(processor):
+    """Keeps this process, and those that it starts meanwhile, on one processor."""
+    before = os.sched_getaffinity(0)
+    os.sched_setaffinity(0, {processor})
+    try:
+        yield
+    finally:
+        os.sched_setaffinity(0, before)
+
+
 def end(process):
     """Ends a process that may have ended."""
     with contextlib.suppress(ProcessLookupError, ChildProcessError):

@@ -2,14 +2,15 @@
 
 import os
 
-from turns import COMMANDS, READ_BATCH, READ_OUTCOMES, Measure
+from turns import COMMANDS, READ_BATCH, READ_OUTCOMES, Measure, times_as_long
 from workloads import PARTS
 
 LEGEND = """\
 *time* is that of the clock from start to end, and *processor* the time of the user and the system, which also
 has the fork of a shell (some tenths of a millisecond); both are medians over the turns. *memory* is the
-greatest that the process held, over all turns, with the pages of its code. Before each run another process
-fills 100 MB and ends, so that no run gains from what the one before it left in the processor's caches.
+greatest that the process held, over all turns, with the pages of its code. Each turn stays on one processor,
+and the next one goes to the next. Before each run another process fills 100 MB and ends, so that no run gains
+from what the one before it left in the processor's caches.
 
 *reading* is the floor: what the program takes to start once and read the same documents into values. It is
 measured by `check` of documents which it refuses once it has read them whole into a value: with F04
@@ -19,13 +20,14 @@ one start; so also for memory, as a replay holds the values of both documents. *
 `replay` alone, and holds more: `check` of the batch as it is, plus `check` of the outcomes, minus one start.
 `check` lets the values go at its end; `replay` leaves them to the system. One start is `check` of a batch
 without requests. The columns with `/` say how many times the floor's a command's processor time and memory
-are."""
+are, for the time as the median of what that was in each turn."""
 
 GROWTH_LEGEND = """\
 Processor time in milliseconds at 1/8, 1/4, 1/2 and all of the requests, medians over the turns; *(reading)* is
 the floor of `replay`. *1/2 : 1/8* and *all : 1/4* say how many times as long four times the requests take: 4
-where time grows as the requests do, 16 where it grows as their square. The documents grow a little more, as ids
-get longer."""
+where time grows as the requests do, 16 where it grows as their square. Each is the median of what it was in each
+turn, since the machine's own pace may change from turn to turn. The documents grow a little more, as ids get
+longer."""
 
 
 def machine():
@@ -74,11 +76,15 @@ def case_table(cases):
 
 
 def both(first, second, start):
-    """The measure of two readings in one process: their sum minus one start."""
+    """The measures of two readings in one process: in each turn their sum minus one start."""
+
+    def joined(firsts, seconds, starts):
+        return [one + other - less for one, other, less in zip(firsts, seconds, starts)]
+
     return Measure(
-        wall=first.wall + second.wall - start.wall,
-        processor=first.processor + second.processor - start.processor,
-        memory=first.memory + second.memory - start.memory,
+        walls=joined(first.walls, second.walls, start.walls),
+        processors=joined(first.processors, second.processors, start.processors),
+        memories=joined(first.memories, second.memories, start.memories),
     )
 
 
@@ -95,7 +101,7 @@ def ratios(measured, floor):
     """How many times the floor this is, in processor time and in memory."""
     if floor is None:
         return ["", ""]
-    return [f"{measured.processor / floor.processor:.2f}", f"{measured.memory / floor.memory:.2f}"]
+    return [f"{times_as_long(measured, floor):.2f}", f"{measured.memory / floor.memory:.2f}"]
 
 
 def command_table(cases, measures):
@@ -114,12 +120,11 @@ def command_table(cases, measures):
 
 
 def growths(measures, name):
-    """Gives the processor times of each command at each size of a workload, and of the reading for
+    """Gives the measures of each command at each size of a workload, and of the reading for
     `replay`."""
     for command in COMMANDS:
-        yield command, [measures[name, part, command].processor for part in PARTS]
-    readings = [floors(measures, name, part, "replay")[0] for part in PARTS]
-    yield "(reading)", [reading.processor for reading in readings]
+        yield command, [measures[name, part, command] for part in PARTS]
+    yield "(reading)", [floors(measures, name, part, "replay")[0] for part in PARTS]
 
 
 def growth_table(cases, measures):
@@ -131,7 +136,8 @@ def growth_table(cases, measures):
     rows = []
     for name in [case.name for case in cases if case.part == PARTS[0]]:
         counts = f"{sizes[name, PARTS[0]]:,} to {sizes[name, 1]:,}"
-        for what, times in growths(measures, name):
-            cells = [name, what, counts, *(milliseconds(time) for time in times)]
-            rows.append(cells + [f"{times[2] / times[0]:.2f}", f"{times[3] / times[1]:.2f}"])
+        for what, sizes_measured in growths(measures, name):
+            eighth, quarter, half, whole = sizes_measured
+            cells = [name, what, counts, *(milliseconds(it.processor) for it in sizes_measured)]
+            rows.append(cells + [f"{times_as_long(half, eighth):.2f}", f"{times_as_long(whole, quarter):.2f}"])
     return table(heads, rows, 2) if rows else ""

@@ -5,7 +5,7 @@ import statistics
 from dataclasses import dataclass
 
 import answers
-from measure import BenchFault, run, stir_memory
+from measure import BenchFault, run, staying_on, stir_memory
 
 COMMANDS = ("check", "plan", "replay")
 READ_BATCH = "read batch"
@@ -81,30 +81,62 @@ def try_job(job, content, folder):
 
 @dataclass(frozen=True)
 class Measure:
-    """The measures of a job over the turns: median seconds of time and of processor time, and the
-    greatest memory in bytes."""
+    """The measures of a job in each turn: seconds of time and of processor time, and the greatest
+    memory in bytes."""
 
-    wall: float
-    processor: float
-    memory: int
+    walls: list
+    processors: list
+    memories: list
+
+    @property
+    def wall(self):
+        """The median of the seconds of time."""
+        return statistics.median(self.walls)
+
+    @property
+    def processor(self):
+        """The median of the seconds of processor time."""
+        return statistics.median(self.processors)
+
+    @property
+    def memory(self):
+        """The greatest memory in bytes."""
+        return max(self.memories)
 
 
 def summary(runs):
-    """The measure of some runs of one job."""
+    """The measures of the runs of one job."""
     return Measure(
-        wall=statistics.median(it.wall for it in runs),
-        processor=statistics.median(it.processor for it in runs),
-        memory=max(it.memory for it in runs),
+        walls=[it.wall for it in runs],
+        processors=[it.processor for it in runs],
+        memories=[it.memory for it in runs],
     )
 
 
+def times_as_long(measured, floor):
+    """How many times as much processor time a job takes as another: the median of what this was in
+    each turn."""
+    return statistics.median(one / other for one, other in zip(measured.processors, floor.processors))
+
+
+def in_order(jobs, names):
+    """The jobs in the order in which a turn runs them: by workload and command, so that the sizes of
+    a workload, whose times are compared, come one after the other."""
+    commands = (*COMMANDS, READ_BATCH, READ_OUTCOMES)
+    return sorted(jobs, key=lambda job: (names.index(job.name), commands.index(job.command)))
+
+
 def measure_in_turns(jobs, turns, tell):
-    """Runs all jobs in their order, and again in each turn, each on memory that was stirred. Gives
-    the measure of each by its name, part and command."""
+    """Runs all jobs in their order, and again in each turn, each on memory that was stirred. A turn
+    stays on one processor, and the next one goes to the next: the times of one job jumped by more
+    than half from run to run where the system put it anywhere, and by less where it stayed. Gives
+    the measures of each job by its name, part and command."""
     runs = {(job.name, job.part, job.command): [] for job in jobs}
+    processors = sorted(os.sched_getaffinity(0))
     for turn in range(turns):
         tell(f"turn {turn + 1} of {turns}")
-        for job in jobs:
-            stir_memory()
-            runs[job.name, job.part, job.command].append(run_job(job))
+        with staying_on(processors[turn % len(processors)]):
+            for job in jobs:
+                stir_memory()
+                runs[job.name, job.part, job.command].append(run_job(job))
     return {key: summary(measured) for key, measured in runs.items()}
