@@ -128,9 +128,9 @@ def in_order(jobs, names):
 
 def measure_in_turns(jobs, turns, tell):
     """Runs all jobs in their order, and again in each turn, each on memory that was stirred. A turn
-    stays on one processor, and the next one goes to the next: the times of one job jumped by more
-    than half from run to run where the system put it anywhere, and by less where it stayed. Gives
-    the measures of each job by its name, part and command."""
+    stays on one processor, and the next one goes to the next, so that the runs of a turn are not
+    told apart by where the system put them. Gives the measures of each job by its name, part and
+    command."""
     runs = {(job.name, job.part, job.command): [] for job in jobs}
     processors = sorted(os.sched_getaffinity(0))
     for turn in range(turns):
