@@ -20,7 +20,7 @@ import workloads
 from measure import BenchFault, adopt_orphans
 
 ROOT = os.path.dirname(os.path.dirname(os.path.realpath(__file__)))
-TURNS = 11
+TURNS = 12
 
 
 class Parser(argparse.ArgumentParser):
@@ -96,7 +96,7 @@ def prepare(program, folder, names, short):
             turns.try_job(job, content, folder)
             jobs.append(job)
     start = turns.start_job(program, workloads.write_tiny(folder))
-    return cases, [start, *turns.in_order(jobs, names)]
+    return cases, [start, *turns.sizes_together(jobs)]
 
 
 def load():

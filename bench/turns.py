@@ -113,17 +113,17 @@ def summary(runs):
     )
 
 
-def times_as_long(measured, floor):
+def times_as_long(measured, base):
     """How many times as much processor time a job takes as another: the median of what this was in
     each turn."""
-    return statistics.median(one / other for one, other in zip(measured.processors, floor.processors))
+    return statistics.median(one / other for one, other in zip(measured.processors, base.processors))
 
 
-def in_order(jobs, names):
-    """The jobs in the order in which a turn runs them: by workload and command, so that the sizes of
-    a workload, whose times are compared, come one after the other."""
-    commands = (*COMMANDS, READ_BATCH, READ_OUTCOMES)
-    return sorted(jobs, key=lambda job: (names.index(job.name), commands.index(job.command)))
+def sizes_together(jobs):
+    """The jobs in the order in which a turn runs them: the sizes of a workload, whose times are
+    compared, come one after the other for each command."""
+    firsts = list(dict.fromkeys((job.name, job.command) for job in jobs))
+    return sorted(jobs, key=lambda job: firsts.index((job.name, job.command)))
 
 
 def measure_in_turns(jobs, turns, tell):
