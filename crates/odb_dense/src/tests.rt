@@ -2,7 +2,7 @@
 
 mod extremes;
 
-ghost use Rattle.std.specs.Prelude.{◌≡◌, length, IfOk};
+ghost use Rattle.std.specs.Prelude.{◌≡◌, length};
 
 use crate::{Positions, Rows, Worklist};
 use std::alloc::{AllocError, Global};
@@ -104,11 +104,11 @@ const SETS: &[Changed] = &[
     },
 ];
 
-/// A set after changes.
-fn set_after(rt: &impl Abort, alloc: Global, changes: &[Change]) -> Result<Positions, AllocError>
-    ensures { IfOk result (λ set. length set ≡ 6) }
+/// Makes these changes of a set.
+fn make_changes(rt: &impl Abort, set: &mut Positions, changes: &[Change])
+    requires { length set.old ≡ 6 }
+    ensures { length set.new ≡ 6 }
 {
-    let mut set = Positions::new(alloc, BOUND)?;
     for change in changes {
         match *change {
             Change::In(i) => {
@@ -121,23 +121,37 @@ fn set_after(rt: &impl Abort, alloc: Global, changes: &[Change]) -> Result<Posit
             }
         }
     }
-    Ok(set)
+}
+
+/// Whether the set lists these numbers, in ascending order.
+fn lists(alloc: Global, set: &Positions, wanted: &[u32]) -> Result<bool, AllocError> {
+    let mut items = Vec::from_slice(alloc, set.as_slice())?;
+    items.sort()?;
+    Ok(items.as_slice() == wanted)
+}
+
+/// Whether the set answers of each number, and of their count, what these numbers ask for.
+fn has_just(set: &Positions, wanted: &[u32]) -> bool
+    requires { length set.now ≡ 6 }
+{
+    let mut right = set.len() == wanted.len() && set.is_empty() == wanted.is_empty();
+    for i in 0..BOUND {
+        right &= set.contains(i) == wanted.contains(&i);
+    }
+    right
+}
+
+/// Whether an empty set has just these numbers after the changes.
+fn has_after(rt: &impl Abort, alloc: Global, changed: &Changed) -> Result<bool, AllocError> {
+    let mut set = Positions::new(alloc, BOUND)?;
+    make_changes(rt, &mut set, changed.changes);
+    Ok(has_just(&set, changed.wanted) && lists(alloc, &set, changed.wanted)?)
 }
 
 #[test]
 fn has_what_was_put_in_and_not_taken_out(rt: HostRuntime) -> Result<(), Fail> {
-    let alloc = rt.alloc();
-    for Changed { changes, wanted } in SETS {
-        let set = set_after(&rt, alloc, changes)?;
-        let mut items = Vec::from_slice(alloc, set.as_slice())?;
-        items.sort()?;
-        assert_eq!(rt; items.as_slice(), *wanted);
-        assert_eq!(rt; set.bound(), BOUND);
-        assert_eq!(rt; set.len(), wanted.len());
-        assert_eq!(rt; set.is_empty(), wanted.is_empty());
-        for i in 0..BOUND {
-            assert_eq!(rt; set.contains(i), wanted.contains(&i), "{i}");
-        }
+    for (at, changed) in SETS.iter().enumerate() {
+        assert!(rt; has_after(&rt, rt.alloc(), changed)?, "changes {at}");
     }
     Ok(())
 }
@@ -151,22 +165,35 @@ fn tells_its_bound(rt: HostRuntime) -> Result<(), Fail> {
     Ok(())
 }
 
+/// Pairs of a key and a number, and the numbers of each key in their order.
+const PAIRS: &[(u32, u32)] = &[(2, 7), (0, 5), (2, 1), (4, 9), (2, 7), (0, 6)];
+
+const ROWS: &[&[u32]] = &[&[5, 6], &[], &[7, 1, 7], &[], &[9]];
+
+const NO_ROWS: &[&[u32]] = &[&[], &[], &[], &[], &[]];
+
+/// Whether the rows of the keys below 5 are these.
+fn has_rows(rows: &Rows, wanted: &[&[u32]]) -> bool
+    requires { length rows.now ≡ 5 }
+{
+    let mut right = true;
+    for key in 0..5_u32 {
+        right &= wanted.get(key as usize) == Some(&rows.row(key));
+    }
+    right
+}
+
 #[test]
 fn has_each_list_in_the_order_of_the_pairs(rt: HostRuntime) -> Result<(), Fail> {
-    let pairs = [(2, 7), (0, 5), (2, 1), (4, 9), (2, 7), (0, 6)];
-    let wanted: [&[u32]; 5] = [&[5, 6], &[], &[7, 1, 7], &[], &[9]];
-    let rows = Rows::of(rt.alloc(), 5, &pairs)?;
-    for key in 0..5_u32 {
-        assert_eq!(rt; rows.row(key), wanted[key as usize], "{key}");
-    }
+    let rows = Rows::of(rt.alloc(), 5, PAIRS)?;
+    assert!(rt; has_rows(&rows, ROWS));
     Ok(())
 }
 
 #[test]
 fn has_empty_lists_where_there_are_no_pairs(rt: HostRuntime) -> Result<(), Fail> {
-    let rows = Rows::of(rt.alloc(), 2, &[])?;
-    assert!(rt; rows.row(0).is_empty());
-    assert!(rt; rows.row(1).is_empty());
+    let rows = Rows::of(rt.alloc(), 5, &[])?;
+    assert!(rt; has_rows(&rows, NO_ROWS));
     let _none = Rows::of(rt.alloc(), 0, &[])?;
     Ok(())
 }
@@ -208,26 +235,34 @@ const TURNS: &[Turn] = &[
     Turn::Passed(4, false),
 ];
 
-#[test]
+/// Takes a turn of a worklist, and compares what it answers.
 #[tactic(auto, using(crate::proofs::StandingLemmas::same_room))]
+fn take_turn(rt: &impl Abort, list: &mut Worklist, turn: Turn)
+    requires { length list.old ≡ 6 }
+    ensures { length list.new ≡ 6 }
+{
+    match turn {
+        Turn::Put(u) => {
+            assert!(rt; u < BOUND);
+            list.put(u);
+        }
+        Turn::Take(wanted) => assert!(rt; list.take() == wanted),
+        Turn::Marked(u, wanted) => {
+            assert!(rt; u < BOUND);
+            assert!(rt; list.is_marked(u) == wanted);
+        }
+        Turn::Passed(u, wanted) => {
+            assert!(rt; u < BOUND);
+            assert!(rt; list.is_passed(u) == wanted);
+        }
+    }
+}
+
+#[test]
 fn gives_each_number_once_in_order(rt: HostRuntime) -> Result<(), Fail> {
     let mut list = Worklist::new(rt.alloc(), BOUND)?;
     for turn in TURNS {
-        match *turn {
-            Turn::Put(u) => {
-                assert!(rt; u < BOUND);
-                list.put(u);
-            }
-            Turn::Take(wanted) => assert_eq!(rt; list.take(), wanted),
-            Turn::Marked(u, wanted) => {
-                assert!(rt; u < BOUND);
-                assert_eq!(rt; list.is_marked(u), wanted, "{u}");
-            }
-            Turn::Passed(u, wanted) => {
-                assert!(rt; u < BOUND);
-                assert_eq!(rt; list.is_passed(u), wanted, "{u}");
-            }
-        }
+        take_turn(&rt, &mut list, *turn);
     }
     Ok(())
 }

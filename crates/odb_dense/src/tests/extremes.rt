@@ -151,34 +151,54 @@ const STORIES: &[(&str, &[Step])] = &[
     ),
 ];
 
-/// Takes the steps of a story with this name, and compares what they tell.
+/// What the set tells at a step, where that is what is wanted.
+fn tells(rt: &impl Abort, told: Option<u32>, wanted: Option<u32>, name: &str, at: usize) {
+    assert_eq!(rt; told, wanted, "{name}: step {at}");
+}
+
+/// A number of the examples.
+fn within(rt: &impl Abort, i: u32)
+    ensures { i < 6 }
+{
+    assert!(rt; i < BOUND);
+}
+
+/// Takes one step of a story with this name, and compares what it tells.
+fn take(rt: &impl Abort, set: &mut OrderedPositions, name: &str, at: usize, step: Step)
+    requires { length set.old ≡ 6 }
+    ensures { length set.new ≡ 6 }
+{
+    match step {
+        In(i) => {
+            within(rt, i);
+            set.insert(i);
+        }
+        Out(i) => {
+            within(rt, i);
+            set.remove(i);
+        }
+        Least(wanted) => tells(rt, set.least(), wanted, name, at),
+        Greatest(wanted) => tells(rt, set.greatest(), wanted, name, at),
+        OutLeast(i) => {
+            within(rt, i);
+            tells(rt, set.least(), Some(i), name, at);
+            set.remove(i);
+        }
+        OutGreatest(i) => {
+            within(rt, i);
+            tells(rt, set.greatest(), Some(i), name, at);
+            set.remove(i);
+        }
+    }
+}
+
+/// Takes the steps of a story with this name.
 fn takes(rt: &impl Abort, set: &mut OrderedPositions, name: &str, steps: &[Step])
     requires { length set.old ≡ 6 }
     ensures { length set.new ≡ 6 }
 {
     for (at, step) in steps.iter().enumerate() {
-        match *step {
-            In(i) => {
-                assert!(rt; i < BOUND);
-                set.insert(i);
-            }
-            Out(i) => {
-                assert!(rt; i < BOUND);
-                set.remove(i);
-            }
-            Least(wanted) => assert_eq!(rt; set.least(), wanted, "{name}: step {at}"),
-            Greatest(wanted) => assert_eq!(rt; set.greatest(), wanted, "{name}: step {at}"),
-            OutLeast(i) => {
-                assert!(rt; i < BOUND);
-                assert_eq!(rt; set.least(), Some(i), "{name}: step {at}");
-                set.remove(i);
-            }
-            OutGreatest(i) => {
-                assert!(rt; i < BOUND);
-                assert_eq!(rt; set.greatest(), Some(i), "{name}: step {at}");
-                set.remove(i);
-            }
-        }
+        take(rt, set, name, at, *step);
     }
 }
 
@@ -221,37 +241,45 @@ fn passes_no_number_again(rt: HostRuntime) -> Result<(), Fail> {
     Ok(())
 }
 
+/// Whether the set has 1 and 4, in any order, and no other number.
+fn has_1_and_4(set: &OrderedPositions) -> bool
+    requires { length set.now ≡ 6 }
+{
+    let mut right = set.len() == 2 && !set.is_empty();
+    for i in 0..BOUND {
+        let is_in = i == 1 || i == 4;
+        right &= set.contains(i) == is_in && set.as_slice().contains(&i) == is_in;
+    }
+    right
+}
+
+/// Steps after which the set has 1 and 4.
+const ASKED: &[Step] = &[
+    In(4),
+    In(1),
+    In(3),
+    Least(Some(1)),
+    Greatest(Some(4)),
+    Out(3),
+];
+
 #[test]
 fn has_what_was_put_in_after_its_ends_were_asked_for(rt: HostRuntime) -> Result<(), Fail> {
-    let alloc = rt.alloc();
-    let mut set = OrderedPositions::new(alloc, BOUND)?;
-    assert!(rt; set.is_empty());
-    let steps = [
-        In(4),
-        In(1),
-        In(3),
-        Least(Some(1)),
-        Greatest(Some(4)),
-        Out(3),
-    ];
-    takes(&rt, &mut set, "what is in it", &steps);
-    let mut items = Vec::from_slice(alloc, set.as_slice())?;
-    items.sort()?;
-    assert_eq!(rt; items.as_slice(), [1, 4].as_slice());
-    assert_eq!(rt; set.len(), 2);
-    assert!(rt; !set.is_empty());
-    for i in 0..BOUND {
-        assert_eq!(rt; set.contains(i), i == 1 || i == 4, "{i}");
-    }
+    let mut set = OrderedPositions::new(rt.alloc(), BOUND)?;
+    takes(&rt, &mut set, "what is in it", ASKED);
+    assert!(rt; has_1_and_4(&set));
     Ok(())
+}
+
+/// Whether the set has no number, by each of its calls.
+fn has_none(set: &mut OrderedPositions) -> bool {
+    let ends = set.least().or(set.greatest());
+    ends.is_none() && set.is_empty() && set.as_slice().is_empty()
 }
 
 #[test]
 fn is_empty_below_a_bound_of_0(rt: HostRuntime) -> Result<(), Fail> {
     let mut set = OrderedPositions::new(rt.alloc(), 0)?;
-    assert_eq!(rt; set.least(), None);
-    assert_eq!(rt; set.greatest(), None);
-    assert!(rt; set.is_empty());
-    assert!(rt; set.as_slice().is_empty());
+    assert!(rt; has_none(&mut set));
     Ok(())
 }
