@@ -1,3 +1,4 @@
 pub mod OneFront
+pub mod OneMethod
 pub mod OneRun
 pub mod OneSegment

@@ -8,6 +8,7 @@
 
 mod base64url;
 mod identifier;
+pub mod laws;
 mod method;
 mod run;
 mod segment;

@@ -62,35 +62,44 @@ impl Method {
 mod tests {
     use super::*;
 
+    const TEXTS: &[(&str, Option<Method>)] = &[
+        ("delete", Some(Method::Delete)),
+        ("GET", Some(Method::Get)),
+        ("Patch", Some(Method::Patch)),
+        ("pOST", Some(Method::Post)),
+        ("puT", Some(Method::Put)),
+        ("", None),
+        ("head", None),
+        ("get ", None),
+        ("ge", None),
+        ("gets", None),
+        ("options", None),
+        ("merge", None),
+        ("\u{212a}", None),
+    ];
+
+    const METHODS: &[(Method, &str, bool)] = &[
+        (Method::Delete, "delete", false),
+        (Method::Get, "get", false),
+        (Method::Patch, "patch", true),
+        (Method::Post, "post", true),
+        (Method::Put, "put", true),
+    ];
+
     #[test]
     fn reads_methods_in_any_case(rt: HostRuntime) {
-        for (text, method) in [
-            ("delete", Method::Delete),
-            ("GET", Method::Get),
-            ("Patch", Method::Patch),
-            ("pOST", Method::Post),
-            ("puT", Method::Put),
-        ] {
-            assert_eq!(rt; Method::read(text), Some(method), "{text}");
-        }
-        for text in [
-            "", "head", "get ", "ge", "gets", "options", "merge", "\u{212a}",
-        ] {
-            assert_eq!(rt; Method::read(text), None, "{text}");
+        for (text, method) in TEXTS {
+            assert!(rt; Method::read(text) == *method, "{text}");
         }
     }
 
     #[test]
-    fn tells_which_methods_take_a_body(rt: HostRuntime) {
-        for (method, name, takes_body) in [
-            (Method::Delete, "delete", false),
-            (Method::Get, "get", false),
-            (Method::Patch, "patch", true),
-            (Method::Post, "post", true),
-            (Method::Put, "put", true),
-        ] {
-            assert_eq!(rt; method.name(), name);
-            assert_eq!(rt; method.takes_body(), takes_body, "{name}");
+    fn knows_which_methods_take_a_body(rt: HostRuntime) {
+        for (method, name, takes_body) in METHODS {
+            assert!(rt;
+                method.name() == *name && method.takes_body() == *takes_body,
+                "{name}"
+            );
         }
     }
 }

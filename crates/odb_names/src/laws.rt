@@ -1,0 +1,18 @@
+//! What a text determines: the same text has one front and names one method.
+//!
+//! The laws are clauses of a function that does nothing. They speak of the words that the clauses of
+//! this crate use, for callers that compare two readings of one text.
+
+ghost use Rattle.std.specs.Prelude.{◌≡◌, ℕ, List};
+ghost use Rattle.odb_names.specs.Fronts.{FrontForm, HasFront};
+ghost use Rattle.odb_names.specs.Methods.{Names};
+ghost use Rattle.odb_names.specs.declared.method.Method.{Method};
+
+/// A URL has one front, and a text names one method at most (OData JSON Format 4.01, section 19.1,
+/// `url` and `method`).
+pub fn one_reading()
+    ensures front { (url : List ℕ) (front other : FrontForm) → HasFront url front
+        → HasFront url other → front ≡ other }
+    ensures method { (text : List ℕ) (method other : Method) → Names text method
+        → Names text other → method ≡ other }
+{}
