@@ -1,5 +1,5 @@
 -- Headers put one by one into a map are the listed ones in byte order of their names, and no others are.
-use Rattle.std.proofs.Common.{◌≡◌, ◌∙◌, ◌||◌, ◌+◌, ◌<◌, ◌≤◌, ℕ, Bool, true, false, cond, Option, None, Some, option_map, is_some, List, [], ◌∷◌, ◌++◌, map, length, take, drop, get_or, bytes_eq, String, string_bytes, BTreeMap, Bor, refl, ap, sym, subst, take-append-drop}
+use Rattle.std.proofs.Common.{◌≡◌, ◌∙◌, ◌||◌, ℕ, Bool, true, false, cond, Option, None, Some, option_map, is_some, List, [], ◌∷◌, ◌++◌, map, bytes_eq, String, string_bytes, BTreeMap, refl, ap, sym}
 use Rattle.std.specs.declared.alloc.Global.{Global}
 use Rattle.std.specs.declared.cmp.Ordering.{Ordering}
 use Rattle.std.specs.declared.cmp.Ordering.TheVariants.{Less, Equal, Greater}
@@ -10,15 +10,13 @@ use Rattle.std.specs.List.{list_any, IsDistinct, AllByRecursion}
 use Rattle.std.specs.List.Sorted.{IsPermutation, IsStrictlySortedBy}
 use Rattle.std.specs.Map.{keys_of, lookup}
 use Rattle.std.specs.Ordering.{is_eq, match_ordering, nat_cmp}
-use Rattle.std.specs.Str.{str_to_ascii_lowercase}
 use Rattle.std.specs.String.{string_cmp}
 use Rattle.std.proofs.lemmas.Cmp.{nat_list_eq_equiv}
 use Rattle.std.proofs.lemmas.Bool.{both_ways}
-use Rattle.std.proofs.lemmas.List.{take_more, take_all, drop_more, map-append}
-use Rattle.std.proofs.lemmas.List.Sorted.{IsPermutation-refl, IsPermutation-trans, IsPermutation-sym, IsPermutation-cons, IsPermutation-middle, IsPermutation-map, IsPermutation-push_more, list_any-IsPermutation}
+use Rattle.std.proofs.lemmas.List.Sorted.{IsPermutation-refl, IsPermutation-trans, IsPermutation-sym, IsPermutation-cons, IsPermutation-middle, IsPermutation-map}
 use Rattle.std.proofs.lemmas.Map.Keys.{IsDistinct-head, IsDistinct-tail}
 use Rattle.std.proofs.lemmas.Map.Text.{is_eq-slice_cmp}
-use Rattle.odb_doc.specs.Headers.{Header, folded, header_in, headers_in}
+use Rattle.odb_doc.specs.Headers.{Header, headers_in}
 
 -- ---- a map of texts, seen by bytes
 
@@ -104,51 +102,3 @@ lookup-headers name (e ∷ es) =
 
 pub lookup-headers_in : (name : List ℕ) (m : BTreeMap (String Global) (String Global)) → lookup (bytes_eq name) (headers_in m) ≡ option_map string_bytes (tree.get_by (λ k. slice_cmp nat_cmp name (string_bytes k)) m)
 lookup-headers_in name m = lookup-headers name m.entries
-
--- ---- the listed headers up to a place
-
--- what a place past the end shows
-abbrev pub no_header : Bor (List ℕ) × Bor (List ℕ)
-no_header = (record { ref_ptr = (0, 0); now = [] }, record { ref_ptr = (0, 0); now = [] })
-
--- the map holds the first listed headers
-pub record IsFoldedUpTo (listed : List (Bor (List ℕ) × Bor (List ℕ))) (headers : List Header) (i : ℕ) : Type 0 where
-  pub same : IsPermutation (map folded (map header_in (take i listed))) headers
-  pub ordered : IsStrictlySortedBy (slice_cmp nat_cmp) (keys_of headers)
-
-pub IsFoldedUpTo-zero : (listed : List (Bor (List ℕ) × Bor (List ℕ))) (m : BTreeMap (String Global) (String Global)) → m.entries ≡ [] → IsFoldedUpTo listed (headers_in m) 0
-unfolding IsStrictlySortedBy
-IsFoldedUpTo-zero listed m empty = rw empty (record { same = IsPermutation-refl []; ordered = tt })
-
--- one header more
-pub IsFoldedUpTo-more : (listed : List (Bor (List ℕ) × Bor (List ℕ))) (old new : List Header) (i : ℕ) (d : Bor (List ℕ) × Bor (List ℕ)) → i < length listed → IsFoldedUpTo listed old i
-    → IsPermutation (folded (header_in (get_or listed i d)) ∷ old) new → IsStrictlySortedBy (slice_cmp nat_cmp) (keys_of new) → IsFoldedUpTo listed new (i + 1)
-IsFoldedUpTo-more listed old new i d within before added ordered = record {
-  same = rw (take_more listed i d within, map-append header_in (take i listed), map-append folded (map header_in (take i listed))) (
-      IsPermutation-push_more (map folded (map header_in (take i listed))) old new (folded (header_in (get_or listed i d))) before.same added);
-  ordered = ordered;
-}
-
--- the folded names of listed headers
-abbrev folded_names : List (Bor (List ℕ) × Bor (List ℕ)) → List (List ℕ)
-folded_names listed = keys_of (map folded (map header_in listed))
-
-folded_names-append : (xs ys : List (Bor (List ℕ) × Bor (List ℕ))) → folded_names (xs ++ ys) ≡ folded_names xs ++ folded_names ys
-folded_names-append [] ys = refl
-folded_names-append (x ∷ xs) ys = ap (λ rest. (folded (header_in x)).0 ∷ rest) (folded_names-append xs ys)
-
--- a name that stands already among those before it
-pub IsFoldedUpTo-twice : (listed : List (Bor (List ℕ) × Bor (List ℕ))) (headers : List Header) (i : ℕ) (d : Bor (List ℕ) × Bor (List ℕ)) → i < length listed → IsFoldedUpTo listed headers i
-    → list_any (bytes_eq (str_to_ascii_lowercase (get_or listed i d).0.now)) (keys_of headers) ≡ true → ¬ IsDistinct bytes_eq (keys_of (map folded (map header_in listed)))
-IsFoldedUpTo-twice listed headers i d within before any distinct =
-    let f = λ (h : Bor (List ℕ) × Bor (List ℕ)). (folded (header_in h)).0 in
-    let name = f (get_or listed i d) in
-    let done = map folded (map header_in (take i listed)) in
-    let names = IsPermutation-map (λ (h : Header). h.0) done headers before.same in
-    let split : folded_names listed ≡ keys_of done ++ name ∷ folded_names (drop (i + 1) listed) =
-    ap folded_names (sym (take-append-drop i listed) ∙ ap (λ rest. take i listed ++ rest) (drop_more listed i d within))
-    ∙ folded_names-append (take i listed) (get_or listed i d ∷ drop (i + 1) listed) in
-    not_distinct (keys_of done) name (folded_names (drop (i + 1) listed)) (subst (IsDistinct bytes_eq) split distinct) (list_any-IsPermutation (bytes_eq name) (keys_of done) (keys_of headers) names ∙ any)
-
-pub IsFoldedUpTo-all : (listed : List (Bor (List ℕ) × Bor (List ℕ))) (headers : List Header) (i : ℕ) → length listed ≤ i → IsFoldedUpTo listed headers i → IsPermutation (map folded (map header_in listed)) headers
-IsFoldedUpTo-all listed headers i end read = rw (take_all i listed end) at read.same

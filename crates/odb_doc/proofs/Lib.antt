@@ -1,6 +1,9 @@
+mod BatchLemmas
 mod BlankLemmas
 mod DistinctLemmas
 mod ElementLemmas
+mod FaultLemmas
+mod LeastLemmas
 mod HeaderLemmas
 mod ListedLemmas
 mod MovedHeaders
@@ -13,3 +16,6 @@ mod OutcomeListLemmas
 mod ReferenceLemmas
 mod RequestLemmas
 mod RuleLemmas
+mod SetLemmas
+mod WatchLemmas
+mod RepeatLemmas

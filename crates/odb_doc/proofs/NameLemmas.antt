@@ -119,7 +119,7 @@ texts_in-put : (among : Bool) (keys : List (Bor (List ℕ))) (text : Bor (List �
 texts_in-put true keys text = refl
 texts_in-put false keys text = map-append (λ (t : Bor (List ℕ)). t.now) keys (text ∷ [])
 
-list_any-texts_in : (name : List ℕ) (keys : List (Bor (List ℕ))) → list_any (bytes_eq name) (texts_in keys) ≡ list_any (λ key. bytes_eq name key.now) keys
+pub list_any-texts_in : (name : List ℕ) (keys : List (Bor (List ℕ))) → list_any (bytes_eq name) (texts_in keys) ≡ list_any (λ key. bytes_eq name key.now) keys
 list_any-texts_in name [] = refl
 list_any-texts_in name (key ∷ keys) = ap (λ b. bytes_eq name key.now || b) (list_any-texts_in name keys)
 
@@ -140,7 +140,7 @@ bytes_eq-comm xs ys =
     let other = bytes_eq-Decides ys xs in
     same_from_decides (bytes_eq xs ys) (bytes_eq ys xs) (bytes_eq-Decides xs ys) (λ is. sym (other.0 is), λ same. other.1 (sym same))
 
-list_any-comm : (name : List ℕ) (keys : List (Bor (List ℕ))) → list_any (λ key. bytes_eq key.now name) keys ≡ list_any (λ key. bytes_eq name key.now) keys
+pub list_any-comm : (name : List ℕ) (keys : List (Bor (List ℕ))) → list_any (λ key. bytes_eq key.now name) keys ≡ list_any (λ key. bytes_eq name key.now) keys
 list_any-comm name [] = refl
 list_any-comm name (key ∷ keys) = rw (bytes_eq-comm key.now name, list_any-comm name keys) refl
 

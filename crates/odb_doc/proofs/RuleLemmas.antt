@@ -18,36 +18,40 @@ use Rattle.odb_names.specs.declared.method.Method.TheVariants.{Delete, Get, Patc
 use Rattle.odb_doc.specs.declared.fault.RequestRule.TheVariants as request
 use Rattle.odb_doc.specs.Bodies.{body_of, asked_kind, IsOfKind}
 use Rattle.odb_doc.specs.Headers.{Header, HoldsHeaders, HasHeaders, IsHeaders, folded, folded_names, listed_in, listed_headers}
-use Rattle.odb_doc.specs.LeastFault.{BreaksNoneBelow, IsRequestObject}
+use Rattle.odb_doc.specs.LeastFault.{BreaksNoneBefore, IsRequestObject}
 use Rattle.odb_doc.specs.Shapes.{HasMethod, BreaksRequest}
-use Rattle.odb_doc.proofs.ListedLemmas.{header_names-listed, names_in-text_members_in}
+use Rattle.odb_doc.proofs.ListedLemmas.{names_in-text_members_in}
 use Rattle.odb_doc.proofs.OneHeaders.{one_headers}
 
--- ---- no rule up to this one is broken
+-- ---- no rule before one is broken, and neither is that one
 
-pub below_19 : (d : Data) → BreaksNoneBelow 18 d → ¬ BreaksRequest request.BadHeaders d → BreaksNoneBelow 19 d
-below_19 d below here request.BadHeaders less = here
-below_19 d below here rule less = below rule (omega arith)
+pub before_headers : (d : Data) → BreaksNoneBefore request.BadDependsOn d → ¬ BreaksRequest request.BadDependsOn d → BreaksNoneBefore request.BadHeaders d
+before_headers d before here request.BadDependsOn less = here
+before_headers d before here rule less = before rule (omega arith)
 
-pub below_20 : (d : Data) → BreaksNoneBelow 19 d → ¬ BreaksRequest request.HeaderTwice d → BreaksNoneBelow 20 d
-below_20 d below here request.HeaderTwice less = here
-below_20 d below here rule less = below rule (omega arith)
+pub before_twice : (d : Data) → BreaksNoneBefore request.BadHeaders d → ¬ BreaksRequest request.BadHeaders d → BreaksNoneBefore request.HeaderTwice d
+before_twice d before here request.BadHeaders less = here
+before_twice d before here rule less = before rule (omega arith)
 
-pub below_21 : (d : Data) → BreaksNoneBelow 20 d → ¬ BreaksRequest request.BodyNotAllowed d → BreaksNoneBelow 21 d
-below_21 d below here request.BodyNotAllowed less = here
-below_21 d below here rule less = below rule (omega arith)
+pub before_body : (d : Data) → BreaksNoneBefore request.HeaderTwice d → ¬ BreaksRequest request.HeaderTwice d → BreaksNoneBefore request.BodyNotAllowed d
+before_body d before here request.HeaderTwice less = here
+before_body d before here rule less = before rule (omega arith)
 
-pub below_22 : (d : Data) → BreaksNoneBelow 21 d → ¬ BreaksRequest request.BadBody d → BreaksNoneBelow 22 d
-below_22 d below here request.BadBody less = here
-below_22 d below here rule less = below rule (omega arith)
+pub before_fit : (d : Data) → BreaksNoneBefore request.BodyNotAllowed d → ¬ BreaksRequest request.BodyNotAllowed d → BreaksNoneBefore request.BadBody d
+before_fit d before here request.BodyNotAllowed less = here
+before_fit d before here rule less = before rule (omega arith)
 
-pub below_23 : (d : Data) → BreaksNoneBelow 22 d → ¬ BreaksRequest request.NestedBatch d → BreaksNoneBelow 23 d
-below_23 d below here request.NestedBatch less = here
-below_23 d below here rule less = below rule (omega arith)
+pub before_nested : (d : Data) → BreaksNoneBefore request.BadBody d → ¬ BreaksRequest request.BadBody d → BreaksNoneBefore request.NestedBatch d
+before_nested d before here request.BadBody less = here
+before_nested d before here rule less = before rule (omega arith)
 
-pub breaks_none : (d : Data) → BreaksNoneBelow 23 d → ¬ BreaksRequest request.BadReference d → IsRequestObject d
-breaks_none d below here request.BadReference = here
-breaks_none d below here rule = below rule (omega arith)
+pub before_reference : (d : Data) → BreaksNoneBefore request.NestedBatch d → ¬ BreaksRequest request.NestedBatch d → BreaksNoneBefore request.BadReference d
+before_reference d before here request.NestedBatch less = here
+before_reference d before here rule less = before rule (omega arith)
+
+pub breaks_none : (d : Data) → BreaksNoneBefore request.BadReference d → ¬ BreaksRequest request.BadReference d → IsRequestObject d
+breaks_none d before here request.BadReference = here
+breaks_none d before here rule = before rule (omega arith)
 
 -- ---- headers
 
@@ -55,11 +59,8 @@ listed_some : (o : Option (List Header)) (listed : List Header) → o ≡ Some l
 listed_some None listed is none = absurd (cc (is))
 listed_some (Some other) listed is none = cc (none)
 
-pub listed_not_bad : (d : Data) (listed : List Header) → listed_headers d ≡ Some listed → ¬ BreaksRequest request.BadHeaders d
+listed_not_bad : (d : Data) (listed : List Header) → listed_headers d ≡ Some listed → ¬ BreaksRequest request.BadHeaders d
 listed_not_bad d listed is bad = listed_some (listed_headers d) listed is bad.1
-
-pub twice_in : (d : Data) (listed : List Header) → listed_headers d ≡ Some listed → ¬ IsDistinct bytes_eq (keys_of (map folded listed)) → BreaksRequest request.HeaderTwice d
-twice_in d listed is twice distinct = twice (subst (IsDistinct bytes_eq) (header_names-listed d listed is) distinct)
 
 All-same : {X : Type 0} (e f : X → Bool) → ((x : X) → e x ≡ f x) → (xs : List X) → AllByRecursion (λ x. e x ≡ false) xs → AllByRecursion (λ x. f x ≡ false) xs
 All-same e f same [] all = tt
@@ -79,8 +80,12 @@ HoldsHeaders-apart o headers has =
     let before = IsDistinct-IsPermutation bytes_eq nat_list_eq_equiv.symm (keys_of headers) (keys_of (map folded has.listed)) names apart in
     subst (IsDistinct bytes_eq) (sym (names_in-text_members_in o has.listed has.are)) before
 
-pub headers_not_twice : (d : Data) (headers : List Header) → HasHeaders d headers → ¬ BreaksRequest request.HeaderTwice d
+headers_not_twice : (d : Data) (headers : List Header) → HasHeaders d headers → ¬ BreaksRequest request.HeaderTwice d
 headers_not_twice d headers has twice = twice (HoldsHeaders-apart (get (codes "headers") d) headers has)
+
+-- headers that are read break neither rule
+pub headers_sound : (d : Data) (headers : List Header) → BreaksNoneBefore request.BadHeaders d → HasHeaders d headers → BreaksNoneBefore request.BodyNotAllowed d
+headers_sound d headers before has = before_body d (before_twice d before (listed_not_bad d has.listed has.are)) (headers_not_twice d headers has)
 
 texts_some : (o : Option (List Header)) (listed : List Header) → o ≡ Some listed → IsSome o
 texts_some None listed is = absurd (cc (is))

@@ -6,7 +6,7 @@ use Rattle.odb_doc.specs.declared.fault.DocFault.{DocFault}
 use Rattle.odb_doc.specs.declared.fault.DocFault.TheVariants as faults
 use Rattle.odb_doc.specs.Faults.{document_code, document_name, request_code, request_name}
 
--- any fault but want of memory
+-- any fault but out of memory
 abbrev pub IsNumbered : DocFault → Type 0
 IsNumbered fault = fault ≢ faults.OutOfMemory
 

@@ -2,7 +2,6 @@
 -- 9110, section 5).
 use Rattle.std.specs.Prelude.{◌≡◌, ℕ, List, [], ◌∷◌, map, Option, Some, None, IsSome, option_and_then, option_map, unwrap_or, codes, bytes_eq, string_bytes, String}
 use Rattle.std.specs.declared.alloc.Global.{Global}
-use Rattle.std.specs.Borrow.{Bor}
 use Rattle.std.specs.BTreeMap.{BTreeMap}
 use Rattle.std.specs.Cmp.Lexicographic.{slice_cmp}
 use Rattle.std.specs.List.{IsDistinct}
@@ -62,10 +61,6 @@ pub record HoldsHeaders (o : Option Data) (headers : List Header) : Type 0 where
 -- the same of the member `headers`
 abbrev pub HasHeaders : Data → List Header → Type 0
 HasHeaders d headers = HoldsHeaders (get (codes "headers") d) headers
-
--- what a pair of references points to
-abbrev pub header_in : Bor (List ℕ) × Bor (List ℕ) → Header
-header_in header = (header.0.now, header.1.now)
 
 -- the headers that a map holds, in its order
 abbrev pub headers_in : BTreeMap (String Global) (String Global) → List Header

@@ -1,11 +1,14 @@
--- Which fault of a document is told: the least by phase, position and number.
-use Rattle.std.specs.Prelude.{◌≡◌, ◌<◌, ℕ, List, ◌∷◌, ◌++◌, length, All}
+-- Which fault of a batch document is reported: the least by phase, position and number.
+use Rattle.std.specs.Prelude.{◌<◌, ℕ, List}
 use Rattle.serde_json.specs.Data.{Data}
+use Rattle.odb_doc.specs.declared.broken.Broken.{Broken}
+use Rattle.odb_doc.specs.declared.broken.Broken.TheVariants as broken
 use Rattle.odb_doc.specs.declared.fault.DocumentRule.{DocumentRule}
 use Rattle.odb_doc.specs.declared.fault.RequestRule.{RequestRule}
 use Rattle.odb_doc.specs.declared.fault.DocFault.{DocFault}
 use Rattle.odb_doc.specs.declared.fault.DocFault.TheVariants as faults
 use Rattle.odb_doc.specs.Faults.{document_number, request_number}
+use Rattle.odb_doc.specs.LeastRules.{IsLeast, BreaksAt, AreSound, IsFirst}
 use Rattle.odb_doc.specs.Shapes.{BreaksDocument, BreaksRequest, elements}
 
 -- no rule of the document is broken
@@ -16,47 +19,41 @@ IsBatchObject d = (rule : DocumentRule) → ¬ BreaksDocument rule d
 abbrev pub IsRequestObject : Data → Type 0
 IsRequestObject d = (rule : RequestRule) → ¬ BreaksRequest rule d
 
--- no rule of the request with a number below this one is broken
-abbrev pub BreaksNoneBelow : ℕ → Data → Type 0
-BreaksNoneBelow number d = (rule : RequestRule) → request_number rule < number → ¬ BreaksRequest rule d
+-- no rule of the request with a number below that of this one is broken
+abbrev pub BreaksNoneBefore : RequestRule → Data → Type 0
+BreaksNoneBefore rule d = (other : RequestRule) → request_number other < request_number rule → ¬ BreaksRequest other d
+
+-- the rule is broken by the request at the position
+abbrev pub BreaksRequestAt : List Data → RequestRule → ℕ → Type 0
+BreaksRequestAt ds = BreaksAt (λ rule before d. BreaksRequest rule d) ds
 
 -- the document has no fault of shape
 abbrev pub IsWellShaped : Data → Type 0
-IsWellShaped d = IsBatchObject d × All IsRequestObject (elements d)
+IsWellShaped d = IsBatchObject d × AreSound (BreaksRequestAt (elements d))
 
--- the rule is broken, and none with a smaller number
-pub record IsLeastDocumentRule (d : Data) (rule : DocumentRule) : Type 0 where
-  pub broken : BreaksDocument rule d
-  pub least : (other : DocumentRule) → document_number other < document_number rule → ¬ BreaksDocument other d
+-- the rule is broken, and none with a smaller number is
+abbrev pub IsLeastDocumentRule : Data → DocumentRule → Type 0
+IsLeastDocumentRule d rule = IsLeast document_number (λ other. BreaksDocument other d) rule
 
--- the rule is broken, and none with a smaller number
-pub record IsLeastRequestRule (d : Data) (rule : RequestRule) : Type 0 where
-  pub broken : BreaksRequest rule d
-  pub least : BreaksNoneBelow (request_number rule) d
+abbrev pub IsLeastRequestRule : Data → RequestRule → Type 0
+IsLeastRequestRule d rule = IsLeast request_number (λ other. BreaksRequest other d) rule
 
--- the element at the position breaks the rule first, and those before it break none
-pub record IsFirstBroken (ds : List Data) (at : ℕ) (rule : RequestRule) : Type 0 where
-  pub before : List Data
-  pub element : Data
-  pub after : List Data
-  pub whole : ds ≡ before ++ element ∷ after
-  pub place : length before ≡ at
-  pub sound : All IsRequestObject before
-  pub first : IsLeastRequestRule element rule
+-- the rule is broken at the position, none with a smaller number is, and none at all before
+abbrev pub IsFirstBroken : List Data → ℕ → RequestRule → Type 0
+IsFirstBroken ds at rule = IsFirst request_number (BreaksRequestAt ds) at rule
 
--- the fault is the least of shape. Want of memory says nothing.
+-- the fault is the least of shape. Out of memory says nothing.
 abbrev pub IsLeastFault : DocFault → Data → Type 0
 IsLeastFault (faults.Document rule) d = IsLeastDocumentRule d rule
 IsLeastFault (faults.Request at rule) d = IsBatchObject d × IsFirstBroken (elements d) at rule
 IsLeastFault faults.OutOfMemory d = Unit {0}
 
--- the fault is that of the element at the position. Want of memory says nothing.
-abbrev pub IsFaultAt : ℕ → Data → DocFault → Type 0
-IsFaultAt at d (faults.Document rule) = ⊥
-IsFaultAt at d (faults.Request place rule) = (place ≡ at) × IsLeastRequestRule d rule
-IsFaultAt at d faults.OutOfMemory = Unit {0}
+-- the fault of the request at the position
+abbrev pub fault_at : ℕ → Broken RequestRule → DocFault
+fault_at at (broken.Rule rule) = faults.Request at rule
+fault_at at broken.OutOfMemory = faults.OutOfMemory
 
--- the fault is that of the first element that has one. Want of memory says nothing.
+-- the fault is that of the first element that has one. Out of memory says nothing.
 abbrev pub IsFirstFault : List Data → DocFault → Type 0
 IsFirstFault ds (faults.Document rule) = ⊥
 IsFirstFault ds (faults.Request at rule) = IsFirstBroken ds at rule

@@ -7,10 +7,12 @@ pub mod Headers
 pub mod MediaTypes
 pub mod Bodies
 pub mod Shapes
+pub mod BrokenRules
+pub mod LeastRules
 pub mod LeastFault
 pub mod Names
 pub mod References
-pub mod Heads
+pub mod Lines
 pub mod Records
 pub mod Batches
 pub mod WholeNumbers
@@ -20,3 +22,4 @@ pub mod Outcomes
 pub mod LeastOutcomeFault
 pub mod OutcomeShapes
 pub mod OutcomeLists
+pub mod Watched

@@ -24,7 +24,7 @@ rule_name OutcomeTwice = codes "OutcomeTwice"
 rule_name BadStatus = codes "BadStatus"
 rule_name NotWhole = codes "NotWhole"
 
--- any fault but want of memory
+-- any fault but out of memory
 abbrev pub IsNumbered : OutcomeFault → Type 0
 IsNumbered fault = fault ≢ faults.OutOfMemory
 

@@ -4,17 +4,20 @@ use Rattle.std.specs.declared.alloc.Global.{Global}
 use Rattle.serde_json.specs.Data.{Data}
 use Rattle.serde_json.specs.Find.{get}
 use Rattle.serde_json.specs.View.{view, number_view}
+use Rattle.odb_doc.specs.declared.member.Object.TheVariants as objects
 use Rattle.odb_doc.specs.declared.outcome.Parts.{Parts}
 use Rattle.odb_doc.specs.declared.outcome.Shape.{Shape}
 use Rattle.odb_doc.specs.Bodies.{body_of}
 use Rattle.odb_doc.specs.Headers.{HasHeaders, headers_in}
+use Rattle.odb_doc.specs.Members.{HasFurther}
 use Rattle.odb_doc.specs.Outcomes.{IsOutcomeObject, id_of, status_of}
 
 abbrev pub texts : List (String Global) → List (List ℕ)
 texts strings = map string_bytes strings
 
--- the values at the four members
+-- the values at the four members, which alone are there
 pub record ArePartsOf (d : Data) (parts : Parts) : Type 0 where
+  pub known : ¬ HasFurther objects.Outcome d
   pub id : option_map view parts.id ≡ get (codes "id") d
   pub status : option_map view parts.status ≡ get (codes "status") d
   pub headers : option_map view parts.headers ≡ get (codes "headers") d

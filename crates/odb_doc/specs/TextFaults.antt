@@ -2,10 +2,10 @@
 use Rattle.std.specs.Prelude.{◌≢◌, ℕ, List, [], codes}
 use Rattle.odb_doc.specs.declared.fault.Place.{Place}
 use Rattle.odb_doc.specs.declared.fault.Place.TheVariants as places
-use Rattle.odb_doc.specs.declared.whole.TextFault.{TextFault}
-use Rattle.odb_doc.specs.declared.whole.TextFault.TheVariants.{NotWhole, OutOfMemory}
+use Rattle.odb_doc.specs.declared.fault.TextFault.{TextFault}
+use Rattle.odb_doc.specs.declared.fault.TextFault.TheVariants.{NotWhole, OutOfMemory}
 
--- any fault but want of memory
+-- any fault but out of memory
 abbrev pub IsNumbered : TextFault → Type 0
 IsNumbered fault = fault ≢ OutOfMemory
 

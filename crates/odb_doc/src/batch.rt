@@ -1,11 +1,13 @@
-ghost use Rattle.std.specs.Prelude.{◌≡◌, ◌≤◌, ◌<◌, List, length, map, vec_len, option_map, slice_get, Some, IsSome, IfSome, ◌↔◌, IfOk, IfErr, OnOk, All};
+ghost use Rattle.std.specs.Prelude.{◌≡◌, ◌≤◌, ◌<◌, List, length, map, vec_len, option_map, slice_get, Some, IsSome, IfSome, ◌↔◌, IfOk, IfErr, OnOk};
 ghost use Rattle.std.specs.List.{AllZip};
 ghost use Rattle.serde_json.specs.View.{view};
-ghost use Rattle.odb_doc.specs.LeastFault.{IsWellShaped, IsLeastFault, IsBatchObject, IsLeastDocumentRule, IsRequestObject, IsFirstFault};
+ghost use Rattle.odb_doc.specs.LeastFault.{IsWellShaped, IsLeastFault, IsBatchObject, IsLeastDocumentRule, BreaksRequestAt, IsFirstFault, fault_at};
+ghost use Rattle.odb_doc.specs.LeastRules.{AreSound};
 ghost use Rattle.odb_doc.specs.Shapes.{elements, requests_in};
 ghost use Rattle.odb_doc.specs.Records.{Says, IsSoundRecord, IsBatchOf, record_of};
 
-use crate::fault::{DocFault, DocumentRule};
+use crate::broken::Broken;
+use crate::fault::{DocFault, DocumentRule, RequestRule};
 use crate::member::Object;
 use crate::request::Request;
 use serde_json::Value;
@@ -53,9 +55,19 @@ fn elements_of(document: &Value) -> Result<&[Value], DocumentRule>
     Ok(elements)
 }
 
-/// The requests that the elements say, or the first fault among them.
+/// The fault of the request at a position.
+fn fault_at(at: usize, broken: Broken<RequestRule>) -> DocFault
+    ensures { result ≡ fault_at at broken }
+{
+    match broken {
+        Broken::Rule(rule) => DocFault::Request { at, rule },
+        Broken::OutOfMemory => DocFault::OutOfMemory,
+    }
+}
+
+/// The requests of the elements, or the first fault among them.
 fn requests_from<'a>(alloc: Global, elements: &'a [Value]) -> Result<Vec<Request<'a>>, DocFault>
-    ensures sound { OnOk result (All IsRequestObject (map view elements.now)) }
+    ensures sound { OnOk result (AreSound (BreaksRequestAt (map view elements.now))) }
     ensures says { IfOk result (λ found. AllZip Says (map view elements.now)
         (map record_of found.items)) }
     ensures len { IfOk result (λ found. length found.items ≡ length elements.now) }
@@ -63,7 +75,10 @@ fn requests_from<'a>(alloc: Global, elements: &'a [Value]) -> Result<Vec<Request
 {
     let mut requests = Vec::with_capacity(alloc, elements.len())?;
     for (at, element) in elements.iter().enumerate() {
-        requests.push(Request::read(alloc, at, element)?)?;
+        match Request::read(alloc, element) {
+            Ok(request) => requests.push(request)?,
+            Err(broken) => return Err(fault_at(at, broken)),
+        }
     }
     Ok(requests)
 }
@@ -71,15 +86,18 @@ fn requests_from<'a>(alloc: Global, elements: &'a [Value]) -> Result<Vec<Request
 impl<'a> Batch<'a> {
     ghost use Rattle.odb_doc.specs.Batches.{records};
 
-    /// The batch that a document is (OData JSON Format 4.01, section 19.1).
+    /// Reads a batch from its document (OData JSON Format 4.01, section 19.1).
     ///
-    /// `document` is the value that [`crate::parse`] made. Texts and bodies stay in it; `alloc` is
-    /// asked for the list of requests and, for each, its names, its headers and the identifier in
-    /// its URL.
+    /// `document` is the value that [`crate::parse`] made. Texts and bodies are borrowed from it;
+    /// `alloc` is asked for the list of requests and, for each, its names, its headers and the
+    /// identifier in its URL.
+    ///
+    /// It takes O(n log n) for a document of n bytes, whatever its names are: repeats are found by
+    /// order and not by hash, so no choice of names makes it slow.
     ///
     /// # Errors
     ///
-    /// A fault of the document, F03 to F06, the least by number, where one stands; else, at the
+    /// A fault of the document, F03 to F06, the least by number, where there is one; else, at the
     /// first request that has a fault, the least of F10 to F23 by number. `OutOfMemory` where
     /// memory was refused, in place of any of them.
     pub fn read(alloc: Global, document: &'a Value) -> Result<Batch<'a>, DocFault>

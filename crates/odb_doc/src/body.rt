@@ -2,10 +2,13 @@ ghost use Rattle.std.specs.Prelude.{◌≡◌, ◌↔◌, IsTrue, OnOk, IfOk, If
 ghost use Rattle.serde_json.specs.View.{view};
 ghost use Rattle.odb_doc.specs.Bodies.{body_of, content_type, asked_kind, IsOfKind};
 ghost use Rattle.odb_doc.specs.Headers.{HasHeaders, headers_in};
-ghost use Rattle.odb_doc.specs.LeastFault.{BreaksNoneBelow, IsFaultAt};
+ghost use Rattle.odb_doc.specs.declared.fault.RequestRule.TheVariants as rules;
+ghost use Rattle.odb_doc.specs.BrokenRules.{OnRule};
+ghost use Rattle.odb_doc.specs.LeastFault.{BreaksNoneBefore, IsLeastRequestRule};
 ghost use Rattle.odb_doc.specs.Shapes.{HasMethod};
 
-use crate::fault::{DocFault, RequestRule};
+use crate::broken::Broken;
+use crate::fault::RequestRule;
 use crate::media_type::BodyKind;
 use crate::member::given;
 use odb_names::{Method, is_base64url};
@@ -47,32 +50,29 @@ fn is_fit(
     Ok(is_of_kind(kind, body))
 }
 
-/// The body of a request, if any, or the first of the rules F20 and F21 that it breaks, as a fault
-/// that lies at `at`.
+/// The body of a request, if any, or the first of the rules F20 and F21 that it breaks.
 pub(crate) fn body_of<'a>(
     alloc: Global,
-    at: usize,
     element: &'a Value,
     method: Method,
     headers: &BTreeMap<String, String>,
-) -> Result<Option<&'a Value>, DocFault>
-    requires below { BreaksNoneBelow 20 (view element.now) }
+) -> Result<Option<&'a Value>, Broken<RequestRule>>
+    requires below { BreaksNoneBefore rules.BodyNotAllowed (view element.now) }
     requires method { HasMethod (view element.now) method }
     requires headers { HasHeaders (view element.now) (headers_in headers.now) }
-    ensures sound { OnOk result (BreaksNoneBelow 22 (view element.now)) }
+    ensures sound { OnOk result (BreaksNoneBefore rules.NestedBatch (view element.now)) }
     ensures body { IfOk result (λ body. option_map (λ value. view value.now) body
         ≡ body_of (view element.now)) }
-    ensures first { IfErr result (IsFaultAt at (view element.now)) }
+    ensures first { IfErr result (OnRule (IsLeastRequestRule (view element.now))) }
 {
-    let broken = |rule| DocFault::Request { at, rule };
     let Some(body) = given(element, "body") else {
         return Ok(None);
     };
     if !method.takes_body() {
-        return Err(broken(RequestRule::BodyNotAllowed));
+        return Err(Broken::Rule(RequestRule::BodyNotAllowed));
     }
     if !is_fit(alloc, headers, body)? {
-        return Err(broken(RequestRule::BadBody));
+        return Err(Broken::Rule(RequestRule::BadBody));
     }
     Ok(Some(body))
 }

@@ -1,10 +1,12 @@
 ghost use Rattle.std.specs.Prelude.{◌≡◌};
 ghost use Rattle.odb_doc.specs.declared.fault.DocFault.TheVariants.{Document, OutOfMemory};
+ghost use Rattle.odb_doc.specs.declared.fault.TextFault.TheVariants as texts;
 
 use std::alloc::{AllocError, AllocFailed};
+use std::fmt::{self, Display, Formatter};
 use thiserror::Error;
 
-/// Where a fault lies.
+/// Where a fault is.
 #[derive(Clone, Copy, Debug, PartialEq, Eq)]
 pub enum Place {
     /// The batch document as a whole.
@@ -18,79 +20,59 @@ pub enum Place {
 }
 
 /// A rule that a document as a whole breaks (OData JSON Format 4.01, section 19.1).
-#[derive(Clone, Copy, Debug, PartialEq, Eq, Error)]
+#[derive(Clone, Copy, Debug, PartialEq, Eq)]
 pub enum DocumentRule {
     /// F01: the document has more than 16,777,216 bytes.
-    #[error("the document has more than 16,777,216 bytes")]
     TooLong,
-    /// F02: the bytes are no JSON document. Those that are no UTF-8 are none, nor is one that nests
-    /// deeper than 127, or one with a number out of range.
-    #[error("the document is no JSON")]
+    /// F02: the bytes are not valid JSON: not UTF-8, malformed, nested deeper than 127, or containing
+    /// a number out of range.
     NotJson,
     /// F03: the document is not an object.
-    #[error("the document is not an object")]
     NotObject,
     /// F04: the object has no `requests`, or it is not an array.
-    #[error("the document has no array `requests`")]
     NoRequests,
     /// F05: a member other than `requests` has a name without `@`.
-    #[error("the document has an unknown member")]
     UnknownMember,
     /// F06: `requests` has more than 10,000 elements.
-    #[error("the document has more than 10,000 requests")]
     TooMany,
 }
 
 /// A rule that one request breaks (OData JSON Format 4.01, section 19.1).
-#[derive(Clone, Copy, Debug, PartialEq, Eq, Error)]
+#[derive(Clone, Copy, Debug, PartialEq, Eq)]
 pub enum RequestRule {
     /// F10: the element is not an object.
-    #[error("the request is not an object")]
     NotRequestObject,
     /// F11: there is a member `if`, whatever its value.
-    #[error("the request has the member `if`, which is not supported")]
     IfMember,
     /// F12: a member that requests do not have has a name without `@`.
-    #[error("the request has an unknown member")]
     UnknownRequestMember,
     /// F13: `id` is absent, or is not a string that is an identifier.
-    #[error("the request has no proper `id`")]
     BadId,
     /// F14: `method` is absent, or is not a string that names a method in any ASCII case.
-    #[error("the request has no proper `method`")]
     BadMethod,
     /// F15: `url` is absent, or is not a string.
-    #[error("the request has no proper `url`")]
     BadUrl,
     /// F16: `atomicityGroup` is there, is not null, and is not a string that is an identifier.
-    #[error("`atomicityGroup` is no identifier")]
     BadGroup,
     /// F17: `dependsOn` is there, is not null, and is not an array of strings.
-    #[error("`dependsOn` is no array of strings")]
     BadDependsOn,
     /// F18: `headers` is there, is not null, and is not an object whose values are all strings.
-    #[error("`headers` is no object of strings")]
     BadHeaders,
     /// F19: `headers` is an object with two names that are equal once they are folded in ASCII.
-    #[error("`headers` has a name twice")]
     HeaderTwice,
     /// F20: the method is `delete` or `get`, and `body` is there and is not null.
-    #[error("the method takes no `body`")]
     BodyNotAllowed,
     /// F21: the headers can be read, `body` is there and is not null, and is not of the kind that
     /// the media type at `content-type` asks for.
-    #[error("`body` is not of the kind that its media type asks for")]
     BadBody,
     /// F22: the last segment of the path of `url`, percent-decoded, is `$batch`.
-    #[error("`url` names a batch")]
     NestedBatch,
     /// F23: `url` begins with `$`, and then neither with a reserved name nor with an identifier
     /// that ends the segment.
-    #[error("`url` begins with `$` and refers to no request")]
     BadReference,
 }
 
-/// Why a document is no batch.
+/// Why a document is not a batch.
 #[derive(Clone, Copy, Debug, PartialEq, Eq, Error)]
 pub enum DocFault {
     /// The document as a whole breaks this rule.
@@ -104,85 +86,151 @@ pub enum DocFault {
     OutOfMemory,
 }
 
+/// Why a batch or its answers cannot be written as text.
+#[derive(Clone, Copy, Debug, PartialEq, Eq, Error)]
+pub enum TextFault {
+    /// F50: the body to be written of the request at this position, counted from 0, contains a
+    /// number that is not whole.
+    #[error("request {at}: the body holds a number that is not whole")]
+    NotWhole { at: usize },
+    /// Memory was refused. That says nothing of the bodies.
+    #[error("out of memory")]
+    OutOfMemory,
+}
+
 impl DocumentRule {
     ghost use Rattle.odb_doc.specs.Faults.{document_code, document_name};
 
-    /// The code that is printed, from `F01` to `F06`.
-    pub fn code(self) -> &'static str
-        ensures { result.now ≡ document_code self }
+    /// The code, the name and the message.
+    fn row(self) -> (&'static str, &'static str, &'static str)
+        ensures code { result.0.now ≡ document_code self }
+        ensures name { result.1.now ≡ document_name self }
     {
         match self {
-            DocumentRule::TooLong => "F01",
-            DocumentRule::NotJson => "F02",
-            DocumentRule::NotObject => "F03",
-            DocumentRule::NoRequests => "F04",
-            DocumentRule::UnknownMember => "F05",
-            DocumentRule::TooMany => "F06",
+            DocumentRule::TooLong => (
+                "F01",
+                "TooLong",
+                "the document has more than 16,777,216 bytes",
+            ),
+            DocumentRule::NotJson => ("F02", "NotJson", "the document is not JSON"),
+            DocumentRule::NotObject => ("F03", "NotObject", "the document is not an object"),
+            DocumentRule::NoRequests => (
+                "F04",
+                "NoRequests",
+                "the document has no array `requests`",
+            ),
+            DocumentRule::UnknownMember => (
+                "F05",
+                "UnknownMember",
+                "the document has an unknown member",
+            ),
+            DocumentRule::TooMany => (
+                "F06",
+                "TooMany",
+                "the document has more than 10,000 requests",
+            ),
         }
     }
 
+    /// The code that is printed, from `F01` to `F06`.
+    pub(crate) fn code(self) -> &'static str
+        ensures { result.now ≡ document_code self }
+    {
+        self.row().0
+    }
+
     /// The name that is printed, as `NotJson`.
-    pub fn name(self) -> &'static str
+    pub(crate) fn name(self) -> &'static str
         ensures { result.now ≡ document_name self }
     {
-        match self {
-            DocumentRule::TooLong => "TooLong",
-            DocumentRule::NotJson => "NotJson",
-            DocumentRule::NotObject => "NotObject",
-            DocumentRule::NoRequests => "NoRequests",
-            DocumentRule::UnknownMember => "UnknownMember",
-            DocumentRule::TooMany => "TooMany",
-        }
+        self.row().1
     }
 }
+
+impl Display for DocumentRule {
+    fn fmt<W: fmt::Write>(&self, f: &mut Formatter<W>) -> fmt::Result {
+        f.write_str(self.row().2)
+    }
+}
+
+impl std::error::Error for DocumentRule {}
 
 impl RequestRule {
     ghost use Rattle.odb_doc.specs.Faults.{request_code, request_name};
 
-    /// The code that is printed, from `F10` to `F23`.
-    pub fn code(self) -> &'static str
-        ensures { result.now ≡ request_code self }
+    /// The code, the name and the message.
+    fn row(self) -> (&'static str, &'static str, &'static str)
+        ensures code { result.0.now ≡ request_code self }
+        ensures name { result.1.now ≡ request_name self }
     {
         match self {
-            RequestRule::NotRequestObject => "F10",
-            RequestRule::IfMember => "F11",
-            RequestRule::UnknownRequestMember => "F12",
-            RequestRule::BadId => "F13",
-            RequestRule::BadMethod => "F14",
-            RequestRule::BadUrl => "F15",
-            RequestRule::BadGroup => "F16",
-            RequestRule::BadDependsOn => "F17",
-            RequestRule::BadHeaders => "F18",
-            RequestRule::HeaderTwice => "F19",
-            RequestRule::BodyNotAllowed => "F20",
-            RequestRule::BadBody => "F21",
-            RequestRule::NestedBatch => "F22",
-            RequestRule::BadReference => "F23",
+            RequestRule::NotRequestObject => (
+                "F10",
+                "NotRequestObject",
+                "the request is not an object",
+            ),
+            RequestRule::IfMember => (
+                "F11",
+                "IfMember",
+                "the request has the member `if`, which is not supported",
+            ),
+            RequestRule::UnknownRequestMember => (
+                "F12",
+                "UnknownRequestMember",
+                "the request has an unknown member",
+            ),
+            RequestRule::BadId => ("F13", "BadId", "the request has no proper `id`"),
+            RequestRule::BadMethod => ("F14", "BadMethod", "the request has no proper `method`"),
+            RequestRule::BadUrl => ("F15", "BadUrl", "the request has no proper `url`"),
+            RequestRule::BadGroup => ("F16", "BadGroup", "`atomicityGroup` is not an identifier"),
+            RequestRule::BadDependsOn => (
+                "F17",
+                "BadDependsOn",
+                "`dependsOn` is not an array of strings",
+            ),
+            RequestRule::BadHeaders => (
+                "F18",
+                "BadHeaders",
+                "`headers` is not an object of strings",
+            ),
+            RequestRule::HeaderTwice => ("F19", "HeaderTwice", "`headers` has a name twice"),
+            RequestRule::BodyNotAllowed => ("F20", "BodyNotAllowed", "the method takes no `body`"),
+            RequestRule::BadBody => (
+                "F21",
+                "BadBody",
+                "`body` is not of the kind that its media type asks for",
+            ),
+            RequestRule::NestedBatch => ("F22", "NestedBatch", "`url` names a batch"),
+            RequestRule::BadReference => (
+                "F23",
+                "BadReference",
+                "`url` begins with `$` and refers to no request",
+            ),
         }
     }
 
+    /// The code that is printed, from `F10` to `F23`.
+    pub(crate) fn code(self) -> &'static str
+        ensures { result.now ≡ request_code self }
+    {
+        self.row().0
+    }
+
     /// The name that is printed, as `BadId`.
-    pub fn name(self) -> &'static str
+    pub(crate) fn name(self) -> &'static str
         ensures { result.now ≡ request_name self }
     {
-        match self {
-            RequestRule::NotRequestObject => "NotRequestObject",
-            RequestRule::IfMember => "IfMember",
-            RequestRule::UnknownRequestMember => "UnknownRequestMember",
-            RequestRule::BadId => "BadId",
-            RequestRule::BadMethod => "BadMethod",
-            RequestRule::BadUrl => "BadUrl",
-            RequestRule::BadGroup => "BadGroup",
-            RequestRule::BadDependsOn => "BadDependsOn",
-            RequestRule::BadHeaders => "BadHeaders",
-            RequestRule::HeaderTwice => "HeaderTwice",
-            RequestRule::BodyNotAllowed => "BodyNotAllowed",
-            RequestRule::BadBody => "BadBody",
-            RequestRule::NestedBatch => "NestedBatch",
-            RequestRule::BadReference => "BadReference",
-        }
+        self.row().1
     }
 }
+
+impl Display for RequestRule {
+    fn fmt<W: fmt::Write>(&self, f: &mut Formatter<W>) -> fmt::Result {
+        f.write_str(self.row().2)
+    }
+}
+
+impl std::error::Error for RequestRule {}
 
 impl DocFault {
     ghost use Rattle.odb_doc.specs.FaultTable.{IsNumbered, fault_code, fault_name, fault_place};
@@ -211,7 +259,7 @@ impl DocFault {
         }
     }
 
-    /// Where a numbered fault lies.
+    /// Where a numbered fault is.
     pub fn place(&self) -> Place
         requires { IsNumbered self.now }
         ensures { result ≡ fault_place self.now }
@@ -245,5 +293,58 @@ impl<T: Drop> From<AllocFailed<T>> for DocFault {
 
     fn from(_error: AllocFailed<T>) -> Self {
         DocFault::OutOfMemory
+    }
+}
+
+impl TextFault {
+    ghost use Rattle.odb_doc.specs.TextFaults.{IsNumbered, fault_code, fault_name, fault_place};
+
+    /// The code of a numbered fault: `F50`.
+    pub fn code(&self) -> &'static str
+        requires { IsNumbered self.now }
+        ensures { result.now ≡ fault_code self.now }
+    {
+        match *self {
+            TextFault::NotWhole { .. } => "F50",
+            TextFault::OutOfMemory => unreachable!(),
+        }
+    }
+
+    /// The name of a numbered fault: `NotWhole`.
+    pub fn name(&self) -> &'static str
+        requires { IsNumbered self.now }
+        ensures { result.now ≡ fault_name self.now }
+    {
+        match *self {
+            TextFault::NotWhole { .. } => "NotWhole",
+            TextFault::OutOfMemory => unreachable!(),
+        }
+    }
+
+    /// The request that a numbered fault is at.
+    pub fn place(&self) -> Place
+        requires { IsNumbered self.now }
+        ensures { result ≡ fault_place self.now }
+    {
+        match *self {
+            TextFault::NotWhole { at } => Place::Request(at),
+            TextFault::OutOfMemory => unreachable!(),
+        }
+    }
+}
+
+impl From<AllocError> for TextFault {
+    ghost from_gives = { λ _ fault. fault ≡ texts.OutOfMemory };
+
+    fn from(_error: AllocError) -> Self {
+        TextFault::OutOfMemory
+    }
+}
+
+impl<T: Drop> From<AllocFailed<T>> for TextFault {
+    ghost from_gives = { λ _ fault. fault ≡ texts.OutOfMemory };
+
+    fn from(_error: AllocFailed<T>) -> Self {
+        TextFault::OutOfMemory
     }
 }

@@ -11,29 +11,31 @@
 
 mod batch;
 mod body;
+mod broken;
 mod depends_on;
 mod device;
 mod document;
 mod fault;
-mod head;
 mod headers;
+pub mod laws;
+mod line;
 mod media_type;
 mod member;
 mod outcome;
 mod outcome_fault;
 mod outcomes;
 mod reference;
+mod repeats;
 mod request;
-#[cfg(test)]
-mod tests;
+mod seen;
 mod whole;
 
 pub use batch::Batch;
 pub use device::{DeviceFault, Input, MAX_READS, Output};
 pub use document::{MAX_DOCUMENT_BYTES, parse};
-pub use fault::{DocFault, DocumentRule, Place, RequestRule};
+pub use fault::{DocFault, DocumentRule, Place, RequestRule, TextFault};
 pub use outcome::Outcome;
 pub use outcome_fault::{OutcomeFault, OutcomeRule};
 pub use outcomes::{Emptied, Outcomes};
 pub use request::Request;
-pub use whole::{TextFault, is_whole};
+pub use whole::is_whole;

@@ -49,11 +49,14 @@ fn moved(members: &mut Map<String, Value>, name: &str) -> Option<Value>
     Some(value.take())
 }
 
-/// The members that an outcome may have, moved out of the object.
+/// The members that an outcome may have, moved out of the object, or `None` where it has another.
 fn parts_of(element: &mut Value) -> Option<Parts>
     ensures { MatchOption result (¬ IsOutcomeObject (view element.old))
         (ArePartsOf (view element.old)) }
 {
+    if Object::Outcome.has_further(element) {
+        return None;
+    }
     let members = element.as_object_mut()?;
     let id = moved(members, "id");
     let status = moved(members, "status");
@@ -72,26 +75,19 @@ pub(crate) fn shape_of(alloc: Global, element: &mut Value) -> Result<Option<Shap
     ensures { IfOk result (λ found. MatchOption found (¬ IsOutcomeObject (view element.old))
         (IsShapeOf (view element.old))) }
 {
-    if Object::Outcome.has_further(element) {
-        return Ok(None);
-    }
     let Some(parts) = parts_of(element) else {
         return Ok(None);
     };
-    let Some(id) = parts.id.and_then(|value| text_of(value)) else {
-        return Ok(None);
-    };
-    let Some(status) = parts.status.and_then(|value| number_of(&value)) else {
-        return Ok(None);
-    };
-    let Some(headers) = headers_from(alloc, parts.headers)? else {
-        return Ok(None);
-    };
-    let body = unless_null(parts.body);
-    Ok(Some(Shape {
-        id,
-        status,
-        headers,
-        body,
-    }))
+    let headers = headers_from(alloc, parts.headers)?;
+    let id = parts.id.and_then(|value| text_of(value));
+    let status = parts.status.and_then(|value| number_of(&value));
+    match (id, status, headers) {
+        (Some(id), Some(status), Some(headers)) => Ok(Some(Shape {
+            id,
+            status,
+            headers,
+            body: unless_null(parts.body),
+        })),
+        _ => Ok(None),
+    }
 }

@@ -3,29 +3,26 @@ ghost use Rattle.odb_doc.specs.declared.outcome_fault.OutcomeFault.TheVariants.{
 
 use crate::fault::Place;
 use std::alloc::{AllocError, AllocFailed};
+use std::fmt::{self, Display, Formatter};
 use thiserror::Error;
 
 /// A rule that one recorded outcome breaks.
-#[derive(Clone, Copy, Debug, PartialEq, Eq, Error)]
+#[derive(Clone, Copy, Debug, PartialEq, Eq)]
 pub enum OutcomeRule {
     /// F60: the element is not an object; it has a member other than `id`, `status`, `headers` and
-    /// `body`; `id` is absent or no string; `status` is absent or no number; `headers` is there, is
+    /// `body`; `id` is absent or not a string; `status` is absent or not a number; `headers` is there, is
     /// not null and is not an object of strings; or two names of headers are equal once they are
     /// folded in ASCII.
-    #[error("it is not an object with `id` and `status`, and maybe `headers` and `body`")]
     BadOutcomes,
     /// F61: an earlier outcome has the same `id`.
-    #[error("an earlier outcome has the same `id`")]
     OutcomeTwice,
     /// F62: `status` is a number, but not a whole one from 200 to 599.
-    #[error("`status` is no whole number from 200 to 599")]
     BadStatus,
     /// F63: `body` holds a number that is not whole.
-    #[error("`body` holds a number that is not whole")]
     NotWhole,
 }
 
-/// Why a document is none of recorded outcomes.
+/// Why a document is not a valid list of recorded outcomes.
 #[derive(Clone, Copy, Debug, PartialEq, Eq, Error)]
 pub enum OutcomeFault {
     /// F60: the document is not an object whose one member is `outcomes`, an array.
@@ -42,30 +39,53 @@ pub enum OutcomeFault {
 impl OutcomeRule {
     ghost use Rattle.odb_doc.specs.OutcomeFaults.{rule_code, rule_name};
 
-    /// The code that is printed, from `F60` to `F63`.
-    pub fn code(self) -> &'static str
-        ensures { result.now ≡ rule_code self }
+    /// The code, the name and the message.
+    fn row(self) -> (&'static str, &'static str, &'static str)
+        ensures code { result.0.now ≡ rule_code self }
+        ensures name { result.1.now ≡ rule_name self }
     {
         match self {
-            OutcomeRule::BadOutcomes => "F60",
-            OutcomeRule::OutcomeTwice => "F61",
-            OutcomeRule::BadStatus => "F62",
-            OutcomeRule::NotWhole => "F63",
+            OutcomeRule::BadOutcomes => (
+                "F60",
+                "BadOutcomes",
+                "it is not an object with `id` and `status`, and maybe `headers` and `body`",
+            ),
+            OutcomeRule::OutcomeTwice => (
+                "F61",
+                "OutcomeTwice",
+                "an earlier outcome has the same `id`",
+            ),
+            OutcomeRule::BadStatus => (
+                "F62",
+                "BadStatus",
+                "`status` is not a whole number from 200 to 599",
+            ),
+            OutcomeRule::NotWhole => ("F63", "NotWhole", "`body` holds a number that is not whole"),
         }
     }
 
+    /// The code that is printed, from `F60` to `F63`.
+    pub(crate) fn code(self) -> &'static str
+        ensures { result.now ≡ rule_code self }
+    {
+        self.row().0
+    }
+
     /// The name that is printed, as `BadStatus`.
-    pub fn name(self) -> &'static str
+    pub(crate) fn name(self) -> &'static str
         ensures { result.now ≡ rule_name self }
     {
-        match self {
-            OutcomeRule::BadOutcomes => "BadOutcomes",
-            OutcomeRule::OutcomeTwice => "OutcomeTwice",
-            OutcomeRule::BadStatus => "BadStatus",
-            OutcomeRule::NotWhole => "NotWhole",
-        }
+        self.row().1
     }
 }
+
+impl Display for OutcomeRule {
+    fn fmt<W: fmt::Write>(&self, f: &mut Formatter<W>) -> fmt::Result {
+        f.write_str(self.row().2)
+    }
+}
+
+impl std::error::Error for OutcomeRule {}
 
 impl OutcomeFault {
     ghost use Rattle.odb_doc.specs.OutcomeFaults.{IsNumbered, fault_code, fault_name, fault_place};
@@ -94,7 +114,7 @@ impl OutcomeFault {
         }
     }
 
-    /// Where a numbered fault lies.
+    /// Where a numbered fault is.
     pub fn place(&self) -> Place
         requires { IsNumbered self.now }
         ensures { result ≡ fault_place self.now }

@@ -1,22 +1,25 @@
-ghost use Rattle.std.specs.Prelude.{◌≡◌, ◌++◌, ◌∷◌, ◌↔◌, ◌<◌, length, slice_get, Some, [], false, not, map, option_map, string_bytes, bytes_eq, IsTrue, IfSome, IfNone, OnSome, MatchOption, IfOk, IfErr, OnOk, All};
+ghost use Rattle.std.specs.Prelude.{◌≡◌, ◌++◌, ◌∷◌, ◌↔◌, ◌<◌, ℕ, List, length, slice_get, Some, [], false, not, map, option_map, string_bytes, bytes_eq, IsTrue, IfSome, IfNone, OnSome, MatchOption, IfOk, IfErr, OnOk, All};
 ghost use Rattle.std.specs.List.{AllZip, IsDistinct, list_any};
 ghost use Rattle.std.specs.Map.{keys_of};
 ghost use Rattle.std.proofs.Props.{props};
-ghost use Rattle.serde_json.specs.Data.{unsigned};
+ghost use Rattle.serde_json.specs.Data.{Data, unsigned};
 ghost use Rattle.serde_json.specs.View.{view, number_view};
 ghost use Rattle.odb_doc.specs.declared.outcome_fault.OutcomeRule.{OutcomeRule};
-ghost use Rattle.odb_doc.specs.LeastOutcomeFault.{AreOutcomes, BreaksOutcome, IsFaultBehind, IsOutcomesDocument, RefusesElements, RefusesOutcomes};
-ghost use Rattle.odb_doc.specs.Outcomes.{AreOutcomesOf, IsOutcomesObject, IsStatus, IsSoundOutcome, Says, elements, recorded};
-ghost use Rattle.odb_doc.specs.OutcomeShapes.{texts};
+ghost use Rattle.odb_doc.specs.BrokenRules.{OnRule};
+ghost use Rattle.odb_doc.specs.LeastOutcomeFault.{AreOutcomes, BreaksOutcome, IsLeastBroken, IsOutcomesDocument, RefusesElements, RefusesOutcomes, fault_at};
+ghost use Rattle.odb_doc.specs.Outcomes.{AreOutcomesOf, IsOutcomesObject, IsStatus, IsSoundOutcome, Says, elements, ids, recorded};
+ghost use Rattle.odb_doc.specs.Watched.{IsWatched};
+ghost use Rattle.odb_doc.specs.OutcomeShapes.{IsShapeOf};
 ghost use Rattle.odb_doc.specs.WholeNumbers.{IsWhole};
 
+use crate::broken::Broken;
 use crate::member::{Object, array_of, member_of};
-use crate::outcome::{Outcome, shape_of};
+use crate::outcome::{Outcome, Shape, shape_of};
 use crate::outcome_fault::{OutcomeFault, OutcomeRule};
+use crate::seen::SeenIds;
 use crate::whole::is_whole;
-use indexmap::IndexSet;
 use serde_json::{Number, Value};
-use std::alloc::{AllocError, Global};
+use std::alloc::Global;
 
 /// Recorded outcomes of requests, in the order of their document. No two have one id, each status is
 /// from 200 to 599, and each body holds whole numbers alone.
@@ -27,8 +30,8 @@ pub struct Outcomes {
     ghost sound: { All IsSoundOutcome (map recorded entries.items) } by { Prim.hlevel props },
 }
 
-/// What is left of a document once its outcomes were moved out of it: emptied objects. It tells
-/// nothing. To let much of it go takes time, which a program that soon ends can do without.
+/// The hollowed-out JSON that remains after reading. Dropping it is slow for large documents; a
+/// program about to exit can leak it instead.
 #[derive(Drop)]
 pub struct Emptied {
     elements: Vec<Value>,
@@ -57,47 +60,62 @@ fn has_whole_body(body: &Option<Value>) -> bool
     }
 }
 
-/// Notes the id, and says whether it is new.
-fn note(seen: &mut IndexSet<String>, id: String) -> Result<bool, AllocError>
-    ensures is_new { IfOk result (λ is_new. is_new
-        ≡ not (list_any (bytes_eq (string_bytes id)) (texts seen.old.keys))) }
-    ensures noted { IfOk result (λ is_new. IsTrue is_new
-        → texts seen.new.keys ≡ texts seen.old.keys ++ string_bytes id ∷ []) }
+/// The status of an outcome of this shape, or the first of the rules F61 to F63 that it breaks.
+fn status_in(seen: &mut SeenIds, shape: &Shape) -> Result<u16, Broken<OutcomeRule>>
+    ensures sound { OnOk result ((d : Data) (before rest : List (List ℕ)) → IsShapeOf d shape.now
+        → IsWatched seen.old before (string_bytes shape.now.id ∷ rest)
+        → (rule : OutcomeRule) → ¬ BreaksOutcome rule before d) }
+    ensures status { IfOk result (λ code. IsStatus (number_view shape.now.status)
+        × (number_view shape.now.status ≡ unsigned code)) }
+    ensures whole { OnOk result (IfSome (option_map view shape.now.body) IsWhole) }
+    ensures is_new { OnOk result ((before rest : List (List ℕ))
+        → IsWatched seen.old before (string_bytes shape.now.id ∷ rest)
+        → list_any (bytes_eq (string_bytes shape.now.id)) before ≡ false) }
+    ensures noted { OnOk result ((before rest : List (List ℕ))
+        → IsWatched seen.old before (string_bytes shape.now.id ∷ rest)
+        → IsWatched seen.new (before ++ string_bytes shape.now.id ∷ []) rest) }
+    ensures first { IfErr result (λ broken. (d : Data) (before rest : List (List ℕ))
+        → IsShapeOf d shape.now → IsWatched seen.old before (string_bytes shape.now.id ∷ rest)
+        → OnRule (IsLeastBroken before d) broken) }
 {
-    Ok(seen.insert(id)?)
-}
-
-/// The id and the outcome that an element says behind others with the ids in `seen`, moved out of it,
-/// or the first of the rules that it breaks, as a fault that lies at `at`.
-fn read_outcome(
-    alloc: Global,
-    at: usize,
-    seen: &mut IndexSet<String>,
-    element: &mut Value,
-) -> Result<(String, Outcome), OutcomeFault>
-    ensures sound { OnOk result ((rule : OutcomeRule)
-        → ¬ BreaksOutcome rule (texts seen.old.keys) (view element.old)) }
-    ensures says { IfOk result (λ entry. Says (view element.old) (recorded entry)) }
-    ensures fit { IfOk result (λ entry. IsSoundOutcome (recorded entry)) }
-    ensures is_new { IfOk result (λ entry. list_any (bytes_eq (string_bytes entry.0))
-        (texts seen.old.keys) ≡ false) }
-    ensures noted { IfOk result (λ entry. texts seen.new.keys
-        ≡ texts seen.old.keys ++ string_bytes entry.0 ∷ []) }
-    ensures first { IfErr result (IsFaultBehind at (texts seen.old.keys) (view element.old)) }
-{
-    let broken = |rule| OutcomeFault::Outcome { at, rule };
-    let Some(shape) = shape_of(alloc, element)? else {
-        return Err(broken(OutcomeRule::BadOutcomes));
-    };
-    if !note(seen, shape.id.clone()?)? {
-        return Err(broken(OutcomeRule::OutcomeTwice));
+    if !seen.note(&shape.id)? {
+        return Err(Broken::Rule(OutcomeRule::OutcomeTwice));
     }
     let Some(status) = status_of(shape.status) else {
-        return Err(broken(OutcomeRule::BadStatus));
+        return Err(Broken::Rule(OutcomeRule::BadStatus));
     };
     if !has_whole_body(&shape.body) {
-        return Err(broken(OutcomeRule::NotWhole));
+        return Err(Broken::Rule(OutcomeRule::NotWhole));
     }
+    Ok(status)
+}
+
+/// Reads one element, moving its values out, or returns the first rule that it breaks. `seen` is of
+/// the elements before it.
+fn read_outcome(
+    alloc: Global,
+    seen: &mut SeenIds,
+    element: &mut Value,
+) -> Result<(String, Outcome), Broken<OutcomeRule>>
+    ensures sound { OnOk result ((before : List (List ℕ)) (rest : List Data)
+        → IsWatched seen.old before (ids (view element.old ∷ rest))
+        → (rule : OutcomeRule) → ¬ BreaksOutcome rule before (view element.old)) }
+    ensures says { IfOk result (λ entry. Says (view element.old) (recorded entry)) }
+    ensures fit { IfOk result (λ entry. IsSoundOutcome (recorded entry)) }
+    ensures is_new { IfOk result (λ entry. (before : List (List ℕ)) (rest : List Data)
+        → IsWatched seen.old before (ids (view element.old ∷ rest))
+        → list_any (bytes_eq (string_bytes entry.0)) before ≡ false) }
+    ensures noted { IfOk result (λ entry. (before : List (List ℕ)) (rest : List Data)
+        → IsWatched seen.old before (ids (view element.old ∷ rest))
+        → IsWatched seen.new (before ++ string_bytes entry.0 ∷ []) (ids rest)) }
+    ensures first { IfErr result (λ broken. (before : List (List ℕ)) (rest : List Data)
+        → IsWatched seen.old before (ids (view element.old ∷ rest))
+        → OnRule (IsLeastBroken before (view element.old)) broken) }
+{
+    let Some(shape) = shape_of(alloc, element)? else {
+        return Err(Broken::Rule(OutcomeRule::BadOutcomes));
+    };
+    let status = status_in(seen, &shape)?;
     let outcome = Outcome {
         status,
         headers: shape.headers,
@@ -106,7 +124,17 @@ fn read_outcome(
     Ok((shape.id, outcome))
 }
 
-/// The ids and outcomes that the elements say, moved out of them, or the first fault among them.
+/// The fault of the element at a position.
+fn fault_at(at: usize, broken: Broken<OutcomeRule>) -> OutcomeFault
+    ensures { result ≡ fault_at at broken }
+{
+    match broken {
+        Broken::Rule(rule) => OutcomeFault::Outcome { at, rule },
+        Broken::OutOfMemory => OutcomeFault::OutOfMemory,
+    }
+}
+
+/// The ids and outcomes of the elements, moved out of them, or the first fault among them.
 fn outcomes_from(
     alloc: Global,
     elements: &mut Vec<Value>,
@@ -119,11 +147,13 @@ fn outcomes_from(
     ensures fit { IfOk result (λ found. All IsSoundOutcome (map recorded found.items)) }
     ensures first { IfErr result (λ fault. RefusesElements fault (map view elements.old.items)) }
 {
-    let mut seen = IndexSet::with_capacity(alloc, elements.len())?;
+    let mut seen = SeenIds::before(alloc, elements.as_slice())?;
     let mut entries = Vec::with_capacity(alloc, elements.len())?;
     for element in elements {
-        let entry = read_outcome(alloc, entries.len(), &mut seen, element)?;
-        entries.push(entry)?;
+        match read_outcome(alloc, &mut seen, element) {
+            Ok(entry) => entries.push(entry)?,
+            Err(broken) => return Err(fault_at(entries.len(), broken)),
+        }
     }
     Ok(entries)
 }
@@ -143,16 +173,19 @@ fn elements_of(document: Value) -> Option<Vec<Value>>
 impl Outcomes {
     ghost use Rattle.odb_doc.specs.OutcomeLists.{entries};
 
-    /// The outcomes of a document: an object whose one member is `outcomes`, an array of objects with
-    /// an `id`, a `status`, maybe `headers` and a `body`.
+    /// Reads the outcomes of a document: an object whose one member is `outcomes`, an array of objects
+    /// with an `id`, a `status`, maybe `headers` and a `body`.
     ///
     /// `document` is the value that [`crate::parse`] made. Its ids, headers and bodies are moved out of
-    /// it; `alloc` is asked for the list of outcomes, for a set of their ids and for the maps of their
+    /// it; `alloc` is asked for the list of outcomes, for lists of their ids and for the maps of their
     /// headers. The ids need not be identifiers of requests.
+    ///
+    /// It takes O(n log n) for a document of n bytes, whatever its ids are: repeats are found by order
+    /// and not by hash, so no choice of ids makes it slow.
     ///
     /// # Errors
     ///
-    /// `Document`, which is F60 of the whole, where the document is no such object; else, at the first
+    /// `Document`, which is F60 of the whole, where the document is not such an object; else, at the first
     /// element that has a fault, the least of F60 to F63 by number. `OutOfMemory` where memory was
     /// refused, in place of any of them.
     pub fn read(alloc: Global, document: Value) -> Result<Outcomes, OutcomeFault>
@@ -164,11 +197,11 @@ impl Outcomes {
         Ok(outcomes)
     }
 
-    /// The outcomes of a document, as [`Outcomes::read`] gives them, and what is left of it.
+    /// Reads the outcomes of a document, as [`Outcomes::read`] does, and returns what remains of it too.
     ///
     /// # Errors
     ///
-    /// Those of [`Outcomes::read`]. Nothing is left of the document then.
+    /// Those of [`Outcomes::read`]. Nothing remains of the document then.
     pub fn split(alloc: Global, document: Value) -> Result<(Outcomes, Emptied), OutcomeFault>
         ensures good { OnOk result (IsOutcomesDocument (view document)) }
         ensures outcomes { IfOk result (λ parts. AreOutcomesOf (view document) (entries parts.0)) }

@@ -4,15 +4,18 @@ ghost use Rattle.std.specs.Option.{ForSome};
 ghost use Rattle.std.proofs.Props.{props};
 ghost use Rattle.serde_json.specs.View.{view};
 ghost use Rattle.odb_names.specs.Identifiers.{IsRequestId};
-ghost use Rattle.odb_doc.specs.LeastFault.{IsRequestObject, IsFaultAt};
+ghost use Rattle.odb_doc.specs.BrokenRules.{OnRule};
+ghost use Rattle.odb_doc.specs.LeastFault.{IsRequestObject, IsLeastRequestRule};
 ghost use Rattle.odb_doc.specs.Names.{texts_in};
 
 use crate::body::body_of;
-use crate::fault::{DocFault, RequestRule};
-use crate::head::Head;
+use crate::broken::Broken;
+use crate::depends_on::names_of;
+use crate::fault::RequestRule;
 use crate::headers::headers_of;
+use crate::line::RequestLine;
 use crate::reference::reference_of;
-use odb_names::{Method, is_nested_batch};
+use odb_names::Method;
 use serde_json::Value;
 use std::alloc::Global;
 use std::collections::BTreeMap;
@@ -25,6 +28,7 @@ use std::collections::BTreeMap;
 pub struct Request<'a> {
     /// The identifier of the request.
     pub id: &'a str,
+    /// The method of the request.
     pub method: Method,
     /// The URL as the document has it, also the empty text.
     pub url: &'a str,
@@ -46,28 +50,23 @@ pub struct Request<'a> {
 impl<'a> Request<'a> {
     ghost use Rattle.odb_doc.specs.Records.{Says, record_of};
 
-    /// The request that an element of `requests` says, or its first fault, which lies at `at`.
-    pub(crate) fn read(alloc: Global, at: usize, element: &'a Value) -> Result<Self, DocFault>
+    /// Reads an element of `requests`, or returns the first rule that it breaks.
+    pub(crate) fn read(alloc: Global, element: &'a Value) -> Result<Self, Broken<RequestRule>>
         ensures sound { OnOk result (IsRequestObject (view element.now)) }
         ensures says { IfOk result (λ r. Says (view element.now) (record_of r)) }
-        ensures first { IfErr result (IsFaultAt at (view element.now)) }
+        ensures first { IfErr result (OnRule (IsLeastRequestRule (view element.now))) }
     {
-        let broken = |rule| DocFault::Request { at, rule };
-        let head = Head::read(alloc, at, element)?;
-        let headers = headers_of(alloc, at, element)?;
-        let body = body_of(alloc, at, element, head.method, &headers)?;
-        if is_nested_batch(alloc, head.url)? {
-            return Err(broken(RequestRule::NestedBatch));
-        }
-        let Some(reference) = reference_of(alloc, head.url)? else {
-            return Err(broken(RequestRule::BadReference));
-        };
+        let line = RequestLine::read(element)?;
+        let names = names_of(alloc, element)?;
+        let headers = headers_of(alloc, element)?;
+        let body = body_of(alloc, element, line.method, &headers)?;
+        let reference = reference_of(alloc, line.url)?;
         Ok(Request {
-            id: head.id,
-            method: head.method,
-            url: head.url,
-            group: head.group,
-            names: head.names,
+            id: line.id,
+            method: line.method,
+            url: line.url,
+            group: line.group,
+            names,
             reference,
             headers,
             body,

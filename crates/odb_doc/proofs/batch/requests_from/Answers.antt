@@ -1,20 +1,22 @@
 use Rattle.std.proofs.Common.{◌<◌, ◌≤◌, length, map, rules, arith}
 use Rattle.std.proofs.lemmas.List.{length-map, map-append}
 use Rattle.serde_json.specs.View.{view}
+use Rattle.odb_doc.specs.LeastFault.{IsFirstFault, fault_at}
 use Rattle.odb_doc.specs.Records.{record_of}
-use Rattle.odb_doc.proofs.RequestLemmas.{IsReadUpTo-more, IsReadUpTo-sound, IsReadUpTo-says, IsFirstFault-from, get_or-view}
+use Rattle.odb_doc.proofs.RequestLemmas.{IsReadUpTo-none, IsReadUpTo-more, IsReadUpTo-sound, IsReadUpTo-says, IsFirstFault-from, get_or-view}
 use Rattle.odb_doc.proofs.batch.requests_from.Goals as goal
 
 pub loop-at-init : goal.loop-at-init
-loop-at-init c = rw c.in_ok-requests.ensures.items (search rules)
+loop-at-init c = rw c.in_ok-requests.ensures.items (IsReadUpTo-none (map view c.args.elements.now))
 
-pub returns-in_err-read-clause-first : goal.returns-in_err-read-clause-first
-returns-in_err-read-clause-first c =
+pub returns-in-Err-clause-first : goal.returns-in-Err-clause-first
+returns-in-Err-clause-first c =
     let vs = c.args.elements.now in
     let at = c.loop-at.at in
     let v = c.index-elements-at.result in
     let within : at < length (map view vs) = omega (arith, length-map vs view) in
-    let first = IsFirstFault-from (map view vs) (map record_of c.loop-at.requests.items) at (view v) c.in_err-read.field-0.0 within (get_or-view view vs at v c.loop-at-test.true c.index-elements-at.is) c.loop-at.invariant c.in_err-read.ensures.first in
+    let first : IsFirstFault (map view vs) (fault_at at c.in-Err.broken) =
+    IsFirstFault-from (map view vs) (map record_of c.loop-at.requests.items) at (view v) c.in-Err.broken within (get_or-view view vs at v c.loop-at-test.true c.index-elements-at.is) c.loop-at.invariant c.in-Err.ensures.first in
     search (rules, first)
 
 pub loop-at-preserved : goal.loop-at-preserved
@@ -22,10 +24,10 @@ loop-at-preserved c =
     let vs = c.args.elements.now in
     let at = c.loop-at.at in
     let v = c.index-elements-at.result in
-    let r = c.in_ok-read.field-0 in
+    let r = c.in-Ok.request in
     let within : at < length (map view vs) = omega (arith, length-map vs view) in
-    rw (c.in_ok-push.ensures.items, map-append record_of c.loop-at.requests.items) (
-    IsReadUpTo-more (map view vs) (map record_of c.loop-at.requests.items) at (view v) (record_of r) within (get_or-view view vs at v c.loop-at-test.true c.index-elements-at.is) c.loop-at.invariant c.in_ok-read.ensures.sound c.in_ok-read.ensures.says
+    rw (c.in_ok-push-in-Ok.ensures.items, map-append record_of c.loop-at.requests.items) (
+    IsReadUpTo-more (map view vs) (map record_of c.loop-at.requests.items) at (view v) (record_of r) within (get_or-view view vs at v c.loop-at-test.true c.index-elements-at.is) c.loop-at.invariant c.in-Ok.ensures.sound c.in-Ok.ensures.says
     )
 
 pub returns-clause-sound : goal.returns-clause-sound

@@ -1,7 +1,7 @@
 use Rattle.std.proofs.Common.{◌∙◌, sym}
 use Rattle.serde_json.specs.View.{view}
 use Rattle.odb_doc.specs.Headers.{headers_in}
-use Rattle.odb_doc.proofs.RuleLemmas.{below_21, below_22, body_allowed, body_fits}
+use Rattle.odb_doc.proofs.RuleLemmas.{before_fit, before_nested, body_allowed, body_fits}
 use Rattle.odb_doc.proofs.body.body_of.Goals as goal
 
 pub returns-clause-sound : goal.returns-clause-sound
@@ -9,4 +9,4 @@ returns-clause-sound c =
     let d = view c.args.element.now in
     let allowed = body_allowed d c.args.method c.requires.method (sym c.takes_body.ensures ∙ c.if-not-takes_body.false) in
     let fits = body_fits d (headers_in c.args.headers.now) (view c.in-Some.body.now) c.requires.headers (sym c.in-Some.ensures) (c.in_ok-is_fit.ensures.0 c.if-not-branch.false) in
-    below_22 d (below_21 d c.requires.below allowed) fits
+    before_nested d (before_fit d c.requires.below allowed) fits

@@ -13,6 +13,7 @@ returns c =
     let third = c.moved-status.ensures.others (codes "headers") refl ∙ c.moved-id.ensures.others (codes "headers") refl in
     let fourth = c.moved-headers.ensures.others (codes "body") refl ∙ c.moved-status.ensures.others (codes "body") refl ∙ c.moved-id.ensures.others (codes "body") refl in
     record {
+      known = search rules;
       id = ap (option_map view) c.moved-id.ensures.value ∙ get-at (codes "id") d whole object;
       status = ap (option_map view) (c.moved-status.ensures.value ∙ second) ∙ get-at (codes "status") d whole object;
       headers = ap (option_map view) (c.moved-headers.ensures.value ∙ third) ∙ get-at (codes "headers") d whole object;

@@ -7,22 +7,22 @@ use Rattle.odb_doc.specs.Outcomes.{id_of, status_of}
 use Rattle.odb_doc.proofs.RuleLemmas.{IsHeaders-from}
 use Rattle.odb_doc.proofs.outcome.shape_of.Goals as goal
 
-pub returns : goal.returns
-returns c =
+pub returns-in-Some-Some-Some : goal.returns-in-Some-Some-Some
+returns-in-Some-Some-Some c =
     let d = view c.args.element.now in
-    let id : id_of d ≡ Some (string_bytes c.in-Some-and_then.id) = search rules in
-    let status : status_of d ≡ Some (number_view c.in-Some-and_then-2.status) = search rules in
-    let holds : HoldsHeaders (option_map view c.in-Some.parts.headers) (headers_in c.in-Some-2.headers) = search rules in
+    let id : id_of d ≡ Some (string_bytes c.in-Some-Some-Some.id) = search rules in
+    let status : status_of d ≡ Some (number_view c.in-Some-Some-Some.status) = search rules in
+    let holds : HoldsHeaders (option_map view c.in-Some.parts.headers) (headers_in c.in-Some-Some-Some.headers) = search rules in
     let headers = rw c.in-Some.ensures.headers at holds in
     record {
       object = record {
-        known = search rules;
+        known = c.in-Some.ensures.known;
         id = rw id;
         status = rw status;
-        headers = IsHeaders-from (get (codes "headers") d) (headers_in c.in-Some-2.headers) headers;
+        headers = IsHeaders-from (get (codes "headers") d) (headers_in c.in-Some-Some-Some.headers) headers;
       };
       id = id;
       status = status;
       headers = headers;
-      body = ap given (sym c.in-Some.ensures.body) ∙ sym c.unless_null-body.ensures;
+      body = ap given (sym c.in-Some.ensures.body) ∙ sym c.unless_null.ensures;
     }

@@ -8,4 +8,4 @@ use Rattle.odb_doc.proofs.request.Request.read.Goals as goal
 
 pub invariant_of-result-clause-names_apart : goal.invariant_of-result-clause-names_apart
 invariant_of-result-clause-names_apart c =
-    IsDistinct-listed (texts_in c.in_ok-head.head.names.items) (listed_names (view c.args.element.now)) (sym c.in_ok-head.ensures.head.names)
+    IsDistinct-listed (texts_in c.in_ok-names.names.items) (listed_names (view c.args.element.now)) (sym c.in_ok-names.ensures.names)

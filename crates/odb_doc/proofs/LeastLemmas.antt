@@ -1,0 +1,86 @@
+-- The first broken rule of a list: while the list is read, and that it is one.
+use Rattle.std.proofs.Common.{◌≡◌, ◌∙◌, inl, inr, ◌<◌, ◌≤◌, ℕ, List, [], ◌∷◌, ◌++◌, length, take, slice_get, Option, Some, IsSomeAnd, ap, sym, subst, arith}
+use Rattle.std.proofs.lemmas.Bool.{cases_order}
+use Rattle.std.proofs.lemmas.List.{length-append, take-append-le, get_or_append_left}
+use Rattle.std.proofs.lemmas.Option.{slice_get-get_or, slice_get_past}
+use Rattle.std.proofs.Math.Seq.{take-append_seam, get_or-append_seam}
+use Rattle.odb_doc.specs.LeastRules.{IsLeast, BreaksAt, AreSound, IsFirst}
+
+-- ---- positions of a list, and of a prefix of it
+
+slice_get-front : {X : Type 0} (xs rest : List X) (d : X) (i : ℕ) → i < length xs → slice_get (xs ++ rest) i ≡ slice_get xs i
+slice_get-front xs rest d i within =
+    let longer : i < length (xs ++ rest) = omega (arith, length-append xs rest) in
+    slice_get-get_or (xs ++ rest) i d longer ∙ ap Some (get_or_append_left xs rest d i within) ∙ sym (slice_get-get_or xs i d within)
+
+slice_get-seam : {X : Type 0} (xs : List X) (x : X) (rest : List X) → slice_get (xs ++ x ∷ rest) (length xs) ≡ Some x
+slice_get-seam xs x rest =
+    let within : length xs < length (xs ++ x ∷ rest) = omega (arith, length-append xs (x ∷ rest)) in
+    slice_get-get_or (xs ++ x ∷ rest) (length xs) x within ∙ ap Some (get_or-append_seam xs x rest x)
+
+module _ {R X : Type 0} (number : R → ℕ) (Breaks : R → List X → X → Type 0) where
+  -- what is broken depends on the element and on those before it alone
+  BreaksAt-front : (rule : R) (xs : List X) (x : X) (rest : List X) (i : ℕ) → i < length xs → BreaksAt Breaks (xs ++ x ∷ rest) rule i → BreaksAt Breaks xs rule i
+  BreaksAt-front rule xs x rest i within broken =
+      let front : take i (xs ++ x ∷ rest) ≡ take i xs = take-append-le i xs (x ∷ rest) (omega arith) in
+      let there = subst (λ (o : Option X). IsSomeAnd o (Breaks rule (take i (xs ++ x ∷ rest)))) (slice_get-front xs (x ∷ rest) x i within) broken in
+      subst (λ (before : List X). IsSomeAnd (slice_get xs i) (Breaks rule before)) front there
+
+  BreaksAt-here : (rule : R) (xs : List X) (x : X) (rest : List X) → BreaksAt Breaks (xs ++ x ∷ rest) rule (length xs) → Breaks rule xs x
+  BreaksAt-here rule xs x rest broken =
+      let there = subst (λ (o : Option X). IsSomeAnd o (Breaks rule (take (length xs) (xs ++ x ∷ rest)))) (slice_get-seam xs x rest) broken in
+      subst (λ (before : List X). Breaks rule before x) (take-append_seam xs (x ∷ rest)) there
+
+  BreaksAt-from : (rule : R) (xs : List X) (x : X) (rest : List X) → Breaks rule xs x → BreaksAt Breaks (xs ++ x ∷ rest) rule (length xs)
+  BreaksAt-from rule xs x rest broken =
+      let there = subst (λ (before : List X). Breaks rule before x) (sym (take-append_seam xs (x ∷ rest))) broken in
+      subst (λ (o : Option X). IsSomeAnd o (Breaks rule (take (length xs) (xs ++ x ∷ rest)))) (sym (slice_get-seam xs x rest)) there
+
+  BreaksAt-past : (rule : R) (xs : List X) (i : ℕ) → length xs ≤ i → ¬ BreaksAt Breaks xs rule i
+  BreaksAt-past rule xs i past broken = subst (λ (o : Option X). IsSomeAnd o (Breaks rule (take i xs))) (slice_get_past xs i past) broken
+
+  -- ---- while the list is read
+
+  pub sound_none : AreSound (BreaksAt Breaks [])
+  sound_none = λ rule i. BreaksAt-past rule [] i (omega arith)
+
+  pub sound_push : (xs : List X) (x : X) → AreSound (BreaksAt Breaks xs) → ((rule : R) → ¬ Breaks rule xs x) → AreSound (BreaksAt Breaks (xs ++ x ∷ []))
+  sound_push xs x before here rule i =
+      elim (cases_order i (length xs)) [
+        | inl is ↦ λ broken. here rule (BreaksAt-here rule xs x [] (subst (BreaksAt Breaks (xs ++ x ∷ []) rule) is broken))
+        | inr other ↦ elim other [
+          | inl within ↦ λ broken. before rule i (BreaksAt-front rule xs x [] i within broken)
+          | inr past ↦ BreaksAt-past rule (xs ++ x ∷ []) i (omega (arith, length-append xs (x ∷ [])))
+        ]
+      ]
+
+  -- the first broken rule of an element is that of the list where the elements before it break none
+  pub first_from : (xs : List X) (x : X) (rest : List X) (rule : R) → AreSound (BreaksAt Breaks xs) → IsLeast number (λ other. Breaks other xs x) rule
+      → IsFirst number (BreaksAt Breaks (xs ++ x ∷ rest)) (length xs) rule
+  first_from xs x rest rule sound first = record {
+    here = record {
+      broken = BreaksAt-from rule xs x rest first.broken;
+      least = λ other less broken. first.least other less (BreaksAt-here other xs x rest broken);
+    };
+    before = λ other i less broken. sound other i (BreaksAt-front other xs x rest i less broken);
+  }
+
+-- ---- the first broken rule is one
+
+pub one_least : {R : Type 0} (number : R → ℕ) (Breaks : R → Type 0) → ((a b : R) → number a ≡ number b → a ≡ b) → (rule other : R) → IsLeast number Breaks rule → IsLeast number Breaks other
+    → rule ≡ other
+one_least number Breaks apart rule other one two =
+    elim (cases_order (number rule) (number other)) [
+      | inl same ↦ apart rule other same
+      | inr (inl less) ↦ absurd (two.least rule less one.broken)
+      | inr (inr more) ↦ absurd (one.least other more two.broken)
+    ]
+
+pub one_first : {R : Type 0} (number : R → ℕ) (Breaks : R → ℕ → Type 0) → ((a b : R) → number a ≡ number b → a ≡ b) → (at other_at : ℕ) (rule other : R)
+    → IsFirst number Breaks at rule → IsFirst number Breaks other_at other → (at ≡ other_at) × (rule ≡ other)
+one_first number Breaks apart at other_at rule other one two =
+    elim (cases_order at other_at) [
+      | inl same ↦ (same, one_least number (λ r. Breaks r other_at) apart rule other (subst (λ (i : ℕ). IsLeast number (λ r. Breaks r i) rule) same one.here) two.here)
+      | inr (inl less) ↦ absurd (two.before rule at less one.here.broken)
+      | inr (inr more) ↦ absurd (one.before other other_at more two.here.broken)
+    ]

@@ -1,0 +1,16 @@
+-- Ids that are watched for a repeat.
+use Rattle.std.specs.Prelude.{ℕ, List, ◌++◌, Option, Some, None, String, bytes_eq}
+use Rattle.std.specs.declared.alloc.Global.{Global}
+use Rattle.std.specs.BTreeSet.{BTreeSet}
+use Rattle.std.specs.List.{IsDistinct}
+use Rattle.odb_doc.specs.declared.seen.SeenIds.{SeenIds}
+use Rattle.odb_doc.specs.Names.{AreSameTexts}
+use Rattle.odb_doc.specs.OutcomeShapes.{texts}
+
+-- the set has the ids so far; without a set these and those to come are distinct
+abbrev pub Watches : Option (BTreeSet (String Global)) → List (List ℕ) → List (List ℕ) → Type 0
+Watches (Some set) before coming = AreSameTexts (texts set.keys) before
+Watches None before coming = IsDistinct bytes_eq (before ++ coming)
+
+abbrev pub IsWatched : SeenIds → List (List ℕ) → List (List ℕ) → Type 0
+IsWatched seen before coming = Watches seen.ids before coming

@@ -1,0 +1,38 @@
+ghost use Rattle.std.specs.Prelude.{◌≡◌};
+ghost use Rattle.odb_doc.specs.declared.broken.Broken.TheVariants.{Rule, OutOfMemory};
+
+use crate::fault::RequestRule;
+use std::alloc::{AllocError, AllocFailed};
+
+/// Why something could not be read from an element.
+#[derive(Clone, Copy)]
+pub(crate) enum Broken<R> {
+    /// The element breaks this rule.
+    Rule(R),
+    /// Memory was refused. That says nothing of the element.
+    OutOfMemory,
+}
+
+impl From<RequestRule> for Broken<RequestRule> {
+    ghost from_gives = { λ rule broken. broken ≡ Rule rule };
+
+    fn from(rule: RequestRule) -> Self {
+        Broken::Rule(rule)
+    }
+}
+
+impl<R> From<AllocError> for Broken<R> {
+    ghost from_gives = { λ _ broken. broken ≡ OutOfMemory };
+
+    fn from(_error: AllocError) -> Self {
+        Broken::OutOfMemory
+    }
+}
+
+impl<R, T: Drop> From<AllocFailed<T>> for Broken<R> {
+    ghost from_gives = { λ _ broken. broken ≡ OutOfMemory };
+
+    fn from(_error: AllocFailed<T>) -> Self {
+        Broken::OutOfMemory
+    }
+}

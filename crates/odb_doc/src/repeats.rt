@@ -1,0 +1,92 @@
+ghost use Rattle.std.specs.Prelude.{◌≡◌, false, bytes_eq, IfOk, OnOk};
+ghost use Rattle.std.specs.Cmp.Lexicographic.{slice_cmp};
+ghost use Rattle.std.specs.List.{IsDistinct};
+ghost use Rattle.std.specs.Ordering.{is_lt, nat_cmp};
+ghost use Rattle.odb_doc.specs.Names.{AreSameTexts, distinct, texts_in, with_name};
+
+use std::alloc::{AllocError, Global};
+use std::collections::BTreeSet;
+
+/// Up to how many texts are compared one by one. For so few that is quicker than a sort.
+const FEW: usize = 8;
+
+/// Whether a text repeats. Each is compared with those before it.
+fn repeats_among_few(texts: &[&str]) -> bool
+    ensures { result ≡ false → IsDistinct bytes_eq (texts_in texts.now) }
+{
+    for k in 0..texts.len() {
+        if texts[..k].contains(&texts[k]) {
+            return true;
+        }
+    }
+    false
+}
+
+/// Whether a text repeats, by a sort. It may report a repeat where there is none.
+fn may_repeat_among_many(alloc: Global, texts: &[&str]) -> Result<bool, AllocError>
+    ensures { IfOk result (λ repeats. repeats ≡ false → IsDistinct bytes_eq (texts_in texts.now)) }
+{
+    let mut sorted = Vec::from_slice(alloc, texts)?;
+    sorted.sort_unstable();
+    Ok(!sorted.is_sorted_by(
+        |x: &&str, y: &&str| -> bool
+            ensures { result ≡ is_lt (slice_cmp nat_cmp x.now.now y.now.now) }
+        { x < y },
+    ))
+}
+
+/// Whether a text repeats, in O(n log n) whatever the texts are. It may report a repeat where there
+/// is none.
+pub(crate) fn may_repeat(alloc: Global, texts: &[&str]) -> Result<bool, AllocError>
+    ensures { IfOk result (λ repeats. repeats ≡ false → IsDistinct bytes_eq (texts_in texts.now)) }
+{
+    if texts.len() <= FEW {
+        Ok(repeats_among_few(texts))
+    } else {
+        may_repeat_among_many(alloc, texts)
+    }
+}
+
+/// Appends `text` unless `seen`, which holds the texts of the list, contains it.
+fn keep<'a>(
+    seen: &mut BTreeSet<&'a str>,
+    texts: &mut Vec<&'a str>,
+    text: &'a str,
+) -> Result<(), AllocError>
+    requires { AreSameTexts (texts_in seen.old.keys) (texts_in texts.old.items) }
+    ensures texts { OnOk result (texts_in texts.new.items
+        ≡ with_name (texts_in texts.old.items) text.now) }
+    ensures seen { OnOk result (AreSameTexts (texts_in seen.new.keys) (texts_in texts.new.items)) }
+{
+    if seen.insert(text)? {
+        texts.push(text)?;
+    }
+    Ok(())
+}
+
+/// The texts without repeats, each at its first place, by a set.
+fn first_places<'a>(alloc: Global, texts: &[&'a str]) -> Result<Vec<&'a str>, AllocError>
+    ensures { IfOk result (λ kept. texts_in kept.items ≡ distinct (texts_in texts.now)) }
+{
+    let mut seen = BTreeSet::new(alloc);
+    let mut kept = Vec::with_capacity(alloc, texts.len())?;
+    for text in texts {
+        keep(&mut seen, &mut kept, text)?;
+    }
+    Ok(kept)
+}
+
+/// The texts without repeats, each at its first place, in O(n log n) whatever the texts are. A set
+/// is made only where a text may repeat.
+pub(crate) fn without_repeats<'a>(
+    alloc: Global,
+    texts: Vec<&'a str>,
+) -> Result<Vec<&'a str>, AllocError>
+    ensures { IfOk result (λ kept. texts_in kept.items ≡ distinct (texts_in texts.entry.items)) }
+{
+    if may_repeat(alloc, texts.as_slice())? {
+        first_places(alloc, texts.as_slice())
+    } else {
+        Ok(texts)
+    }
+}
