@@ -1,6 +1,7 @@
 pub mod FirstLemmas
 pub mod PositionLemmas
 pub mod UnitLemmas
+pub mod GroupLemmas
 pub mod TableLemmas
 pub mod BelowLemmas
 pub mod MarkLemmas
@@ -16,3 +17,4 @@ pub mod PlanLemmas
 pub mod OffsetLemmas
 pub mod MemberLemmas
 pub mod TextLemmas
+mod FaultLemmas

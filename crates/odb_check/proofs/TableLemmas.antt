@@ -1,15 +1,16 @@
 -- One more request in the tables.
-use Rattle.std.proofs.Common.{◌≡◌, ◌≢◌, ◌≤◌, ◌<◌, ◌⊎◌, ℕ, suc, Bool, true, false, cond, List, [], ◌∷◌, ◌++◌, Option, Some, None, refl, sym, ap, ◌∙◌, subst, inl, inr, arith, length, length-append}
-use Rattle.std.specs.Prelude.{◌==◌, slice_get, option_map, option_and_then, unwrap_or, bytes_eq}
-use Rattle.std.specs.Borrow.{Bor}
-use Rattle.std.specs.List.{IsDistinct}
+use Rattle.std.proofs.Common.{◌≡◌, ◌≢◌, ◌≤◌, ◌<◌, ◌+◌, ◌⊎◌, ℕ, suc, Bool, true, false, cond, List, [], ◌∷◌, ◌++◌, Option, Some, None, refl, sym, ap, ◌∙◌, subst, inl, inr, arith, length, length-append}
+use Rattle.std.specs.Prelude.{◌==◌, slice_get, option_map, option_and_then, unwrap_or, is_some, bytes_eq}
+use Rattle.std.specs.List.{IsDistinct, list_any}
 use Rattle.std.proofs.lemmas.Bool.{cases_Bool, cases_lt, eq-eqb, ne_eqb}
-use Rattle.indexmap.specs.IndexMap.{IndexMap}
 use Rattle.odb_doc.specs.Records.{Record}
+use Rattle.odb_check.specs.declared.table.Table.{Table}
 use Rattle.odb_check.specs.Firsts.{or_else, is_text, first_below, list_below, pass_below}
 use Rattle.odb_check.specs.Positions.{id_at, group_at, names_at}
-use Rattle.odb_check.specs.Tables.{AreTablesOf, at_text, unit_among}
+use Rattle.odb_check.specs.Tables.{AreTablesOf, at_text, more_with, table_len, unit_among}
 use Rattle.odb_check.specs.Units.{first_in_group, begins_unit, units_before, begin_in, unit_begin, unit_at}
+use Rattle.odb_check.specs.Groups.{groups_below, with_group}
+use Rattle.odb_check.proofs.GroupLemmas.{any-groups_below, length-groups_below, length-with}
 use Rattle.odb_check.proofs.FirstLemmas.{count_less}
 use Rattle.odb_check.proofs.PositionLemmas.{text_there}
 use Rattle.odb_check.proofs.UnitLemmas.{BeginsAt, unit_begins, unit_at_begin}
@@ -55,7 +56,7 @@ found_unit : (rs : List Record) (i next : ℕ) (group : List ℕ) → next ≡ u
 found_unit rs i next group e None = e
 found_unit rs i next group e (Some b) = refl
 
-told_unit : {S : Type 0} (rs : List Record) (i next : ℕ) (groups : IndexMap (Bor (List ℕ)) ℕ S) → ((q : List ℕ) → at_text groups q ≡ option_map (units_before rs) (first_in_group rs i q))
+told_unit : (rs : List Record) (i next : ℕ) (groups : Table) → ((q : List ℕ) → at_text groups q ≡ option_map (units_before rs) (first_in_group rs i q))
     → next ≡ units_before rs i → (group : Option (List ℕ)) → unit_among groups group next ≡ units_before rs (begin_in rs i group)
 told_unit rs i next groups are e None = e
 told_unit rs i next groups are e (Some group) = ap (λ o. unwrap_or o next) (are group) ∙ found_unit rs i next group e (first_in_group rs i group)
@@ -81,23 +82,42 @@ apart_more : (rs : List Record) (i : ℕ) → ((k : ℕ) → k < i → IsDistinc
 apart_more rs i before here k h =
     elim (cases_lt k i) [ inl less ↦ before k less | inr more ↦ let same : i ≡ k = omega arith in subst (λ j. IsDistinct bytes_eq (names_at rs j)) same here ]
 
+some-map : {X Y : Type 0} (f : X → Y) (o : Option X) → is_some (option_map f o) ≡ is_some o
+some-map f None = refl
+some-map f (Some x) = refl
+
+-- how many groups there are with that of the next request
+next_group_count : (rs : List Record) (i : ℕ) (groups : Table) → ((q : List ℕ) → at_text groups q ≡ option_map (units_before rs) (first_in_group rs i q)) → (group : Option (List ℕ))
+    → length (with_group (groups_below rs i) group) ≡ length (groups_below rs i) + more_with groups group
+next_group_count rs i groups are None = omega arith
+next_group_count rs i groups are (Some group) =
+    let known : list_any (bytes_eq group) (groups_below rs i) ≡ is_some (at_text groups group) =
+    any-groups_below rs i group ∙ sym (some-map (units_before rs) (first_in_group rs i group)) ∙ ap (λ o. is_some o) (sym (are group)) in
+    length-with (list_any (bytes_eq group) (groups_below rs i)) (groups_below rs i) group ∙ ap (λ b. length (groups_below rs i) + cond b 0 1) known
+
 -- the tables go on by one request, from what each call says
-pub walk_on : {S T : Type 0} (rs : List Record) (i : ℕ) (r : Record) (ids ids' : IndexMap (Bor (List ℕ)) ℕ S) (groups groups' : IndexMap (Bor (List ℕ)) ℕ T) (units starts units' starts' : List ℕ) (unit : ℕ)
+pub walk_on : (rs : List Record) (i : ℕ) (r : Record) (ids ids' groups groups' : Table) (units starts units' starts' : List ℕ) (unit : ℕ)
     → slice_get rs i ≡ Some r
     → IsDistinct bytes_eq r.names
     → AreTablesOf rs i ids groups units starts
     → unit ≡ unit_among groups r.group (length starts)
     → ((q : List ℕ) → at_text ids' q ≡ or_else (at_text ids q) (cond (bytes_eq q r.id) (Some i) None))
     → ((q : List ℕ) → at_text groups' q ≡ or_else (at_text groups q) (cond (is_text q r.group) (Some unit) None))
+    → table_len groups' ≡ table_len groups + more_with groups r.group
     → starts' ≡ cond (unit == length starts) (starts ++ i ∷ []) starts
     → units' ≡ units ++ unit ∷ []
     → AreTablesOf rs (suc i) ids' groups' units' starts'
-walk_on rs i r ids ids' groups groups' units starts units' starts' unit here apart tables told ids_go groups_go starts_go units_go =
+walk_on rs i r ids ids' groups groups' units starts units' starts' unit here apart tables told ids_go groups_go groups_more starts_go units_go =
     let id_is : id_at rs i ≡ Some r.id = ap (λ o. option_map (λ x. x.id) o) here in
     let group_is : group_at rs i ≡ r.group = ap (λ o. option_and_then (λ x. x.group) o) here in
     let unit_is : unit ≡ unit_at rs i = told ∙ told_unit rs i (length starts) groups tables.groups_are tables.count r.group ∙ ap (λ g. units_before rs (begin_in rs i g)) (sym group_is) in
     let starts_unit : starts' ≡ cond (unit_at rs i == length starts) (starts ++ i ∷ []) starts = starts_go ∙ ap (λ u. cond (u == length starts) (starts ++ i ∷ []) starts) unit_is in
+    let groups_next : table_len groups' ≡ length (groups_below rs (suc i)) =
+    groups_more ∙ ap (λ n. n + more_with groups r.group) tables.groups_count ∙ sym (next_group_count rs i groups tables.groups_are r.group)
+    ∙ ap (λ g. length (with_group (groups_below rs i) g)) (sym group_is) in
     record {
+      groups_count = groups_next;
+      groups_few = subst (λ n. n ≤ suc i) (sym groups_next) (length-groups_below rs (suc i));
       ids_are = λ q. ids_go q ∙ ap (λ o. or_else o (cond (bytes_eq q r.id) (Some i) None)) (tables.ids_are q)
           ∙ ap (λ o. or_else (first_below i (λ j. is_text q (id_at rs j))) (cond (is_text q o) (Some i) None)) (sym id_is);
       groups_are = λ q. groups_go q ∙ ap (λ o. or_else o (cond (is_text q r.group) (Some unit) None)) (tables.groups_are q)

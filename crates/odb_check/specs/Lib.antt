@@ -5,6 +5,7 @@ pub mod NameFaults
 pub mod LeastNameFault
 pub mod Firsts
 pub mod Units
+pub mod Groups
 pub mod Needs
 pub mod Tables
 pub mod Tests

@@ -8,8 +8,7 @@ use thiserror::Error;
 /// A rule that the names of a batch break at one of its requests (OData JSON Format 4.01, sections
 /// 19.1 and 19.2).
 ///
-/// The rules on identifiers and groups, up to F32, come before those on names and references: these
-/// are looked at only in a batch in which no request breaks one of the former.
+/// F30 to F32 take precedence: F40 to F46 are checked only once no request breaks F30 to F32.
 #[derive(Clone, Copy, Debug, PartialEq, Eq, Error)]
 pub enum NameRule {
     /// F30: an earlier request has the same identifier.
@@ -54,7 +53,7 @@ pub enum CheckFault {
     /// The request at this position, counted from 0, breaks this rule.
     #[error("request {at}: {rule}")]
     Request { at: usize, rule: NameRule },
-    /// Memory was refused. That says nothing of the batch.
+    /// An allocation failed. That says nothing about the batch.
     #[error("out of memory")]
     OutOfMemory,
 }

@@ -1,25 +1,28 @@
-//! The names of an OData JSON batch: whether they fit together, and the plan that they make.
+//! Checks the names of an OData JSON batch and makes its plan.
 //!
 //! The requests of a batch name each other by identifiers and atomicity groups (OData JSON Format
-//! 4.01, sections 19.1 and 19.2). [`check`] tells the least fault of these names, or makes the
-//! [`Plan`]: which requests form a unit, and what each request needs before it may start.
+//! 4.01, sections 19.1 and 19.2). [`check_with`] and [`check`] report the least fault of these names,
+//! or return the [`Plan`]: which requests form a unit, and what each request needs before it may
+//! start. A gateway that reads documents of strangers calls [`check_with`] with [`Seed::random`].
 #![tactic(auto)]
 
 mod checking;
 mod fault;
 mod ids;
+pub mod laws;
 mod levels;
 mod listed;
 mod marks;
 mod need;
 mod needs;
 mod plan;
+mod seed;
+mod table;
 mod tables;
-#[cfg(test)]
-mod tests;
 mod text;
 
-pub use checking::check;
+pub use checking::{check, check_with};
 pub use fault::{CheckFault, NameRule};
 pub use need::Need;
 pub use plan::Plan;
+pub use seed::Seed;

@@ -101,8 +101,8 @@ fn has_forward_reference(tables: &Tables<'_>, i: u32) -> bool
     }
 }
 
-/// Whether the reference of the request at `i` is an earlier request in another unit, and neither it
-/// nor its unit is named.
+/// F46: whether the URL refers to an earlier request outside the group, and `dependsOn` lists neither
+/// that request nor its group.
 fn lacks_reference(tables: &Tables<'_>, i: u32, marks: &Marks) -> bool
     requires position { i < length (records tables.now.batch.now) }
     requires marks { AreMarksOf (tests.named_at (records tables.now.batch.now) i) (i + 1)
@@ -138,7 +138,7 @@ fn names_own_group(tables: &Tables<'_>, i: u32, named: &[Need]) -> bool
     named.iter().any(|need| is_own(tables, i, *need))
 }
 
-/// Whether a name is a member of another group, which the request at `i` does not name.
+/// F43: whether `dependsOn` lists a member of another group without that group.
 fn names_member_alone(tables: &Tables<'_>, i: u32, named: &[Need], marks: &Marks) -> bool
     requires position { i < length (records tables.now.batch.now) }
     requires named { named.now ≡ tests.named_at (records tables.now.batch.now) i }

@@ -4,10 +4,9 @@ ghost use Rattle.odb_check.specs.Marks.{AreUpTo, IsWithin, ones_with, groups_wit
 use crate::need::Need;
 use std::alloc::{AllocError, Global};
 
-/// The requests and units that a request names, each marked by the stamp of that request.
+/// Which requests and units the current request names: arrays of generation stamps.
 ///
-/// A walk over the requests gives each of them a stamp above those before, so no mark is ever taken
-/// back.
+/// Each request writes its own, larger stamp, so the arrays are never cleared.
 #[derive(Drop)]
 pub(crate) struct Marks {
     ones: Vec<u32>,

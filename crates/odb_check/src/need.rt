@@ -1,4 +1,4 @@
-/// What a request waits for (OData JSON Format 4.01, section 19.1, `dependsOn`).
+/// A dependency of a request (OData JSON Format 4.01, section 19.1, `dependsOn`).
 #[derive(Clone, Copy, Debug, PartialEq, Eq)]
 pub enum Need {
     /// The request at this position.

@@ -81,7 +81,7 @@ fn add_reference(
     Ok(())
 }
 
-/// Adds the needs of the request at `i`, or tells the first rule on names and references that it
+/// Adds the needs of the request at `i`, or reports the first rule on names and references that it
 /// breaks.
 fn add_request(
     tables: &Tables<'_>,

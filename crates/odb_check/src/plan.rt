@@ -31,6 +31,7 @@ pub struct Plan<'b> {
 }
 
 impl<'b> Plan<'b> {
+    ghost use Rattle.odb_check.specs.Groups.{groups_of};
     ghost use Rattle.odb_check.specs.Needs.{needs_at};
     ghost use Rattle.odb_check.specs.Plans.{plan_records};
     ghost use Rattle.odb_check.specs.Shape.{HasNamesAsNeeds, IsPlan, shape_of};
@@ -65,6 +66,13 @@ impl<'b> Plan<'b> {
         self.tables.unit_count()
     }
 
+    /// Returns the number of different atomicity groups.
+    pub fn group_count(&self) -> u32
+        ensures { result ≡ length (groups_of (plan_records self.now)) }
+    {
+        self.tables.group_count()
+    }
+
     /// The unit that the request at a position is in.
     pub fn unit_of(&self, i: u32) -> u32
         requires { i < length (plan_records self.now) }
@@ -83,13 +91,13 @@ impl<'b> Plan<'b> {
         let end = if u + 1 < self.tables.unit_count() {
             self.tables.start_of(u + 1)
         } else {
-            self.tables.len()
+            self.len()
         };
         start..end
     }
 
-    /// What the request at a position needs: what its names stand for, in order and each once, and
-    /// then the request that its URL refers to, where no name stands for that.
+    /// Returns the dependencies of the request at a position: its `dependsOn` entries in order,
+    /// without repeats, then the request that its URL refers to unless it is already among them.
     pub fn needs(&self, i: u32) -> &[Need]
         requires { i < length (plan_records self.now) }
         ensures { result.now ≡ needs_at (plan_records self.now) i }
@@ -97,7 +105,7 @@ impl<'b> Plan<'b> {
         needs_of_request(&self.tables, &self.needs, i)
     }
 
-    /// How long the longest chain of needs is that the request at a position waits for.
+    /// Returns the length of the longest dependency chain that ends at the request at a position.
     ///
     /// That is 0 without needs, else one more than the greatest level of what is needed. The level of
     /// a group is the greatest of its members.
@@ -109,8 +117,8 @@ impl<'b> Plan<'b> {
         self.levels[i as usize]
     }
 
-    /// The position of the request with this identifier, or `None` where the text is no identifier of
-    /// the batch.
+    /// Returns the position of the request with this identifier, or `None` if the text is not an
+    /// identifier of the batch.
     pub fn position_of(&self, id: &str) -> Option<u32>
         ensures { result ≡ units.position_of (plan_records self.now) id.now }
     {

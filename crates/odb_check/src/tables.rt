@@ -1,57 +1,46 @@
-ghost use Rattle.std.specs.Prelude.{◌≡◌, ◌≤◌, ◌<◌, ◌==◌, ◌∷◌, ◌++◌, [], ℕ, List, length, cond, Some, None, option_copied, bytes_eq, OnOk, IfOk, slice_get};
+ghost use Rattle.std.specs.Prelude.{◌≡◌, ◌≤◌, ◌<◌, ◌==◌, ◌+◌, ◌∷◌, ◌++◌, [], ℕ, List, length, cond, Some, None, option_copied, OnOk, IfOk, slice_get};
 ghost use Rattle.std.proofs.Props.{props};
 ghost use Rattle.odb_doc.specs.Batches.{records};
 ghost use Rattle.odb_doc.specs.Records.{IsSoundRecord, record_of};
 ghost use Rattle.odb_check.specs.Firsts.{or_else, is_text};
-ghost use Rattle.odb_check.specs.Tables.{AreTablesOf, at_text, unit_among};
+ghost use Rattle.odb_check.specs.Tables.{AreTablesOf, at_text, more_with, table_len, unit_among};
 
 use crate::need::Need;
-use indexmap::IndexMap;
+use crate::seed::Seed;
+use crate::table::Table;
 use odb_doc::{Batch, Request};
 use std::alloc::{AllocError, Global};
-
-/// A number at a text of the batch.
-pub(crate) type Table<'b> = IndexMap<&'b str, u32>;
-
-/// Notes the number at the text, unless the text has one.
-#[tactic(auto, using(std::proofs::lemmas::Map::Text::text_keys))]
-fn note<'b>(table: &mut Table<'b>, text: &'b str, number: u32) -> Result<(), AllocError>
-    ensures { OnOk result ((q : List ℕ) → at_text table.new q
-        ≡ or_else (at_text table.old q) (cond (bytes_eq q text.now) (Some number) None)) }
-{
-    if !table.contains_key(text) {
-        table.insert(text, number)?;
-    }
-    Ok(())
-}
 
 /// The unit of a request with this group, where `next` is the number of the next unit.
 fn unit_in(groups: &Table<'_>, group: Option<&str>, next: u32) -> u32
     ensures { result ≡ unit_among groups.now (option_copied group.entry) next }
 {
     match group {
-        Some(name) => groups.get(name).copied().unwrap_or(next),
+        Some(name) => groups.get(name).unwrap_or(next),
         None => next,
     }
 }
 
-/// Notes the unit of a group, if there is one, unless the group has one.
+/// Records the unit of a group, if there is one, unless the group has one.
 fn note_group<'b>(
+    alloc: Global,
     groups: &mut Table<'b>,
     group: Option<&'b str>,
     unit: u32,
 ) -> Result<(), AllocError>
-    ensures { OnOk result ((q : List ℕ) → at_text groups.new q
+    ensures len { OnOk result (table_len groups.new
+        ≡ table_len groups.old + more_with groups.old (option_copied group.entry)) }
+    ensures texts { OnOk result ((q : List ℕ) → at_text groups.new q
         ≡ or_else (at_text groups.old q)
         (cond (is_text q (option_copied group.entry)) (Some unit) None)) }
 {
     match group {
-        Some(name) => note(groups, name, unit),
+        Some(name) => groups.note(alloc, name, unit),
         None => Ok(()),
     }
 }
 
-/// Notes that a unit begins at the position, if the unit is the next one.
+/// Records `i` as the first position of `unit` if the unit is new.
 fn note_start(starts: &mut Vec<u32>, unit: u32, i: u32) -> Result<(), AllocError>
     ensures { OnOk result (starts.new.items ≡ cond (unit == length starts.old.items)
         (starts.old.items ++ i ∷ []) starts.old.items) }
@@ -78,23 +67,66 @@ pub(crate) struct Tables<'b> {
         units.items starts.items } by { Prim.hlevel props },
 }
 
-/// The tables of a batch.
-pub(crate) fn tables_of<'b>(alloc: Global, batch: &'b Batch<'b>) -> Result<Tables<'b>, AllocError>
-    ensures { IfOk result (λ tables. tables.batch.now ≡ batch.now) }
+/// Adds the request at the position `i` to the tables of those before it.
+fn add<'b>(
+    alloc: Global,
+    batch: &'b Batch<'b>,
+    i: u32,
+    ids: &mut Table<'b>,
+    groups: &mut Table<'b>,
+    units: &mut Vec<u32>,
+    starts: &mut Vec<u32>,
+) -> Result<(), AllocError>
+    requires within { i < length (records batch.now) }
+    requires before { AreTablesOf (records batch.now) i ids.old groups.old units.old.items
+        starts.old.items }
+    ensures { OnOk result (AreTablesOf (records batch.now) (i + 1) ids.new groups.new
+        units.new.items starts.new.items) }
+{
+    let request = batch.request(i);
+    let unit = unit_in(groups, request.group, starts.len() as u32);
+    ids.note(alloc, request.id, i)?;
+    note_group(alloc, groups, request.group, unit)?;
+    note_start(starts, unit, i)?;
+    Ok(units.push(unit)?)
+}
+
+/// Fills empty tables with the requests of a batch.
+fn fill<'b>(
+    alloc: Global,
+    batch: &'b Batch<'b>,
+    ids: &mut Table<'b>,
+    groups: &mut Table<'b>,
+    units: &mut Vec<u32>,
+    starts: &mut Vec<u32>,
+) -> Result<(), AllocError>
+    requires { AreTablesOf (records batch.now) 0 ids.old groups.old units.old.items
+        starts.old.items }
+    ensures { OnOk result (AreTablesOf (records batch.now) (length (records batch.now)) ids.new
+        groups.new units.new.items starts.new.items) }
 {
     let count = batch.len();
-    let mut ids = IndexMap::with_capacity(alloc, count as usize)?;
-    let mut groups = IndexMap::new(alloc);
-    let mut units = Vec::with_capacity(alloc, count as usize)?;
-    let mut starts = Vec::new(alloc);
+    ids.reserve(count as usize)?;
+    units.reserve(count as usize)?;
     for i in 0..count {
-        let request = batch.request(i);
-        let unit = unit_in(&groups, request.group, starts.len() as u32);
-        note(&mut ids, request.id, i)?;
-        note_group(&mut groups, request.group, unit)?;
-        note_start(&mut starts, unit, i)?;
-        units.push(unit)?;
+        add(alloc, batch, i, ids, groups, units, starts)?;
     }
+    Ok(())
+}
+
+/// The tables of a batch.
+pub(crate) fn tables_of<'b>(
+    alloc: Global,
+    seed: Seed,
+    batch: &'b Batch<'b>,
+) -> Result<Tables<'b>, AllocError>
+    ensures { IfOk result (λ tables. tables.batch.now ≡ batch.now) }
+{
+    let mut ids = Table::new(alloc, seed);
+    let mut groups = Table::new(alloc, seed);
+    let mut units = Vec::new(alloc);
+    let mut starts = Vec::new(alloc);
+    fill(alloc, batch, &mut ids, &mut groups, &mut units, &mut starts)?;
     Ok(Tables {
         batch,
         ids,
@@ -105,6 +137,7 @@ pub(crate) fn tables_of<'b>(alloc: Global, batch: &'b Batch<'b>) -> Result<Table
 }
 
 impl<'b> Tables<'b> {
+    ghost use Rattle.odb_check.specs.Groups.{groups_of};
     ghost use Rattle.odb_check.specs.Needs.{need_of};
     ghost use Rattle.odb_check.specs.Units as spec;
 
@@ -128,6 +161,13 @@ impl<'b> Tables<'b> {
         ensures few { result ≤ length (records self.now.batch.now) }
     {
         self.starts.len() as u32
+    }
+
+    /// How many different groups there are.
+    pub(crate) fn group_count(&self) -> u32
+        ensures { result ≡ length (groups_of (records self.now.batch.now)) }
+    {
+        self.groups.len() as u32
     }
 
     pub(crate) fn unit_of(&self, i: u32) -> u32
@@ -158,13 +198,13 @@ impl<'b> Tables<'b> {
     pub(crate) fn position_of(&self, id: &str) -> Option<u32>
         ensures { result ≡ spec.position_of (records self.now.batch.now) id.now }
     {
-        self.ids.get(id).copied()
+        self.ids.get(id)
     }
 
     pub(crate) fn unit_of_group(&self, group: &str) -> Option<u32>
         ensures { result ≡ spec.unit_of_group (records self.now.batch.now) group.now }
     {
-        self.groups.get(group).copied()
+        self.groups.get(group)
     }
 
     /// What a name stands for.

@@ -19,7 +19,7 @@ fn group_text<'g>(group: Option<&'g str>) -> &'g str
     }
 }
 
-/// Adds what a line has before the names of the needs.
+/// Appends the line up to the names of its dependencies.
 fn push_head(text: &mut String, i: u32, id: &str, level: u32, group: &str) -> Result<(), AllocError>
     ensures { OnOk result (string_bytes text.new
         ≡ string_bytes text.old ++ texts.line_head i id.now level group.now) }
@@ -40,7 +40,7 @@ impl Plan<'_> {
         }
     }
 
-    /// Adds names, each behind a comma.
+    /// Appends names, each after a comma.
     fn push_further(&self, text: &mut String, needs: &[Need]) -> Result<(), AllocError>
         requires { All (λ need. IsWithin need (length (plan_records self.now))
             (unit_count (plan_records self.now))) needs.now }
@@ -54,7 +54,7 @@ impl Plan<'_> {
         Ok(())
     }
 
-    /// Adds names with commas between them, or `*` for none.
+    /// Appends names with commas between them, or `*` for none.
     fn push_names(&self, text: &mut String, needs: &[Need]) -> Result<(), AllocError>
         requires { All (λ need. IsWithin need (length (plan_records self.now))
             (unit_count (plan_records self.now))) needs.now }
@@ -70,7 +70,7 @@ impl Plan<'_> {
         }
     }
 
-    /// Adds the line of the request at a position.
+    /// Appends the line of the request at a position.
     fn push_line(&self, text: &mut String, i: u32) -> Result<(), AllocError>
         requires { i < length (plan_records self.now) }
         ensures { OnOk result (string_bytes text.new
@@ -93,7 +93,7 @@ impl Plan<'_> {
     /// `G` is the name of the group, or `*`. `NAMES` are the names of the needs in their order, with
     /// commas between them, or `*`: the identifier of a request, or the name of a group.
     ///
-    /// `alloc` is asked for the text alone; where it refuses that, the answer is `AllocError`.
+    /// `alloc` is asked for the text alone. Returns `AllocError` if that allocation fails.
     pub fn text(&self, alloc: Global) -> Result<String, AllocError>
         ensures { IfOk result (λ text. string_bytes text
             ≡ texts.plan_text (plan_records self.now)) }

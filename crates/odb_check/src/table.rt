@@ -1,0 +1,87 @@
+ghost use Rattle.std.specs.Prelude.{◌≡◌, ◌+◌, ℕ, List, Some, None, cond, bytes_eq, OnOk};
+ghost use Rattle.odb_check.specs.Firsts.{or_else};
+ghost use Rattle.odb_check.specs.Tables.{at_text, more_with, table_len};
+
+use crate::seed::{Seed, Start};
+use indexmap::IndexMap;
+use std::alloc::{AllocError, Global};
+use std::collections::BTreeMap;
+
+/// A number at each of some texts of the batch.
+#[derive(Drop)]
+pub(crate) enum Table<'b> {
+    /// With a seed: O(1) for a look-up, unless the texts were chosen by someone who knows the seed.
+    Hashed(IndexMap<&'b str, u32, Start>),
+    /// Without one: O(log n), whatever the texts.
+    Sorted(BTreeMap<String, u32>),
+}
+
+impl<'b> Table<'b> {
+    pub(crate) fn new(alloc: Global, seed: Seed) -> Table<'b>
+        ensures empty { (q : List ℕ) → at_text result q ≡ None }
+        ensures len { table_len result ≡ 0 }
+    {
+        match seed.start() {
+            Some(start) => Table::Hashed(IndexMap::with_hasher(alloc, start)),
+            None => Table::Sorted(BTreeMap::new(alloc)),
+        }
+    }
+
+    /// Makes room for some more texts, where that spares moving the others.
+    pub(crate) fn reserve(&mut self, count: usize) -> Result<(), AllocError>
+        ensures texts { OnOk result ((q : List ℕ) → at_text self.new q ≡ at_text self.old q) }
+        ensures len { OnOk result (table_len self.new ≡ table_len self.old) }
+    {
+        match self {
+            Table::Hashed(map) => map.reserve(count),
+            Table::Sorted(_) => Ok(()),
+        }
+    }
+
+    /// How many texts there are.
+    pub(crate) fn len(&self) -> usize
+        ensures { result ≡ table_len self.now }
+    {
+        match self {
+            Table::Hashed(map) => map.len(),
+            Table::Sorted(map) => map.len(),
+        }
+    }
+
+    /// The number at the text.
+    pub(crate) fn get(&self, text: &str) -> Option<u32>
+        ensures { result ≡ at_text self.now text.now }
+    {
+        match self {
+            Table::Hashed(map) => map.get(text).copied(),
+            Table::Sorted(map) => map.get(text).copied(),
+        }
+    }
+
+    /// Puts the number at the text, unless the text has one.
+    #[tactic(auto, using(std::proofs::lemmas::Map::Text::text_keys))]
+    pub(crate) fn note(
+        &mut self,
+        alloc: Global,
+        text: &'b str,
+        number: u32,
+    ) -> Result<(), AllocError>
+        ensures len { OnOk result (table_len self.new
+            ≡ table_len self.old + more_with self.old (Some text.now)) }
+        ensures texts { OnOk result ((q : List ℕ) → at_text self.new q
+            ≡ or_else (at_text self.old q) (cond (bytes_eq q text.now) (Some number) None)) }
+    {
+        if self.get(text).is_some() {
+            return Ok(());
+        }
+        match self {
+            Table::Hashed(map) => {
+                map.insert(text, number)?;
+            }
+            Table::Sorted(map) => {
+                map.insert(String::from_str(alloc, text)?, number)?;
+            }
+        }
+        Ok(())
+    }
+}
