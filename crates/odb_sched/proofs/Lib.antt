@@ -32,3 +32,4 @@ pub mod TakenLemmas
 pub mod ChoiceLemmas
 pub mod CourseLemmas
 pub mod RecordedLemmas
+pub mod OrderLemmas

@@ -23,3 +23,4 @@ pub mod Courses
 pub mod Recordings
 pub mod ExecFaults
 pub mod Advances
+pub mod Orders

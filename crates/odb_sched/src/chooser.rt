@@ -139,3 +139,22 @@ impl Chooser for Wide {
         Some(Order::Wide)
     }
 }
+
+/// An order is a chooser too: the one that it is named for.
+impl Chooser for Order {
+    ghost use Rattle.odb_sched.specs.Choosing.{AllowsOrder};
+
+    ghost allows = { AllowsOrder };
+
+    fn choose(&mut self, ready: &[u32], running: &[u32]) -> Choice {
+        match *self {
+            Order::First => First.choose(ready, running),
+            Order::Last => Last.choose(ready, running),
+            Order::Wide => Wide.choose(ready, running),
+        }
+    }
+
+    fn order(&self) -> Option<Order> {
+        Some(*self)
+    }
+}

@@ -47,9 +47,9 @@ fn take(scheduler: &mut Scheduler<'_>, at: usize, event: Event) -> Result<(), Ru
 ///
 /// The first event that may not come, by its place, with its first cause in the order S1 to S5, or
 /// P1 and P2; `OutOfMemory` where memory was refused.
-pub fn run<'p>(
+pub fn run<'a: 'p, 'p>(
     alloc: Global,
-    plan: &'p Plan<'p>,
+    plan: &'p Plan<'a>,
     policy: Policy,
     events: Vec<Event>,
 ) -> Result<Scheduler<'p>, RunRefusal>

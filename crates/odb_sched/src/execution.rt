@@ -148,9 +148,9 @@ fn take<S: Service>(
 /// F80, F81 or F82 for the request whose report was chosen, where the service has no outcome for
 /// it, failed, or gave a status that is not from 200 to 599; `OutOfMemory` where memory was
 /// refused. Chooser and service are left as their calls so far left them.
-pub fn execute<'p, S: Service>(
+pub fn execute<'a: 'p, 'p, S: Service>(
     alloc: Global,
-    plan: &'p Plan<'p>,
+    plan: &'p Plan<'a>,
     policy: Policy,
     chooser: &mut dyn Chooser,
     service: &mut S,

@@ -4,16 +4,18 @@
 //! The laws are clauses of functions that change nothing. They speak of lists of events, and of the
 //! same words that the clauses of the scheduler use.
 
-ghost use Rattle.std.specs.Prelude.{◌≡◌, ℕ, ◌<◌, ◌↔◌, Bool, true, List, IsTrue};
+ghost use Rattle.std.specs.Prelude.{◌≡◌, ℕ, ◌<◌, ◌↔◌, Bool, true, List, Option, IsTrue};
 ghost use Rattle.odb_doc.specs.declared.outcome.Outcome.{Outcome};
 ghost use Rattle.odb_check.specs.Plans.{plan_records};
 ghost use Rattle.odb_sched.specs.declared.policy.Mode.{Mode};
 ghost use Rattle.odb_sched.specs.declared.event.Event.{Event};
-ghost use Rattle.odb_sched.specs.State.{shape, phase_at};
+ghost use Rattle.odb_sched.specs.declared.order.Order.{Order};
+ghost use Rattle.odb_sched.specs.State.{shape, phase_at, at_first};
 ghost use Rattle.odb_sched.specs.Failing.{Fails, fails};
 ghost use Rattle.odb_sched.specs.Steps.{is_finished};
 ghost use Rattle.odb_sched.specs.Runs.{IsRun, state_after, phase_of};
 ghost use Rattle.odb_sched.specs.Laws.{StartsLast, IsNeverStuck, HasFewEvents, HasOneResult, HasSoundResult, IsAllOrNone, IsSound, SucceedsByMembers};
+ghost use Rattle.odb_sched.specs.Orders.{HasOneCourse, HasOneFault, FaultsOrFinishes};
 
 use odb_check::Plan;
 
@@ -65,6 +67,20 @@ pub fn every_word(plan: &Plan<'_>)
         ↔ Fails (shape plan.now) bad u }
     ensures succeeding { (table : ℕ → Outcome) (u : ℕ)
         → SucceedsByMembers (shape plan.now) table u }
+{
+    let _count = plan.len();
+}
+
+/// In an order, as that of `First`, `Last` or `Wide`, and with recorded outcomes, an execution has one
+/// course: any two that finish have the same steps and the same answers, any two that do not have the
+/// same fault, and none has a fault where another finishes.
+pub fn every_order(plan: &Plan<'_>)
+    ensures one_course { (order : Order) (outcomes : List (Option Outcome)) (mode : Mode) (width : ℕ)
+        → HasOneCourse order outcomes (at_first plan.now mode width) }
+    ensures one_fault { (order : Order) (outcomes : List (Option Outcome)) (mode : Mode) (width : ℕ)
+        → HasOneFault order outcomes (at_first plan.now mode width) }
+    ensures fault_or_end { (order : Order) (outcomes : List (Option Outcome)) (mode : Mode) (width : ℕ)
+        → FaultsOrFinishes order outcomes (at_first plan.now mode width) }
 {
     let _count = plan.len();
 }

@@ -30,8 +30,6 @@ mod spreading;
 mod starting;
 mod step;
 mod tally;
-#[cfg(test)]
-mod tests;
 mod unmet;
 mod views;
 

@@ -78,9 +78,9 @@ fn put(phases: &mut [Phase], i: u32, phase: Phase)
 impl<'p> Scheduler<'p> {
     /// A run before its first event. It takes all the memory that the run needs: the calls from
     /// then on take none, and an outcome is moved in, not copied.
-    pub fn new(
+    pub fn new<'a: 'p>(
         alloc: Global,
-        plan: &'p Plan<'p>,
+        plan: &'p Plan<'a>,
         policy: Policy,
     ) -> Result<Scheduler<'p>, AllocError>
         ensures state { IfOk result (λ scheduler. scheduler
