@@ -4,4 +4,3 @@ pub mod PartLemmas
 pub mod HeaderLemmas
 pub mod RestLemmas
 pub mod OneLemmas
-pub mod SendLemmas

@@ -1,5 +1,5 @@
 -- The text of a response is that of its parts.
-use Rattle.std.proofs.Common.{◌≡◌, ◌∙◌, ℕ, List, [], ◌++◌, Option, Some, None, option_map, Bool, decimal, refl, ap, codes, append_assoc}
+use Rattle.std.proofs.Common.{◌≡◌, ◌∙◌, ℕ, List, ◌++◌, Option, Some, None, option_map, Bool, decimal, refl, ap, codes, append_assoc}
 use Rattle.std.specs.Prelude.{IfSome}
 use Rattle.serde_json.specs.Data.{Data, unsigned, number, string, object, put, no_members}
 use Rattle.serde_json.specs.Written.{compact_text, comma_if}
@@ -10,16 +10,11 @@ use Rattle.odb_doc.specs.declared.outcome.Outcome.{Outcome}
 use Rattle.odb_sched.specs.Answers.{status_of}
 use Rattle.odb_reply.specs.Responses.{with_some, response, answer_body, answer_headers, headers_value}
 use Rattle.odb_reply.proofs.QuoteLemmas.{text-plain}
-use Rattle.odb_reply.specs.Parts.{group_part, body_name, body_part, body_end, headers_part, head, tail}
-
--- a member that need not be there, by its name and colon, with the comma behind it
-abbrev member_text : List ℕ → Option Data → List ℕ
-member_text name None = []
-member_text name (Some d) = name ++ (compact_text d ++ codes ",")
+use Rattle.odb_reply.specs.Parts.{group_part, member_part, end_part}
 
 members_text_of : (group : Option (List ℕ)) (body headers : Option Data) (id : List ℕ) (status : ℕ)
     → compact_text (object (with_some (codes "atomicityGroup") (option_map string group) (with_some (codes "body") body (with_some (codes "headers") headers (put (codes "id") (string id) (put (codes "status") (number (unsigned status)) no_members))))))
-    ≡ codes "{" ++ (member_text (codes "\"atomicityGroup\":") (option_map string group) ++ (member_text (codes "\"body\":") body ++ (member_text (codes "\"headers\":") headers ++ (codes "\"id\":" ++ (compact_text (string id) ++ (codes ",\"status\":" ++ (decimal status ++ codes "}")))))))
+    ≡ codes "{" ++ (member_part (codes "\"atomicityGroup\":") (option_map string group) ++ (member_part (codes "\"body\":") body ++ (member_part (codes "\"headers\":") headers ++ (codes "\"id\":" ++ (compact_text (string id) ++ (codes ",\"status\":" ++ (decimal status ++ codes "}")))))))
 unfolding serde_json_on_literals
 members_text_of None None None id status = refl
 members_text_of None None (Some headers) id status = simp append_assoc
@@ -30,35 +25,18 @@ members_text_of (Some group) None (Some headers) id status = simp append_assoc
 members_text_of (Some group) (Some body) None id status = simp append_assoc
 members_text_of (Some group) (Some body) (Some headers) id status = simp append_assoc
 
-group_member : (group : Option (List ℕ)) → IfSome group IsRequestId → member_text (codes "\"atomicityGroup\":") (option_map string group) ≡ group_part group
+group_member : (group : Option (List ℕ)) → IfSome group IsRequestId → member_part (codes "\"atomicityGroup\":") (option_map string group) ≡ group_part group
 group_member None plain = refl
 group_member (Some group) plain = ap (λ text. codes "\"atomicityGroup\":" ++ (text ++ codes ",")) (text-plain group plain.1) ∙ simp append_assoc
 
-body_member : (body : Option Data) → member_text (codes "\"body\":") body ≡ body_name body ++ (body_part body ++ body_end body)
-body_member None = refl
-body_member (Some d) = refl
+last_members : (id : List ℕ) (status : ℕ) → IsRequestId id
+    → codes "\"id\":" ++ (compact_text (string id) ++ (codes ",\"status\":" ++ (decimal status ++ codes "}"))) ≡ end_part id status
+last_members id status plain = ap (λ text. codes "\"id\":" ++ (text ++ (codes ",\"status\":" ++ (decimal status ++ codes "}")))) (text-plain id plain.1) ∙ simp append_assoc
 
-headers_member : (headers : Option Data) → member_text (codes "\"headers\":") headers ≡ headers_part headers
-headers_member None = refl
-headers_member (Some d) = simp append_assoc
-
-id_member : (id : List ℕ) (status : ℕ) → IsRequestId id
-    → codes "\"id\":" ++ (compact_text (string id) ++ (codes ",\"status\":" ++ (decimal status ++ codes "}"))) ≡ codes "\"id\":\"" ++ id ++ codes "\",\"status\":" ++ decimal status ++ codes "}"
-id_member id status plain = ap (λ text. codes "\"id\":" ++ (text ++ (codes ",\"status\":" ++ (decimal status ++ codes "}")))) (text-plain id plain.1) ∙ simp append_assoc
-
-regroup : (comma group name body end headers last : List ℕ)
-    → comma ++ (codes "{" ++ (group ++ ((name ++ (body ++ end)) ++ (headers ++ last)))) ≡ (comma ++ codes "{" ++ group ++ name) ++ (body ++ (end ++ headers ++ last))
-regroup comma group name body end headers last = simp append_assoc
-
--- the text of a response, behind an earlier one or not, is that of its parts
+-- the text of a response, with the comma before it, is that of its parts
 pub response-parts : (later : Bool) (request : Record) (answer : Option Outcome) → IsSoundRecord request
     → comma_if later ++ compact_text (response request answer)
-    ≡ head later request.group (answer_body answer) ++ (body_part (answer_body answer) ++ tail (answer_body answer) (headers_value (answer_headers answer)) request.id (status_of answer))
+    ≡ comma_if later ++ (codes "{" ++ (group_part request.group ++ (member_part (codes "\"body\":") (answer_body answer) ++ (member_part (codes "\"headers\":") (headers_value (answer_headers answer)) ++ end_part request.id (status_of answer)))))
 response-parts later request answer sound =
-    let body = answer_body answer in
-    let headers = headers_value (answer_headers answer) in
-    let whole = members_text_of request.group body headers request.id (status_of answer) in
-    let last = codes "\"id\":\"" ++ request.id ++ codes "\",\"status\":" ++ decimal (status_of answer) ++ codes "}" in
-    ap (λ text. comma_if later ++ text) (whole ∙ rw (group_member request.group sound.group, body_member body, headers_member headers, id_member request.id (status_of answer) sound.id) refl)
-    ∙ regroup (comma_if later) (group_part request.group) (body_name body) (body_part body) (body_end body) (headers_part headers) last
-    ∙ simp append_assoc
+    let whole = members_text_of request.group (answer_body answer) (headers_value (answer_headers answer)) request.id (status_of answer) in
+    ap (λ text. comma_if later ++ text) (whole ∙ rw (group_member request.group sound.group, last_members request.id (status_of answer) sound.id) refl)

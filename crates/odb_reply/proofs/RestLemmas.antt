@@ -10,22 +10,26 @@ use Rattle.odb_check.specs.Plans.{plan_records}
 use Rattle.odb_sched.specs.Answers.{answer, status_of}
 use Rattle.odb_sched.specs.State.{State}
 use Rattle.odb_reply.specs.Responses.{response, response_text, answer_body, answer_headers, headers_value}
-use Rattle.odb_reply.specs.Parts.{rest_text, head, body_part, tail}
+use Rattle.odb_reply.specs.Parts.{rest_text, group_part, member_part, end_part}
 use Rattle.odb_reply.proofs.PartLemmas.{response-parts}
 
--- the whole text is its front, and then the responses
+-- the whole text is its start, and then the responses
 pub response_text-front : (state : State) → response_text state ≡ codes "{\"responses\":[" ++ rest_text state 0
 unfolding response_text rest_text serde_json_on_literals
 response_text-front state = refl
 
--- after the last response stands the end
+-- with the start, the buffer and all responses are the whole text
+pub response_text-begun : (state : State) (buffer : List ℕ) → buffer ≡ codes "{\"responses\":[" → buffer ++ rest_text state 0 ≡ response_text state
+response_text-begun state buffer is = ap (λ text. text ++ rest_text state 0) is ∙ sym (response_text-front state)
+
+-- after the last response comes the end
 pub rest_text-none : (state : State) (i : ℕ) → length (plan_records state.plan) ≤ i → rest_text state i ≡ codes "]}"
 unfolding rest_text
 rest_text-none state i end = rw (drop_all i (plan_records state.plan) end) refl
 
--- with the end, what was gathered is the whole rest
-pub rest_text-last : (state : State) (i : ℕ) (gathered last : List ℕ) → length (plan_records state.plan) ≤ i → last ≡ gathered ++ codes "]}" → gathered ++ rest_text state i ≡ last
-rest_text-last state i gathered last end is = ap (λ text. gathered ++ text) (rest_text-none state i end) ∙ sym is
+-- with the end, the buffer is the whole rest
+pub rest_text-last : (state : State) (i : ℕ) (buffer ended : List ℕ) → length (plan_records state.plan) ≤ i → ended ≡ buffer ++ codes "]}" → buffer ++ rest_text state i ≡ ended
+rest_text-last state i buffer ended end is = ap (λ text. buffer ++ text) (rest_text-none state i end) ∙ sym is
 
 drop_at : (requests : List Record) (i : ℕ) (request : Record) → slice_get requests i ≡ Some request → drop i requests ≡ request ∷ drop (i + 1) requests
 drop_at requests i request is =
@@ -42,6 +46,6 @@ rest_text-more state i request is =
 -- the parts of a response, and then the rest
 pub rest_text-parts : (state : State) (i : ℕ) (request : Record) → slice_get (plan_records state.plan) i ≡ Some request → IsSoundRecord request
     → rest_text state i
-    ≡ (head (nat_lt 0 i) request.group (answer_body (answer state i)) ++ (body_part (answer_body (answer state i)) ++ tail (answer_body (answer state i)) (headers_value (answer_headers (answer state i))) request.id (status_of (answer state i)))) ++ rest_text state (i + 1)
+    ≡ (comma_if (nat_lt 0 i) ++ (codes "{" ++ (group_part request.group ++ (member_part (codes "\"body\":") (answer_body (answer state i)) ++ (member_part (codes "\"headers\":") (headers_value (answer_headers (answer state i))) ++ end_part request.id (status_of (answer state i))))))) ++ rest_text state (i + 1)
 rest_text-parts state i request is sound =
     rest_text-more state i request is ∙ ap (λ text. text ++ rest_text state (i + 1)) (response-parts (nat_lt 0 i) request (answer state i) sound)

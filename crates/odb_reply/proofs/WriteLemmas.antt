@@ -30,7 +30,7 @@ HasWritten-kept old mid new text rest before kept = record {
 pub HasWritten-all : (old new : Option (List ℕ)) (text rest : List ℕ) → rest ≡ [] → HasWritten old new text rest → Appends old new text
 HasWritten-all old new text rest none before = rw (before.whole, none, append-nil before.front) before.written
 
--- the front of a text is written, and then a front of its rest
+-- a prefix of a text is written, and then a prefix of its rest
 pub HasWritten-trans : (old mid new : Option (List ℕ)) (text rest last : List ℕ) → HasWritten old mid text rest → HasWritten mid new rest last → HasWritten old new text last
 HasWritten-trans old mid new text rest last before after = record {
   front = before.front ++ after.front;
@@ -38,11 +38,7 @@ HasWritten-trans old mid new text rest last before after = record {
   written = Appends-trans old mid new before.front after.front before.written after.written;
 }
 
--- the front of a text is written whole
-pub HasWritten-front : (old new : Option (List ℕ)) (front rest : List ℕ) → Appends old new front → HasWritten old new (front ++ rest) rest
-HasWritten-front old new front rest written = record { front = front; whole = refl; written = written }
-
--- a part of the front of a text is written
+-- a prefix of the start of a text is written
 pub HasWritten-part : (old new : Option (List ℕ)) (text rest later : List ℕ) → HasWritten old new text rest → HasWritten old new (text ++ later) (rest ++ later)
 HasWritten-part old new text rest later part = record {
   front = part.front;

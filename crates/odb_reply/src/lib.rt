@@ -1,17 +1,15 @@
-//! Responses of an OData JSON batch: the text of a finished run, and its way to an output.
+//! The response to an OData JSON batch, as text.
 //!
-//! [`response_text`] gives the response to a batch whose run has finished (OData JSON Format 4.01,
-//! section 19.5), and [`write_responses`] writes it as it is made. Both refuse a run that answers a
-//! body with a number that is not whole, since exact text is promised for whole numbers alone.
-//! [`write_text`] writes any text whole. What is performed and what is answered is decided by
-//! `odb_sched`.
+//! [`response_text`] returns the response of a finished run (OData JSON Format 4.01, section 19.5),
+//! and [`write_responses`] writes it to an output through a buffer. Both refuse a run that answers a
+//! body with a number that is not whole, since only whole numbers are kept exactly. [`laws`] says
+//! what is true of every response. [`write_text`] writes any text. What runs, and what each request
+//! is answered, is decided by `odb_sched`.
 #![tactic(auto)]
 
+pub mod laws;
 mod parts;
 mod reply;
-mod sending;
-#[cfg(test)]
-mod tests;
 mod text;
 mod whole;
 mod writing;

@@ -1,19 +1,21 @@
-ghost use Rattle.std.specs.Prelude.{◌≡◌, ◌∷◌, ◌++◌, [], true, false, codes, decimal, option_map, string_bytes, if◌then◌else◌, IfOk, IfSome, OnOk};
+ghost use Rattle.std.specs.Prelude.{◌≡◌, ◌<◌, ◌+◌, ◌∷◌, ◌++◌, [], codes, decimal, length, option_map, string_bytes, if◌then◌else◌, IfOk, IfSome, OnOk};
 ghost use Rattle.serde_json.specs.Data.{string, object};
 ghost use Rattle.serde_json.specs.View.{view};
 ghost use Rattle.serde_json.specs.Written.{compact_text, comma_if};
 ghost use Rattle.odb_doc.specs.WholeNumbers.{IsWhole};
-ghost use Rattle.odb_sched.specs.Answers.{shown, status_of};
+ghost use Rattle.odb_check.specs.Plans.{plan_records};
+ghost use Rattle.odb_sched.specs.Answers.{shown};
+ghost use Rattle.odb_reply.specs.NotWhole.{HasWholeBodies};
 ghost use Rattle.odb_reply.specs.Parts as parts;
 ghost use Rattle.odb_reply.specs.Responses as responses;
 
-use odb_sched::Answer;
+use odb_sched::{Answer, Done};
 use serde_json::Value;
 use std::alloc::{AllocError, Global};
 use std::collections::BTreeMap;
 use std::fmt::Write;
 
-/// The body of an answer, where it has one.
+/// Returns the body of an answer, if it has one.
 pub(crate) fn body_of<'a>(answer: &Answer<'a>) -> Option<&'a Value>
     ensures { option_map (λ body. view body.now) result ≡ responses.answer_body (shown answer.now) }
 {
@@ -23,26 +25,7 @@ pub(crate) fn body_of<'a>(answer: &Answer<'a>) -> Option<&'a Value>
     }
 }
 
-/// The JSON text of a string.
-fn quoted(alloc: Global, text: &str) -> Result<String, AllocError>
-    ensures { IfOk result (λ quoted. string_bytes quoted ≡ compact_text (string text.now)) }
-{
-    Value::try_from_str(alloc, text)?.to_string(alloc)
-}
-
-/// The JSON text of a body, and none where there is no body.
-pub(crate) fn body_text(alloc: Global, body: Option<&Value>) -> Result<String, AllocError>
-    requires { IfSome (option_map (λ body. view body.now) body) IsWhole }
-    ensures { IfOk result (λ text. string_bytes text
-        ≡ parts.body_part (option_map (λ body. view body.now) body.entry)) }
-{
-    match body {
-        Some(body) => body.to_string(alloc),
-        None => Ok(String::new(alloc)),
-    }
-}
-
-/// Adds a piece, where that holds.
+/// Appends a piece if the condition holds.
 fn push_if(text: &mut String, holds: bool, piece: &str) -> Result<(), AllocError>
     ensures { OnOk result (string_bytes text.new
         ≡ string_bytes text.old ++ (if holds then piece.now else [])) }
@@ -50,7 +33,7 @@ fn push_if(text: &mut String, holds: bool, piece: &str) -> Result<(), AllocError
     if holds { text.push_str(piece) } else { Ok(()) }
 }
 
-/// Adds the member of a group.
+/// Appends the member `atomicityGroup`. A group is an identifier, so nothing in it is escaped.
 fn push_group(text: &mut String, group: Option<&str>) -> Result<(), AllocError>
     ensures { OnOk result (string_bytes text.new
         ≡ string_bytes text.old ++ parts.group_part (option_map (λ group. group.now) group.entry)) }
@@ -61,24 +44,30 @@ fn push_group(text: &mut String, group: Option<&str>) -> Result<(), AllocError>
     }
 }
 
-/// Adds what comes of a response before its body, behind an earlier response or not.
-pub(crate) fn push_head(
-    text: &mut String,
-    later: bool,
-    group: Option<&str>,
-    body: Option<&Value>,
-) -> Result<(), AllocError>
+/// Appends the member `body`.
+fn push_body(alloc: Global, text: &mut String, body: Option<&Value>) -> Result<(), AllocError>
+    requires { IfSome (option_map (λ body. view body.now) body) IsWhole }
     ensures { OnOk result (string_bytes text.new ≡ string_bytes text.old
-        ++ parts.head later (option_map (λ group. group.now) group.entry)
-        (option_map (λ body. view body.now) body.entry)) }
+        ++ parts.member_part (codes "\"body\":") (option_map (λ body. view body.now) body.entry)) }
 {
-    push_if(text, later, ",")?;
-    text.push_str("{")?;
-    push_group(text, group)?;
-    push_if(text, body.is_some(), "\"body\":")
+    match body {
+        Some(body) => {
+            text.push_str("\"body\":")?;
+            text.push_str(body.to_string(alloc)?.as_str())?;
+            text.push_str(",")
+        }
+        None => Ok(()),
+    }
 }
 
-/// Adds a header, behind an earlier one or not.
+/// Returns the JSON text of a string.
+fn quoted(alloc: Global, text: &str) -> Result<String, AllocError>
+    ensures { IfOk result (λ quoted. string_bytes quoted ≡ compact_text (string text.now)) }
+{
+    Value::try_from_str(alloc, text)?.to_string(alloc)
+}
+
+/// Appends a header, with a comma first unless it is the first header.
 fn push_header(
     alloc: Global,
     text: &mut String,
@@ -96,7 +85,7 @@ fn push_header(
     text.push_str(quoted(alloc, value)?.as_str())
 }
 
-/// Adds the member of headers, of which there are some.
+/// Appends the member `headers` with these headers.
 fn push_headers(
     alloc: Global,
     text: &mut String,
@@ -115,14 +104,15 @@ fn push_headers(
     text.push_str("},")
 }
 
-/// Adds the member of the headers of an answer, where it has some.
+/// Appends the member `headers` of an answer, if it has headers.
 fn push_answer_headers(
     alloc: Global,
     text: &mut String,
     answer: &Answer<'_>,
 ) -> Result<(), AllocError>
     ensures { OnOk result (string_bytes text.new ≡ string_bytes text.old
-        ++ parts.headers_part (responses.headers_value (responses.answer_headers (shown answer.now)))) }
+        ++ parts.member_part (codes "\"headers\":")
+        (responses.headers_value (responses.answer_headers (shown answer.now)))) }
 {
     match answer {
         Answer::Reported(outcome) if !outcome.headers.is_empty() => {
@@ -132,28 +122,32 @@ fn push_answer_headers(
     }
 }
 
-/// Adds the last members of a response.
+/// Appends the members `id` and `status`. An id is an identifier, so nothing in it is escaped.
 fn push_end(text: &mut String, id: &str, status: u16) -> Result<(), AllocError>
     ensures { OnOk result (string_bytes text.new ≡ string_bytes text.old
-        ++ (codes "\"id\":\"" ++ id.now ++ codes "\",\"status\":" ++ decimal status
-        ++ codes "}")) }
+        ++ parts.end_part id.now status) }
 {
     write!(text, "\"id\":\"{id}\",\"status\":{status}}}").map_err(|_| AllocError)
 }
 
-/// Adds what comes of a response behind its body.
-pub(crate) fn push_tail(
+/// Appends the response to request `i`, with a comma first unless it is the first response.
+pub(crate) fn push_response(
     alloc: Global,
     text: &mut String,
-    id: &str,
-    answer: &Answer<'_>,
+    done: &Done<'_>,
+    i: u32,
 ) -> Result<(), AllocError>
-    ensures { OnOk result (string_bytes text.new ≡ string_bytes text.old
-        ++ parts.tail (responses.answer_body (shown answer.now))
-        (responses.headers_value (responses.answer_headers (shown answer.now)))
-        id.now (status_of (shown answer.now))) }
+    requires request { i < length (plan_records done.now.plan) }
+    requires whole { HasWholeBodies done.now }
+    ensures { OnOk result (string_bytes text.old ++ parts.rest_text done.now i
+        ≡ string_bytes text.new ++ parts.rest_text done.now (i + 1)) }
 {
-    push_if(text, body_of(answer).is_some(), ",")?;
-    push_answer_headers(alloc, text, answer)?;
-    push_end(text, id, answer.status())
+    let request = done.plan().request(i);
+    let answer = done.answer(i);
+    push_if(text, i > 0, ",")?;
+    text.push_str("{")?;
+    push_group(text, request.group)?;
+    push_body(alloc, text, body_of(&answer))?;
+    push_answer_headers(alloc, text, &answer)?;
+    push_end(text, request.id, answer.status())
 }

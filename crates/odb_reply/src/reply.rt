@@ -1,32 +1,34 @@
-ghost use Rattle.std.specs.Prelude.{◌≡◌, ◌↔◌, ℕ, false, IsTrue, OnOk, OnErr};
+ghost use Rattle.std.specs.Prelude.{◌≡◌, ◌≢◌, ◌↔◌, ◌++◌, ℕ, false, string_bytes, IsErr, IsTrue, OnOk, OnErr};
 ghost use Rattle.std.specs.Io.KnownBytes.{Appends};
 ghost use Rattle.odb_check.specs.Plans.{plan_records};
-ghost use Rattle.odb_reply.specs.declared.sending.SendFault.TheVariants as sending;
 ghost use Rattle.odb_reply.specs.declared.reply.ReplyFault.TheVariants as faults;
-ghost use Rattle.odb_reply.specs.NotWhole.{IsFirstNotWhole};
+ghost use Rattle.odb_reply.specs.NotWhole.{HasWholeBodies, IsFirstNotWhole};
 ghost use Rattle.odb_reply.specs.OnePerId.{HasOnePerId};
-ghost use Rattle.odb_reply.specs.Outputs.{AppendsFront};
+ghost use Rattle.odb_reply.specs.Outputs.{HasWritten, AppendsFront};
+ghost use Rattle.odb_reply.specs.Parts.{rest_text};
 ghost use Rattle.odb_reply.specs.Responses.{response_text, response_value};
 
-use crate::sending::{SendFault, send_responses};
+use crate::laws::every_response;
+use crate::parts::push_response;
 use crate::whole::first_not_whole;
+use crate::writing::{WriteFault, write_text};
 use odb_doc::{Output, Place};
 use odb_sched::Done;
-use std::alloc::Global;
+use std::alloc::{AllocError, Global};
 use std::io::Write;
 use thiserror::Error;
 
-/// Why a response was not written whole.
+/// Why a response was not written, or not completely.
 #[derive(Clone, Copy, Debug, PartialEq, Eq, Error)]
 pub enum ReplyFault {
     /// F50: the body that answers the request at this position, counted from 0, holds a number that
     /// is not whole. Nothing was written.
     #[error("request {at}: the body holds a number that is not whole")]
     NotWhole { at: usize },
-    /// The output failed. It has a front of the response.
+    /// The output failed. It has received a prefix of the response.
     #[error("the output failed")]
     Write,
-    /// Memory was refused. The output has a front of the response.
+    /// Out of memory. The output has received a prefix of the response.
     #[error("out of memory")]
     OutOfMemory,
 }
@@ -34,7 +36,7 @@ pub enum ReplyFault {
 impl ReplyFault {
     ghost use Rattle.odb_reply.specs.ReplyFaults.{IsNumbered, fault_code, fault_name, fault_place};
 
-    /// The code of a numbered fault: `F50`.
+    /// Returns the code of a numbered fault: `F50`.
     pub fn code(&self) -> &'static str
         requires { IsNumbered self.now }
         ensures { result.now ≡ fault_code self.now }
@@ -45,7 +47,7 @@ impl ReplyFault {
         }
     }
 
-    /// The name of a numbered fault: `NotWhole`.
+    /// Returns the name of a numbered fault: `NotWhole`.
     pub fn name(&self) -> &'static str
         requires { IsNumbered self.now }
         ensures { result.now ≡ fault_name self.now }
@@ -56,7 +58,7 @@ impl ReplyFault {
         }
     }
 
-    /// The request that a numbered fault lies at.
+    /// Returns the place of a numbered fault: the request.
     pub fn place(&self) -> Place
         requires { IsNumbered self.now }
         ensures { result ≡ fault_place self.now }
@@ -68,29 +70,77 @@ impl ReplyFault {
     }
 }
 
-impl From<SendFault> for ReplyFault {
-    ghost from_gives = { λ sent fault. (sent ≡ sending.Write → fault ≡ faults.Write)
-        × (sent ≡ sending.OutOfMemory → fault ≡ faults.OutOfMemory) };
+impl From<WriteFault> for ReplyFault {
+    ghost from_gives = { λ _ fault. fault ≡ faults.Write };
 
-    fn from(fault: SendFault) -> Self {
-        match fault {
-            SendFault::Write => ReplyFault::Write,
-            SendFault::OutOfMemory => ReplyFault::OutOfMemory,
-        }
+    fn from(_fault: WriteFault) -> Self {
+        ReplyFault::Write
     }
 }
 
+impl From<AllocError> for ReplyFault {
+    ghost from_gives = { λ _ fault. fault ≡ faults.OutOfMemory };
+
+    fn from(_error: AllocError) -> Self {
+        ReplyFault::OutOfMemory
+    }
+}
+
+/// The size at which the buffer is written out.
+const BUFFER_BYTES: usize = 65_536;
+
+/// Writes the buffer out and clears it, if it is full.
+fn write_full<W: Write>(output: &mut Output<W>, buffer: &mut String) -> Result<(), WriteFault>
+    requires { output.old.failed ≡ false }
+    ensures fault { IsErr result ↔ IsTrue output.new.failed }
+    ensures ok { OnOk result (HasWritten (W.contents output.old.writer)
+        (W.contents output.new.writer) (string_bytes buffer.old) (string_bytes buffer.new)) }
+    ensures err { OnErr result (AppendsFront (W.contents output.old.writer)
+        (W.contents output.new.writer) (string_bytes buffer.old)) }
+{
+    if buffer.len() >= BUFFER_BYTES {
+        write_text(output, buffer.as_str())?;
+        buffer.clear();
+    }
+    Ok(())
+}
+
+/// Appends all responses and the end of the text to the buffer, and writes it out whenever it is
+/// full.
+fn buffer_responses<W: Write>(
+    alloc: Global,
+    output: &mut Output<W>,
+    buffer: &mut String,
+    done: &Done<'_>,
+) -> Result<(), ReplyFault>
+    requires works { output.old.failed ≡ false }
+    requires whole { HasWholeBodies done.now }
+    ensures ok { OnOk result (HasWritten (W.contents output.old.writer)
+        (W.contents output.new.writer) (string_bytes buffer.old ++ rest_text done.now 0)
+        (string_bytes buffer.new)) }
+    ensures err { OnErr result (AppendsFront (W.contents output.old.writer)
+        (W.contents output.new.writer) (string_bytes buffer.old ++ rest_text done.now 0)) }
+    ensures write { (result ≡ Err ReplyFault.Write) ↔ IsTrue output.new.failed }
+    ensures whole { (at : ℕ) → result ≢ Err (faults.NotWhole at) }
+{
+    for i in 0..done.plan().len() {
+        push_response(alloc, buffer, done, i)?;
+        write_full(output, buffer)?;
+    }
+    Ok(buffer.push_str("]}")?)
+}
+
 /// Writes the response to a batch whose run has finished (OData JSON Format 4.01, section 19.5): the
-/// text that [`crate::response_text`] gives, response by response.
+/// text that [`crate::response_text`] returns. The writer is not flushed.
 ///
-/// Bodies are written from the outcomes of the run. `alloc` is asked for the text of one body or
-/// header at a time, and for that of short responses that are written together.
+/// Allocates the text of one body or header at a time, and a buffer: it is written out once it holds
+/// 64 KiB, so it holds less than that and one response.
 ///
 /// # Errors
 ///
-/// `NotWhole` exactly where a request is answered by a body that holds a number that is not whole,
-/// with the first such request; nothing is written then. Else `Write` exactly where the output
-/// failed, and `OutOfMemory` where memory was refused.
+/// `NotWhole` if and only if a body of the response holds a number that is not whole, with the first
+/// such request; nothing is written then. Else `Write` if and only if the output failed, and
+/// `OutOfMemory` if an allocation fails.
 pub fn write_responses<W: Write>(
     alloc: Global,
     output: &mut Output<W>,
@@ -107,9 +157,11 @@ pub fn write_responses<W: Write>(
     ensures unwritten { (at : ℕ) → result ≡ Err (faults.NotWhole at) → output.new ≡ output.old }
     ensures one_per_id { HasOnePerId (plan_records done.now.plan) (response_value done.now) }
 {
+    every_response(done);
     if let Some(at) = first_not_whole(done) {
         return Err(ReplyFault::NotWhole { at: at as usize });
     }
-    send_responses(alloc, output, done)?;
-    Ok(())
+    let mut buffer = String::from_str(alloc, "{\"responses\":[")?;
+    buffer_responses(alloc, output, &mut buffer, done)?;
+    Ok(write_text(output, buffer.as_str())?)
 }

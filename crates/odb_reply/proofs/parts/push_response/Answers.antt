@@ -3,7 +3,7 @@ use Rattle.std.proofs.lemmas.Grind.{common_steps}
 use Rattle.odb_doc.specs.Records.{record_of}
 use Rattle.odb_check.specs.Plans.{plan_records}
 use Rattle.odb_reply.proofs.RestLemmas.{rest_text-parts}
-use Rattle.odb_reply.proofs.text.push_response.Goals as goal
+use Rattle.odb_reply.proofs.parts.push_response.Goals as goal
 
 pub returns : goal.returns
 returns c =

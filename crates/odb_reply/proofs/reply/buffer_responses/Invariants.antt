@@ -1,0 +1,12 @@
+use Rattle.std.proofs.Common.{◌≡◌, ◌++◌, false, string_bytes}
+use Rattle.odb_reply.specs.Outputs.{HasWritten}
+use Rattle.odb_reply.specs.Parts.{rest_text}
+use Rattle.odb_reply.proofs.reply.buffer_responses.Given as goal
+
+-- the buffer, and then the responses that are left, are what is not written of the whole
+abbrev pub invariant-loop-i : goal.invariant-loop-i
+invariant-loop-i g l =
+    record {
+      works : l.output.failed ≡ false;
+      written : HasWritten (g.W.Write.contents l.fn.output.writer) (g.W.Write.contents l.output.writer) (string_bytes l.fn.buffer ++ rest_text l.done 0) (string_bytes l.buffer ++ rest_text l.done l.i);
+    }
