@@ -1,0 +1,108 @@
+-- Two texts that the cascade allows for the same bytes are equal, where P allows one for each batch.
+use Rattle.std.proofs.Common.{◌≡◌, ◌⊎◌, ℕ, ◌≤◌, ◌<◌, ◌∙◌, List, length, unwrap_or, inl, inr, refl, sym, subst, ap, arith}
+use Rattle.serde_json.specs.Data.{Data}
+use Rattle.odb_doc.specs.declared.document.TheConstants.{MAX_DOCUMENT_BYTES}
+use Rattle.odb_doc.specs.declared.fault.Place.TheVariants.{Batch}
+use Rattle.odb_doc.specs.declared.fault.DocFault.{DocFault}
+use Rattle.odb_doc.specs.declared.fault.DocFault.TheVariants as faults
+use Rattle.odb_doc.specs.declared.fault.DocumentRule.TheVariants as rules
+use Rattle.odb_doc.specs.Documents.{IsDocument, RefusesDocument}
+use Rattle.odb_doc.specs.FaultTable as document
+use Rattle.odb_doc.specs.LeastFault.{IsWellShaped, IsLeastFault}
+use Rattle.odb_doc.specs.Records.{Record, IsBatchOf}
+use Rattle.odb_check.specs.declared.fault.CheckFault.{CheckFault}
+use Rattle.odb_check.specs.FaultTable as names
+use Rattle.odb_check.specs.LeastNameFault.{HasGoodNames, RefusesNames}
+use Rattle.odb_engine.specs.declared.ending.Ended.{Ended}
+use Rattle.odb_engine.specs.Laws.{IsOne}
+use Rattle.odb_engine.specs.Cascade.{Writes, Refusal, line_of, Reports, RefusesBytes, IsLeast, Accepts, Answers, HasValue, document_refusal, names_refusal}
+use Rattle.odb_engine.specs.Cascade.IsLeast.{OfBytes, OfShape, OfNames}
+
+-- what the crates below say of their own relations, in their laws
+pub record AreFunctional : Type 0 where
+  pub one_shape : (value : Data) (fault other : DocFault) → document.IsNumbered fault → document.IsNumbered other → IsLeastFault fault value → IsLeastFault other value → fault ≡ other
+  pub no_shape : (value : Data) (fault : DocFault) → document.IsNumbered fault → IsLeastFault fault value → ¬ IsWellShaped value
+  pub one_batch : (value : Data) (batch other : List Record) → IsBatchOf value batch → IsBatchOf value other → batch ≡ other
+  pub one_name : (requests : List Record) (fault other : CheckFault) → names.IsNumbered fault → names.IsNumbered other → RefusesNames fault requests → RefusesNames other requests
+      → fault ≡ other
+  pub no_name : (requests : List Record) (fault : CheckFault) → names.IsNumbered fault → RefusesNames fault requests → ¬ HasGoodNames requests
+
+-- bytes have one value
+one_value : (bytes : List ℕ) (d e : Data) → IsDocument bytes d → IsDocument bytes e → d ≡ e
+one_value bytes d e first second = ap (λ o. unwrap_or o d) (sym first.1.1 ∙ second.1.1)
+
+-- ---- bytes that are refused
+
+-- they are too long, or they are not JSON
+data Cause (bytes : List ℕ) : DocFault → Type 0 where
+  Long : MAX_DOCUMENT_BYTES < length bytes → Cause bytes (faults.Document rules.TooLong)
+  NoJson : length bytes ≤ MAX_DOCUMENT_BYTES → ((d : Data) → ¬ IsDocument bytes d) → Cause bytes (faults.Document rules.NotJson)
+
+cause : (bytes : List ℕ) (fault : DocFault) → document.IsNumbered fault → RefusesDocument fault bytes → Cause bytes fault
+cause bytes (faults.Document rules.TooLong) numbered long = Long long
+cause bytes (faults.Document rules.NotJson) numbered refused = NoJson refused.0 (λ d is. refused.1 d is.1)
+cause bytes (faults.Document rules.NotObject) numbered none = absurd none
+cause bytes (faults.Document rules.NoRequests) numbered none = absurd none
+cause bytes (faults.Document rules.UnknownMember) numbered none = absurd none
+cause bytes (faults.Document rules.TooMany) numbered none = absurd none
+cause bytes (faults.Request at rule) numbered none = absurd none
+cause bytes faults.OutOfMemory numbered none = absurd (numbered refl)
+
+one_cause : (bytes : List ℕ) (fault other : DocFault) → Cause bytes fault → Cause bytes other → fault ≡ other
+one_cause bytes _ _ (Long a) (Long b) = refl
+one_cause bytes _ _ (Long a) (NoJson b none) = absurd (omega (arith, a, b))
+one_cause bytes _ _ (NoJson a none) (Long b) = absurd (omega (arith, a, b))
+one_cause bytes _ _ (NoJson a none) (NoJson b none') = refl
+
+no_value : (bytes : List ℕ) (fault : DocFault) (d : Data) → Cause bytes fault → ¬ IsDocument bytes d
+no_value bytes _ d (Long long) is = omega (arith, long, is.0)
+no_value bytes _ d (NoJson short none) is = none d is
+
+one_refusal : (bytes : List ℕ) (refusal other : Refusal) → RefusesBytes Batch bytes refusal → RefusesBytes Batch bytes other → refusal ≡ other
+one_refusal bytes refusal other one two =
+    let same = one_cause bytes one.fault two.fault (cause bytes one.fault one.numbered one.refuses) (cause bytes two.fault two.numbered two.refuses) in
+    one.is ∙ ap (λ (fault : DocFault). record { code = document.fault_code fault; name = document.fault_name fault; place = Batch }) same ∙ sym two.is
+
+refused_no_value : (bytes : List ℕ) (refusal : Refusal) (P : Data → Type 0) → RefusesBytes Batch bytes refusal → HasValue bytes P → ⊥
+refused_no_value bytes refusal P refused has =
+    no_value bytes refused.fault has.value (cause bytes refused.fault refused.numbered refused.refuses) has.document
+
+-- ---- the cascade
+
+least_one : AreFunctional → (bytes : List ℕ) (s t : Refusal) → IsLeast bytes s → IsLeast bytes t → s ≡ t
+least_one law bytes s t (OfBytes one) (OfBytes two) = one_refusal bytes s t one two
+least_one law bytes s t (OfBytes one) (OfShape g m has d) = absurd (refused_no_value bytes s (IsLeastFault g) one has)
+least_one law bytes s t (OfBytes one) (OfNames g m has d) = absurd (refused_no_value bytes s _ one has)
+least_one law bytes s t (OfShape f n has e) (OfBytes two) = absurd (refused_no_value bytes t (IsLeastFault f) two has)
+least_one law bytes s t (OfShape f n has e) (OfShape g m had d) =
+    e ∙ ap document_refusal (law.one_shape had.value f g n m (subst (IsLeastFault f) (one_value bytes has.value had.value has.document had.document) has.holds) had.holds) ∙ sym d
+least_one law bytes s t (OfShape f n has e) (OfNames g m had d) =
+    absurd (law.no_shape had.value f n (subst (IsLeastFault f) (one_value bytes has.value had.value has.document had.document) has.holds) had.holds.shape)
+least_one law bytes s t (OfNames f n has e) (OfBytes two) = absurd (refused_no_value bytes t _ two has)
+least_one law bytes s t (OfNames f n has e) (OfShape g m had d) =
+    absurd (law.no_shape has.value g m (subst (IsLeastFault g) (one_value bytes had.value has.value had.document has.document) had.holds) has.holds.shape)
+least_one law bytes s t (OfNames f n has e) (OfNames g m had d) =
+    let same = one_value bytes has.value had.value has.document had.document in
+    let says = subst (λ v. IsBatchOf v has.holds.batch) same has.holds.says in
+    e ∙ ap names_refusal (law.one_name had.holds.batch f g n m (subst (RefusesNames f) (law.one_batch had.value _ _ says had.holds.says) has.holds.holds) had.holds.holds) ∙ sym d
+
+least_not : AreFunctional → (bytes : List ℕ) (P : List Record → Type 0) (refusal : Refusal) → IsLeast bytes refusal → Accepts bytes P → ⊥
+least_not law bytes P refusal (OfBytes one) is =
+    no_value bytes one.fault is.value (cause bytes one.fault one.numbered one.refuses) is.document
+least_not law bytes P refusal (OfShape f n has e) is =
+    law.no_shape is.value f n (subst (IsLeastFault f) (one_value bytes has.value is.value has.document is.document) has.holds) is.shape
+least_not law bytes P refusal (OfNames f n has e) is =
+    let same = one_value bytes has.value is.value has.document is.document in
+    let says = subst (λ v. IsBatchOf v has.holds.batch) same has.holds.says in
+    law.no_name is.batch f n (subst (RefusesNames f) (law.one_batch is.value _ _ says is.says) has.holds.holds) is.names
+
+pub answers_one : AreFunctional → (P : List Record → Writes) → ((xs : List Record) → IsOne (P xs)) → (bytes : List ℕ) → IsOne (Answers P bytes)
+answers_one law P one bytes a b s t (inl x) (inl y) =
+    let same = least_one law bytes x.refusal y.refusal x.is y.is in
+    (x.ends ∙ sym y.ends, x.line ∙ ap line_of same ∙ sym y.line)
+answers_one law P one bytes a b s t (inl x) (inr y) = absurd (least_not law bytes (λ batch. P batch b t) x.refusal x.is y)
+answers_one law P one bytes a b s t (inr x) (inl y) = absurd (least_not law bytes (λ batch. P batch a s) y.refusal y.is x)
+answers_one law P one bytes a b s t (inr x) (inr y) =
+    let same = one_value bytes x.value y.value x.document y.document in
+    let says = subst (λ v. IsBatchOf v x.batch) same x.says in
+    one y.batch a b s t (subst (λ xs. P xs a s) (law.one_batch y.value _ _ says y.says) x.holds) y.holds

@@ -1,0 +1,5 @@
+mod ReadLemmas
+mod TraceLemmas
+mod EngineLemmas
+mod ReplayLemmas
+mod LawLemmas

@@ -1,0 +1,110 @@
+-- Runs by recorded outcomes: what is offered was recorded, so it is sound.
+use Rattle.std.proofs.Common.{◌≡◌, ℕ, zero, suc, ◌≤◌, ◌∙◌, ap, sym, refl, subst, arith, Bool, true, false, cond, ◌&&◌, List, [], ◌∷◌, get_or, All, Contains, Option, Some, None, is_some, unwrap_or, option_map, not, if◌then◌else◌, IfSome, find, bytes_eq, Result, Ok, Err}
+use Rattle.std.proofs.lemmas.Bool.{true≢false, both_ways}
+use Rattle.std.proofs.lemmas.Bool.Decides.{nat_tests}
+use Rattle.std.proofs.lemmas.List.Elements.{All-contains, Contains-append_right}
+use Rattle.serde_json.specs.View.{view}
+use Rattle.odb_doc.specs.declared.outcome.Outcome.{Outcome}
+use Rattle.odb_doc.specs.declared.fault.Place.{Place}
+use Rattle.odb_doc.specs.Outcomes.{Recorded, IsSoundOutcome}
+use Rattle.odb_doc.specs.Records.{Record}
+use Rattle.odb_doc.specs.WholeNumbers.{IsWhole}
+use Rattle.odb_check.specs.declared.plan.Plan.{Plan}
+use Rattle.odb_check.specs.Plans.{plan_records}
+use Rattle.odb_check.specs.Shape.{unit_of}
+use Rattle.odb_sched.specs.declared.phase.Phase.{Phase}
+use Rattle.odb_sched.specs.declared.phase.Phase.TheVariants.{Unstarted, Running, Reported}
+use Rattle.odb_sched.specs.declared.policy.Policy.{Policy}
+use Rattle.odb_sched.specs.declared.service.ServiceFault.{ServiceFault}
+use Rattle.odb_sched.specs.declared.service.ServiceFault.TheVariants as service
+use Rattle.odb_sched.specs.declared.fault.ExecFault.{ExecFault}
+use Rattle.odb_sched.specs.declared.fault.ExecFault.TheVariants as fault
+use Rattle.odb_sched.specs.Answers.{answer, answer_of, outcome_of, reported}
+use Rattle.odb_sched.specs.Courses.{Allowance, IsDue, IsCausedBy}
+use Rattle.odb_sched.specs.ExecFaults.{IsNumbered, exec_code, exec_name, exec_place}
+use Rattle.odb_sched.specs.Recordings.{outcome_for, recorded_for, offered, OffersRecorded}
+use Rattle.odb_sched.specs.State.{State, phase_at, at_first}
+use Rattle.odb_sched.specs.Statuses.{is_status, is_success}
+use Rattle.odb_sched.specs.Steps.{unit_succeeded}
+use Rattle.odb_reply.specs.NotWhole.{HasWholeBody, HasWholeBodies}
+use Rattle.odb_engine.specs.declared.ending.Ended.{Ended}
+use Rattle.odb_engine.specs.declared.ending.Ended.TheVariants.{Refused}
+use Rattle.odb_engine.specs.Cascade.{line_of}
+use Rattle.odb_engine.specs.Replays.{LacksOutcome, offers_of, execution_refusal}
+
+-- what is recorded for an id stands in an entry
+entry-for : (entries : List Recorded) (id : List ℕ) (outcome : Outcome) → outcome_for entries id ≡ Some outcome → (entry : Recorded) × Contains entries entry × (entry.1 ≡ outcome)
+entry-for [] id outcome e = absurd (true≢false (sym (ap is_some e)))
+entry-for (entry ∷ entries) id outcome e = at (bytes_eq entry.0 id) refl (entry-for entries id outcome) e
+  where
+    at : (b : Bool) → bytes_eq entry.0 id ≡ b → (outcome_for entries id ≡ Some outcome → (later : Recorded) × Contains entries later × (later.1 ≡ outcome))
+        → option_map (λ found. found.1) (cond b (Some entry) (find (λ x. bytes_eq x.0 id) entries)) ≡ Some outcome
+        → (found : Recorded) × Contains (entry ∷ entries) found × (found.1 ≡ outcome)
+    at true same rest e = (entry, (0, omega arith, refl), ap (λ found. unwrap_or found outcome) e)
+    at false same rest e = let (later, has, is) = rest e in (later, Contains-append_right (entry ∷ []) entries later has, is)
+
+-- what is recorded at a position is recorded for an id
+id-at : (batch : List Record) (entries : List Recorded) (i : ℕ) (outcome : Outcome) → get_or (recorded_for batch entries) i None ≡ Some outcome → (id : List ℕ) × (outcome_for entries id ≡ Some outcome)
+id-at [] entries i outcome e = absurd (true≢false (sym (ap is_some e)))
+id-at (request ∷ batch) entries zero outcome e = (request.id, e)
+id-at (request ∷ batch) entries (suc i) outcome e = id-at batch entries i outcome e
+
+abbrev outcome_in : Result Outcome ServiceFault → Option Outcome
+outcome_in (Ok outcome) = Some outcome
+outcome_in (Err cause) = None
+
+offered-outcome : (slot : Option Outcome) (outcome : Outcome) → Ok outcome ≡ offered slot → slot ≡ Some outcome
+offered-outcome None outcome e = absurd (true≢false (ap (λ answer. is_some (outcome_in answer)) e))
+offered-outcome (Some other) outcome e = sym (ap outcome_in e)
+
+-- an outcome that is offered is sound
+sound-offered : (batch : List Record) (entries : List Recorded) (i : ℕ) (outcome : Outcome) → All IsSoundOutcome entries → OffersRecorded (recorded_for batch entries) i (Ok outcome)
+    → (entry : Recorded) × IsSoundOutcome entry × (entry.1 ≡ outcome)
+sound-offered batch entries i outcome sound offer =
+    let (id, recorded) = id-at batch entries i outcome (offered-outcome (get_or (recorded_for batch entries) i None) outcome offer) in
+    let (entry, has, is) = entry-for entries id outcome recorded in
+    (entry, All-contains IsSoundOutcome entries entry sound has, is)
+
+answer-reported : (phase : Phase) (b : Bool) (outcome : Outcome) → answer_of phase b ≡ Some outcome → outcome_of phase ≡ Some outcome
+answer-reported Unstarted b outcome e = e
+answer-reported Running b outcome e = e
+answer-reported (Reported other) b outcome e = at (is_success other.status && not b) e
+  where
+    at : (undone : Bool) → (if undone then None else Some other) ≡ Some outcome → Some other ≡ Some outcome
+    at true same = absurd (true≢false (sym (ap is_some same)))
+    at false same = same
+
+whole-body : (found : Option Outcome) → ((outcome : Outcome) → found ≡ Some outcome → IfSome (option_map view outcome.body) IsWhole) → HasWholeBody found
+whole-body None each = tt
+whole-body (Some outcome) each = each outcome refl
+
+-- a run by recorded outcomes answers whole bodies alone
+pub whole-bodies : (batch : List Record) (entries : List Recorded) (state : State) → All IsSoundOutcome entries
+    → ((i : ℕ) (outcome : Outcome) → reported state i ≡ Some outcome → OffersRecorded (recorded_for batch entries) i (Ok outcome)) → HasWholeBodies state
+whole-bodies batch entries state sound offers i within = whole-body (answer state i) (λ outcome is.
+    let (entry, fit, same) = sound-offered batch entries i outcome sound (offers i outcome (answer-reported (phase_at state i) (unit_succeeded state (unit_of state.shape i)) outcome is)) in
+    subst (λ o. IfSome (option_map view o.body) IsWhole) same fit.whole)
+
+abbrev is_failed : Result Outcome ServiceFault → Bool
+is_failed (Ok outcome) = false
+is_failed (Err service.NoOutcome) = false
+is_failed (Err service.Failed) = true
+is_failed (Err service.OutOfMemory) = false
+
+not_failed : (slot : Option Outcome) → Err service.Failed ≡ offered slot → ⊥
+not_failed None e = true≢false (ap is_failed e)
+not_failed (Some outcome) e = true≢false (ap is_failed e)
+
+in_range : (status : ℕ) → 200 ≤ status → status ≤ 599 → is_status status ≡ true
+in_range status low high = grind (arith, nat_tests)
+
+-- an execution by recorded outcomes fails only where an outcome is missing
+pub lacks-outcome : (allows : Allowance) (policy : Policy) (plan : Plan) (entries : List Recorded) (cause : ExecFault) → All IsSoundOutcome entries → IsNumbered cause
+    → IsCausedBy (offers_of plan entries) (IsDue allows (offers_of plan entries) (at_first plan policy.mode policy.width)) cause
+    → LacksOutcome allows policy plan entries Refused (line_of (execution_refusal cause))
+lacks-outcome allows policy plan entries (fault.NoOutcome i) sound numbered (due, none) = record { at = i; due = due; none = none; ends = refl; line = refl }
+lacks-outcome allows policy plan entries (fault.Service i) sound numbered (due, failed) = absurd (not_failed (get_or (recorded_for (plan_records plan) entries) i None) failed)
+lacks-outcome allows policy plan entries (fault.BadStatus i) sound numbered (due, (outcome, offer, bad)) =
+    let (entry, fit, same) = sound-offered (plan_records plan) entries i outcome sound offer in
+    absurd (both_ways _ bad (ap (λ o. is_status o.status) (sym same) ∙ in_range entry.1.status fit.low fit.high))
+lacks-outcome allows policy plan entries fault.OutOfMemory sound numbered none = absurd (numbered refl)

@@ -1,0 +1,26 @@
+use Rattle.std.proofs.Common.{◌∙◌, sym}
+use Rattle.odb_engine.specs.Commands.{Counts, Plans}
+use Rattle.odb_engine.proofs.LawLemmas.{AreFunctional, answers_one}
+use Rattle.odb_engine.proofs.laws.one_text.Goals as goal
+
+pub returns-clause-check : goal.returns-clause-check
+returns-clause-check c =
+    let law : AreFunctional = record {
+      one_shape = c.one_fault.ensures.one;
+      no_shape = c.one_fault.ensures.none;
+      one_batch = c.one_batch.ensures;
+      one_name = c.one_fault-2.ensures.one;
+      no_name = c.one_fault-2.ensures.none;
+    } in
+    answers_one law Counts (λ xs a b s t x y. (x.0 ∙ sym y.0, x.1 ∙ sym y.1))
+
+pub returns-clause-plan : goal.returns-clause-plan
+returns-clause-plan c =
+    let law : AreFunctional = record {
+      one_shape = c.one_fault.ensures.one;
+      no_shape = c.one_fault.ensures.none;
+      one_batch = c.one_batch.ensures;
+      one_name = c.one_fault-2.ensures.one;
+      no_name = c.one_fault-2.ensures.none;
+    } in
+    answers_one law Plans (λ xs a b s t x y. (x.0 ∙ sym y.0, x.1 ∙ sym y.1))

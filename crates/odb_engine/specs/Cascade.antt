@@ -1,0 +1,85 @@
+-- What is written of a batch document: the line of its least fault, or what a command says of its requests.
+use Rattle.std.specs.Prelude.{◌≡◌, ◌⊎◌, ℕ, List, Result, Ok, Err, String, string_bytes}
+use Rattle.std.specs.declared.alloc.Global.{Global}
+use Rattle.serde_json.specs.Data.{Data}
+use Rattle.odb_doc.specs.declared.fault.Place.{Place}
+use Rattle.odb_doc.specs.declared.fault.Place.TheVariants.{Batch}
+use Rattle.odb_doc.specs.declared.fault.DocFault.{DocFault}
+use Rattle.odb_doc.specs.Documents.{IsDocument, RefusesDocument}
+use Rattle.odb_doc.specs.FaultTable as document
+use Rattle.odb_doc.specs.LeastFault.{IsWellShaped, IsLeastFault}
+use Rattle.odb_doc.specs.Records.{Record, IsBatchOf}
+use Rattle.odb_check.specs.declared.fault.CheckFault.{CheckFault}
+use Rattle.odb_check.specs.FaultTable as names
+use Rattle.odb_check.specs.LeastNameFault.{HasGoodNames, RefusesNames}
+use Rattle.odb_engine.specs.declared.ending.Ended.{Ended}
+use Rattle.odb_engine.specs.declared.ending.Ended.TheVariants.{Done, Refused}
+use Rattle.odb_engine.specs.declared.stop.Stop.{Stop}
+use Rattle.odb_engine.specs.declared.stop.Stop.TheVariants as stops
+use Rattle.odb_engine.specs.Lines.{fault_line}
+
+-- how a command ends, and what it has written then
+abbrev pub Writes : Type 1
+Writes = Ended → List ℕ → Type 0
+
+-- what is reported of a fault: its code, its name, and where it lies
+pub record Refusal : Type 0 where
+  pub code : List ℕ
+  pub name : List ℕ
+  pub place : Place
+
+abbrev pub line_of : Refusal → List ℕ
+line_of refusal = fault_line refusal.code refusal.name refusal.place
+
+abbrev pub document_refusal : DocFault → Refusal
+document_refusal fault = record { code = document.fault_code fault; name = document.fault_name fault; place = document.fault_place fault }
+
+abbrev pub names_refusal : CheckFault → Refusal
+names_refusal fault = record { code = names.fault_code fault; name = names.fault_name fault; place = names.fault_place fault }
+
+-- the bytes of the document at this place are refused so
+pub record RefusesBytes (place : Place) (bytes : List ℕ) (refusal : Refusal) : Type 0 where
+  pub fault : DocFault
+  pub numbered : document.IsNumbered fault
+  pub refuses : RefusesDocument fault bytes
+  pub is : refusal ≡ record { code = document.fault_code fault; name = document.fault_name fault; place = place }
+
+-- the bytes are a document whose value this is so of
+pub record HasValue (bytes : List ℕ) (P : Data → Type 0) : Type 0 where
+  pub value : Data
+  pub document : IsDocument bytes value
+  pub holds : P value
+
+-- the value has no fault of shape, and says requests of which this is so
+pub record SaysBatch (value : Data) (P : List Record → Type 0) : Type 0 where
+  pub batch : List Record
+  pub shape : IsWellShaped value
+  pub says : IsBatchOf value batch
+  pub holds : P batch
+
+-- The least fault of a batch document: of its bytes, or else of the shape of its value, or else of the names of its requests.
+pub data IsLeast (bytes : List ℕ) (refusal : Refusal) : Type 0 where
+  OfBytes : RefusesBytes Batch bytes refusal → IsLeast bytes refusal
+  OfShape : (fault : DocFault) → document.IsNumbered fault → HasValue bytes (IsLeastFault fault) → refusal ≡ document_refusal fault → IsLeast bytes refusal
+  OfNames : (fault : CheckFault) → names.IsNumbered fault → HasValue bytes (λ value. SaysBatch value (RefusesNames fault)) → refusal ≡ names_refusal fault → IsLeast bytes refusal
+
+-- the bytes are a batch that the check accepts, and this is so of its requests
+pub record Accepts (bytes : List ℕ) (P : List Record → Type 0) : Type 0 where
+  pub value : Data
+  pub document : IsDocument bytes value
+  pub shape : IsWellShaped value
+  pub batch : List Record
+  pub says : IsBatchOf value batch
+  pub names : HasGoodNames batch
+  pub holds : P batch
+
+-- the line of such a fault
+pub record Reports (Is : Refusal → Type 0) (ended : Ended) (text : List ℕ) : Type 0 where
+  pub refusal : Refusal
+  pub is : Is refusal
+  pub ends : ended ≡ Refused
+  pub line : text ≡ line_of refusal
+
+-- The cascade of every command: the line of the least fault of the batch document, or what P says of its requests.
+abbrev pub Answers : (List Record → Writes) → List ℕ → Writes
+Answers P bytes ended text = Reports (IsLeast bytes) ended text ⊎ Accepts bytes (λ batch. P batch ended text)

@@ -1,0 +1,90 @@
+-- What a run by recorded outcomes writes of a batch.
+use Rattle.std.specs.Prelude.{◌≡◌, ◌⊎◌, ℕ, Bool, List, [], ◌∷◌, ◌++◌, Option, Err, codes, if◌then◌else◌}
+use Rattle.odb_doc.specs.declared.fault.Place.{Place}
+use Rattle.odb_doc.specs.declared.fault.Place.TheVariants as places
+use Rattle.odb_doc.specs.declared.fault.DocFault.{DocFault}
+use Rattle.odb_doc.specs.declared.outcome_fault.OutcomeFault.{OutcomeFault}
+use Rattle.odb_doc.specs.Documents.{RefusesDocument}
+use Rattle.odb_doc.specs.FaultTable as document
+use Rattle.odb_doc.specs.Devices.{Reading}
+use Rattle.odb_doc.specs.LeastOutcomeFault.{IsOutcomesDocument, RefusesOutcomes}
+use Rattle.odb_doc.specs.OutcomeFaults as outcomes
+use Rattle.odb_doc.specs.Outcomes.{Recorded, AreOutcomesOf}
+use Rattle.odb_doc.specs.Records.{Record}
+use Rattle.odb_check.specs.declared.plan.Plan.{Plan}
+use Rattle.odb_check.specs.Plans.{plan_records}
+use Rattle.odb_sched.specs.declared.policy.Policy.{Policy}
+use Rattle.odb_sched.specs.declared.service.ServiceFault.TheVariants.{NoOutcome}
+use Rattle.odb_sched.specs.declared.step.Step.{Step}
+use Rattle.odb_sched.specs.State.{State, at_first}
+use Rattle.odb_sched.specs.Courses.{Allowance, Offer, IsDue, IsFinishedBy}
+use Rattle.odb_sched.specs.Recordings.{recorded_for, OffersRecorded}
+use Rattle.odb_reply.specs.Responses.{response_text, response_value}
+use Rattle.odb_reply.specs.OnePerId.{HasOnePerId}
+use Rattle.odb_sched.specs.Laws.{StartsLast}
+use Rattle.odb_engine.specs.declared.ending.Ended.{Ended}
+use Rattle.odb_engine.specs.declared.ending.Ended.TheVariants.{Done, Refused}
+use Rattle.odb_engine.specs.Lines.{newline}
+use Rattle.odb_engine.specs.Traces.{trace_text}
+use Rattle.odb_engine.specs.Cascade.{Writes, Refusal, line_of, Reports, RefusesBytes, HasValue, Accepts}
+use Rattle.odb_sched.specs.declared.fault.ExecFault.{ExecFault}
+use Rattle.odb_sched.specs.ExecFaults.{exec_code, exec_name, exec_place}
+use Rattle.odb_engine.specs.Inputs.{SomeDocument}
+
+-- the response, after the trace where one is wanted
+abbrev pub result_text : Bool → State → List Step → List ℕ
+result_text traced state steps = (if traced then trace_text state steps else []) ++ response_text state ++ newline ∷ []
+
+-- what is offered by these recorded outcomes
+abbrev pub offers_of : Plan → List Recorded → Offer
+offers_of plan entries = OffersRecorded (recorded_for (plan_records plan) entries)
+
+-- The result of a finished course of the plan, under the policy, by the chooser and by the recorded outcomes. In it no
+-- request starts before all that it names has ended with 2xx, and the response has exactly one element per id.
+pub record IsResult (allows : Allowance) (policy : Policy) (traced : Bool) (plan : Plan) (entries : List Recorded) (ended : Ended) (text : List ℕ) : Type 0 where
+  pub ends : ended ≡ Done
+  pub steps : List Step
+  pub last : State
+  pub course : IsFinishedBy allows (offers_of plan entries) (at_first plan policy.mode policy.width) steps last
+  pub result : text ≡ result_text traced last steps
+  pub dependencies_first : StartsLast (plan_records plan) course.events
+  pub one_per_id : HasOnePerId (plan_records plan) (response_value last)
+
+-- a request whose report is due after some course has no outcome
+pub record LacksOutcome (allows : Allowance) (policy : Policy) (plan : Plan) (entries : List Recorded) (ended : Ended) (text : List ℕ) : Type 0 where
+  pub at : ℕ
+  pub due : IsDue allows (offers_of plan entries) (at_first plan policy.mode policy.width) at
+  pub none : offers_of plan entries at (Err NoOutcome)
+  pub ends : ended ≡ Refused
+  pub line : text ≡ line_of (record { code = codes "F80"; name = codes "NoOutcome"; place = places.Request at })
+
+-- what is written of a plan by recorded outcomes
+abbrev pub ReplaysPlan : Allowance → Policy → Bool → Plan → List Recorded → Writes
+ReplaysPlan allows policy traced plan entries ended text = IsResult allows policy traced plan entries ended text ⊎ LacksOutcome allows policy plan entries ended text
+
+abbrev pub outcomes_refusal : OutcomeFault → Refusal
+outcomes_refusal fault = record { code = outcomes.fault_code fault; name = outcomes.fault_name fault; place = outcomes.fault_place fault }
+
+abbrev pub execution_refusal : ExecFault → Refusal
+execution_refusal fault = record { code = exec_code fault; name = exec_name fault; place = exec_place fault }
+
+-- the least fault of an outcomes document: of its bytes, or else of its value
+pub data IsLeastOfOutcomes (bytes : List ℕ) (refusal : Refusal) : Type 0 where
+  OfBytes : RefusesBytes places.Outcomes bytes refusal → IsLeastOfOutcomes bytes refusal
+  OfValue : (fault : OutcomeFault) → outcomes.IsNumbered fault → HasValue bytes (RefusesOutcomes fault) → refusal ≡ outcomes_refusal fault → IsLeastOfOutcomes bytes refusal
+
+-- the bytes are a document of these outcomes
+abbrev pub IsRecordOf : List ℕ → List Recorded → Type 0
+IsRecordOf bytes entries = HasValue bytes (λ value. IsOutcomesDocument value × AreOutcomesOf value entries)
+
+-- what is written of a plan and the bytes of an outcomes document
+abbrev pub ReplaysBy : Allowance → Policy → Bool → Plan → List ℕ → Writes
+ReplaysBy allows policy traced plan bytes ended text = Reports (IsLeastOfOutcomes bytes) ended text ⊎ ((entries : List Recorded) × IsRecordOf bytes entries × ReplaysPlan allows policy traced plan entries ended text)
+
+-- what is written of the requests of a batch: what a plan of them and some outcomes document give
+abbrev pub Replays : Allowance → Policy → Bool → Option (List ℕ) → List Record → Writes
+Replays allows policy traced left batch ended text = (plan : Plan) × (plan_records plan ≡ batch) × SomeDocument left (λ bytes. ReplaysBy allows policy traced plan bytes ended text)
+
+-- the second input is left as it was, or the batch is one that the check accepts
+abbrev pub AskedFor : {S : Type 0} → List ℕ → Reading S → Reading S → Type 0
+AskedFor bytes old new = (new ≡ old) ⊎ Accepts bytes (λ _. Unit {0})

@@ -1,0 +1,72 @@
+ghost use Rattle.std.specs.Prelude.{◌≡◌, false, Err};
+ghost use Rattle.odb_engine.specs.declared.ending.EngineFault.TheVariants as faults;
+ghost use Rattle.odb_engine.specs.declared.stop.Stop.TheVariants as stops;
+ghost use Rattle.odb_engine.specs.Engines.{Ends, text_found};
+
+use crate::lines::fault_line;
+use crate::stop::Stop;
+use odb_doc::Output;
+use odb_reply::{WriteFault, write_text};
+use std::alloc::{AllocError, Global};
+use std::io::Write;
+use thiserror::Error;
+
+/// How an engine ended that wrote its whole output.
+#[derive(Clone, Copy, Debug, PartialEq, Eq)]
+pub enum Ended {
+    /// It wrote its result.
+    Done,
+    /// It wrote the line of a fault.
+    Refused,
+}
+
+/// Why an engine did not write its whole output.
+#[derive(Clone, Copy, Debug, PartialEq, Eq, Error)]
+pub enum EngineFault {
+    /// An input failed. Nothing was written.
+    #[error("an input failed")]
+    Read,
+    /// The output failed. It has received a prefix of the text.
+    #[error("the output failed")]
+    Write,
+    /// Memory was refused. Nothing was written.
+    #[error("out of memory")]
+    OutOfMemory,
+}
+
+impl From<WriteFault> for EngineFault {
+    ghost from_gives = { λ _ fault. fault ≡ faults.Write };
+
+    fn from(_fault: WriteFault) -> Self {
+        EngineFault::Write
+    }
+}
+
+impl From<AllocError> for EngineFault {
+    ghost from_gives = { λ _ fault. fault ≡ faults.OutOfMemory };
+
+    fn from(_error: AllocError) -> Self {
+        EngineFault::OutOfMemory
+    }
+}
+
+/// Writes what was found, or the line of the fault, and returns how the engine ended.
+pub fn end<W: Write>(
+    alloc: Global,
+    found: Result<String, Stop>,
+    output: &mut Output<W>,
+) -> Result<Ended, EngineFault>
+    requires { output.old.failed ≡ false }
+    ensures { Ends W.contents (text_found found) (found ≡ Err stops.Read) output.old output.new result }
+{
+    let (ended, text) = match found {
+        Ok(text) => (Ended::Done, text),
+        Err(Stop::Refused { code, name, place }) => {
+            (Ended::Refused, fault_line(alloc, code, name, place)?)
+        }
+        Err(Stop::Read) => return Err(EngineFault::Read),
+        Err(Stop::OutOfMemory) => return Err(EngineFault::OutOfMemory),
+    };
+    write_text(output, &text)?;
+    Ok(ended)
+}

@@ -1,0 +1,109 @@
+ghost use Rattle.std.specs.Prelude.{◌≡◌};
+ghost use Rattle.odb_doc.specs.FaultTable as document;
+ghost use Rattle.odb_check.specs.FaultTable as names;
+ghost use Rattle.odb_doc.specs.OutcomeFaults as outcomes;
+ghost use Rattle.odb_sched.specs.ExecFaults as execution;
+ghost use Rattle.odb_engine.specs.Replays.{outcomes_refusal, execution_refusal};
+ghost use Rattle.odb_engine.specs.declared.stop.Stop.TheVariants as stops;
+ghost use Rattle.odb_engine.specs.Cascade.{document_refusal, names_refusal};
+ghost use Rattle.odb_engine.specs.Engines.{StopsBy, stop_of};
+
+use crate::reading::ReadFault;
+use odb_check::CheckFault;
+use odb_doc::{DocFault, OutcomeFault, Place};
+use odb_sched::ExecFault;
+use std::alloc::AllocError;
+
+/// Why an engine has no result.
+#[derive(Clone, Copy, Debug, PartialEq, Eq)]
+pub enum Stop {
+    /// A document is refused, by this fault.
+    Refused {
+        code: &'static str,
+        name: &'static str,
+        place: Place,
+    },
+    /// An input failed.
+    Read,
+    /// Memory was refused.
+    OutOfMemory,
+}
+
+impl From<DocFault> for Stop {
+    ghost from_gives = { λ fault stop. StopsBy (document.IsNumbered fault) (document_refusal fault) stop };
+
+    fn from(fault: DocFault) -> Self {
+        match fault {
+            DocFault::OutOfMemory => Stop::OutOfMemory,
+            _ => Stop::Refused {
+                code: fault.code(),
+                name: fault.name(),
+                place: fault.place(),
+            },
+        }
+    }
+}
+
+impl From<CheckFault> for Stop {
+    ghost from_gives = { λ fault stop. StopsBy (names.IsNumbered fault) (names_refusal fault) stop };
+
+    fn from(fault: CheckFault) -> Self {
+        match fault {
+            CheckFault::OutOfMemory => Stop::OutOfMemory,
+            _ => Stop::Refused {
+                code: fault.code(),
+                name: fault.name(),
+                place: fault.place(),
+            },
+        }
+    }
+}
+
+impl From<OutcomeFault> for Stop {
+    ghost from_gives = { λ fault stop. StopsBy (outcomes.IsNumbered fault) (outcomes_refusal fault) stop };
+
+    fn from(fault: OutcomeFault) -> Self {
+        match fault {
+            OutcomeFault::OutOfMemory => Stop::OutOfMemory,
+            _ => Stop::Refused {
+                code: fault.code(),
+                name: fault.name(),
+                place: fault.place(),
+            },
+        }
+    }
+}
+
+impl From<ExecFault> for Stop {
+    ghost from_gives = { λ fault stop. StopsBy (execution.IsNumbered fault) (execution_refusal fault) stop };
+
+    fn from(fault: ExecFault) -> Self {
+        match fault {
+            ExecFault::OutOfMemory => Stop::OutOfMemory,
+            _ => Stop::Refused {
+                code: fault.code(),
+                name: fault.name(),
+                place: fault.place(),
+            },
+        }
+    }
+}
+
+impl From<ReadFault> for Stop {
+    ghost from_gives = { λ read stop. stop ≡ stop_of read };
+
+    fn from(fault: ReadFault) -> Self {
+        match fault {
+            ReadFault::Read => Stop::Read,
+            ReadFault::OutOfMemory => Stop::OutOfMemory,
+        }
+    }
+}
+
+impl From<AllocError> for Stop {
+    ghost from_gives = { λ _ stop. stop ≡ stops.OutOfMemory };
+
+    fn from(_error: AllocError) -> Self {
+        Stop::OutOfMemory
+    }
+}
