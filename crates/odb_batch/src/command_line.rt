@@ -1,28 +1,45 @@
-use clap::{Arg, ArgAction, Command, Error};
-use odb_sched::{Mode, Policy};
+use clap::{Arg, ArgAction, ArgMatches, Command, Error};
+use odb_sched::{Mode, Order, Policy};
 use std::alloc::{AllocError, Global};
 
-/// The greatest width that can be asked for, and the one where none is.
+/// The greatest width that can be asked for, and the default.
 const MAX_WIDTH: u32 = 10_000;
+
+const VERSION: &str = "0.1.0";
+
+const CHECK_HELP: &str = "The batch document; standard input where it is absent";
+
+const ORDER_HELP: &str =
+    "Scheduling order: `first` and `last` finish each request before they start \
+    the next, by position; `wide` starts everything it can [default: first]";
+
+const WIDTH_HELP: &str = "How many requests may run at once, from 1 to 10000 [default: 10000]";
+
+const PROGRAM_NOTES: &str =
+    "Exit status: 0 for a result, 1 for a fault of a document, 2 for a wrong \
+    command line, 3 for a file or an output that fails, 4 for no memory";
+
+const CHECK_NOTES: &str = "Example: odb_batch check batch.json\n\n\
+    Exit status: 0 for a batch that is accepted, 1 for one with a fault, 2 for a wrong command line, \
+    3 for a file or an output that fails, 4 for no memory";
+
+const PLAN_NOTES: &str = "Example: odb_batch plan batch.json\n\n\
+    Exit status: 0 for a plan, 1 for a fault of the batch, 2 for a wrong command line, \
+    3 for a file or an output that fails, 4 for no memory";
+
+const REPLAY_NOTES: &str =
+    "Example: odb_batch replay batch.json outcomes.json --order wide --trace\n\n\
+    Exit status: 0 for a response, 1 for a fault of a document or a request without an outcome, \
+    2 for a wrong command line, 3 for a file or an output that fails, 4 for no memory";
 
 const ORDERS: [&str; 3] = ["first", "last", "wide"];
 
-/// In which order a replay takes its steps.
-#[derive(Clone, Copy, Debug)]
-pub enum Order {
-    First,
-    Last,
-    Wide,
-}
-
-impl Order {
-    /// The order of this name: the first where none is named.
-    fn named(name: Option<&str>) -> Order {
-        match name {
-            Some("last") => Order::Last,
-            Some("wide") => Order::Wide,
-            _ => Order::First,
-        }
+/// Returns the order of this name, which is one of `ORDERS`, or the default.
+fn order_of(name: Option<&str>) -> Order {
+    match name {
+        Some("last") => Order::Last,
+        Some("wide") => Order::Wide,
+        _ => Order::First,
     }
 }
 
@@ -36,7 +53,7 @@ pub struct Replay<'a> {
     pub traced: bool,
 }
 
-/// What the words of the command line ask for.
+/// What the command line asks for.
 #[derive(Clone, Copy, Debug)]
 pub enum Task<'a> {
     /// Check the batch in the file, or the one on standard input where none is named.
@@ -47,28 +64,28 @@ pub enum Task<'a> {
     Replay(Replay<'a>),
 }
 
-/// Why the words of the command line ask for nothing.
+/// Why the command line was rejected.
 #[derive(Drop)]
 pub enum Misuse {
-    /// What `clap` says of them.
-    Words(Error),
-    /// The width is no decimal number from 1 to 10,000.
+    /// `clap` rejects it, or prints its help or the version.
+    Arguments(Error),
+    /// The width is not a decimal number from 1 to 10,000.
     Width,
 }
 
 impl From<Error> for Misuse {
     fn from(error: Error) -> Self {
-        Misuse::Words(error)
+        Misuse::Arguments(error)
     }
 }
 
 impl From<AllocError> for Misuse {
     fn from(error: AllocError) -> Self {
-        Misuse::Words(Error::from(error))
+        Misuse::Arguments(Error::from(error))
     }
 }
 
-/// The width that a text of decimal digits says, from 1 to 10,000.
+/// Parses a width: decimal digits for a number from 1 to 10,000.
 fn width_of(text: &str) -> Option<u32> {
     if text.is_empty() || !text.bytes().all(|byte| byte.is_ascii_digit()) {
         return None;
@@ -77,123 +94,143 @@ fn width_of(text: &str) -> Option<u32> {
     (1..=MAX_WIDTH).contains(&width).then_some(width)
 }
 
-/// The command that replays.
+/// Returns the command that replays.
 fn replay_command<'a>(alloc: Global) -> Result<Command<'a>, AllocError> {
-    let file = Arg::new(alloc, "FILE")
-        .help("The batch document")
-        .required(true);
-    let outcomes = Arg::new(alloc, "OUTCOMES")
-        .help("The document of recorded outcomes")
-        .required(true);
-    let order = Arg::new(alloc, "order")
-        .long("order")
-        .value_name("ORDER")
-        .value_parser(ORDERS.as_slice())
-        .help("What comes next: report the first or the last, or start all first [default: first]");
-    let stop = Arg::new(alloc, "stop")
-        .long("stop")
-        .action(ArgAction::SetTrue)
-        .help("Start nothing more after a status from 400 to 599");
-    let width = Arg::new(alloc, "width").long("width").value_name("N").help(
-        "How many requests may run at once, from 1 to 10000 [default: 10000]",
-    );
-    let trace = Arg::new(alloc, "trace")
-        .long("trace")
-        .action(ArgAction::SetTrue)
-        .help("Print the steps, and what has to be undone, before the response");
-    Command::new(alloc, "replay")
+    let replay = Command::new(alloc, "replay")
         .about("Replay a batch by recorded outcomes: print its response")
-        .arg(file)?
-        .arg(outcomes)?
-        .arg(order)?
-        .arg(stop)?
-        .arg(width)?
-        .arg(trace)
+        .after_help(REPLAY_NOTES)
+        .arg(document(alloc, "FILE", "The batch document"))?
+        .arg(document(alloc, "OUTCOMES", "The document of recorded outcomes"))?;
+    with_replay_options(alloc, replay)
 }
 
+/// Adds the options of a replay.
+fn with_replay_options<'a>(alloc: Global, replay: Command<'a>) -> Result<Command<'a>, AllocError> {
+    replay
+        .arg(
+            Arg::new(alloc, "order")
+                .long("order")
+                .value_name("ORDER")
+                .value_parser(ORDERS.as_slice())
+                .help(ORDER_HELP),
+        )?
+        .arg(flag(
+            alloc,
+            "stop",
+            "Start nothing more after a status from 400 to 599",
+        ))?
+        .arg(
+            Arg::new(alloc, "width")
+                .long("width")
+                .value_name("N")
+                .help(WIDTH_HELP),
+        )?
+        .arg(flag(
+            alloc,
+            "trace",
+            "Print the steps, and what has to be undone, before the response",
+        ))
+}
+
+/// Returns the argument for a document that has to be named.
+fn document<'a>(alloc: Global, name: &'a str, help: &'a str) -> Arg<'a> {
+    Arg::new(alloc, name).help(help).required(true)
+}
+
+/// Returns an option without a value.
+fn flag<'a>(alloc: Global, name: &'a str, help: &'a str) -> Arg<'a> {
+    Arg::new(alloc, name)
+        .long(name)
+        .action(ArgAction::SetTrue)
+        .help(help)
+}
+
+/// Returns the command that checks.
+fn check_command<'a>(alloc: Global) -> Result<Command<'a>, AllocError> {
+    Command::new(alloc, "check")
+        .about("Check a batch: print one line, that it is accepted or its least fault")
+        .after_help(CHECK_NOTES)
+        .arg(Arg::new(alloc, "FILE").help(CHECK_HELP))
+}
+
+/// Returns the command that plans.
+fn plan_command<'a>(alloc: Global) -> Result<Command<'a>, AllocError> {
+    Command::new(alloc, "plan")
+        .about(
+            "Plan a batch: print a line per request, with what it needs and what may run beside it",
+        )
+        .after_help(PLAN_NOTES)
+        .arg(document(alloc, "FILE", "The batch document"))
+}
+
+/// Adds a command to the program.
+fn with<'a>(
+    program: Command<'a>,
+    command: Result<Command<'a>, AllocError>,
+) -> Result<Command<'a>, AllocError> {
+    program.subcommand(command?)
+}
+
+/// Returns the whole command line.
 fn command<'a>(alloc: Global) -> Result<Command<'a>, AllocError> {
-    let file = Arg::new(alloc, "FILE").help(
-        "The batch document; standard input where it is absent",
-    );
-    let check = Command::new(alloc, "check")
-        .about("Check a batch: one line says whether it is accepted, or its least fault")
-        .arg(file)?;
-    let file = Arg::new(alloc, "FILE")
-        .help("The batch document")
-        .required(true);
-    let plan = Command::new(alloc, "plan")
-        .about("Plan a batch: a line per request says what it needs and what may run beside it")
-        .arg(file)?;
-    Command::new(alloc, "odb_batch")
+    let program = Command::new(alloc, "odb_batch")
         .about("Checks OData JSON batch requests. Without a command it checks standard input.")
-        .disable_help_subcommand(true)
-        .subcommand(check)?
-        .subcommand(plan)?
-        .subcommand(replay_command(alloc)?)
+        .version(VERSION)
+        .after_help(PROGRAM_NOTES)
+        .disable_help_subcommand(true);
+    let program = with(program, check_command(alloc))?;
+    let program = with(program, plan_command(alloc))?;
+    with(program, replay_command(alloc))
+}
+
+/// Returns the replay that its command asks for, or `None` if the width is not valid.
+fn replay_of<'a>(words: &ArgMatches<'a>) -> Option<Replay<'a>> {
+    let mode = if words.get_flag("stop") {
+        Mode::Stop
+    } else {
+        Mode::Continue
+    };
+    let policy = match words.get_str("width") {
+        None => Policy::free(mode),
+        Some(text) => Policy::new(mode, width_of(text)?)?,
+    };
+    Some(Replay {
+        // `clap` rejects a command line without these two.
+        file: words.get_str("FILE").unwrap_or(""),
+        outcomes: words.get_str("OUTCOMES").unwrap_or(""),
+        order: order_of(words.get_str("order")),
+        policy,
+        traced: words.get_flag("trace"),
+    })
+}
+
+/// Returns the task that these arguments ask for, or `None` if a width is not valid.
+fn task_of<'a>(words: &ArgMatches<'a>) -> Option<Task<'a>> {
+    match words.subcommand() {
+        // `clap` rejects a command line without it.
+        Some(("plan", plan)) => Some(Task::Plan {
+            file: plan.get_str("FILE").unwrap_or(""),
+        }),
+        Some(("replay", replay)) => replay_of(replay).map(Task::Replay),
+        Some((_, check)) => Some(Task::Check {
+            file: check.get_str("FILE"),
+        }),
+        None => Some(Task::Check { file: None }),
+    }
 }
 
 impl<'a> Task<'a> {
-    /// The task that the words ask for, the program's name first.
+    /// Reads the arguments of the program, its name first.
     ///
     /// # Errors
     ///
-    /// What `clap` says of wrong words, of a want of memory, and where help is asked for.
+    /// `Width` for a width that is not valid; `Arguments` for all else that `clap` rejects, for help
+    /// and the version, and out of memory.
     pub fn read(alloc: Global, words: &'a [String]) -> Result<Task<'a>, Misuse> {
         let matches = command(alloc)?.try_get_matches_from(words)?;
-        Ok(match matches.subcommand() {
-            Some(("plan", plan)) => Task::Plan {
-                // `clap` refuses words without it.
-                file: plan.get_str("FILE").unwrap_or(""),
-            },
-            Some(("replay", replay)) => {
-                let mode = if replay.get_flag("stop") {
-                    Mode::Stop
-                } else {
-                    Mode::Continue
-                };
-                let policy = match replay.get_str("width") {
-                    None => Some(Policy::free(mode)),
-                    Some(text) => width_of(text).and_then(|width| Policy::new(mode, width)),
-                };
-                Task::Replay(Replay {
-                    // `clap` refuses words without these two.
-                    file: replay.get_str("FILE").unwrap_or(""),
-                    outcomes: replay.get_str("OUTCOMES").unwrap_or(""),
-                    order: Order::named(replay.get_str("order")),
-                    policy: policy.ok_or(Misuse::Width)?,
-                    traced: replay.get_flag("trace"),
-                })
-            }
-            Some((_, check)) => Task::Check {
-                file: check.get_str("FILE"),
-            },
-            None => Task::Check { file: None },
-        })
+        task_of(&matches).ok_or(Misuse::Width)
     }
 }
 
 #[cfg(test)]
-mod tests {
-    use super::width_of;
-
-    #[test]
-    fn a_width_is_decimal_digits_within_the_limits(rt: HostRuntime) {
-        for (text, want) in [
-            ("1", Some(1)),
-            ("10000", Some(10_000)),
-            ("0007", Some(7)),
-            ("00000000000010000", Some(10_000)),
-            ("0", None),
-            ("10001", None),
-            ("99999999999999999999", None),
-            ("", None),
-            ("+5", None),
-            ("-5", None),
-            (" 5", None),
-            ("5 ", None),
-            ("1e3", None),
-        ] {
-            assert_eq!(rt; width_of(text), want, "{text}");
-        }
-    }
-}
+mod tests;

@@ -1,68 +1,71 @@
 //! `odb_batch`: checks batch requests in the JSON form of OData JSON Format 4.01.
 //!
-//! Each command is an engine over readers and a writer, whose contract says what is written:
-//! [`engine`] has them. What stands here opens files, and turns the end of an engine into an exit
-//! status.
+//! Each command is an engine of `odb_engine`, whose contract states what is written. This program
+//! reads the command line, opens files, and turns the end of an engine into an exit status.
 #![tactic(auto)]
 
-ghost use Rattle.std.specs.Prelude.{◌≡◌, false, IfOk};
+ghost use Rattle.std.specs.Prelude.{IfOk};
+ghost use Rattle.odb_engine.specs.Inputs.{IsFresh};
 
 mod command_line;
-mod engine;
-mod groups;
-mod lines;
-mod reading;
-mod replay;
-#[cfg(test)]
-mod tests;
-mod trace;
-mod verdict;
 
 use clap::error::ErrorKind;
-use command_line::{Misuse, Order, Replay, Task};
-use engine::{EngineFault, check_batch, plan_batch};
+use command_line::{Misuse, Replay, Task};
+use odb_check::Seed;
 use odb_doc::{Input, Output};
-use odb_sched::{Chooser, First, Last, Wide};
-use replay::replay_batch;
+use odb_engine::{Ended, EngineFault, Remains, check_batch, plan_batch, replay_batch};
 use std::process::ExitCode;
+use std::random::RandomSource;
 use std::rt::Runtime;
 use std::{env, fs, io};
-use verdict::Ended;
+
+/// The process is about to exit: what was read is not worth dropping.
+const REMAINS: Remains = Remains::Left;
 
 /// The exit status of the program.
-#[derive(Clone, Copy)]
+#[derive(Clone, Copy, Debug, PartialEq, Eq)]
 enum Status {
     Done = 0,
     Refused = 1,
-    WrongWords = 2,
+    WrongArguments = 2,
     Device = 3,
     Memory = 4,
 }
 
-/// Tells on standard error why there is no result. That this line cannot be written changes nothing.
+/// Prints the error on standard error and returns the status. A failure to print it is ignored.
 fn failed<R: Runtime>(rt: &R, cause: &str, status: Status) -> Status {
     let _ = eprintln!(rt; "error: {cause}");
     status
 }
 
-fn status_of<R: Runtime>(rt: &R, ended: Result<Ended, EngineFault>) -> Status {
+/// Returns the exit status of an engine that ended so, and what is printed on standard error.
+fn status_of(ended: Result<Ended, EngineFault>) -> (Status, Option<&'static str>) {
     match ended {
-        Ok(Ended::Done) => Status::Done,
-        Ok(Ended::Refused) => Status::Refused,
-        Err(EngineFault::Read) => failed(rt, "read", Status::Device),
-        Err(EngineFault::Write) => failed(rt, "write", Status::Device),
-        Err(EngineFault::OutOfMemory) => failed(rt, "memory", Status::Memory),
+        Ok(Ended::Done) => (Status::Done, None),
+        Ok(Ended::Refused) => (Status::Refused, None),
+        Err(EngineFault::Read) => (Status::Device, Some("read")),
+        Err(EngineFault::Write) => (Status::Device, Some("write")),
+        Err(EngineFault::OutOfMemory) => (Status::Memory, Some("memory")),
     }
 }
 
-/// The text of `clap`: help on standard output, and what is wrong with the words on standard error.
+/// Prints why an engine failed, if it did, and returns its exit status.
+fn finish<R: Runtime>(rt: &R, ended: Result<Ended, EngineFault>) -> Status {
+    let (status, cause) = status_of(ended);
+    match cause {
+        None => status,
+        Some(cause) => failed(rt, cause, status),
+    }
+}
+
+/// Prints the text of `clap`: help on standard output, and what is wrong on standard error.
 fn explain<R: Runtime>(rt: &R, error: &clap::Error) -> Status {
     if error.kind() == ErrorKind::OutOfMemory {
         return failed(rt, "memory", Status::Memory);
     }
     if error.use_stderr() {
         let _ = error.print(rt);
-        return Status::WrongWords;
+        return Status::WrongArguments;
     }
     match error.print(rt) {
         Ok(()) => Status::Done,
@@ -70,10 +73,9 @@ fn explain<R: Runtime>(rt: &R, error: &clap::Error) -> Status {
     }
 }
 
-/// The file as an input, or the status of a program that cannot open it.
+/// Opens the file as an input, or returns the status of a program that cannot open it.
 fn open<R: Runtime>(rt: &R, path: &str) -> Result<Input<R::File>, Status>
-    ensures works { IfOk result (λ input. input.failed ≡ false) }
-    ensures fresh { IfOk result (λ input. input.reads ≡ 0) }
+    ensures { IfOk result IsFresh }
 {
     match fs::open(rt, path) {
         Ok(file) => Ok(Input::new(file)),
@@ -84,31 +86,36 @@ fn open<R: Runtime>(rt: &R, path: &str) -> Result<Input<R::File>, Status>
     }
 }
 
-fn check<R: Runtime + AllocGlobal>(rt: &R, file: Option<&str>) -> Status {
+fn check<R: Runtime + AllocGlobal>(rt: &R, seed: Seed, file: Option<&str>) -> Status {
     let mut output = Output::new(io::writer(rt));
     let ended = match file {
-        None => check_batch(rt.alloc(), &mut Input::new(rt.reader()), &mut output),
+        None => check_batch(
+            rt.alloc(),
+            &mut Input::new(rt.reader()),
+            &mut output,
+            seed,
+            REMAINS,
+        ),
         Some(path) => match open(rt, path) {
-            Ok(mut input) => check_batch(rt.alloc(), &mut input, &mut output),
+            Ok(mut input) => check_batch(rt.alloc(), &mut input, &mut output, seed, REMAINS),
             Err(status) => return status,
         },
     };
-    status_of(rt, ended)
+    finish(rt, ended)
 }
 
-fn plan<R: Runtime + AllocGlobal>(rt: &R, path: &str) -> Status {
+fn plan<R: Runtime + AllocGlobal>(rt: &R, seed: Seed, path: &str) -> Status {
     let mut output = Output::new(io::writer(rt));
     match open(rt, path) {
-        Ok(mut input) => status_of(rt, plan_batch(rt.alloc(), &mut input, &mut output)),
+        Ok(mut input) => finish(
+            rt,
+            plan_batch(rt.alloc(), &mut input, &mut output, seed, REMAINS),
+        ),
         Err(status) => status,
     }
 }
 
-fn replay_by<R: Runtime + AllocGlobal>(
-    rt: &R,
-    replay: Replay<'_>,
-    chooser: &mut dyn Chooser,
-) -> Status {
+fn replay<R: Runtime + AllocGlobal>(rt: &R, seed: Seed, replay: Replay<'_>) -> Status {
     let mut batch = match open(rt, replay.file) {
         Ok(input) => input,
         Err(status) => return status,
@@ -117,40 +124,42 @@ fn replay_by<R: Runtime + AllocGlobal>(
         Ok(input) => input,
         Err(status) => return status,
     };
-    let mut output = Output::new(io::writer(rt));
+    let mut order = replay.order;
     let ended = replay_batch(
         rt.alloc(),
-        replay.policy,
-        chooser,
-        replay.traced,
         &mut batch,
         &mut outcomes,
-        &mut output,
+        &mut Output::new(io::writer(rt)),
+        replay.policy,
+        &mut order,
+        replay.traced,
+        seed,
+        REMAINS,
     );
-    status_of(rt, ended)
+    finish(rt, ended)
 }
 
-fn replay_in_order<R: Runtime + AllocGlobal>(rt: &R, replay: Replay<'_>) -> Status {
-    match replay.order {
-        Order::First => replay_by(rt, replay, &mut First),
-        Order::Last => replay_by(rt, replay, &mut Last),
-        Order::Wide => replay_by(rt, replay, &mut Wide),
-    }
-}
-
-fn run<R: Runtime + AllocGlobal>(rt: &R, words: &[String]) -> Status {
+fn run<R: Runtime + AllocGlobal>(rt: &R, seed: Seed, words: &[String]) -> Status {
     match Task::read(rt.alloc(), words) {
-        Ok(Task::Check { file }) => check(rt, file),
-        Ok(Task::Plan { file }) => plan(rt, file),
-        Ok(Task::Replay(task)) => replay_in_order(rt, task),
-        Err(Misuse::Words(error)) => explain(rt, &error),
+        Ok(Task::Check { file }) => check(rt, seed, file),
+        Ok(Task::Plan { file }) => plan(rt, seed, file),
+        Ok(Task::Replay(task)) => replay(rt, seed, task),
+        Err(Misuse::Arguments(error)) => explain(rt, &error),
         Err(Misuse::Width) => {
             failed(
                 rt,
-                "the width is no number from 1 to 10000",
-                Status::WrongWords,
+                "--width must be a whole number from 1 to 10000",
+                Status::WrongArguments,
             )
         }
+    }
+}
+
+/// Draws a seed; without random bytes no seed is as safe against crafted names, and slower.
+fn seed<R: RandomSource>(rt: &R) -> Seed {
+    match Seed::random(rt) {
+        Ok(seed) => seed,
+        Err(_) => Seed::none(),
     }
 }
 
@@ -159,11 +168,33 @@ fn main(rt: HostRuntime) -> ExitCode {
         rt.alloc(),
     )?));
     let status = match words {
-        Ok(words) => run(&rt, words.as_slice()),
+        Ok(words) => run(&rt, seed(&rt), words.as_slice()),
         Err(error) if error.kind() == io::ErrorKind::OutOfMemory => {
             failed(&rt, "memory", Status::Memory)
         }
-        Err(_) => failed(&rt, "the words are no UTF-8", Status::WrongWords),
+        Err(_) => failed(&rt, "the words are no UTF-8", Status::WrongArguments),
     };
     ExitCode::from(status as u8)
+}
+
+#[cfg(test)]
+mod tests {
+    use super::{Ended, EngineFault, status_of};
+
+    /// Ends of engines, with the exit status and what is printed on standard error.
+    const STATUSES: [(Result<Ended, EngineFault>, u8, Option<&str>); 5] = [
+        (Ok(Ended::Done), 0, None),
+        (Ok(Ended::Refused), 1, None),
+        (Err(EngineFault::Read), 3, Some("read")),
+        (Err(EngineFault::Write), 3, Some("write")),
+        (Err(EngineFault::OutOfMemory), 4, Some("memory")),
+    ];
+
+    #[test]
+    fn each_end_has_its_status(rt: HostRuntime) {
+        for (ended, number, cause) in &STATUSES {
+            let (status, printed) = status_of(*ended);
+            assert_eq!(rt; (status as u8, printed), (*number, *cause));
+        }
+    }
 }

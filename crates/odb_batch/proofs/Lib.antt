@@ -1,4 +1,0 @@
-mod GroupLemmas
-mod ReadLemmas
-mod TraceLemmas
-mod ReplayLemmas

@@ -1,0 +1,156 @@
+use super::{Misuse, Replay, Task};
+use clap::error::ErrorKind;
+use std::alloc::{AllocError, Global};
+use std::test::Fail;
+
+/// Arguments, and what is read from them.
+const READINGS: [(&str, &str); 60] = [
+    ("", "check -"),
+    (" check", "check -"),
+    (" check F", "check F"),
+    (" check F G", "rejected"),
+    (" check --stop", "rejected"),
+    (" plan", "rejected"),
+    (" plan F", "plan F"),
+    (" plan F G", "rejected"),
+    (" plan F --order last", "rejected"),
+    (" replay", "rejected"),
+    (" replay F", "rejected"),
+    (" replay F G", "replay F G First Continue 10000 false"),
+    (" replay F G H", "rejected"),
+    (
+        " replay F G --order first",
+        "replay F G First Continue 10000 false",
+    ),
+    (
+        " replay F G --order last",
+        "replay F G Last Continue 10000 false",
+    ),
+    (
+        " replay F G --order wide",
+        "replay F G Wide Continue 10000 false",
+    ),
+    (
+        " replay F G --order=wide",
+        "replay F G Wide Continue 10000 false",
+    ),
+    (" replay F G --order Last", "rejected"),
+    (" replay F G --order other", "rejected"),
+    (" replay F G --order", "rejected"),
+    (" replay F G --stop", "replay F G First Stop 10000 false"),
+    (" replay F G --stop=yes", "rejected"),
+    (
+        " replay F G --trace",
+        "replay F G First Continue 10000 true",
+    ),
+    (" replay F G --width 1", "replay F G First Continue 1 false"),
+    (" replay F G --width=7", "replay F G First Continue 7 false"),
+    (
+        " replay F G --width 0007",
+        "replay F G First Continue 7 false",
+    ),
+    (
+        " replay F G --width 10000",
+        "replay F G First Continue 10000 false",
+    ),
+    (" replay F G --width 0", "width"),
+    (" replay F G --width 10001", "width"),
+    (" replay F G --width 99999999999999999999", "width"),
+    (" replay F G --width +5", "width"),
+    (" replay F G --width=-5", "width"),
+    (" replay F G --width 1.0", "width"),
+    (" replay F G --width 1e3", "width"),
+    (" replay F G --width ", "width"),
+    (" replay F G --width", "rejected"),
+    (
+        " replay F G --stop --width 2",
+        "replay F G First Stop 2 false",
+    ),
+    (
+        " replay F G --width 2 --stop",
+        "replay F G First Stop 2 false",
+    ),
+    (" replay F G --width 0 --stop", "width"),
+    (
+        " replay F G --order last --stop",
+        "replay F G Last Stop 10000 false",
+    ),
+    (
+        " replay F G --stop --trace",
+        "replay F G First Stop 10000 true",
+    ),
+    (
+        " replay F G --order wide --stop --width 3 --trace",
+        "replay F G Wide Stop 3 true",
+    ),
+    (
+        " replay --trace F --width=1 G --order=wide",
+        "replay F G Wide Continue 1 true",
+    ),
+    (" replay F G --stop --stop", "rejected"),
+    (" replay F G --trace --trace", "rejected"),
+    (" replay F G --width 2 --width 2", "rejected"),
+    (" replay F G --order last --order last", "rejected"),
+    (" replay F G --other", "rejected"),
+    (" other", "rejected"),
+    (" --stop", "rejected"),
+    (" help", "rejected"),
+    (" -h", "help"),
+    (" --help", "help"),
+    (" check -h", "help"),
+    (" plan --help", "help"),
+    (" replay --help", "help"),
+    (" replay F -h", "help"),
+    (" -V", "version"),
+    (" --version", "version"),
+    (" check --version", "rejected"),
+];
+
+/// Describes what is read from these arguments, with a space before each.
+fn reading(alloc: Global, line: &str) -> Result<String, AllocError> {
+    let mut words = Vec::new(alloc);
+    for word in line.split(' ') {
+        words.push(String::from_str(alloc, word)?)?;
+    }
+    described(alloc, Task::read(alloc, words.as_slice()))
+}
+
+fn described(alloc: Global, task: Result<Task<'_>, Misuse>) -> Result<String, AllocError> {
+    match task {
+        Ok(Task::Check { file }) => format!(in alloc; "check {}", file.unwrap_or("-")),
+        Ok(Task::Plan { file }) => format!(in alloc; "plan {file}"),
+        Ok(Task::Replay(replay)) => described_replay(alloc, &replay),
+        Err(Misuse::Width) => String::from_str(alloc, "width"),
+        Err(Misuse::Arguments(error)) => String::from_str(alloc, kind_of(error.kind())),
+    }
+}
+
+fn described_replay(alloc: Global, replay: &Replay<'_>) -> Result<String, AllocError> {
+    let Replay {
+        file,
+        outcomes,
+        order,
+        policy,
+        traced,
+    } = *replay;
+    let mode = policy.mode;
+    let width = policy.width;
+    format!(in alloc; "replay {file} {outcomes} {order:?} {mode:?} {width} {traced}")
+}
+
+fn kind_of(kind: ErrorKind) -> &'static str {
+    match kind {
+        ErrorKind::DisplayHelp => "help",
+        ErrorKind::DisplayVersion => "version",
+        ErrorKind::OutOfMemory => "memory",
+        _ => "rejected",
+    }
+}
+
+#[test]
+fn each_argument_list_is_read_as_it_should_be(rt: HostRuntime) -> Result<(), Fail> {
+    for (line, want) in &READINGS {
+        assert_eq!(rt; reading(rt.alloc(), line)?.as_str(), *want, "{line}");
+    }
+    Ok(())
+}
