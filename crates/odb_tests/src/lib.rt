@@ -1,0 +1,16 @@
+//! Tests of the public calls of every crate, over whole documents.
+//!
+//! This crate has tests and nothing else. They are here, and not in the crates that they test,
+//! because a crate with tests is proved twice.
+#![tactic(auto)]
+
+#[cfg(test)]
+mod checking;
+#[cfg(test)]
+mod documents;
+#[cfg(test)]
+mod engines;
+#[cfg(test)]
+mod replying;
+#[cfg(test)]
+mod running;

@@ -1,0 +1,103 @@
+//! Runs of plans: what each event may do, which requests are ready and which run after it, and what
+//! each request is answered in the end.
+
+mod batches;
+mod draws;
+mod embedding;
+mod events;
+mod executions;
+mod large;
+mod lists;
+mod orders;
+mod plain;
+mod random;
+mod recordings;
+
+ghost use Rattle.std.specs.Prelude.{◌≡◌, ◌<◌};
+ghost use Rattle.odb_sched.specs.State.{size};
+
+use odb_check::{Plan, check};
+use odb_doc::{Batch, Outcome, parse};
+use odb_sched::{Mode, Policy, Scheduler};
+use serde_json::Value;
+use std::alloc::Global;
+use std::collections::BTreeMap;
+use std::test::Fail;
+
+/// Two requests that do not depend on each other, and a third that depends on the first.
+const THREE: &str = r#"{"requests":[{"id":"r","method":"get","url":"X"},
+    {"id":"t","method":"get","url":"X"},
+    {"id":"s","method":"get","url":"X","dependsOn":["r"]}]}"#;
+
+/// A group whose second request refers to its first.
+const REFERENCE: &str = r#"{"requests":[
+    {"id":"1","method":"get","url":"X","atomicityGroup":"g"},
+    {"id":"2","method":"get","url":"$1/Orders","atomicityGroup":"g"}]}"#;
+
+/// A group of three.
+const GROUP: &str = r#"{"requests":[{"id":"p","method":"get","url":"X","atomicityGroup":"g"},
+    {"id":"q","method":"get","url":"X","atomicityGroup":"g"},
+    {"id":"r","method":"get","url":"X","atomicityGroup":"g"}]}"#;
+
+/// A group of two whose second request depends on another, and a request that depends on the group.
+const PASSED_ON: &str = r#"{"requests":[{"id":"a","method":"get","url":"X"},
+    {"id":"p","method":"get","url":"X","atomicityGroup":"g"},
+    {"id":"q","method":"get","url":"X","atomicityGroup":"g","dependsOn":["a"]},
+    {"id":"r","method":"get","url":"X","dependsOn":["g"]}]}"#;
+
+/// What a test does with the plan of a document.
+trait OnPlan {
+    /// What it finds out.
+    type Found;
+
+    fn on_plan(&mut self, alloc: Global, plan: &Plan<'_>) -> Result<Self::Found, Fail>;
+}
+
+fn on_batch<T: OnPlan>(alloc: Global, batch: &Batch<'_>, task: &mut T) -> Result<T::Found, Fail> {
+    let plan = check(alloc, batch)?;
+    task.on_plan(alloc, &plan)
+}
+
+fn on_value<T: OnPlan>(alloc: Global, value: &Value, task: &mut T) -> Result<T::Found, Fail> {
+    let batch = Batch::read(alloc, value)?;
+    on_batch(alloc, &batch, task)
+}
+
+/// What a task finds out of the plan of a document.
+fn on_document<T: OnPlan>(alloc: Global, document: &str, task: &mut T) -> Result<T::Found, Fail> {
+    let value = parse(alloc, document.as_bytes())?;
+    on_value(alloc, &value, task)
+}
+
+/// A policy of this width, or a free one where the width is 0.
+fn policy(mode: Mode, width: u32) -> Policy {
+    Policy::new(mode, width).unwrap_or(Policy::free(mode))
+}
+
+/// An outcome with this status and nothing else.
+fn outcome(alloc: Global, status: u16) -> Outcome {
+    Outcome {
+        status,
+        headers: BTreeMap::new(alloc),
+        body: None,
+    }
+}
+
+/// The code of the refusal of a report with this status, or of a start where the status is 0; or
+/// `ok`.
+fn code_of(alloc: Global, scheduler: &mut Scheduler<'_>, i: u32, status: u16) -> &'static str
+    requires { i < size scheduler.old }
+    ensures { size scheduler.new ≡ size scheduler.old }
+{
+    if status == 0 {
+        return match scheduler.start(i) {
+            Ok(()) => "ok",
+            Err(cause) => cause.code(),
+        };
+    }
+    match scheduler.report(i, outcome(alloc, status)) {
+        Ok(()) => "ok",
+        Err((cause, back)) if back.status == status => cause.code(),
+        Err(_) => "another outcome",
+    }
+}

@@ -1,0 +1,374 @@
+//! Worked examples of events: what each is allowed, which requests are ready and which run after
+//! them, and what each request is answered in the end.
+
+ghost use Rattle.std.specs.Prelude.{◌≡◌, ◌<◌, length, All, IfOk};
+ghost use Rattle.odb_check.specs.Plans.{plan_records};
+ghost use Rattle.odb_sched.specs.State.{size};
+ghost use Rattle.odb_sched.specs.Runs.{position_of};
+
+use super::{GROUP, OnPlan, PASSED_ON, REFERENCE, THREE, code_of, on_document, outcome, policy};
+use odb_check::Plan;
+use odb_sched::Mode::{Continue, Stop};
+use odb_sched::{Done, Event, Mode, Policy, RunRefusal, Scheduler, run};
+use std::alloc::{AllocError, Global};
+use std::test::Fail;
+
+/// A document, the mode and the width of its run (0 where it is free), the events by position and
+/// status (0 for a start), and what they lead to.
+type Row = (&'static str, Mode, u32, &'static [(u32, u16)], &'static str);
+
+/// Takes the events one by one.
+#[derive(Clone, Copy)]
+struct ByHand {
+    policy: Policy,
+    events: &'static [(u32, u16)],
+}
+
+/// Takes the events as a list.
+#[derive(Clone, Copy)]
+struct AsList {
+    policy: Policy,
+    events: &'static [(u32, u16)],
+}
+
+/// Adds the code of an event, where the plan has the request.
+fn note_event(
+    alloc: Global,
+    plan: &Plan<'_>,
+    scheduler: &mut Scheduler<'_>,
+    notes: &mut String,
+    event: (u32, u16),
+) -> Result<(), AllocError>
+    requires { size scheduler.old ≡ length (plan_records plan.now) }
+    ensures { size scheduler.new ≡ size scheduler.old }
+{
+    let (i, status) = event;
+    if i >= plan.len() {
+        return Ok(());
+    }
+    notes.push_str(code_of(alloc, scheduler, i, status))?;
+    notes.push_str(" ")
+}
+
+/// Adds the codes of the events.
+fn note_events(
+    alloc: Global,
+    plan: &Plan<'_>,
+    scheduler: &mut Scheduler<'_>,
+    notes: &mut String,
+    events: &[(u32, u16)],
+) -> Result<(), AllocError>
+    requires { size scheduler.old ≡ length (plan_records plan.now) }
+{
+    for event in events {
+        note_event(alloc, plan, scheduler, notes, *event)?;
+    }
+    Ok(())
+}
+
+/// Adds positions in ascending order.
+fn note_positions(alloc: Global, notes: &mut String, positions: &[u32]) -> Result<(), AllocError> {
+    let mut positions = Vec::from_slice(alloc, positions)?;
+    positions.sort()?;
+    notes.push_str(&format!(in alloc; "{positions:?}")?)
+}
+
+/// Adds the ready requests and the running ones.
+fn note_views(
+    alloc: Global,
+    scheduler: &Scheduler<'_>,
+    notes: &mut String,
+) -> Result<(), AllocError> {
+    notes.push_str("ready ")?;
+    note_positions(alloc, notes, scheduler.ready())?;
+    notes.push_str(" running ")?;
+    note_positions(alloc, notes, scheduler.running())
+}
+
+fn note_undone(alloc: Global, notes: &mut String, undone: &[u32]) -> Result<(), AllocError> {
+    notes.push_str(&format!(in alloc; " undone {undone:?}")?)
+}
+
+fn note_status(alloc: Global, notes: &mut String, status: u16) -> Result<(), AllocError> {
+    notes.push_str(&format!(in alloc; " {status}")?)
+}
+
+/// Adds the statuses of the answers, and the undone positions.
+fn note_answers(alloc: Global, done: &Done<'_>, notes: &mut String) -> Result<(), AllocError> {
+    notes.push_str(" answers")?;
+    for i in 0..done.plan().len() {
+        note_status(alloc, notes, done.answer(i).status())?;
+    }
+    note_undone(alloc, notes, &done.undone(alloc)?)
+}
+
+/// Adds how a run ended, where it is finished.
+fn note_end(alloc: Global, scheduler: Scheduler<'_>, notes: &mut String) -> Result<(), AllocError> {
+    if scheduler.is_finished() {
+        return note_answers(alloc, &scheduler.close(), notes);
+    }
+    Ok(())
+}
+
+/// Adds the codes of the events, and then what the run shows.
+fn note_run(
+    alloc: Global,
+    plan: &Plan<'_>,
+    policy: Policy,
+    events: &[(u32, u16)],
+    notes: &mut String,
+) -> Result<(), AllocError> {
+    let mut scheduler = Scheduler::new(alloc, plan, policy)?;
+    note_events(alloc, plan, &mut scheduler, notes, events)?;
+    note_views(alloc, &scheduler, notes)?;
+    note_end(alloc, scheduler, notes)
+}
+
+impl OnPlan for ByHand {
+    type Found = String;
+
+    /// The codes of the events; then the ready and the running positions; and where the
+    /// run is finished, the statuses of the answers and the undone positions.
+    fn on_plan(&mut self, alloc: Global, plan: &Plan<'_>) -> Result<String, Fail> {
+        let mut notes = String::new(alloc);
+        note_run(alloc, plan, self.policy, self.events, &mut notes)?;
+        Ok(notes)
+    }
+}
+
+/// An event of the request at a position.
+fn event_of(alloc: Global, i: u32, status: u16) -> Event
+    ensures { position_of result ≡ i }
+{
+    if status == 0 {
+        Event::Start(i)
+    } else {
+        Event::Report(i, outcome(alloc, status))
+    }
+}
+
+/// The events of requests that the plan has.
+fn events_of(
+    alloc: Global,
+    plan: &Plan<'_>,
+    events: &[(u32, u16)],
+) -> Result<Vec<Event>, AllocError>
+    ensures { IfOk result (λ list. All
+        (λ event. position_of event < length (plan_records plan.now)) list.items) }
+{
+    let mut list = Vec::new(alloc);
+    for (i, status) in events {
+        if *i < plan.len() {
+            list.push(event_of(alloc, *i, *status))?;
+        }
+    }
+    Ok(list)
+}
+
+/// A refusal with its code and its name.
+fn refusal_text(
+    alloc: Global,
+    code: &str,
+    name: &str,
+    refusal: RunRefusal,
+) -> Result<String, AllocError> {
+    format!(in alloc; "{code} {name} {refusal:?}")
+}
+
+/// What a list of events is: a run, a finished run, or refused.
+fn verdict(
+    alloc: Global,
+    plan: &Plan<'_>,
+    policy: Policy,
+    events: &[(u32, u16)],
+) -> Result<String, AllocError> {
+    let events = events_of(alloc, plan, events)?;
+    match run(alloc, plan, policy, events).map(|scheduler| scheduler.is_finished()) {
+        Ok(true) => String::from_str(alloc, "a finished run"),
+        Ok(false) => String::from_str(alloc, "a run"),
+        Err(RunRefusal::OutOfMemory) => Err(AllocError),
+        Err(refusal) => refusal_text(alloc, refusal.code(), refusal.name(), refusal),
+    }
+}
+
+impl OnPlan for AsList {
+    type Found = String;
+
+    fn on_plan(&mut self, alloc: Global, plan: &Plan<'_>) -> Result<String, Fail> {
+        Ok(verdict(alloc, plan, self.policy, self.events)?)
+    }
+}
+
+const BY_HAND: &[Row] = &[
+    (
+        r#"{"requests":[]}"#,
+        Continue,
+        0,
+        &[],
+        "ready [] running [] answers undone []",
+    ),
+    (REFERENCE, Continue, 0, &[(1, 0)], "S4 ready [0] running []"),
+    (
+        REFERENCE,
+        Continue,
+        0,
+        &[
+            (0, 200),
+            (0, 0),
+            (0, 0),
+            (0, 199),
+            (0, 600),
+            (0, 599),
+            (0, 200),
+        ],
+        "P1 ok S1 P2 P2 ok P1 ready [] running [] answers 599 424 undone []",
+    ),
+    (
+        THREE,
+        Continue,
+        0,
+        &[(0, 0), (0, 200), (1, 0)],
+        "ok ok ok ready [2] running [1]",
+    ),
+    (
+        THREE,
+        Continue,
+        0,
+        &[(0, 0), (0, 304), (2, 0), (1, 0), (1, 200)],
+        "ok ok S3 ok ok ready [] running [] answers 304 200 424 undone []",
+    ),
+    (
+        THREE,
+        Stop,
+        0,
+        &[(0, 0), (0, 304), (2, 0), (1, 0), (1, 200)],
+        "ok ok S3 ok ok ready [] running [] answers 304 200 424 undone []",
+    ),
+    (
+        THREE,
+        Stop,
+        0,
+        &[(0, 0), (0, 404), (0, 0), (2, 0), (1, 0)],
+        "ok ok S1 S2 S2 ready [] running [] answers 404 424 424 undone []",
+    ),
+    (
+        THREE,
+        Continue,
+        1,
+        &[(0, 0), (2, 0), (1, 0)],
+        "ok S4 S5 ready [] running [0]",
+    ),
+    (
+        THREE,
+        Continue,
+        1,
+        &[(0, 0), (0, 200), (1, 0)],
+        "ok ok ok ready [] running [1]",
+    ),
+    (
+        GROUP,
+        Continue,
+        0,
+        &[(0, 0), (0, 201), (1, 0), (1, 201), (2, 0), (2, 409)],
+        "ok ok ok ok ok ok ready [] running [] answers 424 424 409 undone [1, 0]",
+    ),
+    (
+        PASSED_ON,
+        Continue,
+        0,
+        &[(0, 0), (1, 0), (0, 500), (2, 0), (3, 0), (1, 201)],
+        "ok ok ok S3 S3 ok ready [] running [] answers 500 424 424 424 undone [1]",
+    ),
+    (
+        PASSED_ON,
+        Continue,
+        0,
+        &[(0, 0), (0, 500), (1, 0)],
+        "ok ok S3 ready [] running [] answers 500 424 424 424 undone []",
+    ),
+];
+
+#[test]
+fn codes_each_event_and_answers_each_request(rt: HostRuntime) -> Result<(), Fail> {
+    for (document, mode, width, events, want) in BY_HAND {
+        let mut task = ByHand {
+            policy: policy(*mode, *width),
+            events,
+        };
+        let found = on_document(rt.alloc(), document, &mut task)?;
+        assert_eq!(rt; found.as_str(), *want);
+    }
+    Ok(())
+}
+
+const AS_LISTS: &[Row] = &[
+    (THREE, Continue, 0, &[], "a run"),
+    (
+        THREE,
+        Continue,
+        0,
+        &[(2, 0)],
+        "S4 Waiting Start { at: 0, cause: Waiting(One(0)) }",
+    ),
+    (
+        REFERENCE,
+        Continue,
+        0,
+        &[(1, 0)],
+        "S4 Waiting Start { at: 0, cause: Waiting(One(0)) }",
+    ),
+    (
+        PASSED_ON,
+        Continue,
+        0,
+        &[(0, 0), (0, 200), (1, 0), (2, 0), (1, 200), (3, 0)],
+        "S4 Waiting Start { at: 5, cause: Waiting(Group(1)) }",
+    ),
+    (
+        THREE,
+        Continue,
+        0,
+        &[(0, 200)],
+        "P1 NotRunning Report { at: 0, cause: NotRunning }",
+    ),
+    (
+        THREE,
+        Continue,
+        0,
+        &[(0, 0), (0, 700)],
+        "P2 BadStatus Report { at: 1, cause: BadStatus }",
+    ),
+    (
+        THREE,
+        Stop,
+        0,
+        &[(0, 0), (0, 404), (1, 0)],
+        "S2 Stopped Start { at: 2, cause: Stopped }",
+    ),
+    (
+        THREE,
+        Continue,
+        0,
+        &[(0, 0), (0, 404), (1, 0), (1, 200)],
+        "a finished run",
+    ),
+];
+
+#[test]
+fn refuses_the_first_event_that_may_not_come(rt: HostRuntime) -> Result<(), Fail> {
+    for (document, mode, width, events, want) in AS_LISTS {
+        let mut task = AsList {
+            policy: policy(*mode, *width),
+            events,
+        };
+        let found = on_document(rt.alloc(), document, &mut task)?;
+        assert_eq!(rt; found.as_str(), *want);
+    }
+    Ok(())
+}
+
+#[test]
+fn takes_no_width_of_0(rt: HostRuntime) {
+    assert!(rt; Policy::new(Continue, 0).is_none());
+    assert!(rt; Policy::new(Stop, 1).is_some());
+}

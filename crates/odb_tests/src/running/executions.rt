@@ -1,0 +1,591 @@
+//! Executions by recorded statuses: the steps in each order, and the answers.
+
+ghost use Rattle.std.specs.Prelude.{◌<◌, ◌+◌, length};
+ghost use Rattle.odb_sched.specs.Choosing.{IsInRange};
+
+use super::{GROUP, OnPlan, PASSED_ON, THREE, on_document, outcome, policy};
+use odb_check::Plan;
+use odb_doc::{Outcome, Request};
+use odb_sched::Mode::{Continue, Stop};
+use odb_sched::{
+    Choice, Chooser, Done, ExecFault, First, Last, Mode, Order, Policy, Service, ServiceFault,
+    Step, Trace, Wide, execute,
+};
+use std::alloc::{AllocError, Global};
+use std::test::Fail;
+
+/// A request, a group of two that depend on it, and a request that depends on the group.
+const USUAL: &str = r#"{"requests":[{"id":"0","method":"get","url":"Customers"},
+    {"id":"1","method":"patch","url":"Customers","atomicityGroup":"group1","dependsOn":["0"]},
+    {"id":"2","method":"post","url":"Customers","atomicityGroup":"group1","dependsOn":["0"]},
+    {"id":"3","method":"get","url":"Products","dependsOn":["group1"]}]}"#;
+
+/// A group whose second request depends on another request, and what depends on the group and on
+/// the other request.
+const BOTH: &str = r#"{"requests":[{"id":"a","method":"get","url":"X"},
+    {"id":"p","method":"get","url":"X","atomicityGroup":"g"},
+    {"id":"q","method":"get","url":"X","atomicityGroup":"g","dependsOn":["a"]},
+    {"id":"r","method":"get","url":"X","dependsOn":["g"]},
+    {"id":"t","method":"get","url":"X","dependsOn":["a"]}]}"#;
+
+/// Three requests without needs.
+const APART: &str = r#"{"requests":[{"id":"a","method":"get","url":"X"},
+    {"id":"b","method":"get","url":"X"},{"id":"c","method":"get","url":"X"}]}"#;
+
+/// Gives each request the status that stands at its position. At 0 it has no outcome, at 1 it
+/// fails.
+#[derive(Drop)]
+struct Statuses<'a> {
+    alloc: Global,
+    statuses: &'a [u16],
+}
+
+impl Service for Statuses<'_> {
+    ghost offers = { λ _ _ _. Unit {0} };
+
+    fn perform(&mut self, i: u32, _request: &Request<'_>) -> Result<Outcome, ServiceFault> {
+        match self.statuses.get(i as usize) {
+            None | Some(0) => Err(ServiceFault::NoOutcome),
+            Some(1) => Err(ServiceFault::Failed),
+            Some(status) => Ok(outcome(self.alloc, *status)),
+        }
+    }
+}
+
+/// The choosers of the tests.
+#[derive(Clone, Copy)]
+enum Picks {
+    /// An order that is named.
+    Named(Order),
+    /// An order that is asked for each step.
+    Asked(Order),
+    /// Starts the greatest position while there is one, and then reports the greatest.
+    WideLast,
+    /// Takes the numbers of one of `LISTS` from this place on, and 0 after its end: each a place
+    /// among the ready requests followed by the running requests.
+    Listed(usize, usize),
+}
+
+/// The numbers that a chooser takes.
+const LISTS: &[&[usize]] = &[&[], &[1, 1, 1, 1, 1, 1], &[2, 0, 3, 1, 7, 5]];
+
+impl Chooser for Picks {
+    ghost allows = { λ _ _ _ _. Unit {0} };
+
+    fn choose(&mut self, ready: &[u32], running: &[u32]) -> Choice {
+        match *self {
+            Picks::Named(order) | Picks::Asked(order) => choice_in(order, ready, running),
+            Picks::WideLast if ready.is_empty() => Last.choose(ready, running),
+            Picks::WideLast => Last.choose(ready, &[]),
+            Picks::Listed(list, next) => {
+                *self = Picks::Listed(list, next.saturating_add(1));
+                let numbers = LISTS.get(list).copied().unwrap_or(&[]);
+                place(numbers.get(next).copied().unwrap_or(0), ready, running)
+            }
+        }
+    }
+
+    fn order(&self) -> Option<Order> {
+        match *self {
+            Picks::Named(order) => Some(order),
+            _ => None,
+        }
+    }
+}
+
+/// What the chooser of this name picks.
+fn choice_in(order: Order, ready: &[u32], running: &[u32]) -> Choice
+    requires { 0 < length ready.now + length running.now }
+    ensures { IsInRange ready.now running.now result }
+{
+    match order {
+        Order::First => First.choose(ready, running),
+        Order::Last => Last.choose(ready, running),
+        Order::Wide => Wide.choose(ready, running),
+    }
+}
+
+/// The place of a number among the ready requests followed by the running requests.
+fn place(number: usize, ready: &[u32], running: &[u32]) -> Choice
+    requires { 0 < length ready.now + length running.now }
+    ensures { IsInRange ready.now running.now result }
+{
+    let place = number % (ready.len() + running.len());
+    if place < ready.len() {
+        Choice::Start(place)
+    } else {
+        Choice::Report(place - ready.len())
+    }
+}
+
+/// Adds the steps, as `+0` for a start and `-0` for a report.
+fn note_steps(alloc: Global, steps: &[Step], notes: &mut String) -> Result<(), AllocError> {
+    for step in steps {
+        let note = match step {
+            Step::Start(i) => format!(in alloc; "+{i} "),
+            Step::Report(i) => format!(in alloc; "-{i} "),
+        };
+        notes.push_str(&note?)?;
+    }
+    Ok(())
+}
+
+fn note_status(alloc: Global, status: u16, notes: &mut String) -> Result<(), AllocError> {
+    notes.push_str(&format!(in alloc; "{status} ")?)
+}
+
+/// Adds the statuses of the answers.
+fn note_answers(alloc: Global, done: &Done<'_>, notes: &mut String) -> Result<(), AllocError> {
+    for i in 0..done.plan().len() {
+        note_status(alloc, done.answer(i).status(), notes)?;
+    }
+    Ok(())
+}
+
+/// The status that a request has reported, where the plan has the request and it did.
+fn reported_status(done: &Done<'_>, i: u32) -> Option<u16> {
+    if i >= done.plan().len() {
+        return None;
+    }
+    Some(done.reported(i)?.status)
+}
+
+/// Adds an undone position with the status that was reported there.
+fn note_undone(
+    alloc: Global,
+    i: u32,
+    status: Option<u16>,
+    notes: &mut String,
+) -> Result<(), AllocError> {
+    let note = match status {
+        Some(status) => format!(in alloc; " {i}:{status}"),
+        None => format!(in alloc; " {i}"),
+    };
+    notes.push_str(&note?)
+}
+
+/// Adds the undone positions.
+fn note_each_undone(
+    alloc: Global,
+    done: &Done<'_>,
+    undone: &[u32],
+    notes: &mut String,
+) -> Result<(), AllocError> {
+    for i in undone {
+        note_undone(alloc, *i, reported_status(done, *i), notes)?;
+    }
+    Ok(())
+}
+
+/// Adds the steps; after a bar the statuses of the answers; and the undone positions with what was
+/// reported there.
+fn note_trace(alloc: Global, trace: &Trace<'_>, notes: &mut String) -> Result<(), AllocError> {
+    note_steps(alloc, &trace.steps, notes)?;
+    notes.push_str("| ")?;
+    note_answers(alloc, &trace.done, notes)?;
+    notes.push_str("[")?;
+    note_each_undone(alloc, &trace.done, &trace.done.undone(alloc)?, notes)?;
+    notes.push_str("]")
+}
+
+/// A fault with its code, its name and its place.
+fn note_fault(alloc: Global, fault: ExecFault, notes: &mut String) -> Result<(), AllocError> {
+    if let ExecFault::OutOfMemory = fault {
+        return Err(AllocError);
+    }
+    let (code, name, place) = (fault.code(), fault.name(), fault.place());
+    notes.push_str(&format!(in alloc; "{code} {name} {place:?}")?)
+}
+
+/// Adds the trace of an execution, or its fault.
+fn note_execution(
+    alloc: Global,
+    plan: &Plan<'_>,
+    policy: Policy,
+    chooser: &mut dyn Chooser,
+    statuses: &'static [u16],
+    notes: &mut String,
+) -> Result<(), AllocError> {
+    let mut service = Statuses { alloc, statuses };
+    match execute(alloc, plan, policy, chooser, &mut service) {
+        Ok(trace) => note_trace(alloc, &trace, notes),
+        Err(fault) => note_fault(alloc, fault, notes),
+    }
+}
+
+/// Executes a plan.
+#[derive(Clone, Copy)]
+struct Execution {
+    picks: Picks,
+    policy: Policy,
+    statuses: &'static [u16],
+}
+
+impl OnPlan for Execution {
+    /// The trace of the execution, or its fault.
+    type Found = String;
+
+    fn on_plan(&mut self, alloc: Global, plan: &Plan<'_>) -> Result<String, Fail> {
+        let mut notes = String::new(alloc);
+        let mut picks = self.picks;
+        note_execution(alloc, plan, self.policy, &mut picks, self.statuses, &mut notes)?;
+        Ok(notes)
+    }
+}
+
+/// A document, a chooser, the mode and the width of the run (0 where it is free), the status of each
+/// request, and the trace or the fault.
+type Row = (&'static str, Picks, Mode, u32, &'static [u16], &'static str);
+
+fn traced(alloc: Global, row: Row) -> Result<String, Fail> {
+    let (document, picks, mode, width, statuses, _want) = row;
+    let mut execution = Execution {
+        picks,
+        policy: policy(mode, width),
+        statuses,
+    };
+    on_document(alloc, document, &mut execution)
+}
+
+const FIRST: Picks = Picks::Named(Order::First);
+
+const LAST: Picks = Picks::Named(Order::Last);
+
+const WIDE: Picks = Picks::Named(Order::Wide);
+
+const REPORTS_FIRST: &[Row] = &[
+    (
+        USUAL,
+        FIRST,
+        Continue,
+        0,
+        &[200, 204, 201, 200],
+        "+0 -0 +1 -1 +2 -2 +3 -3 | 200 204 201 200 []",
+    ),
+    (
+        USUAL,
+        LAST,
+        Continue,
+        0,
+        &[200, 204, 201, 200],
+        "+0 -0 +2 -2 +1 -1 +3 -3 | 200 204 201 200 []",
+    ),
+    (
+        USUAL,
+        FIRST,
+        Continue,
+        0,
+        &[200, 204, 409, 200],
+        "+0 -0 +1 -1 +2 -2 | 200 424 409 424 [ 1:204]",
+    ),
+    (
+        USUAL,
+        LAST,
+        Continue,
+        0,
+        &[200, 204, 409, 200],
+        "+0 -0 +2 -2 | 200 424 409 424 []",
+    ),
+    (
+        GROUP,
+        FIRST,
+        Continue,
+        0,
+        &[201, 201, 409],
+        "+0 -0 +1 -1 +2 -2 | 424 424 409 [ 1:201 0:201]",
+    ),
+    (
+        GROUP,
+        LAST,
+        Continue,
+        0,
+        &[201, 201, 409],
+        "+2 -2 | 424 424 409 []",
+    ),
+    (
+        PASSED_ON,
+        FIRST,
+        Continue,
+        0,
+        &[500, 201, 200, 200],
+        "+0 -0 | 500 424 424 424 []",
+    ),
+    (
+        PASSED_ON,
+        LAST,
+        Continue,
+        0,
+        &[500, 201, 200, 200],
+        "+1 -1 +0 -0 | 500 424 424 424 [ 1:201]",
+    ),
+    (
+        BOTH,
+        FIRST,
+        Continue,
+        0,
+        &[200, 409, 201, 200, 204],
+        "+0 -0 +1 -1 +4 -4 | 200 409 424 424 204 []",
+    ),
+    (
+        BOTH,
+        LAST,
+        Continue,
+        0,
+        &[200, 409, 201, 200, 204],
+        "+1 -1 +0 -0 +4 -4 | 200 409 424 424 204 []",
+    ),
+    (
+        THREE,
+        FIRST,
+        Stop,
+        0,
+        &[200, 503, 201],
+        "+0 -0 +1 -1 | 200 503 424 []",
+    ),
+    (
+        THREE,
+        LAST,
+        Stop,
+        0,
+        &[200, 503, 201],
+        "+1 -1 | 424 503 424 []",
+    ),
+];
+
+const STARTS_FIRST: &[Row] = &[
+    (r#"{"requests":[]}"#, WIDE, Continue, 0, &[], "| []"),
+    (
+        USUAL,
+        WIDE,
+        Continue,
+        0,
+        &[200, 204, 201, 200],
+        "+0 -0 +1 +2 -1 -2 +3 -3 | 200 204 201 200 []",
+    ),
+    (
+        USUAL,
+        WIDE,
+        Continue,
+        0,
+        &[200, 500, 201, 200],
+        "+0 -0 +1 +2 -1 -2 | 200 500 424 424 [ 2:201]",
+    ),
+    (
+        PASSED_ON,
+        WIDE,
+        Continue,
+        0,
+        &[500, 201, 200, 200],
+        "+0 +1 -0 -1 | 500 424 424 424 [ 1:201]",
+    ),
+    (
+        BOTH,
+        WIDE,
+        Continue,
+        0,
+        &[200, 409, 201, 200, 204],
+        "+0 +1 -0 +2 +4 -1 -2 -4 | 200 409 424 424 204 [ 2:201]",
+    ),
+    (
+        BOTH,
+        WIDE,
+        Continue,
+        0,
+        &[200, 409, 500, 200, 204],
+        "+0 +1 -0 +2 +4 -1 -2 -4 | 200 409 500 424 204 []",
+    ),
+    (
+        THREE,
+        WIDE,
+        Stop,
+        0,
+        &[200, 503, 201],
+        "+0 +1 -0 +2 -1 -2 | 200 503 201 []",
+    ),
+    (
+        APART,
+        WIDE,
+        Continue,
+        2,
+        &[200, 200, 200],
+        "+0 +1 -0 +2 -1 -2 | 200 200 200 []",
+    ),
+    (
+        APART,
+        WIDE,
+        Continue,
+        1,
+        &[200, 200, 200],
+        "+0 -0 +1 -1 +2 -2 | 200 200 200 []",
+    ),
+];
+
+const OTHER_CHOOSERS: &[Row] = &[
+    (
+        USUAL,
+        Picks::WideLast,
+        Continue,
+        0,
+        &[200, 204, 201, 200],
+        "+0 -0 +2 +1 -2 -1 +3 -3 | 200 204 201 200 []",
+    ),
+    (
+        PASSED_ON,
+        Picks::WideLast,
+        Continue,
+        0,
+        &[500, 201, 200, 200],
+        "+1 +0 -1 -0 | 500 424 424 424 [ 1:201]",
+    ),
+    (
+        BOTH,
+        Picks::WideLast,
+        Continue,
+        0,
+        &[200, 409, 201, 200, 204],
+        "+1 +0 -1 -0 +4 -4 | 200 409 424 424 204 []",
+    ),
+    (
+        BOTH,
+        Picks::Asked(Order::First),
+        Continue,
+        0,
+        &[200, 409, 201, 200, 204],
+        "+0 -0 +1 -1 +4 -4 | 200 409 424 424 204 []",
+    ),
+    (
+        BOTH,
+        Picks::Asked(Order::Last),
+        Continue,
+        0,
+        &[200, 409, 201, 200, 204],
+        "+1 -1 +0 -0 +4 -4 | 200 409 424 424 204 []",
+    ),
+    (
+        BOTH,
+        Picks::Asked(Order::Wide),
+        Continue,
+        0,
+        &[200, 409, 201, 200, 204],
+        "+0 +1 -0 +2 +4 -1 -2 -4 | 200 409 424 424 204 [ 2:201]",
+    ),
+];
+
+const FAULTS: &[Row] = &[
+    (
+        APART,
+        FIRST,
+        Continue,
+        0,
+        &[200],
+        "F80 NoOutcome Request(1)",
+    ),
+    (
+        APART,
+        FIRST,
+        Continue,
+        0,
+        &[200, 1],
+        "F81 Service Request(1)",
+    ),
+    (
+        APART,
+        FIRST,
+        Continue,
+        0,
+        &[600, 200],
+        "F82 BadStatus Request(0)",
+    ),
+    (
+        APART,
+        FIRST,
+        Continue,
+        0,
+        &[199, 200],
+        "F82 BadStatus Request(0)",
+    ),
+    (
+        APART,
+        FIRST,
+        Continue,
+        0,
+        &[599, 200, 200],
+        "+0 -0 +1 -1 +2 -2 | 599 200 200 []",
+    ),
+];
+
+#[test]
+fn reports_before_it_starts(rt: HostRuntime) -> Result<(), Fail> {
+    for row in REPORTS_FIRST {
+        let found = traced(rt.alloc(), *row)?;
+        assert_eq!(rt; found.as_str(), row.5);
+    }
+    Ok(())
+}
+
+#[test]
+fn starts_all_before_it_reports(rt: HostRuntime) -> Result<(), Fail> {
+    for row in STARTS_FIRST {
+        let found = traced(rt.alloc(), *row)?;
+        assert_eq!(rt; found.as_str(), row.5);
+    }
+    Ok(())
+}
+
+#[test]
+fn asks_any_other_chooser(rt: HostRuntime) -> Result<(), Fail> {
+    for row in OTHER_CHOOSERS {
+        let found = traced(rt.alloc(), *row)?;
+        assert_eq!(rt; found.as_str(), row.5);
+    }
+    Ok(())
+}
+
+#[test]
+fn reports_what_the_service_answered(rt: HostRuntime) -> Result<(), Fail> {
+    for row in FAULTS {
+        let found = traced(rt.alloc(), *row)?;
+        assert_eq!(rt; found.as_str(), row.5);
+    }
+    Ok(())
+}
+
+/// The statuses of the answers in a trace.
+fn answers_in(trace: &str) -> &str {
+    match trace.split_once(" | ") {
+        Some((_steps, rest)) => match rest.split_once(" [") {
+            Some((answers, _undone)) => answers,
+            None => rest,
+        },
+        None => trace,
+    }
+}
+
+/// Documents, the status of each request, and the statuses of the answers in any order.
+const ANSWERS: &[(&str, &[u16], &str)] = &[
+    (USUAL, &[200, 204, 201, 200], "200 204 201 200"),
+    (USUAL, &[200, 204, 409, 200], "200 424 409 424"),
+    (PASSED_ON, &[500, 201, 200, 200], "500 424 424 424"),
+    (BOTH, &[200, 409, 201, 200, 204], "200 409 424 424 204"),
+];
+
+const ORDERS: &[Picks] = &[
+    FIRST,
+    LAST,
+    WIDE,
+    Picks::Listed(0, 0),
+    Picks::Listed(1, 0),
+    Picks::Listed(2, 0),
+];
+
+#[test]
+fn answers_the_same_in_each_order(rt: HostRuntime) -> Result<(), Fail> {
+    for (document, statuses, want) in ANSWERS {
+        for picks in ORDERS {
+            let row = (*document, *picks, Continue, 0, *statuses, *want);
+            let found = traced(rt.alloc(), row)?;
+            assert_eq!(rt; answers_in(&found), *want);
+        }
+    }
+    Ok(())
+}

@@ -1,0 +1,194 @@
+//! Every list of up to six events over plans of three requests, which have no more, against a plain program of the rules.
+
+ghost use Rattle.std.specs.Prelude.{◌≡◌, length};
+ghost use Rattle.odb_check.specs.Plans.{plan_records};
+ghost use Rattle.odb_sched.specs.State.{size};
+
+use super::plain::Plain;
+use super::{OnPlan, on_document, policy};
+use odb_check::Plan;
+use odb_sched::{Mode, Policy, Scheduler};
+use std::alloc::{AllocError, Global};
+use std::test::Fail;
+
+/// A small batch, and what its plan has to be: the unit of each request, and the pairs of a request
+/// and one that it needs.
+struct Small {
+    document: &'static str,
+    units: &'static [u32],
+    needs: &'static [(u32, u32)],
+}
+
+const BATCHES: &[Small] = &[
+    Small {
+        document: r#"{"requests":[{"id":"r","method":"get","url":"X"},
+            {"id":"t","method":"get","url":"X"},
+            {"id":"s","method":"get","url":"X","dependsOn":["r"]}]}"#,
+        units: &[0, 1, 2],
+        needs: &[(2, 0)],
+    },
+    Small {
+        document: r#"{"requests":[{"id":"p","method":"get","url":"X","atomicityGroup":"g"},
+            {"id":"q","method":"get","url":"$p/Y","atomicityGroup":"g"},
+            {"id":"r","method":"get","url":"X","dependsOn":["g"]}]}"#,
+        units: &[0, 0, 1],
+        needs: &[(1, 0), (2, 0), (2, 1)],
+    },
+    Small {
+        document: r#"{"requests":[{"id":"p","method":"get","url":"X","atomicityGroup":"g"},
+            {"id":"q","method":"get","url":"Y","atomicityGroup":"g"},
+            {"id":"r","method":"get","url":"X","dependsOn":["g"]}]}"#,
+        units: &[0, 0, 1],
+        needs: &[(2, 0), (2, 1)],
+    },
+    Small {
+        document: r#"{"requests":[{"id":"a","method":"get","url":"X"},
+            {"id":"p","method":"get","url":"X","atomicityGroup":"g"},
+            {"id":"q","method":"get","url":"X","atomicityGroup":"g","dependsOn":["a"]}]}"#,
+        units: &[0, 1, 1],
+        needs: &[(2, 0)],
+    },
+];
+
+/// What may happen: each request starts, succeeds or does not succeed, and one reports no status.
+const EVENTS: &[(u32, u16)] = &[
+    (0, 0),
+    (1, 0),
+    (2, 0),
+    (0, 200),
+    (1, 201),
+    (2, 204),
+    (0, 500),
+    (1, 304),
+    (2, 404),
+    (0, 600),
+];
+
+/// Tries each list of events in both modes, at the widths 1 and 2.
+#[derive(Clone, Copy)]
+struct EachList {
+    small: &'static Small,
+}
+
+/// How a run takes a list of events.
+#[derive(Clone, Copy, PartialEq, Eq)]
+enum Taken {
+    /// As the rules say, and each event came.
+    Whole,
+    /// As the rules say, and one of the events may not come.
+    Refused,
+    /// Not as the rules say.
+    Otherwise,
+}
+
+/// How a scheduler takes the events, up to one that may not come.
+fn events_taken(
+    alloc: Global,
+    plan: &Plan<'_>,
+    scheduler: &mut Scheduler<'_>,
+    plain: &mut Plain<'_>,
+    events: &[(u32, u16)],
+) -> Result<Taken, AllocError>
+    requires { size scheduler.old ≡ length (plan_records plan.now) }
+{
+    for (i, status) in events {
+        if *i < plan.len() {
+            match plain.agreed_code(alloc, scheduler, *i, *status)? {
+                None => return Ok(Taken::Otherwise),
+                Some("ok") => {}
+                Some(_) => return Ok(Taken::Refused),
+            }
+        }
+    }
+    Ok(Taken::Whole)
+}
+
+/// How a run takes the events, and ends where it is finished.
+fn run_taken(
+    alloc: Global,
+    plan: &Plan<'_>,
+    plain: &mut Plain<'_>,
+    policy: Policy,
+    events: &[(u32, u16)],
+) -> Result<Taken, AllocError> {
+    let mut scheduler = Scheduler::new(alloc, plan, policy)?;
+    let taken = events_taken(alloc, plan, &mut scheduler, plain, events)?;
+    let agrees = plain.agrees_on_end(alloc, scheduler)?;
+    Ok(if agrees { taken } else { Taken::Otherwise })
+}
+
+/// How a list of events is taken.
+fn list_taken(
+    alloc: Global,
+    plan: &Plan<'_>,
+    small: &Small,
+    policy: Policy,
+    events: &[(u32, u16)],
+) -> Result<Taken, AllocError> {
+    let mut plain = Plain::new(alloc, small.units, small.needs, policy);
+    run_taken(alloc, plan, &mut plain, policy, events)
+}
+
+/// Whether each list that begins with these events and has at most so many more is taken as the
+/// rules say. A list is not looked at further than to an event that may not come.
+fn agrees_from(
+    alloc: Global,
+    plan: &Plan<'_>,
+    small: &Small,
+    policy: Policy,
+    events: &mut Vec<(u32, u16)>,
+    more: u32,
+) -> Result<bool, AllocError> {
+    let taken = list_taken(alloc, plan, small, policy, events)?;
+    if taken != Taken::Whole || more == 0 {
+        return Ok(taken != Taken::Otherwise);
+    }
+    for event in EVENTS {
+        events.push(*event)?;
+        if !agrees_from(alloc, plan, small, policy, events, more - 1)? {
+            return Ok(false);
+        }
+        let _last = events.pop();
+    }
+    Ok(true)
+}
+
+/// Whether each list of up to six events is taken as the rules say.
+fn agrees(
+    alloc: Global,
+    plan: &Plan<'_>,
+    small: &Small,
+    policy: Policy,
+) -> Result<bool, AllocError> {
+    agrees_from(alloc, plan, small, policy, &mut Vec::new(alloc), 6)
+}
+
+const POLICIES: &[(Mode, u32)] = &[
+    (Mode::Continue, 1),
+    (Mode::Continue, 2),
+    (Mode::Stop, 1),
+    (Mode::Stop, 2),
+];
+
+impl OnPlan for EachList {
+    /// Whether each list is taken as the rules say.
+    type Found = bool;
+
+    fn on_plan(&mut self, alloc: Global, plan: &Plan<'_>) -> Result<bool, Fail> {
+        for (mode, width) in POLICIES {
+            if !agrees(alloc, plan, self.small, policy(*mode, *width))? {
+                return Ok(false);
+            }
+        }
+        Ok(true)
+    }
+}
+
+#[test]
+fn takes_every_list_as_the_rules_say(rt: HostRuntime) -> Result<(), Fail> {
+    for small in BATCHES {
+        let mut task = EachList { small };
+        assert!(rt; on_document(rt.alloc(), small.document, &mut task)?);
+    }
+    Ok(())
+}

@@ -1,0 +1,27 @@
+//! The orders that choosers name, by which an execution goes without asking for each step.
+
+use odb_sched::{Choice, Chooser, First, Last, Order, Wide};
+
+/// Starts what stands first, and reports what stands first where nothing may start.
+struct Front;
+
+impl Chooser for Front {
+    ghost allows = { λ _ _ _ _. Unit {0} };
+
+    fn choose(&mut self, ready: &[u32], _running: &[u32]) -> Choice {
+        if ready.is_empty() {
+            Choice::Report(0)
+        } else {
+            Choice::Start(0)
+        }
+    }
+}
+
+#[test]
+fn names_the_order_of_each_chooser(rt: HostRuntime) {
+    assert!(rt; First.order() == Some(Order::First));
+    assert!(rt; Last.order() == Some(Order::Last));
+    assert!(rt; Wide.order() == Some(Order::Wide));
+    assert!(rt; Order::Last.order() == Some(Order::Last));
+    assert!(rt; Front.order() == None);
+}
