@@ -1,0 +1,156 @@
+"""Lists which clauses of public calls the must-fail edits ask, and which they do not.
+
+An edit (crates/NAME/must-fail/*.edit) is a wrong body that the prover must refuse. Its first line
+names the clause that has to refuse it:
+
+    asks: CALL: CLAUSE
+    asks: CALL: CLAUSE, CASE
+
+CALL is written as a caller writes it (`check`, `Plan::needs`), CLAUSE is the name of its `ensures`,
+or `result` where it has one without a name, and CASE tells two edits of one clause apart. The exit
+status is 1 where an edit lacks that line, names a call or a clause that does not exist, asks what
+another one asks, or where there are more edits than MOST; else 0. A clause that no edit asks is
+listed and is no failure.
+"""
+
+import os
+import re
+import sys
+
+ROOT = os.path.dirname(os.path.dirname(os.path.realpath(__file__)))
+MOST = 130
+
+BLOCK = re.compile(r"(?:pub )?(?:unsafe )?(impl|trait)\b(.*)")
+CALL = re.compile(r"( *)(pub )?(?:const )?fn (\w+)")
+CLAUSE = re.compile(r" +ensures\*? *(\w+)? *\{")
+
+
+def text_of(path):
+    with open(path, encoding="utf-8") as file:
+        return file.read()
+
+
+def crates():
+    """The crates of the repository, lowest first as crates.txt lists them."""
+    lines = text_of(f"{ROOT}/crates.txt").splitlines()
+    return [line.partition(":")[0].split()[0] for line in lines if line.strip() and not line.startswith("#")]
+
+
+def sources(crate):
+    """The files of a crate, without its tests."""
+    for folder, folders, names in os.walk(f"{ROOT}/crates/{crate}/src"):
+        folders[:] = sorted(it for it in folders if it != "tests")
+        for name in sorted(names):
+            if name.endswith(".rt") and name != "tests.rt":
+                yield os.path.join(folder, name)
+
+
+def exported(crate):
+    """The names that the crate's root file hands out, and its public modules; None for a program."""
+    root = f"{ROOT}/crates/{crate}/src/lib.rt"
+    if not os.path.exists(root):
+        return None, set()
+    text = re.sub(r"//.*", "", text_of(root))
+    names = {name for _, names in re.findall(r"pub use ([\w:]+)::\{?([\w, \n]+)\}?;", text) for name in re.findall(r"\w+", names)}
+    return names, set(re.findall(r"pub mod (\w+);", text))
+
+
+def owner_of(kind, rest):
+    """The type, or the trait, that the calls of a block belong to."""
+    rest = re.sub(r"<[^<>]*(?:<[^<>]*>[^<>]*)*>", "", rest)
+    name = rest.split(" for ")[-1] if kind == "impl" else rest
+    found = re.search(r"\w+", name)
+    return found[0] if found else ""
+
+
+def calls(path):
+    """The functions of a file: the owner or None, whether a caller may name it, the name and the clauses."""
+    found, owner, inherits = [], None, False
+    for line in text_of(path).splitlines():
+        block = BLOCK.match(line)
+        if block:
+            owner = owner_of(block[1], block[2])
+            inherits = block[1] == "trait" or " for " in block[2]
+        elif line.startswith("}"):
+            owner, inherits = None, False
+        if line.startswith(("mod tests", "#[cfg(test)]")):
+            break
+        call = CALL.match(line)
+        if call and len(call[1]) == (4 if owner else 0):
+            found.append((owner, bool(call[2]) or inherits, call[3], []))
+        clause = CLAUSE.match(line)
+        if clause and found:
+            found[-1][3].append(clause[1] or "result")
+    return found
+
+
+def public_clauses(crate):
+    """The clauses of each public call of a crate; a method of a trait may be asked for under each type."""
+    names, modules = exported(crate)
+    found = {}
+    for path in sources(crate):
+        module = os.path.splitext(os.path.basename(path))[0]
+        for owner, is_public, name, clauses in calls(path):
+            is_open = names is None or (owner or name) in names or module in modules
+            if is_public and is_open:
+                prefix = owner or (module if module in modules else None)
+                found.setdefault(f"{prefix}::{name}" if prefix else name, []).extend(clauses)
+    return found
+
+
+def questions(crate):
+    """The edits of a crate, by name, each with its question: the call, the clause and the case, or None."""
+    folder = f"{ROOT}/crates/{crate}/must-fail"
+    for name in sorted(os.listdir(folder) if os.path.isdir(folder) else []):
+        if name.endswith(".edit"):
+            first = text_of(f"{folder}/{name}").split("\n", 1)[0]
+            asked = re.fullmatch(r"asks: ([\w:]+): (\w+)(?:, (.+))?", first)
+            yield name, asked and (asked[1], asked[2], asked[3] or "")
+
+
+def clauses_of(call, every):
+    """The clauses of a call; where a type's method has none of its own, those of the trait's method."""
+    own = every.get(call, [])
+    name = call.rpartition("::")[2]
+    inherited = [it for other, found in every.items() if other.rpartition("::")[2] == name for it in found]
+    return own or (inherited if call in every else [])
+
+
+def wrong(crate, every):
+    """What is wrong with the edits of a crate, a line each."""
+    asked = {}
+    for name, question in questions(crate):
+        at = f"crates/{crate}/must-fail/{name}"
+        if not question:
+            yield f"{at}: the first line is not 'asks: CALL: CLAUSE' or 'asks: CALL: CLAUSE, CASE'"
+            continue
+        call, clause, _ = question
+        if clause not in clauses_of(call, every):
+            yield f"{at}: there is no clause {clause} of a public call {call}"
+        if question in asked:
+            yield f"{at}: asks what {asked[question]} asks"
+        asked[question] = name
+
+
+def main():
+    clauses = {crate: public_clauses(crate) for crate in crates()}
+    every = {call: found for known in clauses.values() for call, found in known.items()}
+    faults, count = [], 0
+    asked = {question[:2] for crate in clauses for _, question in questions(crate) if question}
+    for crate, known in clauses.items():
+        edits = len(list(questions(crate)))
+        count += edits
+        faults += wrong(crate, every)
+        unasked = [f"{call}: {clause}" for call, found in known.items() for clause in found if (call, clause) not in asked]
+        total = sum(map(len, known.values()))
+        print(f"{crate}: {edits} edits; {total - len(unasked)} of {total} clauses of public calls are asked")
+        if "--unasked" in sys.argv[1:]:
+            print("".join(f"  not asked: {it}\n" for it in unasked), end="")
+    if count > MOST:
+        faults.append(f"{count} edits are more than {MOST}")
+    print("".join(f"{it}\n" for it in faults), end="")
+    print(f"{count} edits, {len(faults)} faults")
+    return 1 if faults else 0
+
+
+sys.exit(main())

@@ -1,0 +1,134 @@
+"""Runs what has to pass before a change lands, and reports the processor time of each part.
+
+The parts are `rt ci` (the proofs, the tests, the must-fail edits), the questions that the edits say
+they ask, the commands of README.md against the output that it shows, and the short form of the
+benchmark, which compares answers and judges no time. The exit status is 0 where all of them pass.
+"""
+
+import os
+import resource
+import subprocess
+import sys
+import threading
+import time
+
+ROOT = os.path.dirname(os.path.dirname(os.path.realpath(__file__)))
+TICK = os.sysconf("SC_CLK_TCK")
+PAUSE = 0.2
+
+
+def read(path):
+    try:
+        with open(path, "rb") as file:
+            return file.read().decode(errors="replace")
+    except OSError:
+        return ""
+
+
+def processes():
+    """The processes of this machine, by number: the parent, and the seconds spent so far."""
+    found = {}
+    for name in filter(str.isdigit, os.listdir("/proc")):
+        fields = read(f"/proc/{name}/stat").rpartition(")")[2].split()
+        if len(fields) > 12:
+            found[int(name)] = int(fields[1]), (int(fields[11]) + int(fields[12])) / TICK
+    return found
+
+
+def kind_of(process):
+    """What a process of `rt ci` is for, or None where its parent has to say."""
+    words = read(f"/proc/{process}/cmdline").split("\0")
+    if not words[0].endswith("/rattle"):
+        return None
+    try:
+        if os.path.basename(os.readlink(f"/proc/{process}/cwd")).startswith("rt-edit-"):
+            return "must-fail edits"
+    except OSError:
+        return None
+    if "--test" in words:
+        return "tests"
+    return None if "--crate-checked" in words else "proofs"
+
+
+class Watch:
+    """Looks at the processes below one process, and adds up what each kind spends."""
+
+    def __init__(self, top):
+        self.top, self.kinds, self.spent, self.over = top, {top: None}, {}, threading.Event()
+        self.thread = threading.Thread(target=self.run, daemon=True)
+        self.thread.start()
+
+    def look(self):
+        now = processes()
+        below = lambda it: it in self.kinds or (it in now and now[it][0] in self.kinds)
+        for _ in range(8):
+            for it in [it for it in now if it not in self.kinds and below(it)]:
+                self.kinds[it] = kind_of(it) or self.kinds[now[it][0]]
+        for it in self.kinds:
+            if it in now:
+                # a process that was seen as its parent's copy may have become another program since
+                self.kinds[it] = self.kinds[it] or kind_of(it)
+                self.spent[it] = now[it][1]
+
+    def run(self):
+        while not self.over.wait(PAUSE):
+            self.look()
+
+    def seconds(self):
+        """The seconds that each kind spent."""
+        self.over.set()
+        self.thread.join()
+        total = {}
+        for it, spent in self.spent.items():
+            if self.kinds[it]:
+                total[self.kinds[it]] = total.get(self.kinds[it], 0) + spent
+        return total
+
+
+def spent_by_children():
+    used = resource.getrusage(resource.RUSAGE_CHILDREN)
+    return used.ru_utime + used.ru_stime
+
+
+def run(words, quiet=False):
+    """Runs a command; returns its exit status, the seconds of each kind, and its last lines."""
+    before, last = spent_by_children(), []
+    started = subprocess.Popen(words, stdout=subprocess.PIPE, stderr=None if quiet else subprocess.STDOUT, text=True, errors="replace")
+    watch = Watch(started.pid)
+    for line in started.stdout:
+        last = [*last[-2:], line]
+        if not quiet:
+            print(line, end="", flush=True)
+    status = started.wait()
+    kinds = watch.seconds()
+    kinds["all"] = spent_by_children() - before
+    return status, kinds, last
+
+
+def main():
+    os.chdir(ROOT)
+    begun, failed, rows = time.monotonic(), [], []
+    status, kinds, last = run(["rt", "ci"])
+    failed += ["rt ci"] * bool(status)
+    named = ["proofs", "tests", "must-fail edits"]
+    rows += [(name, kinds.get(name, 0)) for name in named]
+    rows.append(("building and running", max(kinds["all"] - sum(kinds.get(name, 0) for name in named), 0)))
+    for title, quiet, words in [
+        ("the questions of the edits", False, [".ci/edits.py"]),
+        ("README.md", False, [".ci/readme.py", "README.md"]),
+        ("bench/bench.py --short", True, ["bench/bench.py", "--short"]),
+    ]:
+        print(f"{title}:", flush=True)
+        status, kinds, _ = run([sys.executable, *words], quiet)
+        failed += [title] * bool(status)
+        rows.append((title, kinds["all"]))
+    print("processor minutes:")
+    for name, seconds in [*rows, ("all", sum(it for _, it in rows))]:
+        print(f"  {name:28}{seconds / 60:7.1f}")
+    print(f"minutes by the clock:{(time.monotonic() - begun) / 60:16.1f}")
+    print("rt ci:", *last, sep="\n", end="")
+    print(f"failed: {', '.join(failed)}" if failed else "all passed")
+    return 1 if failed else 0
+
+
+sys.exit(main())
