@@ -14,6 +14,7 @@ import tempfile
 
 sys.dont_write_bytecode = True
 
+import floods
 import tables
 import turns
 import workloads
@@ -21,6 +22,8 @@ from measure import BenchFault, adopt_orphans
 
 ROOT = os.path.dirname(os.path.dirname(os.path.realpath(__file__)))
 TURNS = 12
+FLOODED = "flooded"
+NAMES = (*workloads.NAMES, FLOODED)
 
 
 class Parser(argparse.ArgumentParser):
@@ -41,10 +44,9 @@ def workload_names(word):
     """The workloads that a word names, each once, in the order of the tables."""
     wanted = word.split(",")
     for name in wanted:
-        if name not in workloads.NAMES:
-            known = ", ".join(workloads.NAMES)
-            raise argparse.ArgumentTypeError(f"there is no workload {name!r}, but {known}")
-    return [name for name in workloads.NAMES if name in wanted]
+        if name not in NAMES:
+            raise argparse.ArgumentTypeError(f"{name!r} is not a workload; these are: {', '.join(NAMES)}")
+    return [name for name in NAMES if name in wanted]
 
 
 def read_words(words):
@@ -57,9 +59,9 @@ def read_words(words):
     option(
         "--only",
         type=workload_names,
-        default=list(workloads.NAMES),
+        default=list(NAMES),
         metavar="WORD,..",
-        help="the workloads to measure, of " + ", ".join(workloads.NAMES),
+        help="the workloads to measure, of " + ", ".join(NAMES),
     )
     return parser.parse_args(words)
 
@@ -104,10 +106,20 @@ def load():
     return f"{os.getloadavg()[0]:.1f}"
 
 
+def flood_text(words, program, folder, count):
+    """The table of the documents with flooded names."""
+    tell("making the documents with flooded names, and trying each command on them")
+    found = floods.floods(folder, words.short)
+    floods.try_floods(program, folder, found)
+    measures = floods.measure_floods(program, found, count, tell)
+    return "\n\n".join([tables.table(floods.HEADS, floods.rows(found, measures), 2), floods.LEGEND])
+
+
 def measured_text(words, program, folder):
     """The tables of a whole run."""
     tell("making the workloads, and trying each command on them")
-    cases, jobs = prepare(program, folder, words.only, words.short)
+    names = [name for name in words.only if name != FLOODED]
+    cases, jobs = prepare(program, folder, names, words.short)
     count = words.turns or (1 if words.short else TURNS)
     before = load()
     measures = turns.measure_in_turns(jobs, count, tell)
@@ -116,9 +128,13 @@ def measured_text(words, program, folder):
         f"{tables.machine()}; load {before} before and {load()} after; turns: {count}; "
         f"one start: {tables.milliseconds(start.processor)} ms processor, {tables.megabytes(start.memory)} MB"
     )
-    parts = [facts, tables.case_table(cases), tables.command_table(cases, measures), tables.LEGEND]
+    parts = [facts]
+    if cases:
+        parts += [tables.case_table(cases), tables.command_table(cases, measures), tables.LEGEND]
     growth = tables.growth_table(cases, measures)
-    return "\n\n".join(parts + ([growth, tables.GROWTH_LEGEND] if growth else []))
+    parts += [growth, tables.GROWTH_LEGEND] if growth else []
+    parts += [flood_text(words, program, folder, count)] if FLOODED in words.only else []
+    return "\n\n".join(parts)
 
 
 def main():

@@ -18,8 +18,8 @@ measured by `check` of documents which it refuses once it has read them whole in
 with its member `requests` renamed to `messages`. For `replay` it is that, plus `check` of the outcomes, minus
 one start; so also for memory, as a replay holds the values of both documents. *checks* is another floor, of
 `replay` alone, and holds more: `check` of the batch as it is, plus `check` of the outcomes, minus one start.
-`check` lets the values go at its end; `replay` leaves them to the system. One start is `check` of a batch
-without requests. The columns with `/` say how many times the floor's a command's processor time and memory
+Every command leaves what it has read to the system at its end. One start is `check` of a batch without
+requests. The columns with `/` say how many times the floor's a command's processor time and memory
 are, for the time as the median of what that was in each turn."""
 
 GROWTH_LEGEND = """\
