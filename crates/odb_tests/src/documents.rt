@@ -3,6 +3,7 @@
 mod devices;
 mod faults;
 mod order;
+mod outcome_faults;
 mod outcomes;
 mod records;
 mod requests;

@@ -1,16 +1,12 @@
 //! Executions by recorded statuses: the steps in each order, and the answers.
 
-ghost use Rattle.std.specs.Prelude.{◌<◌, ◌+◌, length};
-ghost use Rattle.odb_sched.specs.Choosing.{IsInRange};
-
+use super::notes::{note_fault, note_trace};
+use super::picks::Picks;
 use super::{GROUP, OnPlan, PASSED_ON, THREE, on_document, outcome, policy};
 use odb_check::Plan;
 use odb_doc::{Outcome, Request};
 use odb_sched::Mode::{Continue, Stop};
-use odb_sched::{
-    Choice, Chooser, Done, ExecFault, First, Last, Mode, Order, Policy, Service, ServiceFault,
-    Step, Trace, Wide, execute,
-};
+use odb_sched::{Chooser, Mode, Order, Policy, Service, ServiceFault, execute};
 use std::alloc::{AllocError, Global};
 use std::test::Fail;
 
@@ -52,151 +48,6 @@ impl Service for Statuses<'_> {
     }
 }
 
-/// The choosers of the tests.
-#[derive(Clone, Copy)]
-enum Picks {
-    /// An order that is named.
-    Named(Order),
-    /// An order that is asked for each step.
-    Asked(Order),
-    /// Starts the greatest position while there is one, and then reports the greatest.
-    WideLast,
-    /// Takes the numbers of one of `LISTS` from this place on, and 0 after its end: each a place
-    /// among the ready requests followed by the running requests.
-    Listed(usize, usize),
-}
-
-/// The numbers that a chooser takes.
-const LISTS: &[&[usize]] = &[&[], &[1, 1, 1, 1, 1, 1], &[2, 0, 3, 1, 7, 5]];
-
-impl Chooser for Picks {
-    ghost allows = { λ _ _ _ _. Unit {0} };
-
-    fn choose(&mut self, ready: &[u32], running: &[u32]) -> Choice {
-        match *self {
-            Picks::Named(order) | Picks::Asked(order) => choice_in(order, ready, running),
-            Picks::WideLast if ready.is_empty() => Last.choose(ready, running),
-            Picks::WideLast => Last.choose(ready, &[]),
-            Picks::Listed(list, next) => {
-                *self = Picks::Listed(list, next.saturating_add(1));
-                let numbers = LISTS.get(list).copied().unwrap_or(&[]);
-                place(numbers.get(next).copied().unwrap_or(0), ready, running)
-            }
-        }
-    }
-
-    fn order(&self) -> Option<Order> {
-        match *self {
-            Picks::Named(order) => Some(order),
-            _ => None,
-        }
-    }
-}
-
-/// What the chooser of this name picks.
-fn choice_in(order: Order, ready: &[u32], running: &[u32]) -> Choice
-    requires { 0 < length ready.now + length running.now }
-    ensures { IsInRange ready.now running.now result }
-{
-    match order {
-        Order::First => First.choose(ready, running),
-        Order::Last => Last.choose(ready, running),
-        Order::Wide => Wide.choose(ready, running),
-    }
-}
-
-/// The place of a number among the ready requests followed by the running requests.
-fn place(number: usize, ready: &[u32], running: &[u32]) -> Choice
-    requires { 0 < length ready.now + length running.now }
-    ensures { IsInRange ready.now running.now result }
-{
-    let place = number % (ready.len() + running.len());
-    if place < ready.len() {
-        Choice::Start(place)
-    } else {
-        Choice::Report(place - ready.len())
-    }
-}
-
-/// Adds the steps, as `+0` for a start and `-0` for a report.
-fn note_steps(alloc: Global, steps: &[Step], notes: &mut String) -> Result<(), AllocError> {
-    for step in steps {
-        let note = match step {
-            Step::Start(i) => format!(in alloc; "+{i} "),
-            Step::Report(i) => format!(in alloc; "-{i} "),
-        };
-        notes.push_str(&note?)?;
-    }
-    Ok(())
-}
-
-fn note_status(alloc: Global, status: u16, notes: &mut String) -> Result<(), AllocError> {
-    notes.push_str(&format!(in alloc; "{status} ")?)
-}
-
-/// Adds the statuses of the answers.
-fn note_answers(alloc: Global, done: &Done<'_>, notes: &mut String) -> Result<(), AllocError> {
-    for i in 0..done.plan().len() {
-        note_status(alloc, done.answer(i).status(), notes)?;
-    }
-    Ok(())
-}
-
-/// The status that a request has reported, where the plan has the request and it did.
-fn reported_status(done: &Done<'_>, i: u32) -> Option<u16> {
-    if i >= done.plan().len() {
-        return None;
-    }
-    Some(done.reported(i)?.status)
-}
-
-/// Adds an undone position with the status that was reported there.
-fn note_undone(
-    alloc: Global,
-    i: u32,
-    status: Option<u16>,
-    notes: &mut String,
-) -> Result<(), AllocError> {
-    let note = match status {
-        Some(status) => format!(in alloc; " {i}:{status}"),
-        None => format!(in alloc; " {i}"),
-    };
-    notes.push_str(&note?)
-}
-
-/// Adds the undone positions.
-fn note_each_undone(
-    alloc: Global,
-    done: &Done<'_>,
-    undone: &[u32],
-    notes: &mut String,
-) -> Result<(), AllocError> {
-    for i in undone {
-        note_undone(alloc, *i, reported_status(done, *i), notes)?;
-    }
-    Ok(())
-}
-
-/// Adds the steps; after a bar the statuses of the answers; and the undone positions with what was
-/// reported there.
-fn note_trace(alloc: Global, trace: &Trace<'_>, notes: &mut String) -> Result<(), AllocError> {
-    note_steps(alloc, &trace.steps, notes)?;
-    notes.push_str("| ")?;
-    note_answers(alloc, &trace.done, notes)?;
-    notes.push_str("[")?;
-    note_each_undone(alloc, &trace.done, &trace.done.undone(alloc)?, notes)?;
-    notes.push_str("]")
-}
-
-/// A fault with its code, its name and its place.
-fn note_fault(alloc: Global, fault: ExecFault, notes: &mut String) -> Result<(), AllocError> {
-    if let ExecFault::OutOfMemory = fault {
-        return Err(AllocError);
-    }
-    let (code, name, place) = (fault.code(), fault.name(), fault.place());
-    notes.push_str(&format!(in alloc; "{code} {name} {place:?}")?)
-}
-
 /// Adds the trace of an execution, or its fault.
 fn note_execution(
     alloc: Global,
@@ -228,7 +79,14 @@ impl OnPlan for Execution {
     fn on_plan(&mut self, alloc: Global, plan: &Plan<'_>) -> Result<String, Fail> {
         let mut notes = String::new(alloc);
         let mut picks = self.picks;
-        note_execution(alloc, plan, self.policy, &mut picks, self.statuses, &mut notes)?;
+        note_execution(
+            alloc,
+            plan,
+            self.policy,
+            &mut picks,
+            self.statuses,
+            &mut notes,
+        )?;
         Ok(notes)
     }
 }
