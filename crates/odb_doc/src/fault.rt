@@ -17,6 +17,14 @@ pub enum Place {
     Outcomes,
     /// The outcome at this position of `outcomes`, counted from 0.
     Outcome(usize),
+    /// The response document of a service as a whole.
+    Responses,
+    /// The response at this position of `responses`, counted from 0.
+    Response(usize),
+    /// The document of recorded events as a whole.
+    Events,
+    /// The event at this position of `events`, counted from 0.
+    Event(usize),
 }
 
 /// A rule that a document as a whole breaks (OData JSON Format 4.01, section 19.1).
