@@ -1,4 +1,5 @@
-ghost use Rattle.std.specs.Prelude.{◌≡◌, ◌≢◌, ◌<◌, ◌≤◌, ◌+◌, ◌*◌, ℕ, true, List, length, Result, IfOk, IfErr, OnOk, Option, IfSome, None, Some, Ok, All, IsTrue, ◌↔◌};
+ghost use Rattle.std.specs.Prelude.{◌≡◌, ◌≢◌, ◌<◌, ◌≤◌, ◌+◌, ◌*◌, ℕ, true, List, [], length, Result, IfOk, IfErr, OnOk, Option, IfSome, None, Some, Ok, All, IsTrue, ◌↔◌};
+ghost use Rattle.std.specs.Vec.{vec_capacity};
 ghost use Rattle.odb_check.specs.Plans.{plan_records};
 ghost use Rattle.odb_sched.specs.declared.policy.Mode.TheVariants.{Continue};
 ghost use Rattle.odb_sched.specs.declared.event.Event.{Event};
@@ -23,7 +24,7 @@ use crate::service::{Service, ServiceFault};
 use crate::step::Step;
 use odb_check::Plan;
 use odb_doc::Outcome;
-use std::alloc::Global;
+use std::alloc::{AllocError, Global};
 
 /// A finished execution: its answers, and the steps that led to them.
 #[derive(Drop)]
@@ -136,6 +137,50 @@ fn take<S: Service>(
     }
 }
 
+/// Takes the steps that the chooser picks, from the first to the last of the run, and lists them.
+fn take_all<S: Service>(
+    scheduler: &mut Scheduler<'_>,
+    plan: &Plan<'_>,
+    policy: Policy,
+    chooser: &mut dyn Chooser,
+    service: &mut S,
+    steps: &mut Vec<Step>,
+) -> Result<(), ExecFault>
+    requires first { scheduler.old ≡ at_first plan.now policy.mode policy.width }
+    requires unlisted { steps.old.items ≡ [] }
+    requires room { 2 * length (plan_records plan.now) ≤ vec_capacity steps.old }
+    ensures course { OnOk result (IsFinishedBy (allows chooser.old) (S.offers service.old)
+        (at_first plan.now policy.mode policy.width) steps.new.items scheduler.new) }
+    ensures finished { OnOk result (is_finished scheduler.new ≡ true) }
+    ensures few_steps { OnOk result
+        (length steps.new.items ≤ 2 * length (plan_records plan.now)) }
+    ensures mode { OnOk result (scheduler.new.mode ≡ policy.mode) }
+    ensures fault { IfErr result (IsCausedBy (S.offers service.old) (IsDue (allows chooser.old)
+        (S.offers service.old) (at_first plan.now policy.mode policy.width))) }
+{
+    let _count = plan.len();
+    while let Some(step) = next_step(scheduler, chooser) {
+        take(scheduler, plan, service, step)?;
+        steps.push(step).unwrap();
+    }
+    Ok(())
+}
+
+/// Returns the run before its first step, with room for all its steps.
+fn prepared<'a: 'p, 'p>(
+    alloc: Global,
+    plan: &'p Plan<'a>,
+    policy: Policy,
+) -> Result<(Scheduler<'p>, Vec<Step>), AllocError>
+    ensures first { IfOk result (λ run. run.0 ≡ at_first plan.now policy.mode policy.width) }
+    ensures unlisted { IfOk result (λ run. run.1.items ≡ []) }
+    ensures room { IfOk result (λ run. 2 * length (plan_records plan.now) ≤ vec_capacity run.1) }
+{
+    let scheduler = Scheduler::new(alloc, plan, policy)?;
+    let steps = Vec::with_capacity(alloc, 2 * plan.len() as usize)?;
+    Ok((scheduler, steps))
+}
+
 /// Runs a plan to its end. The chooser says what comes next, and the service gives the outcome of a
 /// request when its report is chosen (OData JSON Format 4.01, section 19.4; OData Protocol 4.01,
 /// section 11.7).
@@ -177,12 +222,8 @@ pub fn execute<'a: 'p, 'p, S: Service>(
     ensures sound { IfOk result (λ trace. laws.IsSound trace.done) }
 {
     every_run(plan);
-    let mut scheduler = Scheduler::new(alloc, plan, policy)?;
-    let mut steps = Vec::with_capacity(alloc, 2 * plan.len() as usize)?;
-    while let Some(step) = next_step(&mut scheduler, chooser) {
-        take(&mut scheduler, plan, service, step)?;
-        steps.push(step).unwrap();
-    }
+    let (mut scheduler, mut steps) = prepared(alloc, plan, policy)?;
+    take_all(&mut scheduler, plan, policy, chooser, service, &mut steps)?;
     Ok(Trace {
         done: scheduler.close(),
         steps,

@@ -1,136 +1,32 @@
--- An execution that goes on is a course so far, and has room for the steps that are left.
-use Rattle.std.proofs.Common.{◌≡◌, ◌≤◌, ◌+◌, ◌*◌, ◌∙◌, sym, ap, subst, arith, rules, [], ◌∷◌, ◌++◌, length, is_ok, if◌then◌else◌}
-use Rattle.std.proofs.lemmas.List.{length-append}
-use Rattle.std.specs.Vec.{vec_capacity, vec_len}
-use Rattle.odb_check.specs.Plans.{plan_records}
-use Rattle.odb_sched.specs.State.{State, at_first}
-use Rattle.odb_sched.specs.Advances.{IsTaken}
-use Rattle.odb_sched.specs.declared.step.Step.TheVariants as step
+-- An execution is what its steps make of the run.
+use Rattle.std.proofs.Common.{◌∙◌, sym, subst}
+use Rattle.odb_sched.specs.State.{at_first}
 use Rattle.odb_sched.specs.Courses.{IsFinishedBy}
-use Rattle.odb_sched.proofs.RunLemmas.{reached_at_first}
-use Rattle.odb_sched.proofs.CourseLemmas.{SoFar, events_left, so_far-first, room-first, one_more, fewer-left, caused-first, finished-by, few-steps, next-within, reached-so_far, same-mode, finished-within, finished-plan, finished-offered}
+use Rattle.odb_sched.proofs.CourseLemmas.{finished-within, finished-plan, finished-offered}
 use Rattle.odb_sched.proofs.execution.execute.Goals as goal
-
-pub loop-step-init : goal.loop-step-init
-loop-step-init g c =
-    let plan = c.args.plan.now in
-    let few : c.len.result ≡ length (plan_records plan) = c.len.ensures.count in
-    let room : 2 * c.len.result ≤ vec_capacity c.in_ok-steps.steps = c.in_ok-steps.ensures.capacity in
-    record {
-      far = so_far-first ((goal.Chooser-dyn g c.args.chooser.now).allows c.args.chooser.now.1) (g.S.Service.offers c.args.service.now)
-          (at_first plan c.args.policy.mode c.args.policy.width) c.in_ok-scheduler.scheduler c.in_ok-steps.steps.items c.in_ok-scheduler.ensures.state c.in_ok-steps.ensures.items;
-      room = room-first plan c.args.policy.mode c.args.policy.width c.in_ok-scheduler.scheduler c.in_ok-steps.steps.items (vec_capacity c.in_ok-steps.steps)
-          c.in_ok-scheduler.ensures.state c.in_ok-steps.ensures.items (omega arith);
-    }
-
-pub take-requires-clause-request : goal.take-requires-clause-request
-take-requires-clause-request g c =
-    next-within c.args.plan.now c.args.policy.mode c.args.policy.width
-    ((goal.Chooser-dyn g c.args.chooser.now).allows c.args.chooser.now.1) ((goal.Chooser-dyn g c.loop-step.chooser.now).allows c.loop-step.chooser.now.1)
-    (g.S.Service.offers c.args.service.now) (g.S.Service.offers c.loop-step.service)
-    c.loop-step.scheduler c.loop-step.steps.items c.loop-step.invariant.far c.in-Some.step c.in-Some.ensures.next
-
-pub returns-in_err-take-clause-fault : goal.returns-in_err-take-clause-fault
-returns-in_err-take-clause-fault g c =
-    let cause = caused-first
-    ((goal.Chooser-dyn g c.args.chooser.now).allows c.args.chooser.now.1) ((goal.Chooser-dyn g c.loop-step.chooser.now).allows c.loop-step.chooser.now.1)
-    ((goal.Chooser-dyn g c.loop-step.chooser.now).allows c.loop-step.chooser.now.1)
-    (g.S.Service.offers c.args.service.now) (g.S.Service.offers c.loop-step.service) (g.S.Service.offers c.loop-step.service)
-    (at_first c.args.plan.now c.args.policy.mode c.args.policy.width) c.loop-step.scheduler c.loop-step.scheduler c.loop-step.steps.items c.in-Some.step
-    c.loop-step.invariant.far c.in-Some.ensures.next c.in_err-take.field-0.0 c.in_err-take.ensures.fault in
-    search (rules, cause)
-
-pub unwrap-requires : goal.unwrap-requires
-unwrap-requires g c =
-    let plan = c.args.plan.now in
-    let allows = (goal.Chooser-dyn g c.args.chooser.now).allows c.args.chooser.now.1 in
-    let allows_now = (goal.Chooser-dyn g c.loop-step.chooser.now).allows c.loop-step.chooser.now.1 in
-    let offers = g.S.Service.offers c.args.service.now in
-    let offers_now = g.S.Service.offers c.loop-step.service in
-    let reached = reached-so_far plan c.args.policy.mode c.args.policy.width allows allows_now offers offers_now c.loop-step.scheduler c.loop-step.steps.items c.loop-step.invariant.far c.len.ensures.laws c.args.policy.wide in
-    let taken = subst (λ state. IsTaken (g.S.Service.offers c.loop-step.service) state c.take.new.scheduler c.in-Some.step) c.next_step.ensures.same c.in_ok-take.ensures.taken in
-    let fewer : events_left c.take.new.scheduler + 1 ≡ events_left c.loop-step.scheduler = fewer-left allows_now offers_now c.loop-step.scheduler c.take.new.scheduler c.in-Some.step reached c.in-Some.ensures.next taken in
-    let room : length c.loop-step.steps.items + events_left c.loop-step.scheduler ≤ vec_capacity c.loop-step.steps = c.loop-step.invariant.room in
-    let len : vec_len c.loop-step.steps ≡ length c.loop-step.steps.items = c.loop-step.steps.ok.0 in
-    c.push.ensures.succeeds (omega arith)
-
-pub loop-step-smaller : goal.loop-step-smaller
-loop-step-smaller g c =
-    let plan = c.args.plan.now in
-    let allows = (goal.Chooser-dyn g c.args.chooser.now).allows c.args.chooser.now.1 in
-    let allows_now = (goal.Chooser-dyn g c.loop-step.chooser.now).allows c.loop-step.chooser.now.1 in
-    let offers = g.S.Service.offers c.args.service.now in
-    let offers_now = g.S.Service.offers c.loop-step.service in
-    let reached = reached-so_far plan c.args.policy.mode c.args.policy.width allows allows_now offers offers_now c.loop-step.scheduler c.loop-step.steps.items c.loop-step.invariant.far c.len.ensures.laws c.args.policy.wide in
-    let taken = subst (λ state. IsTaken (g.S.Service.offers c.loop-step.service) state c.take.new.scheduler c.in-Some.step) c.next_step.ensures.same c.in_ok-take.ensures.taken in
-    let fewer : events_left c.take.new.scheduler + 1 ≡ events_left c.loop-step.scheduler = fewer-left allows_now offers_now c.loop-step.scheduler c.take.new.scheduler c.in-Some.step reached c.in-Some.ensures.next taken in
-    omega arith
-
-pub loop-step-preserved : goal.loop-step-preserved
-loop-step-preserved g c =
-    let plan = c.args.plan.now in
-    let allows = (goal.Chooser-dyn g c.args.chooser.now).allows c.args.chooser.now.1 in
-    let allows_now = (goal.Chooser-dyn g c.loop-step.chooser.now).allows c.loop-step.chooser.now.1 in
-    let offers = g.S.Service.offers c.args.service.now in
-    let offers_now = g.S.Service.offers c.loop-step.service in
-    let reached = reached-so_far plan c.args.policy.mode c.args.policy.width allows allows_now offers offers_now c.loop-step.scheduler c.loop-step.steps.items c.loop-step.invariant.far c.len.ensures.laws c.args.policy.wide in
-    let taken = subst (λ state. IsTaken (g.S.Service.offers c.loop-step.service) state c.take.new.scheduler c.in-Some.step) c.next_step.ensures.same c.in_ok-take.ensures.taken in
-    let fewer : events_left c.take.new.scheduler + 1 ≡ events_left c.loop-step.scheduler = fewer-left allows_now offers_now c.loop-step.scheduler c.take.new.scheduler c.in-Some.step reached c.in-Some.ensures.next taken in
-    let room : length c.loop-step.steps.items + events_left c.loop-step.scheduler ≤ vec_capacity c.loop-step.steps = c.loop-step.invariant.room in
-    let allows_later = (goal.Chooser-dyn g (c.loop-step.chooser.now.0, c.next_step.new.chooser)).allows c.next_step.new.chooser in
-    let offers_later = g.S.Service.offers c.take.new.service in
-    let first = at_first plan c.args.policy.mode c.args.policy.width in
-    let items : c.push.new.self.items ≡ c.loop-step.steps.items ++ c.in-Some.step ∷ [] =
-    subst (λ told. c.push.new.self.items ≡ (if is_ok told then c.loop-step.steps.items ++ c.in-Some.step ∷ [] else c.loop-step.steps.items)) c.unwrap.ensures c.push.ensures.items in
-    let longer : length c.push.new.self.items ≡ length c.loop-step.steps.items + 1 = ap length items ∙ length-append c.loop-step.steps.items (c.in-Some.step ∷ []) in
-    let more : vec_capacity c.loop-step.steps ≤ vec_capacity c.push.new.self = c.push.ensures.capacity in
-    record {
-      far = subst (λ steps. SoFar allows allows_later offers offers_later first c.take.new.scheduler steps) (sym items)
-          (one_more allows allows_now allows_later offers offers_now offers_later first c.loop-step.scheduler c.take.new.scheduler c.loop-step.steps.items c.in-Some.step
-          (reached_at_first plan c.args.policy.mode c.args.policy.width c.len.ensures.laws c.args.policy.wide)
-          c.loop-step.invariant.far c.in-Some.ensures.next taken c.in-Some.ensures.narrows c.in_ok-take.ensures.narrows);
-      room = omega arith;
-    }
 
 pub returns-clause-course : goal.returns-clause-course
 returns-clause-course g c =
-    let allows = (goal.Chooser-dyn g c.args.chooser.now).allows c.args.chooser.now.1 in
-    let allows_now = (goal.Chooser-dyn g c.loop-step.chooser.now).allows c.loop-step.chooser.now.1 in
-    let offers = g.S.Service.offers c.args.service.now in
-    let offers_now = g.S.Service.offers c.loop-step.service in
-    let first = at_first c.args.plan.now c.args.policy.mode c.args.policy.width in
-    subst (λ done. IsFinishedBy allows offers first c.loop-step.steps.items done) (sym (c.close.ensures.state ∙ c.next_step.ensures.same))
-    (finished-by allows allows_now allows_now offers offers_now offers_now first c.loop-step.scheduler c.loop-step.scheduler c.loop-step.steps.items (step.Start 0)
-    c.loop-step.invariant.far (c.next_step.ensures.finished c.in_default.is))
-
-pub returns-clause-few_steps : goal.returns-clause-few_steps
-returns-clause-few_steps g c =
-    few-steps c.args.plan.now c.args.policy.mode c.args.policy.width
-    ((goal.Chooser-dyn g c.args.chooser.now).allows c.args.chooser.now.1) ((goal.Chooser-dyn g c.loop-step.chooser.now).allows c.loop-step.chooser.now.1)
-    (g.S.Service.offers c.args.service.now) (g.S.Service.offers c.loop-step.service)
-    c.loop-step.scheduler c.loop-step.steps.items c.loop-step.invariant.far
+    subst (λ done. IsFinishedBy ((goal.Chooser-dyn g c.args.chooser.now).allows c.args.chooser.now.1) (g.S.Service.offers c.args.service.now)
+    (at_first c.args.plan.now c.args.policy.mode c.args.policy.width) c.take_all.new.steps.items done) (sym c.close.ensures.state) c.in_ok-take_all.ensures.course
 
 pub returns-clause-dependencies_first : goal.returns-clause-dependencies_first
 returns-clause-dependencies_first g c events course = c.every_run.ensures.dependencies_first c.args.policy.mode c.args.policy.width events course.run
 
 pub returns-clause-one_result : goal.returns-clause-one_result
-returns-clause-one_result g c continues =
-    c.close.ensures.one_result (ap (λ (state : State). state.mode) c.next_step.ensures.same ∙ same-mode c.args.plan.now c.args.policy.mode c.args.policy.width
-    ((goal.Chooser-dyn g c.args.chooser.now).allows c.args.chooser.now.1) ((goal.Chooser-dyn g c.loop-step.chooser.now).allows c.loop-step.chooser.now.1)
-    (g.S.Service.offers c.args.service.now) (g.S.Service.offers c.loop-step.service)
-    c.loop-step.scheduler c.loop-step.steps.items c.loop-step.invariant.far ∙ continues)
+returns-clause-one_result g c continues = c.close.ensures.one_result (c.in_ok-take_all.ensures.mode ∙ continues)
 
 pub returns-clause-within : goal.returns-clause-within
 returns-clause-within g c =
     finished-within c.args.plan.now c.args.policy.mode c.args.policy.width ((goal.Chooser-dyn g c.args.chooser.now).allows c.args.chooser.now.1) (g.S.Service.offers c.args.service.now)
-    c.loop-step.steps.items c.close.result (returns-clause-course g c)
+    c.take_all.new.steps.items c.close.result (returns-clause-course g c)
 
 pub returns-clause-offered : goal.returns-clause-offered
 returns-clause-offered g c =
     finished-offered c.args.plan.now c.args.policy.mode c.args.policy.width ((goal.Chooser-dyn g c.args.chooser.now).allows c.args.chooser.now.1) (g.S.Service.offers c.args.service.now)
-    c.loop-step.steps.items c.close.result (returns-clause-course g c)
+    c.take_all.new.steps.items c.close.result (returns-clause-course g c)
 
 pub returns-clause-plan : goal.returns-clause-plan
 returns-clause-plan g c =
     finished-plan c.args.plan.now c.args.policy.mode c.args.policy.width ((goal.Chooser-dyn g c.args.chooser.now).allows c.args.chooser.now.1) (g.S.Service.offers c.args.service.now)
-    c.loop-step.steps.items c.close.result (returns-clause-course g c)
+    c.take_all.new.steps.items c.close.result (returns-clause-course g c)

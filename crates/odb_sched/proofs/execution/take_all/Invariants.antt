@@ -2,7 +2,7 @@ use Rattle.std.proofs.Common.{◌≤◌, ◌+◌, length}
 use Rattle.std.specs.Vec.{vec_capacity}
 use Rattle.odb_sched.specs.State.{at_first}
 use Rattle.odb_sched.proofs.CourseLemmas.{SoFar, events_left}
-use Rattle.odb_sched.proofs.execution.execute.Given as goal
+use Rattle.odb_sched.proofs.execution.take_all.Given as goal
 
 -- the steps so far, and room for those that are left
 abbrev pub invariant-loop-step : goal.invariant-loop-step
