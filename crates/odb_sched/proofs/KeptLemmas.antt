@@ -9,6 +9,7 @@ use Rattle.odb_sched.specs.declared.phase.Phase.TheVariants.{Unstarted}
 use Rattle.odb_sched.specs.declared.views.Views.{Views}
 use Rattle.odb_sched.specs.declared.scheduler.Scheduler.TheInside.{Inside}
 use Rattle.odb_sched.specs.declared.refusal.StartRefusal.{StartRefusal}
+use Rattle.odb_sched.specs.declared.refusal.ReportRefusal.{ReportRefusal}
 use Rattle.odb_sched.specs.Phases.{is_running}
 use Rattle.odb_sched.specs.State.{State, size, phase_at}
 use Rattle.odb_sched.specs.Steps.{may_start, may_report, start_refusal, report_refusal, is_finished}
@@ -26,6 +27,9 @@ may_start-some state i cause e = sym (start_refusal-may_start state i) ∙ ap is
 
 pub may_report-none : (state : State) (i : ℕ) (outcome : Outcome) → report_refusal state i outcome ≡ None → may_report state i outcome ≡ true
 may_report-none state i outcome e = sym (report_refusal-may_report state i outcome) ∙ ap is_none e
+
+pub may_report-some : (state : State) (i : ℕ) (outcome : Outcome) (cause : ReportRefusal) → report_refusal state i outcome ≡ Some cause → may_report state i outcome ≡ false
+may_report-some state i outcome cause e = sym (report_refusal-may_report state i outcome) ∙ ap is_none e
 
 -- what stood before a write is there again after a second
 pub set_back : (phases : List Phase) (i : ℕ) (before new : Phase) → get_or phases i Unstarted ≡ before → set (set phases i new) i before ≡ phases

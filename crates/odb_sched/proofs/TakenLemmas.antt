@@ -1,12 +1,14 @@
 -- The front of a list of events that a run has taken.
-use Rattle.std.proofs.Common.{◌≡◌, ℕ, ◌<◌, ◌+◌, ◌∙◌, sym, refl, ap, subst, arith, true, List, [], ◌∷◌, ◌++◌, length, All, append_assoc, append-nil, length-append}
+use Rattle.std.proofs.Common.{◌≡◌, ℕ, ◌<◌, ◌+◌, ◌∙◌, sym, refl, ap, subst, arith, true, List, [], ◌∷◌, ◌++◌, length, false, All, append_assoc, append-nil, length-append}
 use Rattle.std.proofs.lemmas.List.Elements.{All-contains, Contains-append_right}
 use Rattle.odb_sched.specs.declared.event.Event.{Event}
+use Rattle.odb_sched.specs.declared.event.Event.TheVariants as kinds
 use Rattle.odb_sched.specs.declared.refusal.RunRefusal.{RunRefusal}
 use Rattle.odb_sched.specs.declared.refusal.RunRefusal.TheVariants as refusal
 use Rattle.odb_sched.specs.State.{State, size, after}
 use Rattle.odb_sched.specs.Steps.{may_come}
 use Rattle.odb_sched.specs.Runs.{position_of, after_all, IsRunFrom, RefusesEvent, StopsAt, Refuses}
+use Rattle.odb_sched.proofs.KeptLemmas.{may_start-some, may_report-some}
 use Rattle.odb_sched.proofs.RunLemmas.{after_all-push, joined, shape-after_all}
 
 -- the events before the rest are a run that leaves this state
@@ -45,6 +47,15 @@ taken_all first events count now taken =
     let whole : events ≡ taken.before = taken.whole ∙ append-nil taken.before in
     (subst (IsRunFrom first) (sym whole) taken.run, taken.state ∙ ap (after_all first) (sym whole))
 
+-- an event with a cause against it may not come
+refused_barred : (state : State) (at : ℕ) (event : Event) (cause : RunRefusal) → RefusesEvent state at event cause → may_come state event ≡ false
+refused_barred state at (kinds.Start i) (refusal.Start place cause) refused = may_start-some state i cause refused.1
+refused_barred state at (kinds.Start i) (refusal.Report place cause) refused = absurd refused
+refused_barred state at (kinds.Start i) refusal.OutOfMemory refused = absurd refused
+refused_barred state at (kinds.Report i outcome) (refusal.Start place cause) refused = absurd refused
+refused_barred state at (kinds.Report i outcome) (refusal.Report place cause) refused = may_report-some state i outcome cause refused.1
+refused_barred state at (kinds.Report i outcome) refusal.OutOfMemory refused = absurd refused
+
 -- the next event is refused, so the list is no run
 refused_next : (first : State) (events : List Event) (event : Event) (later : List Event) (at count : ℕ) (now : State) (cause : RunRefusal) → HasTaken first events (event ∷ later) count now → at ≡ count → RefusesEvent now at event cause → StopsAt first events cause
 refused_next first events event later at count now cause taken place refused = record {
@@ -53,6 +64,7 @@ refused_next first events event later at count now cause taken place refused = r
   later = later;
   whole = taken.whole;
   run = taken.run;
+  barred = subst (λ state. may_come state event ≡ false) taken.state (refused_barred now at event cause refused);
   refused = subst (λ state. RefusesEvent state (length taken.before) event cause) taken.state (subst (λ n. RefusesEvent now n event cause) (place ∙ sym taken.counted) refused);
 }
 

@@ -1,5 +1,7 @@
 -- What is printed of a refusal.
 use Rattle.std.specs.Prelude.{◌≢◌, ℕ, List, [], codes}
+use Rattle.odb_doc.specs.declared.fault.Place.{Place}
+use Rattle.odb_doc.specs.declared.fault.Place.TheVariants as places
 use Rattle.odb_sched.specs.declared.refusal.StartRefusal.{StartRefusal}
 use Rattle.odb_sched.specs.declared.refusal.StartRefusal.TheVariants as start
 use Rattle.odb_sched.specs.declared.refusal.ReportRefusal.{ReportRefusal}
@@ -42,3 +44,8 @@ abbrev pub run_name : RunRefusal → List ℕ
 run_name (refusal.Start at cause) = start_name cause
 run_name (refusal.Report at cause) = report_name cause
 run_name refusal.OutOfMemory = []
+
+abbrev pub run_place : RunRefusal → Place
+run_place (refusal.Start at cause) = places.Event at
+run_place (refusal.Report at cause) = places.Event at
+run_place refusal.OutOfMemory = places.Events

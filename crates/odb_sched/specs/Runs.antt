@@ -77,6 +77,7 @@ pub record StopsAt (state : State) (events : List Event) (cause : RunRefusal) : 
   pub later : List Event
   pub whole : events ≡ before ++ event ∷ later
   pub run : IsRunFrom state before
+  pub barred : may_come (after_all state before) event ≡ false
   pub refused : RefusesEvent (after_all state before) (length before) event cause
 
 -- why a list of events is no run. Want of memory says nothing

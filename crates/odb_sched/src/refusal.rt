@@ -2,6 +2,7 @@ ghost use Rattle.std.specs.Prelude.{◌≡◌};
 ghost use Rattle.odb_sched.specs.declared.refusal.RunRefusal.TheVariants.{OutOfMemory};
 
 use odb_check::Need;
+use odb_doc::Place;
 use std::alloc::AllocError;
 use thiserror::Error;
 
@@ -105,7 +106,7 @@ impl ReportRefusal {
 }
 
 impl RunRefusal {
-    ghost use Rattle.odb_sched.specs.Refusals.{IsNumbered, run_code, run_name};
+    ghost use Rattle.odb_sched.specs.Refusals.{IsNumbered, run_code, run_name, run_place};
 
     /// The code of a numbered refusal, as `S4`.
     pub fn code(&self) -> &'static str
@@ -127,6 +128,17 @@ impl RunRefusal {
         match self {
             RunRefusal::Start { cause, .. } => cause.name(),
             RunRefusal::Report { cause, .. } => cause.name(),
+            RunRefusal::OutOfMemory => unreachable!(),
+        }
+    }
+
+    /// Returns the place of the event that may not come.
+    pub fn place(&self) -> Place
+        requires { IsNumbered self.now }
+        ensures { result ≡ run_place self.now }
+    {
+        match *self {
+            RunRefusal::Start { at, .. } | RunRefusal::Report { at, .. } => Place::Event(at),
             RunRefusal::OutOfMemory => unreachable!(),
         }
     }
