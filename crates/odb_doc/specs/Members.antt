@@ -1,10 +1,10 @@
--- Looking into the objects of a batch document and of a document of outcomes.
+-- Looking into the objects of a batch document and of documents of outcomes and of events.
 use Rattle.std.specs.Prelude.{◌≡◌, ◌==◌, ◌&&◌, ℕ, List, [], ◌∷◌, Option, Some, None, option_and_then, codes, bytes_eq, Bool, true, not}
 use Rattle.std.specs.List.{list_any}
 use Rattle.serde_json.specs.Data.{Data, null, object, Items, no_items, item, Members, no_members, member}
 use Rattle.serde_json.specs.Find.{get, as_str}
 use Rattle.odb_doc.specs.declared.member.Object.{Object}
-use Rattle.odb_doc.specs.declared.member.Object.TheVariants.{Document, Request, Outcomes, Outcome}
+use Rattle.odb_doc.specs.declared.member.Object.TheVariants.{Document, Request, Outcomes, Outcome, Events, Start, Report}
 
 abbrev pub list_of : Items → List Data
 list_of no_items = []
@@ -36,6 +36,9 @@ members_of Request =
     codes "id" ∷ codes "method" ∷ codes "url" ∷ codes "atomicityGroup" ∷ codes "dependsOn" ∷ codes "if" ∷ codes "headers" ∷ codes "body" ∷ []
 members_of Outcomes = codes "outcomes" ∷ []
 members_of Outcome = codes "id" ∷ codes "status" ∷ codes "headers" ∷ codes "body" ∷ []
+members_of Events = codes "events" ∷ []
+members_of Start = codes "start" ∷ []
+members_of Report = codes "report" ∷ codes "status" ∷ codes "headers" ∷ codes "body" ∷ []
 
 -- the name holds `@`
 abbrev pub is_annotation : List ℕ → Bool

@@ -1,32 +1,37 @@
--- What is moved out of an element of `outcomes` while it is read.
+-- What is moved out of an element of `outcomes`, or out of a report of `events`, while it is read.
 use Rattle.std.specs.Prelude.{◌≡◌, ℕ, List, Some, map, option_map, codes, string_bytes, String}
 use Rattle.std.specs.declared.alloc.Global.{Global}
 use Rattle.serde_json.specs.Data.{Data}
 use Rattle.serde_json.specs.Find.{get}
 use Rattle.serde_json.specs.View.{view, number_view}
+use Rattle.odb_doc.specs.declared.member.Object.{Object}
 use Rattle.odb_doc.specs.declared.member.Object.TheVariants as objects
 use Rattle.odb_doc.specs.declared.outcome.Parts.{Parts}
 use Rattle.odb_doc.specs.declared.outcome.Shape.{Shape}
 use Rattle.odb_doc.specs.Bodies.{body_of}
 use Rattle.odb_doc.specs.Headers.{HasHeaders, headers_in}
-use Rattle.odb_doc.specs.Members.{HasFurther}
-use Rattle.odb_doc.specs.Outcomes.{IsOutcomeObject, id_of, status_of}
+use Rattle.odb_doc.specs.Members.{HasFurther, text_at}
+use Rattle.odb_doc.specs.Outcomes.{HasOutcome, status_of}
 
 abbrev pub texts : List (String Global) → List (List ℕ)
 texts strings = map string_bytes strings
 
 -- the values at the four members, which alone are there
-pub record ArePartsOf (d : Data) (parts : Parts) : Type 0 where
-  pub known : ¬ HasFurther objects.Outcome d
-  pub id : option_map view parts.id ≡ get (codes "id") d
+pub record ArePartsOf (kind : Object) (name : List ℕ) (d : Data) (parts : Parts) : Type 0 where
+  pub known : ¬ HasFurther kind d
+  pub id : option_map view parts.id ≡ get name d
   pub status : option_map view parts.status ≡ get (codes "status") d
   pub headers : option_map view parts.headers ≡ get (codes "headers") d
   pub body : option_map view parts.body ≡ get (codes "body") d
 
--- the element has the shape of an outcome, and says this
-pub record IsShapeOf (d : Data) (shape : Shape) : Type 0 where
-  pub object : IsOutcomeObject d
-  pub id : id_of d ≡ Some (string_bytes shape.id)
+-- the element has the shape of an outcome with a string at this member, and says this
+pub record HasShape (kind : Object) (name : List ℕ) (d : Data) (shape : Shape) : Type 0 where
+  pub object : HasOutcome kind name d
+  pub id : text_at name d ≡ Some (string_bytes shape.id)
   pub status : status_of d ≡ Some (number_view shape.status)
   pub headers : HasHeaders d (headers_in shape.headers)
   pub body : body_of d ≡ option_map view shape.body
+
+-- the element has the shape of an outcome, and says this
+abbrev pub IsShapeOf : Data → Shape → Type 0
+IsShapeOf d shape = HasShape objects.Outcome (codes "id") d shape

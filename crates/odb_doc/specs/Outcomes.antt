@@ -6,6 +6,7 @@ use Rattle.std.specs.List.{AllZip, filter_map}
 use Rattle.serde_json.specs.Data.{Data, Num, unsigned, negative, float, Items}
 use Rattle.serde_json.specs.Find.{get, as_array, as_number}
 use Rattle.serde_json.specs.View.{view}
+use Rattle.odb_doc.specs.declared.member.Object.{Object}
 use Rattle.odb_doc.specs.declared.member.Object.TheVariants as objects
 use Rattle.odb_doc.specs.declared.outcome.Outcome.{Outcome}
 use Rattle.odb_doc.specs.Bodies.{body_of}
@@ -34,12 +35,17 @@ id_of d = text_at (codes "id") d
 abbrev pub status_of : Data → Option Num
 status_of d = option_and_then as_number (get (codes "status") d)
 
--- an object with a string `id` and a number `status`, maybe `headers` and a `body`, and no other member
-pub record IsOutcomeObject (d : Data) : Type 0 where
-  pub known : ¬ HasFurther objects.Outcome d
-  pub id : IsSome (id_of d)
+-- an object with a string at this member and a number `status`, maybe `headers` and a `body`, and no member that its
+-- kind does not have
+pub record HasOutcome (kind : Object) (name : List ℕ) (d : Data) : Type 0 where
+  pub known : ¬ HasFurther kind d
+  pub id : IsSome (text_at name d)
   pub status : IsSome (status_of d)
   pub headers : IsHeaders (get (codes "headers") d)
+
+-- an object with a string `id` and a number `status`, maybe `headers` and a `body`, and no other member
+abbrev pub IsOutcomeObject : Data → Type 0
+IsOutcomeObject d = HasOutcome objects.Outcome (codes "id") d
 
 -- a status that an outcome may have: a whole number from 200 to 599
 abbrev pub IsStatus : Num → Type 0

@@ -7,13 +7,17 @@ ghost use Rattle.odb_doc.specs.Members as spec;
 
 use serde_json::{Map, Number, Value};
 
-/// The objects of a batch document and of a document of outcomes, each with members of its own.
+/// The objects of a batch document and of documents of outcomes and of events, each with members of
+/// its own.
 #[derive(Clone, Copy)]
 pub(crate) enum Object {
     Document,
     Request,
     Outcomes,
     Outcome,
+    Events,
+    Start,
+    Report,
 }
 
 impl Object {
@@ -29,6 +33,9 @@ impl Object {
             ),
             Object::Outcomes => name == "outcomes",
             Object::Outcome => matches!(name, "id" | "status" | "headers" | "body"),
+            Object::Events => name == "events",
+            Object::Start => name == "start",
+            Object::Report => matches!(name, "report" | "status" | "headers" | "body"),
         }
     }
 

@@ -1,8 +1,8 @@
-ghost use Rattle.std.specs.Prelude.{◌≡◌, ℕ, List, false, bytes_eq, MatchOption, IfOk};
+ghost use Rattle.std.specs.Prelude.{◌≡◌, ℕ, List, false, bytes_eq, codes, MatchOption, IfOk};
 ghost use Rattle.std.specs.BTreeMap.{get_by_text};
 ghost use Rattle.serde_json.specs.View.{view};
-ghost use Rattle.odb_doc.specs.Outcomes.{IsOutcomeObject};
-ghost use Rattle.odb_doc.specs.OutcomeShapes.{ArePartsOf, IsShapeOf};
+ghost use Rattle.odb_doc.specs.Outcomes.{HasOutcome};
+ghost use Rattle.odb_doc.specs.OutcomeShapes.{ArePartsOf, HasShape};
 
 use crate::headers::headers_from;
 use crate::member::{Object, number_of, text_of, unless_null};
@@ -40,7 +40,7 @@ pub(crate) struct Shape {
 }
 
 /// The value at a member, moved out of its object, where null stays in its place.
-fn moved(members: &mut Map<String, Value>, name: &str) -> Option<Value>
+pub(crate) fn moved(members: &mut Map<String, Value>, name: &str) -> Option<Value>
     ensures value { result ≡ get_by_text members.old name.now }
     ensures others { (other : List ℕ) → bytes_eq name.now other ≡ false
         → get_by_text members.new other ≡ get_by_text members.old other }
@@ -49,16 +49,20 @@ fn moved(members: &mut Map<String, Value>, name: &str) -> Option<Value>
     Some(value.take())
 }
 
-/// The members that an outcome may have, moved out of the object, or `None` where it has another.
-fn parts_of(element: &mut Value) -> Option<Parts>
-    ensures { MatchOption result (¬ IsOutcomeObject (view element.old))
-        (ArePartsOf (view element.old)) }
+/// The members that an outcome may have, moved out of the object, or `None` where it has another. Its
+/// id stands at `name`.
+fn parts_of(kind: Object, name: &str, element: &mut Value) -> Option<Parts>
+    requires status { bytes_eq name.now (codes "status") ≡ false }
+    requires headers { bytes_eq name.now (codes "headers") ≡ false }
+    requires body { bytes_eq name.now (codes "body") ≡ false }
+    ensures { MatchOption result (¬ HasOutcome kind name.now (view element.old))
+        (ArePartsOf kind name.now (view element.old)) }
 {
-    if Object::Outcome.has_further(element) {
+    if kind.has_further(element) {
         return None;
     }
     let members = element.as_object_mut()?;
-    let id = moved(members, "id");
+    let id = moved(members, name);
     let status = moved(members, "status");
     let headers = moved(members, "headers");
     let body = moved(members, "body");
@@ -70,12 +74,21 @@ fn parts_of(element: &mut Value) -> Option<Parts>
     })
 }
 
-/// What the element says, moved out of it, or `None` where it has not the shape of an outcome.
-pub(crate) fn shape_of(alloc: Global, element: &mut Value) -> Result<Option<Shape>, AllocError>
-    ensures { IfOk result (λ found. MatchOption found (¬ IsOutcomeObject (view element.old))
-        (IsShapeOf (view element.old))) }
+/// What the element says, moved out of it, or `None` where it has not the shape of an outcome with its
+/// id at `name`.
+pub(crate) fn shape_of(
+    alloc: Global,
+    kind: Object,
+    name: &str,
+    element: &mut Value,
+) -> Result<Option<Shape>, AllocError>
+    requires status { bytes_eq name.now (codes "status") ≡ false }
+    requires headers { bytes_eq name.now (codes "headers") ≡ false }
+    requires body { bytes_eq name.now (codes "body") ≡ false }
+    ensures { IfOk result (λ found. MatchOption found (¬ HasOutcome kind name.now (view element.old))
+        (HasShape kind name.now (view element.old))) }
 {
-    let Some(parts) = parts_of(element) else {
+    let Some(parts) = parts_of(kind, name, element) else {
         return Ok(None);
     };
     let headers = headers_from(alloc, parts.headers)?;

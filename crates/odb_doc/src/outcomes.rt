@@ -112,7 +112,7 @@ fn read_outcome(
         → IsWatched seen.old before (ids (view element.old ∷ rest))
         → OnRule (IsLeastBroken before (view element.old)) broken) }
 {
-    let Some(shape) = shape_of(alloc, element)? else {
+    let Some(shape) = shape_of(alloc, Object::Outcome, "id", element)? else {
         return Err(Broken::Rule(OutcomeRule::BadOutcomes));
     };
     let status = status_in(seen, &shape)?;

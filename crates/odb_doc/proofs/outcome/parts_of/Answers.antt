@@ -9,12 +9,12 @@ returns c =
     let d = view c.args.element.now in
     let whole = c.in_ok-members.members.now in
     let object : as_object d ≡ Some (members_view whole.entries) = search rules in
-    let second = c.moved-id.ensures.others (codes "status") refl in
-    let third = c.moved-status.ensures.others (codes "headers") refl ∙ c.moved-id.ensures.others (codes "headers") refl in
-    let fourth = c.moved-headers.ensures.others (codes "body") refl ∙ c.moved-status.ensures.others (codes "body") refl ∙ c.moved-id.ensures.others (codes "body") refl in
+    let second = c.moved-id.ensures.others (codes "status") c.requires.status in
+    let third = c.moved-status.ensures.others (codes "headers") refl ∙ c.moved-id.ensures.others (codes "headers") c.requires.headers in
+    let fourth = c.moved-headers.ensures.others (codes "body") refl ∙ c.moved-status.ensures.others (codes "body") refl ∙ c.moved-id.ensures.others (codes "body") c.requires.body in
     record {
       known = search rules;
-      id = ap (option_map view) c.moved-id.ensures.value ∙ get-at (codes "id") d whole object;
+      id = ap (option_map view) c.moved-id.ensures.value ∙ get-at c.args.name.now d whole object;
       status = ap (option_map view) (c.moved-status.ensures.value ∙ second) ∙ get-at (codes "status") d whole object;
       headers = ap (option_map view) (c.moved-headers.ensures.value ∙ third) ∙ get-at (codes "headers") d whole object;
       body = ap (option_map view) (c.moved-body.ensures.value ∙ fourth) ∙ get-at (codes "body") d whole object;
