@@ -5,6 +5,7 @@ use Rattle.serde_json.specs.Data.{Data}
 use Rattle.serde_json.specs.View.{items_of, items_view, view}
 use Rattle.serde_json.specs.declared.value.Value.{Value}
 use Rattle.odb_doc.specs.Members.{list_of}
+use Rattle.odb_doc.specs.Events as events
 use Rattle.odb_doc.specs.Outcomes as outcomes
 use Rattle.odb_doc.specs.Shapes.{requests_in, elements}
 
@@ -23,3 +24,10 @@ elements-outcomes_in d vs is = rw is (list_of-items_of (map view vs))
 pub elements-array : (d : Data) (found : Option (Vec Value Global)) → option_map (λ v. items_view v.items) found ≡ outcomes.outcomes_in d → IfSome found (λ v. outcomes.elements d ≡ map view v.items)
 elements-array d None is = tt
 elements-array d (Some v) is = elements-outcomes_in d v.items (sym is)
+
+pub elements-events_in : (d : Data) (vs : List Value) → events.events_in d ≡ Some (items_view vs) → events.elements d ≡ map view vs
+elements-events_in d vs is = rw is (list_of-items_of (map view vs))
+
+pub elements-events : (d : Data) (found : Option (Vec Value Global)) → option_map (λ v. items_view v.items) found ≡ events.events_in d → IfSome found (λ v. events.elements d ≡ map view v.items)
+elements-events d None is = tt
+elements-events d (Some v) is = elements-events_in d v.items (sym is)

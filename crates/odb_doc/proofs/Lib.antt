@@ -19,3 +19,5 @@ mod RuleLemmas
 mod SetLemmas
 mod WatchLemmas
 mod RepeatLemmas
+pub mod EventLemmas
+pub mod EventListLemmas

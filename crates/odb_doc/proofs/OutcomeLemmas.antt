@@ -47,14 +47,14 @@ no_status (Some other) status is good bad = let same : other ≡ status = cc (is
 pub BreaksOutcome-good_status : (before : List (List ℕ)) (d : Data) (status : Num) → status_of d ≡ Some status → IsStatus status → ¬ BreaksOutcome BadStatus before d
 BreaksOutcome-good_status before d status is good = no_status (status_of d) status is good
 
-some_not_whole : (o : Option Data) → ¬ IfSome o IsWhole → IsSomeAnd o (λ body. ¬ IsWhole body)
+pub some_not_whole : (o : Option Data) → ¬ IfSome o IsWhole → IsSomeAnd o (λ body. ¬ IsWhole body)
 some_not_whole None none = absurd (none tt)
 some_not_whole (Some body) not_whole = not_whole
 
 pub BreaksOutcome-not_whole : (before : List (List ℕ)) (d : Data) (body : Option Data) → body_of d ≡ body → ¬ IfSome body IsWhole → BreaksOutcome NotWhole before d
 BreaksOutcome-not_whole before d body is not_whole = rw is (some_not_whole body not_whole)
 
-all_whole : (o : Option Data) → IfSome o IsWhole → IsSomeAnd o (λ body. ¬ IsWhole body) → ⊥
+pub all_whole : (o : Option Data) → IfSome o IsWhole → IsSomeAnd o (λ body. ¬ IsWhole body) → ⊥
 all_whole None whole some = some
 all_whole (Some body) whole not_whole = not_whole whole
 

@@ -23,3 +23,8 @@ pub mod LeastOutcomeFault
 pub mod OutcomeShapes
 pub mod OutcomeLists
 pub mod Watched
+pub mod Events
+pub mod EventFaults
+pub mod LeastEventFault
+pub mod EventShapes
+pub mod EventLists

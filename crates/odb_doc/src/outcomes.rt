@@ -17,7 +17,7 @@ use crate::member::{Object, array_of, member_of};
 use crate::outcome::{Outcome, Shape, shape_of};
 use crate::outcome_fault::{OutcomeFault, OutcomeRule};
 use crate::seen::SeenIds;
-use crate::whole::is_whole;
+use crate::whole::has_whole_body;
 use serde_json::{Number, Value};
 use std::alloc::Global;
 
@@ -34,7 +34,7 @@ pub struct Outcomes {
 /// program about to exit can leak it instead.
 #[derive(Drop)]
 pub struct Emptied {
-    elements: Vec<Value>,
+    pub(crate) elements: Vec<Value>,
 }
 
 /// The status, or `None` where it is no whole number from 200 to 599.
@@ -47,16 +47,6 @@ fn status_of(status: Number) -> Option<u16>
         Some(code as u16)
     } else {
         None
-    }
-}
-
-/// Whether the body, if any, holds whole numbers alone.
-fn has_whole_body(body: &Option<Value>) -> bool
-    ensures { IsTrue result ↔ IfSome (option_map view body.now) IsWhole }
-{
-    match body {
-        Some(value) => is_whole(value),
-        None => true,
     }
 }
 

@@ -1,4 +1,4 @@
-ghost use Rattle.std.specs.Prelude.{◌≡◌, ◌↔◌, false, IsTrue};
+ghost use Rattle.std.specs.Prelude.{◌≡◌, ◌↔◌, false, option_map, IsTrue, IfSome};
 ghost use Rattle.serde_json.specs.View.{view, items_view, members_view};
 ghost use Rattle.serde_json.specs.Written.{items_have_float, members_have_float};
 ghost use Rattle.odb_doc.specs.WholeNumbers.{IsWhole};
@@ -43,4 +43,14 @@ fn are_members_whole(members: &Map<String, Value>) -> bool
         }
     }
     true
+}
+
+/// Whether the body, if any, holds whole numbers alone.
+pub(crate) fn has_whole_body(body: &Option<Value>) -> bool
+    ensures { IsTrue result ↔ IfSome (option_map view body.now) IsWhole }
+{
+    match body {
+        Some(value) => is_whole(value),
+        None => true,
+    }
 }

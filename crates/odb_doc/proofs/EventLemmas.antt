@@ -1,0 +1,91 @@
+-- The rules of an event: what breaks them, and what keeps an element from breaking them.
+use Rattle.std.proofs.Common.{◌≡◌, ◌<◌, Option, None, Some, IsSome, IsNone, IsSomeAnd, IfSome, MatchOption, option_map, is_some, true, codes, String, string_bytes, refl, arith}
+use Rattle.std.specs.declared.alloc.Global.{Global}
+use Rattle.serde_json.specs.Data.{Data}
+use Rattle.serde_json.specs.Find.{get}
+use Rattle.serde_json.specs.View.{view, number_view}
+use Rattle.odb_doc.specs.declared.event_fault.EventRule.{EventRule}
+use Rattle.odb_doc.specs.declared.event_fault.EventRule.TheVariants.{NotWhole, BadEvents}
+use Rattle.odb_doc.specs.declared.member.Object.TheVariants as objects
+use Rattle.odb_doc.specs.declared.outcome.Shape.{Shape}
+use Rattle.odb_doc.specs.Bodies.{body_of}
+use Rattle.odb_doc.specs.EventFaults.{rule_number}
+use Rattle.odb_doc.specs.Events.{IsEventBy, IsReport, IsReportedStatus, IsStart}
+use Rattle.odb_doc.specs.EventShapes.{IsReportOf}
+use Rattle.odb_doc.specs.LeastEventFault.{BreaksEvent, HasBrokenNumber, IsLeastBroken}
+use Rattle.odb_doc.specs.Members.{HasFurther, text_at}
+use Rattle.odb_doc.specs.WholeNumbers.{IsWhole}
+use Rattle.odb_doc.proofs.OutcomeLemmas.{some_not_whole, all_whole}
+
+-- what is broken by an element with a smaller number than F64 is that its body holds a number that is not whole
+number_before : (d : Data) (other : EventRule) → rule_number other < 64 → BreaksEvent other d → HasBrokenNumber d
+number_before d NotWhole less broken = broken
+number_before d BadEvents less broken = absurd (omega arith)
+
+none_before : (d : Data) (other : EventRule) → rule_number other < 63 → ¬ BreaksEvent other d
+none_before d NotWhole less = absurd (omega arith)
+none_before d BadEvents less = absurd (omega arith)
+
+-- ---- starts
+
+not_some : {T : Type 0} (o : Option T) → o ≡ None → ¬ IsSome o
+not_some None is = λ some. absurd (cc (some))
+not_some (Some x) is = absurd (cc (is))
+
+-- a start is what has a string at `start` and nothing else
+pub start-from : (d : Data) (found : Option (String Global)) → ¬ HasFurther objects.Start d → text_at (codes "start") d ≡ option_map string_bytes found
+    → MatchOption found (¬ IsStart d) (λ id. IsStart d × (text_at (codes "start") d ≡ Some (string_bytes id)))
+start-from d None one is = λ start. not_some (text_at (codes "start") d) is start.id
+start-from d (Some id) one is = (record { one = one; id = rw is refl }, is)
+
+event-start : (start : Option Data) (d : Data) → is_some start ≡ true → IsStart d → IsEventBy start d
+event-start None d there is = absurd (cc (there))
+event-start (Some start) d there is = is
+
+no_event-start : (start : Option Data) (d : Data) → is_some start ≡ true → ¬ IsStart d → ¬ IsEventBy start d
+no_event-start None d there none = absurd (cc (there))
+no_event-start (Some start) d there none = none
+
+not_none : (start : Option Data) → is_some start ≡ true → ¬ IsNone start
+not_none None there = absurd (cc (there))
+not_none (Some start) there = λ none. absurd (cc (none))
+
+pub start-sound : (d : Data) → is_some (get (codes "start") d) ≡ true → IsStart d → (rule : EventRule) → ¬ BreaksEvent rule d
+start-sound d there start NotWhole = λ broken. not_none (get (codes "start") d) there broken.reports
+start-sound d there start BadEvents = λ bad. bad (event-start (get (codes "start") d) d there start)
+
+pub start-bad : (d : Data) → is_some (get (codes "start") d) ≡ true → ¬ IsStart d → IsLeastBroken d BadEvents
+start-bad d there none = record {
+  broken = no_event-start (get (codes "start") d) d there none;
+  least = λ other less broken. not_none (get (codes "start") d) there (number_before d other less broken).reports;
+}
+
+-- ---- reports
+
+pub not_report-bad : (d : Data) → get (codes "start") d ≡ None → ¬ IsReport d → IsLeastBroken d BadEvents
+not_report-bad d reports none = record {
+  broken = rw reports none;
+  least = λ other less broken. none (number_before d other less broken).report;
+}
+
+pub report-of : (d : Data) (shape : Shape) → IsReportOf d shape → IsReportedStatus (number_view shape.status) → IsReport d
+report-of d shape is status = record { outcome = is.says.object; status = rw is.says.status status }
+
+pub status-bad : (d : Data) (shape : Shape) → IsReportOf d shape → ¬ IsReportedStatus (number_view shape.status) → IsLeastBroken d BadEvents
+status-bad d shape is bad = not_report-bad d is.reports (λ report. bad (rw is.says.status at report.status))
+
+some_not_whole-of : (body read : Option Data) → body ≡ read → ¬ IfSome read IsWhole → IsSomeAnd body (λ d. ¬ IsWhole d)
+some_not_whole-of body read is not_whole = rw is (some_not_whole read not_whole)
+
+all_whole-of : (body read : Option Data) → body ≡ read → IfSome read IsWhole → IsSomeAnd body (λ d. ¬ IsWhole d) → ⊥
+all_whole-of body read is whole = rw is (all_whole read whole)
+
+pub report-not_whole : (d : Data) (shape : Shape) → IsReportOf d shape → IsReportedStatus (number_view shape.status) → ¬ IfSome (option_map view shape.body) IsWhole → IsLeastBroken d NotWhole
+report-not_whole d shape is status body = record {
+  broken = record { reports = rw is.reports refl; report = report-of d shape is status; body = some_not_whole-of (body_of d) (option_map view shape.body) is.says.body body };
+  least = λ other less broken. none_before d other less broken;
+}
+
+pub report-sound : (d : Data) (shape : Shape) → IsReportOf d shape → IsReportedStatus (number_view shape.status) → IfSome (option_map view shape.body) IsWhole → (rule : EventRule) → ¬ BreaksEvent rule d
+report-sound d shape is status whole NotWhole = λ broken. all_whole-of (body_of d) (option_map view shape.body) is.says.body whole broken.body
+report-sound d shape is status whole BadEvents = λ bad. bad (rw is.reports (report-of d shape is status))

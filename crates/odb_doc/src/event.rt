@@ -1,0 +1,134 @@
+ghost use Rattle.std.specs.Prelude.{◌≡◌, IfSome, MatchOption, IfOk, IfErr, OnOk, None, Some, is_some, option_map, codes, string_bytes};
+ghost use Rattle.serde_json.specs.Data.{Data, unsigned};
+ghost use Rattle.serde_json.specs.Find.{get};
+ghost use Rattle.serde_json.specs.View.{view, number_view};
+ghost use Rattle.odb_doc.specs.declared.event.NamedEvent.TheVariants.{Report};
+ghost use Rattle.odb_doc.specs.declared.event_fault.EventRule.{EventRule};
+ghost use Rattle.odb_doc.specs.BrokenRules.{OnRule};
+ghost use Rattle.odb_doc.specs.EventShapes.{IsReportOf};
+ghost use Rattle.odb_doc.specs.Events.{IsReportedStatus, IsSoundEvent, IsStart, Says};
+ghost use Rattle.odb_doc.specs.LeastEventFault.{BreaksEvent, IsLeastBroken};
+ghost use Rattle.odb_doc.specs.Members as members;
+ghost use Rattle.odb_doc.specs.WholeNumbers.{IsWhole};
+
+use crate::broken::Broken;
+use crate::event_fault::EventRule;
+use crate::member::{Object, text_of};
+use crate::outcome::{Outcome, Shape, moved, shape_of};
+use crate::whole::has_whole_body;
+use serde_json::{Number, Value};
+use std::alloc::Global;
+
+/// An event of a run, which names its request by the id.
+#[derive(Debug, Drop)]
+pub enum NamedEvent {
+    /// The request was handed to its service.
+    Start(String),
+    /// The service answered so. The status is any number of 16 bits.
+    Report(String, Outcome),
+}
+
+/// The status, or `None` where it is no whole number of 16 bits.
+fn status_of(status: Number) -> Option<u16>
+    ensures { MatchOption result (¬ IsReportedStatus (number_view status))
+        (λ code. IsReportedStatus (number_view status) × (number_view status ≡ unsigned code)) }
+{
+    let code = status.as_u64()?;
+    if code <= 65_535 {
+        Some(code as u16)
+    } else {
+        None
+    }
+}
+
+/// The id of a start, moved out of it, or `None` where the element is none.
+fn start_of(element: &mut Value) -> Option<String>
+    ensures { MatchOption result (¬ IsStart (view element.old))
+        (λ id. IsStart (view element.old)
+        × (members.text_at (codes "start") (view element.old) ≡ Some (string_bytes id))) }
+{
+    if Object::Start.has_further(element) {
+        return None;
+    }
+    text_of(moved(element.as_object_mut()?, "start")?)
+}
+
+/// The status of a report of this shape, or the rule that the report breaks.
+fn status_in(shape: &Shape) -> Result<u16, EventRule>
+    ensures status { IfOk result (λ code. number_view shape.now.status ≡ unsigned code) }
+    ensures whole { OnOk result (IfSome (option_map view shape.now.body) IsWhole) }
+    ensures sound { OnOk result ((d : Data) → IsReportOf d shape.now
+        → (rule : EventRule) → ¬ BreaksEvent rule d) }
+    ensures first { IfErr result (λ rule. (d : Data) → IsReportOf d shape.now
+        → IsLeastBroken d rule) }
+{
+    let Some(status) = status_of(shape.status) else {
+        return Err(EventRule::BadEvents);
+    };
+    if has_whole_body(&shape.body) {
+        Ok(status)
+    } else {
+        Err(EventRule::NotWhole)
+    }
+}
+
+/// What an element without a `start` says, moved out of it, or the rule that it breaks.
+fn read_report(alloc: Global, element: &mut Value) -> Result<NamedEvent, Broken<EventRule>>
+    requires { get (codes "start") (view element.old) ≡ None }
+    ensures sound { OnOk result ((rule : EventRule) → ¬ BreaksEvent rule (view element.old)) }
+    ensures says { IfOk result (Says (view element.old)) }
+    ensures fit { IfOk result IsSoundEvent }
+    ensures first { IfErr result (OnRule (IsLeastBroken (view element.old))) }
+{
+    let Some(shape) = shape_of(alloc, Object::Report, "report", element)? else {
+        return Err(Broken::Rule(EventRule::BadEvents));
+    };
+    match status_in(&shape) {
+        Ok(status) => Ok(reported(shape, status)),
+        Err(rule) => Err(Broken::Rule(rule)),
+    }
+}
+
+/// The report of this shape.
+fn reported(shape: Shape, status: u16) -> NamedEvent
+    ensures { result ≡ Report shape.id (record {
+      status = status;
+      headers = shape.headers;
+      body = shape.body;
+    }) }
+{
+    NamedEvent::Report(
+        shape.id,
+        Outcome {
+            status,
+            headers: shape.headers,
+            body: shape.body,
+        },
+    )
+}
+
+/// Whether the element has a member `start`.
+fn has_start(element: &Value) -> bool
+    ensures { result ≡ is_some (get (codes "start") (view element.now)) }
+{
+    element.get("start").is_some()
+}
+
+/// What an element says, moved out of it, or the rule that it breaks.
+pub(crate) fn read_event(
+    alloc: Global,
+    element: &mut Value,
+) -> Result<NamedEvent, Broken<EventRule>>
+    ensures sound { OnOk result ((rule : EventRule) → ¬ BreaksEvent rule (view element.old)) }
+    ensures says { IfOk result (Says (view element.old)) }
+    ensures fit { IfOk result IsSoundEvent }
+    ensures first { IfErr result (OnRule (IsLeastBroken (view element.old))) }
+{
+    if !has_start(element) {
+        return read_report(alloc, element);
+    }
+    match start_of(element) {
+        Some(id) => Ok(NamedEvent::Start(id)),
+        None => Err(Broken::Rule(EventRule::BadEvents)),
+    }
+}

@@ -1,0 +1,128 @@
+ghost use Rattle.std.specs.Prelude.{◌≡◌, ◌<◌, length, slice_get, Some, map, IfSome, IfNone, OnSome, IfOk, IfErr, OnOk, All};
+ghost use Rattle.std.specs.List.{AllZip};
+ghost use Rattle.std.proofs.Props.{props};
+ghost use Rattle.serde_json.specs.View.{view};
+ghost use Rattle.odb_doc.specs.Events.{AreEventsOf, IsEventsObject, IsSoundEvent, Says, elements};
+ghost use Rattle.odb_doc.specs.LeastEventFault.{AreEvents, IsEventsDocument, RefusesElements, RefusesEvents, fault_at};
+
+use crate::broken::Broken;
+use crate::event::{NamedEvent, read_event};
+use crate::event_fault::{EventFault, EventRule};
+use crate::member::{Object, array_of, member_of};
+use crate::outcomes::Emptied;
+use serde_json::Value;
+use std::alloc::Global;
+
+/// Recorded events of a run, in the order of their document. Each body holds whole numbers alone.
+#[derive(Debug, Drop)]
+pub struct Events {
+    entries: Vec<NamedEvent>,
+    ghost sound: { All IsSoundEvent entries.items } by { Prim.hlevel props },
+}
+
+/// The fault of the element at a position.
+fn fault_at(at: usize, broken: Broken<EventRule>) -> EventFault
+    ensures { result ≡ fault_at at broken }
+{
+    match broken {
+        Broken::Rule(rule) => EventFault::Event { at, rule },
+        Broken::OutOfMemory => EventFault::OutOfMemory,
+    }
+}
+
+/// The events that the elements say, moved out of them, or the first fault among them.
+fn events_from(alloc: Global, elements: &mut Vec<Value>) -> Result<Vec<NamedEvent>, EventFault>
+    ensures sound { OnOk result (AreEvents (map view elements.old.items)) }
+    ensures says { IfOk result (λ found. AllZip Says (map view elements.old.items) found.items) }
+    ensures fit { IfOk result (λ found. All IsSoundEvent found.items) }
+    ensures first { IfErr result (λ fault. RefusesElements fault (map view elements.old.items)) }
+{
+    let mut entries = Vec::with_capacity(alloc, elements.len())?;
+    for element in elements {
+        match read_event(alloc, element) {
+            Ok(event) => entries.push(event)?,
+            Err(broken) => return Err(fault_at(entries.len(), broken)),
+        }
+    }
+    Ok(entries)
+}
+
+/// The array that is the one member of the document, moved out of it.
+fn elements_of(document: Value) -> Option<Vec<Value>>
+    ensures none { IfNone result (¬ IsEventsObject (view document)) }
+    ensures object { OnSome result (IsEventsObject (view document)) }
+    ensures elements { IfSome result (λ found. elements (view document) ≡ map view found.items) }
+{
+    if Object::Events.has_further(&document) {
+        return None;
+    }
+    array_of(member_of(document, "events")?)
+}
+
+impl Events {
+    ghost use Rattle.odb_doc.specs.EventLists.{entries};
+
+    /// Reads the events of a document: an object whose one member is `events`, an array of starts,
+    /// `{"start":"a"}`, and of reports, `{"report":"a","status":200,"headers":{..},"body":..}`.
+    ///
+    /// `document` is the value that [`crate::parse`] made. Its ids, headers and bodies are moved out of
+    /// it; `alloc` is asked for the list of events and for the maps of their headers. The ids need not
+    /// be identifiers of requests, and a status may be any whole number from 0 to 65535. It takes time
+    /// linear in the document.
+    ///
+    /// # Errors
+    ///
+    /// `Document`, which is F64 of the whole, if the document is not such an object; else F63 or F64 of
+    /// the first element that has one. `OutOfMemory` if memory was refused, in place of any of them.
+    pub fn read(alloc: Global, document: Value) -> Result<Events, EventFault>
+        ensures good { OnOk result (IsEventsDocument (view document)) }
+        ensures events { IfOk result (λ events. AreEventsOf (view document) (entries events)) }
+        ensures least { IfErr result (λ fault. RefusesEvents fault (view document)) }
+    {
+        let (events, _emptied) = Events::split(alloc, document)?;
+        Ok(events)
+    }
+
+    /// Reads the events of a document, as [`Events::read`] does, and returns what remains of it too.
+    ///
+    /// # Errors
+    ///
+    /// Those of [`Events::read`]. Nothing remains of the document then.
+    pub fn split(alloc: Global, document: Value) -> Result<(Events, Emptied), EventFault>
+        ensures good { OnOk result (IsEventsDocument (view document)) }
+        ensures events { IfOk result (λ parts. AreEventsOf (view document) (entries parts.0)) }
+        ensures least { IfErr result (λ fault. RefusesEvents fault (view document)) }
+    {
+        let Some(mut elements) = elements_of(document) else {
+            return Err(EventFault::Document);
+        };
+        let entries = events_from(alloc, &mut elements)?;
+        Ok((Events { entries }, Emptied { elements }))
+    }
+
+    /// Returns how many events there are.
+    pub fn len(&self) -> usize
+        ensures count { result ≡ length (entries self.now) }
+        ensures sound { All IsSoundEvent (entries self.now) }
+    {
+        self.entries.len()
+    }
+
+    /// Returns the event at a position, counted from 0.
+    pub fn entry(&self, k: usize) -> &NamedEvent
+        requires { k < length (entries self.now) }
+        ensures value { slice_get (entries self.now) k ≡ Some result.now }
+        ensures sound { IsSoundEvent result.now }
+    {
+        &self.entries[k]
+    }
+
+    /// Returns the events in the order of the document. It takes no memory.
+    pub fn into_vec(self) -> Vec<NamedEvent>
+        ensures value { result.items ≡ entries self }
+        ensures sound { All IsSoundEvent (entries self) }
+    {
+        let Events { entries } = self;
+        entries
+    }
+}
