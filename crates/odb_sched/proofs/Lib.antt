@@ -33,3 +33,4 @@ pub mod ChoiceLemmas
 pub mod CourseLemmas
 pub mod RecordedLemmas
 pub mod OrderLemmas
+pub mod ResolveLemmas

@@ -3,14 +3,14 @@ use Rattle.std.proofs.Common.{◌≡◌, ℕ, zero, suc, ◌<◌, ◌∙◌, ap,
 use Rattle.std.proofs.lemmas.Bool.{cases_eq, cases_lt, true≢false, false_from_ne_true}
 use Rattle.std.proofs.lemmas.List.{length-set, length-map}
 use Rattle.std.proofs.Math.Seq.{take-append_seam}
-use Rattle.std.proofs.lemmas.Option.{slice_get-map, unwrap_or-slice_get}
+use Rattle.std.proofs.lemmas.Option.{slice_get-map, slice_get_past, unwrap_or-slice_get}
 use Rattle.std.proofs.lemmas.Slice.Eq.{bytes_eq-Decides}
 use Rattle.odb_doc.specs.declared.outcome.Outcome.{Outcome}
 use Rattle.odb_doc.specs.Records.{Record}
 use Rattle.odb_check.specs.declared.fault.NameRule.TheVariants as rules
 use Rattle.odb_check.specs.Firsts.{first_below, or_else, is_text}
 use Rattle.odb_check.specs.LeastNameFault.{HasGoodNames}
-use Rattle.odb_check.specs.Positions.{id_at, IsIdBefore}
+use Rattle.odb_check.specs.Positions.{id_at, IsId, IsIdBefore}
 use Rattle.odb_check.specs.Units.{position_of}
 use Rattle.odb_sched.specs.Recordings.{outcome_for, recorded_for, noted_at}
 
@@ -138,6 +138,20 @@ recorded-more batch id outcome rest good = at (position_of batch id) refl
 
 pub position-within : (batch : List Record) (id : List ℕ) (i : ℕ) → position_of batch id ≡ Some i → i < length batch
 position-within batch id i found = (first_passes (length batch) (λ j. is_text id (id_at batch j)) i found).0
+
+-- what is found has the identifier
+pub position-is : (batch : List Record) (id : List ℕ) (i : ℕ) → position_of batch id ≡ Some i → id_at batch i ≡ Some id
+position-is batch id i found = is_text-same id (id_at batch i) (first_passes (length batch) (λ j. is_text id (id_at batch j)) i found).1
+
+-- where nothing is found, it is no identifier
+pub position-none : (batch : List Record) (id : List ℕ) → position_of batch id ≡ None → ¬ IsId batch id
+position-none batch id none is =
+    let (j, here) = is in
+    let passes : is_text id (id_at batch j) ≡ true = ap (is_text id) here ∙ (bytes_eq-Decides id id).1 refl in
+    elim (cases_lt j (length batch)) [
+      | inl within ↦ true≢false (sym passes ∙ first_none (length batch) (λ j. is_text id (id_at batch j)) none j within)
+      | inr past ↦ true≢false (sym (ap is_some here) ∙ ap (λ found. is_some (option_map (λ r. r.id) found)) (slice_get_past batch j past))
+    ]
 
 -- the last of all entries are noted, and the others are left
 pub record AreNoted (batch : List Record) (all left : List (List ℕ × Outcome)) (outcomes : List (Option Outcome)) : Type 0 where

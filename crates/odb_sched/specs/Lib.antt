@@ -24,3 +24,5 @@ pub mod Recordings
 pub mod ExecFaults
 pub mod Advances
 pub mod Orders
+pub mod Resolving
+pub mod ResolveFaults

@@ -3,7 +3,8 @@
 //! A [`Scheduler`] drives one run of a plan (OData JSON Format 4.01, sections 19.1 and 19.4; OData
 //! Protocol 4.01, section 11.7). It is told which requests were started and what they reported, and
 //! refuses what may not come. It calls no service, and decides no order beyond what the requests
-//! depend on. [`run`] takes a whole list of events, and [`execute`] runs a plan to its end: a
+//! depend on. [`run`] takes a whole list of events, which [`resolve`] makes of recorded ones, and
+//! [`execute`] runs a plan to its end: a
 //! [`Chooser`] decides the order, step by step or by an [`Order`] that it names, and a [`Service`]
 //! performs the requests, as [`Recorded`] does by the outcomes of a record. A finished run is [`Done`]
 //! and has the answers (section 19.5). What holds of every run is said in [`laws`].
@@ -23,6 +24,7 @@ mod phase;
 mod policy;
 mod recorded;
 mod refusal;
+mod resolving;
 mod scheduler;
 mod service;
 mod shape;
@@ -42,6 +44,7 @@ pub use order::Order;
 pub use policy::{Mode, Policy};
 pub use recorded::Recorded;
 pub use refusal::{ReportRefusal, RunRefusal, StartRefusal};
+pub use resolving::{ResolveFault, resolve};
 pub use scheduler::Scheduler;
 pub use service::{Service, ServiceFault};
 pub use step::Step;

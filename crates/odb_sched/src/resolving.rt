@@ -1,0 +1,126 @@
+ghost use Rattle.std.specs.Prelude.{◌≡◌, ◌<◌, List, length, Some, All, IfOk, IfErr, OnOk};
+ghost use Rattle.std.specs.List.{AllZip};
+ghost use Rattle.odb_doc.specs.EventLists.{entries};
+ghost use Rattle.odb_doc.specs.Records.{Record};
+ghost use Rattle.odb_check.specs.Plans.{plan_records};
+ghost use Rattle.odb_check.specs.Positions.{id_at};
+ghost use Rattle.odb_sched.specs.declared.resolving.ResolveFault.TheVariants.{OutOfMemory};
+ghost use Rattle.odb_sched.specs.Resolving.{IsKnown, IsResolved, RefusesNamed, named_id};
+ghost use Rattle.odb_sched.specs.Runs.{position_of};
+
+use crate::event::Event;
+use odb_check::Plan;
+use odb_doc::{Events, NamedEvent, Place};
+use std::alloc::{AllocError, AllocFailed, Global};
+use thiserror::Error;
+
+/// Why events that name requests by their ids are none of a batch.
+#[derive(Clone, Copy, Debug, PartialEq, Eq, Error)]
+pub enum ResolveFault {
+    /// F65: the event at this place, counted from 0, names no request of the batch.
+    #[error("event {at}: the batch has no such request")]
+    UnknownEvent { at: usize },
+    /// Memory was refused. That says nothing of the events.
+    #[error("out of memory")]
+    OutOfMemory,
+}
+
+impl ResolveFault {
+    ghost use Rattle.odb_sched.specs.ResolveFaults.{IsNumbered, fault_code, fault_name, fault_place};
+
+    /// Returns the code of a numbered fault, which is `F65`.
+    pub fn code(&self) -> &'static str
+        requires { IsNumbered self.now }
+        ensures { result.now ≡ fault_code self.now }
+    {
+        match self {
+            ResolveFault::UnknownEvent { .. } => "F65",
+            ResolveFault::OutOfMemory => unreachable!(),
+        }
+    }
+
+    /// Returns the name of a numbered fault, which is `UnknownEvent`.
+    pub fn name(&self) -> &'static str
+        requires { IsNumbered self.now }
+        ensures { result.now ≡ fault_name self.now }
+    {
+        match self {
+            ResolveFault::UnknownEvent { .. } => "UnknownEvent",
+            ResolveFault::OutOfMemory => unreachable!(),
+        }
+    }
+
+    /// Returns the place of the event.
+    pub fn place(&self) -> Place
+        requires { IsNumbered self.now }
+        ensures { result ≡ fault_place self.now }
+    {
+        match *self {
+            ResolveFault::UnknownEvent { at } => Place::Event(at),
+            ResolveFault::OutOfMemory => unreachable!(),
+        }
+    }
+}
+
+impl From<AllocError> for ResolveFault {
+    ghost from_gives = { λ _ fault. fault ≡ OutOfMemory };
+
+    fn from(_error: AllocError) -> Self {
+        ResolveFault::OutOfMemory
+    }
+}
+
+impl<T: Drop> From<AllocFailed<T>> for ResolveFault {
+    ghost from_gives = { λ _ fault. fault ≡ OutOfMemory };
+
+    fn from(_error: AllocFailed<T>) -> Self {
+        ResolveFault::OutOfMemory
+    }
+}
+
+/// Returns the id that the event names.
+fn id_of(event: &NamedEvent) -> &str
+    ensures { result.now ≡ named_id event.now }
+{
+    match event {
+        NamedEvent::Start(id) | NamedEvent::Report(id, _) => id.as_str(),
+    }
+}
+
+/// Returns the event at the position of its request.
+fn at_position(event: NamedEvent, i: u32) -> Event
+    ensures place { position_of result ≡ i }
+    ensures same { (batch : List Record) → id_at batch i ≡ Some (named_id event)
+        → IsResolved batch event result }
+{
+    match event {
+        NamedEvent::Start(_) => Event::Start(i),
+        NamedEvent::Report(_, outcome) => Event::Report(i, outcome),
+    }
+}
+
+/// Returns the events by the positions of their requests, in their order. The outcomes are moved.
+///
+/// It takes time linear in the number of events.
+///
+/// # Errors
+///
+/// F65 of the first event whose id is no id of the plan; `OutOfMemory` if memory was refused.
+pub fn resolve(alloc: Global, plan: &Plan<'_>, events: Events) -> Result<Vec<Event>, ResolveFault>
+    ensures known { OnOk result (All (IsKnown (plan_records plan.now)) (entries events)) }
+    ensures events { IfOk result (λ found. AllZip (IsResolved (plan_records plan.now))
+        (entries events) found.items) }
+    ensures within { IfOk result (λ found. All (λ event. position_of event
+        < length (plan_records plan.now)) found.items) }
+    ensures least { IfErr result (λ fault. RefusesNamed fault (plan_records plan.now)
+        (entries events)) }
+{
+    let mut found = Vec::with_capacity(alloc, events.len())?;
+    for event in events.into_vec() {
+        match plan.position_of(id_of(&event)) {
+            Some(i) => found.push(at_position(event, i))?,
+            None => return Err(ResolveFault::UnknownEvent { at: found.len() }),
+        }
+    }
+    Ok(found)
+}
