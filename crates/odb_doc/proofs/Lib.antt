@@ -1,5 +1,6 @@
 mod BatchLemmas
 mod BlankLemmas
+mod CanonicalLemmas
 mod DistinctLemmas
 mod ElementLemmas
 mod FaultLemmas
@@ -8,6 +9,7 @@ mod HeaderLemmas
 mod ListedLemmas
 mod MovedHeaders
 mod PartLemmas
+mod QuoteLemmas
 mod MemberLemmas
 pub mod NameLemmas
 mod OneHeaders

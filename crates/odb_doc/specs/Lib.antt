@@ -16,6 +16,9 @@ pub mod Lines
 pub mod Records
 pub mod Batches
 pub mod WholeNumbers
+pub mod Canonical
+pub mod CanonicalParts
+pub mod Quoting
 pub mod TextFaults
 pub mod OutcomeFaults
 pub mod Outcomes

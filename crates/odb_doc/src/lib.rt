@@ -3,7 +3,8 @@
 //! A batch comes as a JSON document (OData JSON Format 4.01, section 19.1). [`parse`] makes a value
 //! of its bytes, and [`Batch::read`] makes the batch of that value, or tells the least fault of its
 //! shape. Whether the names that requests give each other fit together is decided by the crates
-//! above. [`Outcomes::read`] makes recorded outcomes of the value of a document of their own, and
+//! above. [`Batch::canonical`] returns the one text of all documents that make the same batch.
+//! [`Outcomes::read`] makes recorded outcomes of the value of a document of their own, and
 //! [`Outcomes::split`] hands back what is left of it besides: an [`Outcome`] is what a request ended
 //! with. [`is_whole`] says which values may be written.
 //! [`Input`] and [`Output`] are a reader and a writer that remember whether they failed.
@@ -12,6 +13,7 @@
 mod batch;
 mod body;
 mod broken;
+mod canonical;
 mod depends_on;
 mod device;
 mod document;
@@ -27,6 +29,8 @@ mod member;
 mod outcome;
 mod outcome_fault;
 mod outcomes;
+mod parts;
+mod quoting;
 mod reference;
 mod repeats;
 mod request;

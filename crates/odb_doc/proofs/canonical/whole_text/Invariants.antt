@@ -1,0 +1,9 @@
+use Rattle.std.proofs.Common.{◌≡◌, ◌++◌, string_bytes}
+use Rattle.odb_doc.specs.Batches.{records}
+use Rattle.odb_doc.specs.Canonical.{canonical_text}
+use Rattle.odb_doc.specs.CanonicalParts.{requests_left}
+use Rattle.odb_doc.proofs.canonical.whole_text.Given as goal
+
+-- the text so far, and then the requests that are left, are the whole
+abbrev pub invariant-loop-i : goal.invariant-loop-i
+invariant-loop-i l = string_bytes l.text ++ requests_left (records l.batch) l.i ≡ canonical_text (records l.batch)

@@ -1,0 +1,6 @@
+-- Which bytes stand in a JSON string as they are (RFC 8259, section 7).
+use Rattle.std.specs.Prelude.{◌==◌, ◌&&◌, ℕ, Bool, not, nat_le}
+
+-- neither a control character, nor `"`, nor `\`
+abbrev pub is_plain : ℕ → Bool
+is_plain byte = nat_le 32 byte && not (byte == 34) && not (byte == 92)

@@ -1,0 +1,81 @@
+ghost use Rattle.std.specs.Prelude.{◌≡◌, ◌<◌, ◌+◌, ◌++◌, ◌↔◌, ℕ, None, codes, length, option_map, string_bytes, IsTrue, IfOk, IfSome, OnOk};
+ghost use Rattle.serde_json.specs.View.{view};
+ghost use Rattle.odb_doc.specs.declared.fault.TextFault.TheVariants as faults;
+ghost use Rattle.odb_doc.specs.Batches.{records};
+ghost use Rattle.odb_doc.specs.Canonical.{HasWholeBodies, IsFirstNotWhole, canonical_text};
+ghost use Rattle.odb_doc.specs.Records.{record_of};
+ghost use Rattle.odb_doc.specs.WholeNumbers.{HasWholeBody};
+
+use crate::batch::Batch;
+use crate::fault::TextFault;
+use crate::parts::push_request;
+use crate::request::Request;
+use crate::whole::is_whole;
+use std::alloc::{AllocError, Global};
+
+/// The capacity for each request: enough for a short one.
+const ROOM_BYTES: usize = 128;
+
+/// Returns whether each number in the body of a request is whole.
+fn has_whole_body(request: &Request<'_>) -> bool
+    ensures { IsTrue result ↔ HasWholeBody (option_map (λ body. view body.now) request.now.body) }
+{
+    match request.body {
+        Some(body) => is_whole(body),
+        None => true,
+    }
+}
+
+/// Returns the first request whose body holds a number that is not whole.
+fn first_not_whole(batch: &Batch<'_>) -> Option<u32>
+    ensures first { IfSome result (IsFirstNotWhole (records batch.now)) }
+    ensures none { result ≡ None → HasWholeBodies (records batch.now) }
+{
+    for i in 0..batch.len() {
+        if !has_whole_body(batch.request(i)) {
+            return Some(i);
+        }
+    }
+    None
+}
+
+/// Returns the canonical text of a batch whose bodies hold whole numbers alone.
+fn whole_text(alloc: Global, batch: &Batch<'_>) -> Result<String, AllocError>
+    requires { HasWholeBodies (records batch.now) }
+    ensures { IfOk result (λ text. string_bytes text ≡ canonical_text (records batch.now)) }
+{
+    let count = batch.len();
+    let mut text = String::with_capacity(alloc, ROOM_BYTES * (count as usize))?;
+    text.push_str("{\"requests\":[")?;
+    for i in 0..count {
+        push_request(alloc, &mut text, batch, i)?;
+    }
+    text.push_str("]}")?;
+    Ok(text)
+}
+
+impl Batch<'_> {
+    /// Returns the canonical text of the batch: compact JSON, in which each request has its members in
+    /// byte order (OData JSON Format 4.01, section 19.1).
+    ///
+    /// Batches with the same requests have the same text, whatever their documents look like: what
+    /// counts as absent is left out, methods and the names of headers are in lower case, and each
+    /// name of `dependsOn` stands once. No newline ends it.
+    ///
+    /// Allocates the text, and the text of one body at a time. It takes O(n) for a text of n bytes.
+    ///
+    /// # Errors
+    ///
+    /// `NotWhole` if and only if a body holds a number that is not whole, with the first such
+    /// request; else `OutOfMemory` if an allocation fails.
+    pub fn canonical(&self, alloc: Global) -> Result<String, TextFault>
+        ensures text { IfOk result (λ text. string_bytes text ≡ canonical_text (records self.now)) }
+        ensures not_whole { (at : ℕ) → (result ≡ Err (faults.NotWhole at))
+            ↔ IsFirstNotWhole (records self.now) at }
+    {
+        if let Some(at) = first_not_whole(self) {
+            return Err(TextFault::NotWhole { at: at as usize });
+        }
+        Ok(whole_text(alloc, self)?)
+    }
+}
