@@ -1,4 +1,6 @@
-ghost use Rattle.std.specs.Prelude.{IfOk, IfErr};
+ghost use Rattle.std.specs.Prelude.{◌≤◌, IfOk, IfErr};
+ghost use Rattle.serde_json.specs.Data.{depth};
+ghost use Rattle.serde_json.specs.Read.{max_depth};
 ghost use Rattle.serde_json.specs.View.{view};
 ghost use Rattle.odb_doc.specs.Documents.{IsDocument, RefusesDocument};
 
@@ -9,7 +11,7 @@ use std::alloc::Global;
 /// How many bytes a document may have.
 pub const MAX_DOCUMENT_BYTES: usize = 16_777_216;
 
-/// The JSON value of a document.
+/// The JSON value of a document. It nests at most 127 deep.
 ///
 /// # Errors
 ///
@@ -17,6 +19,7 @@ pub const MAX_DOCUMENT_BYTES: usize = 16_777_216;
 /// another cause than memory; `OutOfMemory` where memory was refused.
 pub fn parse(alloc: Global, bytes: &[u8]) -> Result<Value, DocFault>
     ensures ok { IfOk result (λ value. IsDocument bytes.now (view value)) }
+    ensures nests { IfOk result (λ value. depth (view value) ≤ max_depth) }
     ensures err { IfErr result (λ fault. RefusesDocument fault bytes.now) }
 {
     if bytes.len() > MAX_DOCUMENT_BYTES {

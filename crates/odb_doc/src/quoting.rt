@@ -7,7 +7,8 @@ ghost use Rattle.odb_doc.specs.Quoting.{is_plain};
 use serde_json::Value;
 use std::alloc::{AllocError, Global};
 
-/// Returns whether the byte stands in a JSON string as it is: neither a control character, nor `"`, nor `\`.
+/// Returns whether the byte stands in a JSON string as it is: neither a control character, nor `"`,
+/// nor `\`.
 fn is_plain(byte: u8) -> bool
     ensures { result ≡ is_plain byte }
 {
