@@ -18,7 +18,7 @@ pub record AreOneReading : Type 0 where
   pub front : (url : List ℕ) (front other : FrontForm) → HasFront url front → HasFront url other → front ≡ other
   pub method : (text : List ℕ) (method other : Method) → Names text method → Names text other → method ≡ other
 
-one_method : AreOneReading → (d : Data) (method other : Method) → HasMethod d method → HasMethod d other → method ≡ other
+pub one_method : AreOneReading → (d : Data) (method other : Method) → HasMethod d method → HasMethod d other → method ≡ other
 one_method texts d method other one two =
     let name : one.name ≡ two.name = cc (one.text, two.text) in
     texts.method two.name method other (subst (λ (text : List ℕ). Names text method) name one.names) two.names

@@ -1,6 +1,8 @@
 mod BatchLemmas
 mod BlankLemmas
 mod CanonicalLemmas
+mod CanonicalReads
+mod CanonicalShapes
 mod DistinctLemmas
 mod ElementLemmas
 mod FaultLemmas
@@ -16,9 +18,11 @@ mod OneHeaders
 mod OutcomeLemmas
 mod OutcomeListLemmas
 mod ReferenceLemmas
+mod ReadBackLemmas
 mod RequestLemmas
 mod RuleLemmas
 mod SetLemmas
+mod TextLemmas
 mod WatchLemmas
 mod RepeatLemmas
 pub mod EventLemmas

@@ -17,6 +17,7 @@ pub mod Records
 pub mod Batches
 pub mod WholeNumbers
 pub mod Canonical
+pub mod CanonicalLaws
 pub mod CanonicalParts
 pub mod Quoting
 pub mod TextFaults

@@ -1,11 +1,14 @@
-//! What a value determines: its least fault, and the batch that it is.
+//! What a value determines: its least fault, and the batch that it is; and what the canonical text of
+//! a batch says.
 //!
 //! The laws are clauses of functions that change nothing. They speak of the words that the clauses of
 //! [`crate::Batch::read`] use, for callers that compare two readings of one value.
 
-ghost use Rattle.std.specs.Prelude.{◌≡◌, List};
+ghost use Rattle.std.specs.Prelude.{◌≡◌, ◌↔◌, ℕ, List};
 ghost use Rattle.serde_json.specs.Data.{Data};
 ghost use Rattle.odb_doc.specs.declared.fault.DocFault.{DocFault};
+ghost use Rattle.odb_doc.specs.Canonical.{HasWholeBodies, canonical_text};
+ghost use Rattle.odb_doc.specs.CanonicalLaws.{IsDocumentOf};
 ghost use Rattle.odb_doc.specs.FaultTable.{IsNumbered};
 ghost use Rattle.odb_doc.specs.LeastFault.{IsLeastFault, IsWellShaped};
 ghost use Rattle.odb_doc.specs.Records.{Record, IsBatchOf};
@@ -24,6 +27,27 @@ pub fn one_fault()
 pub fn one_batch()
     ensures { (value : Data) (batch other : List Record) → IsBatchOf value batch
         → IsBatchOf value other → batch ≡ other }
+{
+    odb_names::laws::one_reading();
+}
+
+/// The canonical text of a batch is a document of that batch (OData JSON Format 4.01, section 19.1).
+///
+/// `text` is any document that `batch` was read from, such as the bytes that [`crate::parse`] and
+/// [`crate::Batch::read`] made it of, and each number in the bodies is whole. What `serde_json` reads
+/// from the canonical text has no fault of shape, and is the same batch. So two batches have equal
+/// canonical texts if and only if they are equal, and the canonical text of what is read from a
+/// canonical text is that text.
+pub fn one_text()
+    ensures reads_back { (text : List ℕ) (batch : List Record) → IsDocumentOf text batch
+        → HasWholeBodies batch → IsDocumentOf (canonical_text batch) batch }
+    ensures equal { (text other_text : List ℕ) (batch other : List Record)
+        → IsDocumentOf text batch → IsDocumentOf other_text other
+        → HasWholeBodies batch → HasWholeBodies other
+        → (canonical_text batch ≡ canonical_text other) ↔ (batch ≡ other) }
+    ensures again { (text : List ℕ) (batch other : List Record) → IsDocumentOf text batch
+        → HasWholeBodies batch → IsDocumentOf (canonical_text batch) other
+        → canonical_text other ≡ canonical_text batch }
 {
     odb_names::laws::one_reading();
 }

@@ -1,0 +1,269 @@
+-- The canonical value of a batch has no fault of shape, and is that batch.
+use Rattle.std.proofs.Common.{◌≡◌, ◌∙◌, ℕ, zero, suc, false, List, [], ◌∷◌, length, map, Option, None, Some, option_map, option_and_then, codes, bytes_eq, get_or, refl, ap, sym, subst, arith}
+use Rattle.std.specs.Prelude.{IsSome, IsNone, IsSomeAnd}
+use Rattle.std.specs.Char.{to_ascii_lowercase}
+use Rattle.std.specs.Cmp.Lexicographic.{slice_cmp}
+use Rattle.std.specs.List.{All, AllZip, AllByRecursion, IsDistinct, list_any}
+use Rattle.std.specs.List.Sorted.{IsPermutation, IsStrictlySortedBy}
+use Rattle.std.specs.Map.{keys_of}
+use Rattle.std.specs.Ordering.{is_eq, nat_cmp}
+use Rattle.std.specs.Str.{str_to_ascii_lowercase}
+use Rattle.std.specs.declared.cmp.Ordering.TheVariants.{Less}
+use Rattle.std.proofs.lemmas.Bool.Decides.{nat_tests}
+use Rattle.std.proofs.lemmas.List.{length-map}
+use Rattle.std.proofs.lemmas.List.Elements.{All-head, All-rest, All-map}
+use Rattle.std.proofs.lemmas.List.Sorted.{IsPermutation-refl, All-permutation}
+use Rattle.std.proofs.lemmas.Map.Text.{is_eq-slice_cmp}
+use Rattle.serde_json.specs.Data.{Data, null, boolean, number, string, array, object, put, no_members}
+use Rattle.serde_json.specs.Find.{get, as_str}
+use Rattle.serde_json.specs.View.{items_of}
+use Rattle.odb_names.specs.Methods.{method_name, takes_body}
+use Rattle.odb_names.specs.Fronts.{HasFront, bad}
+use Rattle.odb_names.specs.Segments.{IsNestedBatch}
+use Rattle.odb_names.specs.declared.method.Method.{Method}
+use Rattle.odb_names.specs.declared.method.Method.TheVariants.{Delete, Get, Patch, Post, Put}
+use Rattle.odb_doc.specs.declared.fault.DocumentRule.TheVariants as document
+use Rattle.odb_doc.specs.declared.fault.RequestRule.{RequestRule}
+use Rattle.odb_doc.specs.declared.fault.RequestRule.TheVariants as rules
+use Rattle.odb_doc.specs.declared.member.Object.TheVariants.{Request}
+use Rattle.odb_doc.specs.Bodies.{asked_kind, IsOfKind}
+use Rattle.odb_doc.specs.Canonical.{names_value, header_members, headers_value, with_some, request_value, canonical_value}
+use Rattle.odb_doc.specs.Headers.{Header, folded, text_members, listed_in, header_names, HasHeaders}
+use Rattle.odb_doc.specs.LeastFault.{IsBatchObject, IsRequestObject, IsWellShaped, BreaksRequestAt}
+use Rattle.odb_doc.specs.LeastRules.{AreSound}
+use Rattle.odb_doc.specs.Members.{given, members_of, names_in, is_unknown}
+use Rattle.odb_doc.specs.Names.{distinct}
+use Rattle.odb_doc.specs.Records.{Record, Says, IsBatchOf}
+use Rattle.odb_doc.specs.Shapes.{HasGroup, elements, listed_names, texts_of, texts_or_none}
+use Rattle.odb_doc.proofs.BatchLemmas.{AreOneReading, one_method}
+use Rattle.odb_doc.proofs.DistinctLemmas.{IsDistinct-listed}
+use Rattle.odb_doc.proofs.ElementLemmas.{list_of-items_of}
+use Rattle.odb_doc.proofs.ListedLemmas.{names_in-text_members_in}
+use Rattle.odb_doc.proofs.OneHeaders.{one_headers}
+use Rattle.odb_doc.proofs.RepeatLemmas.{distinct_same}
+
+-- ---- what stands at the members of a request's value
+
+abbrev value_of : (group body names headers : Option Data) (id method url : Data) → Data
+value_of group body names headers id method url =
+    object (with_some (codes "atomicityGroup") group (with_some (codes "body") body (with_some (codes "dependsOn") names (with_some (codes "headers") headers (put (codes "id") id (put (codes "method") method (put (codes "url") url no_members)))))))
+
+record HasMembers (d : Data) (group body names headers : Option Data) (id method url : Data) : Type 0 where
+  at_group : get (codes "atomicityGroup") d ≡ group
+  at_body : get (codes "body") d ≡ body
+  at_names : get (codes "dependsOn") d ≡ names
+  at_headers : get (codes "headers") d ≡ headers
+  at_id : get (codes "id") d ≡ Some id
+  at_method : get (codes "method") d ≡ Some method
+  at_url : get (codes "url") d ≡ Some url
+  at_if : get (codes "if") d ≡ None
+  known : list_any (is_unknown (members_of Request)) (names_in d) ≡ false
+
+has-members : (group body names headers : Option Data) (id method url : Data) → HasMembers (value_of group body names headers id method url) group body names headers id method url
+unfolding is_unknown
+has-members None None None None id method url = record { at_group = refl; at_body = refl; at_names = refl; at_headers = refl; at_id = refl; at_method = refl; at_url = refl; at_if = refl; known = refl }
+has-members None None None (Some headers) id method url = record { at_group = refl; at_body = refl; at_names = refl; at_headers = refl; at_id = refl; at_method = refl; at_url = refl; at_if = refl; known = refl }
+has-members None None (Some names) None id method url = record { at_group = refl; at_body = refl; at_names = refl; at_headers = refl; at_id = refl; at_method = refl; at_url = refl; at_if = refl; known = refl }
+has-members None None (Some names) (Some headers) id method url = record { at_group = refl; at_body = refl; at_names = refl; at_headers = refl; at_id = refl; at_method = refl; at_url = refl; at_if = refl; known = refl }
+has-members None (Some body) None None id method url = record { at_group = refl; at_body = refl; at_names = refl; at_headers = refl; at_id = refl; at_method = refl; at_url = refl; at_if = refl; known = refl }
+has-members None (Some body) None (Some headers) id method url = record { at_group = refl; at_body = refl; at_names = refl; at_headers = refl; at_id = refl; at_method = refl; at_url = refl; at_if = refl; known = refl }
+has-members None (Some body) (Some names) None id method url = record { at_group = refl; at_body = refl; at_names = refl; at_headers = refl; at_id = refl; at_method = refl; at_url = refl; at_if = refl; known = refl }
+has-members None (Some body) (Some names) (Some headers) id method url = record { at_group = refl; at_body = refl; at_names = refl; at_headers = refl; at_id = refl; at_method = refl; at_url = refl; at_if = refl; known = refl }
+has-members (Some group) None None None id method url = record { at_group = refl; at_body = refl; at_names = refl; at_headers = refl; at_id = refl; at_method = refl; at_url = refl; at_if = refl; known = refl }
+has-members (Some group) None None (Some headers) id method url = record { at_group = refl; at_body = refl; at_names = refl; at_headers = refl; at_id = refl; at_method = refl; at_url = refl; at_if = refl; known = refl }
+has-members (Some group) None (Some names) None id method url = record { at_group = refl; at_body = refl; at_names = refl; at_headers = refl; at_id = refl; at_method = refl; at_url = refl; at_if = refl; known = refl }
+has-members (Some group) None (Some names) (Some headers) id method url = record { at_group = refl; at_body = refl; at_names = refl; at_headers = refl; at_id = refl; at_method = refl; at_url = refl; at_if = refl; known = refl }
+has-members (Some group) (Some body) None None id method url = record { at_group = refl; at_body = refl; at_names = refl; at_headers = refl; at_id = refl; at_method = refl; at_url = refl; at_if = refl; known = refl }
+has-members (Some group) (Some body) None (Some headers) id method url = record { at_group = refl; at_body = refl; at_names = refl; at_headers = refl; at_id = refl; at_method = refl; at_url = refl; at_if = refl; known = refl }
+has-members (Some group) (Some body) (Some names) None id method url = record { at_group = refl; at_body = refl; at_names = refl; at_headers = refl; at_id = refl; at_method = refl; at_url = refl; at_if = refl; known = refl }
+has-members (Some group) (Some body) (Some names) (Some headers) id method url = record { at_group = refl; at_body = refl; at_names = refl; at_headers = refl; at_id = refl; at_method = refl; at_url = refl; at_if = refl; known = refl }
+
+-- ---- each member says what the request has there
+
+own-name : (method : Method) → map to_ascii_lowercase (method_name method) ≡ method_name method
+own-name Delete = refl
+own-name Get = refl
+own-name Patch = refl
+own-name Post = refl
+own-name Put = refl
+
+own-group : (d e : Data) (group : Option (List ℕ)) → get (codes "atomicityGroup") d ≡ option_map string group → HasGroup e group → HasGroup d group
+own-group d e None at has = ap given at
+own-group d e (Some name) at has = (ap (option_and_then as_str) at, has.1)
+
+texts_of-strings : (names : List (List ℕ)) → texts_of (items_of (map string names)) ≡ Some names
+texts_of-strings [] = refl
+texts_of-strings (name ∷ names) = ap (option_map (λ texts. name ∷ texts)) (texts_of-strings names)
+
+own-names : (names : List (List ℕ)) → texts_or_none (names_value names) ≡ Some names
+own-names [] = refl
+own-names (name ∷ names) = texts_of-strings (name ∷ names)
+
+text_members-own : (headers : List Header) → text_members (header_members headers) ≡ Some headers
+text_members-own [] = refl
+text_members-own (header ∷ headers) = ap (option_map (λ rest. header ∷ rest)) (text_members-own headers)
+
+own-headers : (headers : List Header) → listed_in (headers_value headers) ≡ Some headers
+own-headers [] = refl
+own-headers (header ∷ headers) = text_members-own (header ∷ headers)
+
+lower-again : (byte : ℕ) → to_ascii_lowercase (to_ascii_lowercase byte) ≡ to_ascii_lowercase byte
+lower-again byte = grind (arith, nat_tests)
+
+lower-text : (text : List ℕ) → str_to_ascii_lowercase (str_to_ascii_lowercase text) ≡ str_to_ascii_lowercase text
+lower-text [] = refl
+lower-text (byte ∷ text) = rw (lower-again byte, lower-text text) refl
+
+map-same : {X : Type 0} (f : X → X) (xs : List X) → All (λ x. f x ≡ x) xs → map f xs ≡ xs
+map-same f [] all = refl
+map-same {X} f (x ∷ xs) all =
+    let same : X → Type 0 = λ y. f y ≡ y in
+    rw (All-head same x xs all, map-same f xs (All-rest same x xs (x ∷ xs) refl all)) refl
+
+folded-again : (header : Header) → folded (folded header) ≡ folded header
+folded-again header = ap (λ name. (name, header.1)) (lower-text header.0)
+
+folded-twice : (headers : List Header) → All (λ h. folded h ≡ h) (map folded headers)
+folded-twice headers = All-map (λ h. folded h ≡ h) folded headers (λ k header within. folded-again (get_or headers k header))
+
+-- the names of the headers of a request are in lower case
+folded-headers : (e : Data) (headers : List Header) → HasHeaders e headers → map folded headers ≡ headers
+folded-headers e headers has = map-same folded headers (All-permutation (λ h. folded h ≡ h) (map folded has.listed) headers has.same (folded-twice has.listed))
+
+given-twice : (o : Option Data) → given (given o) ≡ given o
+given-twice None = refl
+given-twice (Some null) = refl
+given-twice (Some (boolean b)) = refl
+given-twice (Some (number n)) = refl
+given-twice (Some (string s)) = refl
+given-twice (Some (array ds)) = refl
+given-twice (Some (object ms)) = refl
+
+abbrev HasOwn : Record → Type 0
+HasOwn r = HasMembers (request_value r) (option_map string r.group) r.body (names_value r.names) (headers_value r.headers) (string r.id) (string (method_name r.method)) (string r.url)
+
+own-members : (r : Record) → HasOwn r
+own-members r = has-members (option_map string r.group) r.body (names_value r.names) (headers_value r.headers) (string r.id) (string (method_name r.method)) (string r.url)
+
+own-listed : (r : Record) → listed_names (request_value r) ≡ Some r.names
+own-listed r = ap texts_or_none (own-members r).at_names ∙ own-names r.names
+
+own-text_members : (r : Record) → listed_in (get (codes "headers") (request_value r)) ≡ Some r.headers
+own-text_members r = ap listed_in (own-members r).at_headers ∙ own-headers r.headers
+
+own-holds : (e : Data) (r : Record) → Says e r → HasHeaders (request_value r) r.headers
+own-holds e r says = record {
+  listed = r.headers;
+  are = own-text_members r;
+  same = subst (λ (headers : List Header). IsPermutation headers r.headers) (sym (folded-headers e r.headers says.headers)) (IsPermutation-refl r.headers);
+  ordered = says.headers.ordered;
+}
+
+-- what a request's value says is the request
+pub value-says : (e : Data) (r : Record) → Says e r → Says (request_value r) r
+value-says e r says =
+    let own = own-members r in
+    let apart = IsDistinct-listed r.names (listed_names e) (sym says.names) in
+    record {
+      id = record { text = ap (option_and_then as_str) own.at_id; form = says.id.form };
+      method = record { name = method_name r.method; text = ap (option_and_then as_str) own.at_method; names = own-name r.method };
+      url = ap (option_and_then as_str) own.at_url;
+      group = own-group (request_value r) e r.group own.at_group says.group;
+      names = ap (option_map distinct) (own-listed r) ∙ ap Some (distinct_same r.names apart);
+      reference = says.reference;
+      headers = own-holds e r says;
+      body = ap given own.at_body ∙ ap given (sym says.body) ∙ given-twice (get (codes "body") e) ∙ says.body;
+    }
+
+-- ---- it has no fault
+
+apart-below : (name : List ℕ) (names : List (List ℕ)) → AllByRecursion (λ y. slice_cmp nat_cmp name y ≡ Less) names → AllByRecursion (λ y. bytes_eq name y ≡ false) names
+apart-below name [] below = tt
+apart-below name (other ∷ names) below = (sym (is_eq-slice_cmp name other) ∙ ap is_eq below.0, apart-below name names below.1)
+
+distinct-sorted : (names : List (List ℕ)) → IsStrictlySortedBy (slice_cmp nat_cmp) names → IsDistinct bytes_eq names
+unfolding IsStrictlySortedBy IsDistinct
+distinct-sorted [] ordered = tt
+distinct-sorted (name ∷ names) ordered = (apart-below name names ordered.0, distinct-sorted names ordered.1)
+
+own-apart : (e : Data) (r : Record) → Says e r → IsDistinct bytes_eq (header_names (request_value r))
+own-apart e r says =
+    let named = names_in-text_members_in (get (codes "headers") (request_value r)) r.headers (own-text_members r) in
+    let folds : keys_of (map folded r.headers) ≡ keys_of r.headers = ap keys_of (folded-headers e r.headers says.headers) in
+    subst (IsDistinct bytes_eq) (sym (named ∙ folds)) (distinct-sorted (keys_of r.headers) says.headers.ordered)
+
+-- a request's value breaks no rule, as the element that says the request
+pub value-object : AreOneReading → (e : Data) (r : Record) → IsRequestObject e → Says e r → IsRequestObject (request_value r)
+value-object texts e r sound says rules.NotRequestObject = λ broken. cc (broken)
+value-object texts e r sound says rules.IfMember = λ broken. cc (subst IsSome (own-members r).at_if broken)
+value-object texts e r sound says rules.UnknownRequestMember = λ broken. cc (broken, (own-members r).known)
+value-object texts e r sound says rules.BadId = λ broken. broken.1 r.id (value-says e r says).id
+value-object texts e r sound says rules.BadMethod = λ broken. broken.1 r.method (value-says e r says).method
+value-object texts e r sound says rules.BadUrl = λ broken. cc (subst IsNone (value-says e r says).url broken.1)
+value-object texts e r sound says rules.BadGroup = λ broken. broken.1 r.group (value-says e r says).group
+value-object texts e r sound says rules.BadDependsOn = λ broken. cc (subst IsNone (own-listed r) broken.1)
+value-object texts e r sound says rules.BadHeaders = λ broken. cc (subst IsNone (own-holds e r says).are broken.1)
+value-object texts e r sound says rules.HeaderTwice = λ broken. broken (own-apart e r says)
+value-object texts e r sound says rules.BodyNotAllowed = λ broken.
+    let own = value-says e r says in
+    let method = one_method texts (request_value r) broken.method r.method broken.has own.method in
+    sound rules.BodyNotAllowed (record {
+      method = r.method;
+      has = says.method;
+      none = subst (λ (m : Method). takes_body m ≡ false) method broken.none;
+      body = subst IsSome (own.body ∙ sym says.body) broken.body;
+    })
+value-object texts e r sound says rules.BadBody = λ broken.
+    let own = value-says e r says in
+    let headers = one_headers (request_value r) r.headers broken.headers own.headers broken.has in
+    sound rules.BadBody (record {
+      headers = r.headers;
+      has = says.headers;
+      body = broken.body;
+      given = says.body ∙ sym own.body ∙ broken.given;
+      unfit = subst (λ (hs : List Header). ¬ IsOfKind (asked_kind hs) broken.body) headers broken.unfit;
+    })
+value-object texts e r sound says rules.NestedBatch = λ broken. sound rules.NestedBatch (subst (λ (o : Option (List ℕ)). IsSomeAnd o IsNestedBatch) ((value-says e r says).url ∙ sym says.url) broken)
+value-object texts e r sound says rules.BadReference = λ broken. sound rules.BadReference (subst (λ (o : Option (List ℕ)). IsSomeAnd o (λ url. HasFront url bad)) ((value-says e r says).url ∙ sym says.url) broken)
+
+-- ---- the whole
+
+all-says : (ds : List Data) (rs : List Record) → AllZip Says ds rs → AllZip Says (map request_value rs) rs
+all-says [] [] says = tt
+all-says [] (r ∷ rs) says = absurd says
+all-says (d ∷ ds) [] says = absurd says
+all-says (d ∷ ds) (r ∷ rs) says = (value-says d r says.0, all-says ds rs says.1)
+
+same-length : (ds : List Data) (rs : List Record) → AllZip Says ds rs → length rs ≡ length ds
+same-length [] [] says = refl
+same-length [] (r ∷ rs) says = absurd says
+same-length (d ∷ ds) [] says = absurd says
+same-length (d ∷ ds) (r ∷ rs) says = ap suc (same-length ds rs says.1)
+
+sound-at : AreOneReading → (ds : List Data) (rs : List Record) → AllZip Says ds rs → AreSound (BreaksRequestAt ds) → (rule : RequestRule) (i : ℕ) → ¬ BreaksRequestAt (map request_value rs) rule i
+sound-at texts [] [] says sound rule i = λ broken. broken
+sound-at texts [] (r ∷ rs) says sound rule i = absurd says
+sound-at texts (d ∷ ds) [] says sound rule i = absurd says
+sound-at texts (d ∷ ds) (r ∷ rs) says sound rule zero = value-object texts d r (λ other broken. sound other 0 broken) says.0 rule
+sound-at texts (d ∷ ds) (r ∷ rs) says sound rule (suc i) = sound-at texts ds rs says.1 (λ other j broken. sound other (suc j) broken) rule i
+
+-- the elements of the canonical value
+own-elements : (rs : List Record) → elements (canonical_value rs) ≡ map request_value rs
+own-elements rs = list_of-items_of (map request_value rs)
+
+own-document : (value : Data) (rs : List Record) → IsBatchObject value → IsBatchOf value rs → IsBatchObject (canonical_value rs)
+unfolding is_unknown
+own-document value rs whole says document.TooLong = λ broken. broken
+own-document value rs whole says document.NotJson = λ broken. broken
+own-document value rs whole says document.NotObject = λ broken. cc (broken)
+own-document value rs whole says document.NoRequests = λ broken. cc (broken.1)
+own-document value rs whole says document.UnknownMember = λ broken. cc (broken)
+own-document value rs whole says document.TooMany = λ broken.
+    let count : length (elements (canonical_value rs)) ≡ length (elements value) = ap length (own-elements rs) ∙ length-map rs request_value ∙ same-length (elements value) rs says in
+    whole document.TooMany (omega (arith, broken, count))
+
+pub canonical-batch : (value : Data) (rs : List Record) → IsBatchOf value rs → IsBatchOf (canonical_value rs) rs
+canonical-batch value rs says = subst (λ (ds : List Data). AllZip Says ds rs) (sym (own-elements rs)) (all-says (elements value) rs says)
+
+pub canonical-shaped : AreOneReading → (value : Data) (rs : List Record) → IsWellShaped value → IsBatchOf value rs → IsWellShaped (canonical_value rs)
+canonical-shaped texts value rs shaped says = (own-document value rs shaped.0 says, subst (λ (ds : List Data). AreSound (BreaksRequestAt ds)) (sym (own-elements rs)) (sound-at texts (elements value) rs says shaped.1))

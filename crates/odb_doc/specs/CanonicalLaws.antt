@@ -1,0 +1,13 @@
+-- What a text says that is the document of a batch.
+use Rattle.std.specs.Prelude.{◌≡◌, ℕ, List, Some}
+use Rattle.serde_json.specs.Data.{Data}
+use Rattle.serde_json.specs.Read.{read}
+use Rattle.odb_doc.specs.LeastFault.{IsWellShaped}
+use Rattle.odb_doc.specs.Records.{Record, IsBatchOf}
+
+-- what `serde_json` reads from the text has no fault of shape, and is the batch of these requests
+pub record IsDocumentOf (text : List ℕ) (batch : List Record) : Type 0 where
+  pub value : Data
+  pub reads : read text ≡ Some value
+  pub shaped : IsWellShaped value
+  pub says : IsBatchOf value batch
