@@ -1,11 +1,12 @@
 -- The canonical text of a batch that was read is read back as the canonical value.
-use Rattle.std.proofs.Common.{◌≡◌, ℕ, suc, ◌≤◌, ◌||◌, Bool, true, false, List, [], ◌∷◌, map, Option, None, Some, option_map, option_and_then, unwrap_or, codes, Ordering, Less, Equal, Greater, refl, subst, arith}
+use Rattle.std.proofs.Common.{◌≡◌, ℕ, suc, ◌≤◌, false, List, [], ◌∷◌, map, Option, None, Some, option_map, option_and_then, unwrap_or, codes, Ordering, Less, Equal, Greater, refl, subst, arith}
 use Rattle.std.specs.Prelude.{IfSome}
 use Rattle.std.specs.Cmp.Lexicographic.{slice_cmp}
 use Rattle.std.specs.List.{AllZip, AllByRecursion}
 use Rattle.std.specs.List.Sorted.{IsStrictlySortedBy}
 use Rattle.std.specs.Map.{keys_of}
 use Rattle.std.specs.Ordering.{match_ordering, nat_cmp}
+use Rattle.std.proofs.lemmas.Bool.{or_from, or_parts}
 use Rattle.serde_json.specs.Data.{Data, null, boolean, number, string, array, object, Items, no_items, item, Members, no_members, member, put, depth, items_depth, members_depth}
 use Rattle.serde_json.specs.Find.{get, get_member, as_array}
 use Rattle.serde_json.specs.Read.{read}
@@ -34,28 +35,17 @@ record AreSafe (n : ℕ) (ms : Members) : Type 0 where
   whole : members_have_float ms ≡ false
   shallow : members_depth ms ≤ n
 
-neither : (a b : Bool) → a ≡ false → b ≡ false → (a || b) ≡ false
-neither false b first second = second
-neither true b first second = absurd (cc (first))
-
-or_left : (a b : Bool) → (a || b) ≡ false → a ≡ false
-or_left false b none = refl
-or_left true b none = absurd (cc (none))
-
-or_right : (a b : Bool) → (a || b) ≡ false → b ≡ false
-or_right false b none = none
-or_right true b none = absurd (cc (none))
-
 whole-at : (o : Ordering) (k l : List ℕ) (d e : Data) (ms : Members) → has_float d ≡ false → has_float e ≡ false → members_have_float ms ≡ false → members_have_float (put k d ms) ≡ false
     → members_have_float (match_ordering o (member k d (member l e ms)) (member l d ms) (member l e (put k d ms))) ≡ false
-whole-at Less k l d e ms new old rest more = neither (has_float d) _ new (neither (has_float e) _ old rest)
-whole-at Equal k l d e ms new old rest more = neither (has_float d) _ new rest
-whole-at Greater k l d e ms new old rest more = neither (has_float e) _ old more
+whole-at Less k l d e ms new old rest more = or_from (has_float d) _ new (or_from (has_float e) _ old rest)
+whole-at Equal k l d e ms new old rest more = or_from (has_float d) _ new rest
+whole-at Greater k l d e ms new old rest more = or_from (has_float e) _ old more
 
 whole-put : (k : List ℕ) (d : Data) (ms : Members) → has_float d ≡ false → members_have_float ms ≡ false → members_have_float (put k d ms) ≡ false
-whole-put k d no_members new rest = neither (has_float d) false new refl
+whole-put k d no_members new rest = or_from (has_float d) false new refl
 whole-put k d (member l e ms) new rest =
-    whole-at (slice_cmp nat_cmp k l) k l d e ms new (or_left (has_float e) _ rest) (or_right (has_float e) _ rest) (whole-put k d ms new (or_right (has_float e) _ rest))
+    let parts = or_parts (has_float e) (members_have_float ms) rest in
+    whole-at (slice_cmp nat_cmp k l) k l d e ms new parts.0 parts.1 (whole-put k d ms new parts.1)
 
 shallow-at : (o : Ordering) (n : ℕ) (a b c : Members) → members_depth a ≤ n → members_depth b ≤ n → members_depth c ≤ n → members_depth (match_ordering o a b c) ≤ n
 shallow-at Less n a b c first second third = first
@@ -228,7 +218,7 @@ safe-requests n (d ∷ ds) (r ∷ rs) some says read whole =
     let rest = safe-requests n ds rs some says.1 read.1 (λ i within. whole (suc i) (omega (arith, within))) in
     record {
       readable = ((first.ordered, first.readable), rest.readable);
-      whole = neither (members_have_float (request_members r)) _ first.whole rest.whole;
+      whole = or_from (members_have_float (request_members r)) _ first.whole rest.whole;
       shallow = omega (arith, first.shallow, rest.shallow);
     }
 
@@ -238,4 +228,4 @@ unfolding canonical_text
 canonical-read bytes value rs is says whole =
     let safe : IsRead 127 value = record { readable = readable-read bytes value is; shallow = depth-read bytes value is } in
     let items = safe-requests 124 (elements value) rs (omega arith) says (elements-read 125 value safe) whole in
-    read_back (canonical_value rs) ((tt, tt), (items.readable, tt)) (neither (items_have_float (items_of (map request_value rs))) false items.whole refl) (omega (arith, items.shallow))
+    read_back (canonical_value rs) ((tt, tt), (items.readable, tt)) (or_from (items_have_float (items_of (map request_value rs))) false items.whole refl) (omega (arith, items.shallow))

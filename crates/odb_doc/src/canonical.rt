@@ -1,9 +1,8 @@
-ghost use Rattle.std.specs.Prelude.{◌≡◌, ◌<◌, ◌+◌, ◌++◌, ◌↔◌, ℕ, None, codes, length, option_map, string_bytes, IsTrue, IfOk, IfSome, OnOk};
+ghost use Rattle.std.specs.Prelude.{◌≡◌, ◌↔◌, ℕ, None, option_map, string_bytes, IsTrue, IfOk, IfSome, OnOk};
 ghost use Rattle.serde_json.specs.View.{view};
 ghost use Rattle.odb_doc.specs.declared.fault.TextFault.TheVariants as faults;
 ghost use Rattle.odb_doc.specs.Batches.{records};
 ghost use Rattle.odb_doc.specs.Canonical.{HasWholeBodies, IsFirstNotWhole, canonical_text};
-ghost use Rattle.odb_doc.specs.Records.{record_of};
 ghost use Rattle.odb_doc.specs.WholeNumbers.{HasWholeBody};
 
 use crate::batch::Batch;
@@ -70,6 +69,7 @@ impl Batch<'_> {
     /// request; else `OutOfMemory` if an allocation fails.
     pub fn canonical(&self, alloc: Global) -> Result<String, TextFault>
         ensures text { IfOk result (λ text. string_bytes text ≡ canonical_text (records self.now)) }
+        ensures whole { OnOk result (HasWholeBodies (records self.now)) }
         ensures not_whole { (at : ℕ) → (result ≡ Err (faults.NotWhole at))
             ↔ IsFirstNotWhole (records self.now) at }
     {
