@@ -54,14 +54,15 @@ fn whole_text(alloc: Global, batch: &Batch<'_>) -> Result<String, AllocError>
 }
 
 impl Batch<'_> {
-    /// Returns the canonical text of the batch: compact JSON, in which each request has its members in
-    /// byte order (OData JSON Format 4.01, section 19.1).
+    /// Returns the canonical text of the batch: compact JSON, in which each request has its members
+    /// in byte order (OData JSON Format 4.01, section 19.1).
     ///
     /// Batches with the same requests have the same text, whatever their documents look like: what
     /// counts as absent is left out, methods and the names of headers are in lower case, and each
     /// name of `dependsOn` stands once. No newline ends it.
     ///
-    /// Allocates the text, and the text of one body at a time. It takes O(n) for a text of n bytes.
+    /// Allocates the text, and the text of one body, or of one string with escapes, at a time. It takes
+    /// O(n) for a text of n bytes.
     ///
     /// # Errors
     ///
