@@ -1,6 +1,6 @@
 -- The different groups of the first requests: how many they are, and that in the end they are all.
-use Rattle.std.proofs.Common.{◌≡◌, ◌∙◌, ◌||◌, ◌+◌, ◌≤◌, ◌<◌, ℕ, zero, suc, Bool, true, false, cond, is_some, Option, None, Some, List, [], ◌∷◌, ◌++◌, length, drop, fold, slice_get, if◌then◌else◌, refl, ap, sym, subst, inl, inr, bytes_eq, arith, length-append}
-use Rattle.std.specs.Prelude.{option_map, option_and_then}
+use Rattle.std.proofs.Common.{◌≡◌, ◌∙◌, ◌||◌, ◌+◌, ◌≤◌, ◌<◌, ℕ, zero, suc, Bool, true, false, cond, is_some, Option, None, Some, List, [], ◌∷◌, ◌++◌, length, drop, fold, if◌then◌else◌, refl, ap, sym, subst, inl, inr, bytes_eq, arith, length-append}
+use Rattle.std.specs.Prelude.{option_and_then}
 use Rattle.std.specs.List.{list_any, filter_map, cons_option}
 use Rattle.std.proofs.lemmas.List.{drop_more, at_drop_all}
 use Rattle.std.proofs.lemmas.List.Folds.{list_any-append}
@@ -9,7 +9,7 @@ use Rattle.std.proofs.lemmas.Slice.Eq.{bytes_eq-Decides}
 use Rattle.odb_doc.specs.Names.{with_name}
 use Rattle.odb_doc.specs.Records.{Record}
 use Rattle.odb_doc.proofs.NameLemmas.{fold-with_name-nil}
-use Rattle.odb_check.specs.Firsts.{or_else, is_text, first_below}
+use Rattle.odb_check.specs.Firsts.{or_else, is_text}
 use Rattle.odb_check.specs.Groups.{groups_of, with_group, groups_below}
 use Rattle.odb_check.specs.Positions.{group_at}
 use Rattle.odb_check.specs.Units.{first_in_group}

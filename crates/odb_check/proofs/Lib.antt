@@ -7,11 +7,12 @@ pub mod BelowLemmas
 pub mod MarkLemmas
 pub mod AnyLemmas
 pub mod NeedLemmas
-pub mod WalkLemmas
+pub mod RuleLemmas
+pub mod DecideLemmas
+pub mod IdLemmas
+pub mod NameLemmas
 pub mod ReferenceLemmas
-pub mod BrokenLemmas
-pub mod RowLemmas
-pub mod LeastLemmas
+pub mod WalkLemmas
 pub mod LevelLemmas
 pub mod PlanLemmas
 pub mod OffsetLemmas

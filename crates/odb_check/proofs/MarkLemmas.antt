@@ -5,10 +5,11 @@ use Rattle.std.specs.List.{list_any}
 use Rattle.std.proofs.Math.ListN.{length-set}
 use Rattle.std.proofs.lemmas.Bool.{cases_eq, eq-eqb, ne_eqb}
 use Rattle.std.proofs.lemmas.List.Folds.{list_any-append}
+use Rattle.odb_doc.specs.Records.{Record}
 use Rattle.odb_check.specs.declared.need.Need.{Need}
 use Rattle.odb_check.specs.declared.need.Need.TheVariants.{One, Group}
-use Rattle.odb_check.specs.Tests.{is_one, is_group}
-use Rattle.odb_check.specs.Marks.{IsWithin, ones_with, groups_with, AreUpTo, AreMarksOf}
+use Rattle.odb_check.specs.Marks.{IsWithin, ones_with, groups_with, is_one, is_group, AreUpTo, AreMarksOf}
+use Rattle.odb_check.specs.Units.{unit_count}
 
 or_right : (v w : Bool) → w ≡ true → (v || w) ≡ true
 or_right true w e = refl
@@ -50,9 +51,9 @@ low_set marks p stamp within low q =
           omega (arith, low q)
     ]
 
-pub mark_on : (named : List Need) (need : Need) (stamp requests units : ℕ) (ones groups : List ℕ) → IsWithin need requests units
-    → AreMarksOf named stamp requests units ones groups → AreMarksOf (named ++ need ∷ []) stamp requests units (ones_with need stamp ones) (groups_with need stamp groups)
-mark_on named (One p) stamp requests units ones groups within marks =
+pub mark_on : (rs : List Record) (named : List Need) (need : Need) (stamp : ℕ) (ones groups : List ℕ) → IsWithin need (length rs) (unit_count rs)
+    → AreMarksOf rs named stamp ones groups → AreMarksOf rs (named ++ need ∷ []) stamp (ones_with need stamp ones) (groups_with need stamp groups)
+mark_on rs named (One p) stamp ones groups within marks =
     let inside : p < length ones = omega (arith, marks.up_to.ones_count) in
     record {
       up_to = record {
@@ -64,7 +65,7 @@ mark_on named (One p) stamp requests units ones groups within marks =
       ones_are = marked is_one named (One p) ones stamp p inside (λ q. refl) marks.ones_are;
       groups_are = λ u. unmarked (is_group u) named (One p) (slice_index groups u == stamp) refl (marks.groups_are u);
     }
-mark_on named (Group u) stamp requests units ones groups within marks =
+mark_on rs named (Group u) stamp ones groups within marks =
     let inside : u < length groups = omega (arith, marks.up_to.groups_count) in
     record {
       up_to = record {
@@ -78,8 +79,8 @@ mark_on named (Group u) stamp requests units ones groups within marks =
     }
 
 -- above the stamps so far nothing is marked
-pub mark_none : (i requests units : ℕ) (ones groups : List ℕ) → AreUpTo i requests units ones groups → AreMarksOf [] (suc i) requests units ones groups
-mark_none i requests units ones groups up_to = record {
+pub mark_none : (rs : List Record) (i : ℕ) (ones groups : List ℕ) → AreUpTo rs i ones groups → AreMarksOf rs [] (suc i) ones groups
+mark_none rs i ones groups up_to = record {
   up_to = record {
     ones_count = up_to.ones_count;
     groups_count = up_to.groups_count;

@@ -1,9 +1,10 @@
 -- The laws of the plan of a batch whose names fit together.
 use Rattle.std.proofs.Common.{◌≡◌, ◌≢◌, ◌≤◌, ◌<◌, ◌⊎◌, ℕ, zero, suc, Bool, true, false, cond, List, [], ◌∷◌, ◌++◌, Option, Some, None, refl, sym, ap, ◌∙◌, subst, inl, inr, arith, length, get_or, append-nil}
-use Rattle.std.specs.Prelude.{Contains, IsSomeAnd, AllPairs, bytes_eq}
+use Rattle.std.specs.Prelude.{Contains, IsSomeAnd, AllPairs, bytes_eq, option_map, unwrap_or}
 use Rattle.std.specs.List.{list_any, filter_map, cons_option, IsDistinct}
 use Rattle.std.proofs.lemmas.Map.Made.{AllPairs-from_IsDistinct}
 use Rattle.std.proofs.lemmas.Bool.{cases_lt, cases_eq, cases_Bool, both_ways}
+use Rattle.std.proofs.lemmas.Option.{slice_get_cases}
 use Rattle.std.proofs.lemmas.List.Elements.{Contains-append_left, Contains-append_right, Contains-append_cases}
 use Rattle.std.proofs.lemmas.Slice.Eq.{bytes_eq-Decides}
 use Rattle.odb_doc.specs.Records.{Record}
@@ -11,22 +12,28 @@ use Rattle.odb_check.specs.declared.fault.NameRule.TheVariants.{IdTwice, IdIsGro
 use Rattle.odb_check.specs.declared.need.Need.{Need}
 use Rattle.odb_check.specs.declared.need.Need.TheVariants.{One, Group}
 use Rattle.odb_check.specs.Firsts.{list_below}
-use Rattle.odb_check.specs.LeastNameFault.{HasGoodNames}
+use Rattle.odb_check.specs.LeastNameFault.{HasGoodNames, HasSoundIds}
 use Rattle.odb_check.specs.Needs.{need_of, further_names, needed_names, needs_at}
 use Rattle.odb_check.specs.Positions.{id_at, group_at, names_at, reference_at, IsId, IsIdFrom, IsInGroupOf, NamesGroupOf}
 use Rattle.odb_check.specs.Shape.{unit_of, needs_of, shape_of, IsEarlier, IsAlone, IsPlan, HasNamesAsNeeds}
 use Rattle.odb_check.specs.Units.{begin_in, unit_begin, unit_at}
 use Rattle.odb_check.proofs.AnyLemmas.{StandsFor, stands_for, Contains-meaning, Contains-head, Contains-tail, Contains-none, Contains-cases, Contains-Decides, Contains-get_or}
 use Rattle.odb_check.proofs.BelowLemmas.{length-list_below, get_or-list_below}
-use Rattle.odb_check.proofs.LeastLemmas.{name_inside}
 use Rattle.odb_check.proofs.LevelLemmas.{HasNeedsBefore}
+use Rattle.odb_check.proofs.NameLemmas.{later_unit}
 use Rattle.odb_check.proofs.NeedLemmas.{IsMeant, is_meant, id_need, group_need}
 use Rattle.odb_check.proofs.PositionLemmas.{group_within, reference_within}
-use Rattle.odb_check.proofs.RowLemmas.{HasSoundIds, later_unit}
 use Rattle.odb_check.proofs.UnitLemmas.{IsUnitOf, unit_before, same_begin, same_group, one_unit, in_group, in_unit, in_order, unit_at_start}
 
 pub good_ids : (rs : List Record) → HasGoodNames rs → HasSoundIds rs
-good_ids rs good = record { once = good IdTwice; apart = good IdIsGroup; adjacent = good GroupSplit }
+good_ids rs good rule i broken = good rule i broken.1
+
+name_inside : (rs : List Record) (i : ℕ) (name : List ℕ) → Contains (names_at rs i) name → i < length rs
+name_inside rs i name h =
+    elim (slice_get_cases rs i).1 [
+      | inl inside ↦ inside.1
+      | inr past ↦ absurd (Contains-none name (subst (λ xs. Contains xs name) (ap (λ o. unwrap_or (option_map (λ r. r.names) o) []) past.1) h))
+    ]
 
 further_one : (v : Bool) (id name : List ℕ) → Contains (cond v [] (id ∷ [])) name → Some id ≡ Some name
 further_one true id name h = absurd (Contains-none name h)

@@ -1,5 +1,5 @@
 -- The rules on the names of a batch: their numbers, phases, codes and names.
-use Rattle.std.specs.Prelude.{ℕ, List, codes}
+use Rattle.std.specs.Prelude.{ℕ, ◌/◌, List, codes}
 use Rattle.odb_doc.specs.Faults.{code_of}
 use Rattle.odb_check.specs.declared.fault.NameRule.{NameRule}
 use Rattle.odb_check.specs.declared.fault.NameRule.TheVariants.{IdTwice, IdIsGroup, GroupSplit, UnknownName, ForwardName, OwnGroup, GroupNotListed, UnknownReference, ForwardReference, ReferenceNotListed}
@@ -19,16 +19,7 @@ number ReferenceNotListed = 46
 
 -- after the document and the shapes come identifiers and groups, and then names and references
 abbrev pub phase : NameRule → ℕ
-phase IdTwice = 3
-phase IdIsGroup = 3
-phase GroupSplit = 3
-phase UnknownName = 4
-phase ForwardName = 4
-phase OwnGroup = 4
-phase GroupNotListed = 4
-phase UnknownReference = 4
-phase ForwardReference = 4
-phase ReferenceNotListed = 4
+phase rule = number rule / 10
 
 abbrev pub rule_code : NameRule → List ℕ
 rule_code rule = code_of (number rule)

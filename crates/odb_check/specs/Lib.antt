@@ -8,7 +8,8 @@ pub mod Units
 pub mod Groups
 pub mod Needs
 pub mod Tables
-pub mod Tests
+pub mod Requests
+pub mod Judged
 pub mod Walks
 pub mod Marks
 pub mod Levels

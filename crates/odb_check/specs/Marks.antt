@@ -1,10 +1,11 @@
 -- The marks of what a request names: a number for each request and each unit, which is the stamp of the last
 -- request that named it.
-use Rattle.std.specs.Prelude.{◌≡◌, ◌≤◌, ◌<◌, ◌==◌, ℕ, List, length, slice_index, slice_set}
+use Rattle.std.specs.Prelude.{◌≡◌, ◌≤◌, ◌<◌, ◌==◌, ℕ, Bool, false, List, length, slice_index, slice_set}
 use Rattle.std.specs.List.{list_any}
+use Rattle.odb_doc.specs.Records.{Record}
 use Rattle.odb_check.specs.declared.need.Need.{Need}
 use Rattle.odb_check.specs.declared.need.Need.TheVariants.{One, Group}
-use Rattle.odb_check.specs.Tests.{is_one, is_group}
+use Rattle.odb_check.specs.Units.{unit_count}
 
 -- the need is of so many requests and units
 abbrev pub IsWithin : Need → ℕ → ℕ → Type 0
@@ -21,15 +22,25 @@ abbrev pub groups_with : Need → ℕ → List ℕ → List ℕ
 groups_with (One p) stamp groups = groups
 groups_with (Group u) stamp groups = slice_set groups u stamp
 
--- so many marks, none above a stamp
-pub record AreUpTo (stamp requests units : ℕ) (ones groups : List ℕ) : Type 0 where
-  pub ones_count : length ones ≡ requests
-  pub groups_count : length groups ≡ units
+-- whether the need is the request at p
+abbrev pub is_one : ℕ → Need → Bool
+is_one p (One q) = q == p
+is_one p (Group u) = false
+
+-- whether the need is the unit u
+abbrev pub is_group : ℕ → Need → Bool
+is_group u (One p) = false
+is_group u (Group v) = v == u
+
+-- a mark for each request and unit, none above a stamp
+pub record AreUpTo (rs : List Record) (stamp : ℕ) (ones groups : List ℕ) : Type 0 where
+  pub ones_count : length ones ≡ length rs
+  pub groups_count : length groups ≡ unit_count rs
   pub ones_low : (p : ℕ) → slice_index ones p ≤ stamp
   pub groups_low : (u : ℕ) → slice_index groups u ≤ stamp
 
 -- those that have the stamp are these needs
-pub record AreMarksOf (named : List Need) (stamp requests units : ℕ) (ones groups : List ℕ) : Type 0 where
-  pub up_to : AreUpTo stamp requests units ones groups
+pub record AreMarksOf (rs : List Record) (named : List Need) (stamp : ℕ) (ones groups : List ℕ) : Type 0 where
+  pub up_to : AreUpTo rs stamp ones groups
   pub ones_are : (p : ℕ) → (slice_index ones p == stamp) ≡ list_any (is_one p) named
   pub groups_are : (u : ℕ) → (slice_index groups u == stamp) ≡ list_any (is_group u) named

@@ -12,6 +12,10 @@ pub record SomeName (rs : List Record) (i : ℕ) (P : List ℕ → Type 0) : Typ
   pub listed : Contains (names_at rs i) name
   pub holds : P name
 
+-- the name is an earlier request in another group, which the names at i lack
+abbrev pub IsMemberAlone : List Record → ℕ → List ℕ → Type 0
+IsMemberAlone rs i name = (j : ℕ) × (j < i) × (id_at rs j ≡ Some name) × IsSomeAnd (group_at rs j) (λ group. ¬ (group_at rs i ≡ Some group) × ¬ Contains (names_at rs i) group)
+
 -- the rule is broken at position i
 abbrev pub StandsAt : NameRule → List Record → ℕ → Type 0
 StandsAt rules.IdTwice rs i = IsSomeAnd (id_at rs i) (λ id. IsIdBefore rs id i)
@@ -20,7 +24,7 @@ StandsAt rules.GroupSplit rs i = IsSomeAnd (group_at rs i) (λ group. (j : ℕ) 
 StandsAt rules.UnknownName rs i = SomeName rs i (λ name. ¬ IsId rs name × ¬ IsGroup rs name)
 StandsAt rules.ForwardName rs i = SomeName rs i (λ name. IsIdFrom rs name i ⊎ IsGroupAfter rs name i)
 StandsAt rules.OwnGroup rs i = SomeName rs i (λ name. group_at rs i ≡ Some name)
-StandsAt rules.GroupNotListed rs i = SomeName rs i (λ name. (j : ℕ) × (j < i) × (id_at rs j ≡ Some name) × IsSomeAnd (group_at rs j) (λ group. ¬ (group_at rs i ≡ Some group) × ¬ Contains (names_at rs i) group))
+StandsAt rules.GroupNotListed rs i = SomeName rs i (IsMemberAlone rs i)
 StandsAt rules.UnknownReference rs i = IsSomeAnd (reference_at rs i) (λ id. ¬ IsId rs id)
 StandsAt rules.ForwardReference rs i = IsSomeAnd (reference_at rs i) (λ id. IsIdFrom rs id i)
 StandsAt rules.ReferenceNotListed rs i = IsSomeAnd (reference_at rs i) (λ id. (j : ℕ) × (j < i) × (id_at rs j ≡ Some id) × ¬ IsInGroupOf rs i j × ¬ Contains (names_at rs i) id × ¬ NamesGroupOf rs i j)

@@ -23,6 +23,14 @@ abbrev pub further_names : List (List ℕ) → Option (List ℕ) → List (List 
 further_names names None = []
 further_names names (Some id) = cond (list_any (bytes_eq id) names) [] (id ∷ [])
 
+-- what the names in `dependsOn` stand for
+abbrev pub named_at : List Record → ℕ → List Need
+named_at rs i = filter_map (need_of rs) (names_at rs i)
+
+-- what the reference stands for, where it is not among the names
+abbrev pub further_needs : List Record → ℕ → List Need
+further_needs rs i = filter_map (need_of rs) (further_names (names_at rs i) (reference_at rs i))
+
 -- the names in `dependsOn`, and then the reference where it is not among them
 abbrev pub needed_names : List Record → ℕ → List (List ℕ)
 needed_names rs i = names_at rs i ++ further_names (names_at rs i) (reference_at rs i)

@@ -1,5 +1,5 @@
 -- What the tables of identifiers and groups hold.
-use Rattle.std.specs.Prelude.{◌≡◌, ◌≤◌, ◌<◌, ℕ, List, Option, option_map, option_and_then, unwrap_or, is_some, bytes_eq, length, Some, None, ◌+◌, cond}
+use Rattle.std.specs.Prelude.{◌≡◌, ◌≤◌, ◌<◌, ℕ, List, Option, option_map, option_and_then, unwrap_or, is_some, bytes_eq, length, Some, None, cond}
 use Rattle.std.specs.List.{IsDistinct}
 use Rattle.std.specs.BTreeMap.{get_by_text, btree_map_len}
 use Rattle.indexmap.specs.IndexMap.{get_by, index_map_len}

@@ -4,25 +4,27 @@ ghost use Rattle.odb_check.specs.LeastNameFault.{HasGoodNames, RefusesNames};
 ghost use Rattle.odb_check.specs.Levels.{levels_below};
 ghost use Rattle.odb_check.specs.Needs.{AreNeedsOf};
 ghost use Rattle.odb_check.specs.Plans.{plan_records};
+ghost use Rattle.odb_check.specs.Requests.{requests};
 
 use crate::fault::CheckFault;
 use crate::ids::check_ids;
 use crate::levels::levels_of;
-use crate::needs::{Needs, needs_of};
+use crate::needs::Needs;
 use crate::plan::Plan;
 use crate::seed::Seed;
 use crate::tables::{Tables, tables_of};
+use crate::walk::needs_of;
 use odb_doc::Batch;
 use std::alloc::Global;
 
 /// The needs and the levels of a batch whose names fit together.
 fn needs_and_levels(alloc: Global, tables: &Tables<'_>) -> Result<(Needs, Vec<u32>), CheckFault>
-    ensures good { OnOk result (HasGoodNames (records tables.now.batch.now)) }
-    ensures needs { IfOk result (λ found. AreNeedsOf (records tables.now.batch.now)
-        (length (records tables.now.batch.now)) found.0.list.items found.0.offsets.items) }
+    ensures good { OnOk result (HasGoodNames (requests tables.now)) }
+    ensures needs { IfOk result (λ found. AreNeedsOf (requests tables.now)
+        (length (requests tables.now)) found.0.list.items found.0.offsets.items) }
     ensures levels { IfOk result (λ found. found.1.items
-        ≡ levels_below (records tables.now.batch.now) (length (records tables.now.batch.now))) }
-    ensures least { IfErr result (λ fault. RefusesNames fault (records tables.now.batch.now)) }
+        ≡ levels_below (requests tables.now) (length (requests tables.now))) }
+    ensures least { IfErr result (λ fault. RefusesNames fault (requests tables.now)) }
 {
     check_ids(tables)?;
     let needs = needs_of(alloc, tables)?;

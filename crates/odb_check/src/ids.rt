@@ -1,42 +1,48 @@
-ghost use Rattle.std.specs.Prelude.{◌≡◌, ◌<◌, ℕ, length, None, OnOk, IfErr};
-ghost use Rattle.odb_doc.specs.Batches.{records};
-ghost use Rattle.odb_check.specs.Tests as tests;
-ghost use Rattle.odb_check.specs.Walks.{FailsFirst};
+ghost use Rattle.std.specs.Prelude.{◌≡◌, ◌<◌, length, None, IfSome, OnOk, IfErr};
+ghost use Rattle.std.specs.Bool.{Decides};
+ghost use Rattle.odb_doc.specs.LeastRules.{IsLeast};
+ghost use Rattle.odb_check.specs.Faults.{number};
+ghost use Rattle.odb_check.specs.LeastNameFault.{BreaksIn, HasSoundIds, RefusesNames};
+ghost use Rattle.odb_check.specs.NameFaults.{StandsAt};
+ghost use Rattle.odb_check.specs.Requests.{requests};
+ghost use Rattle.odb_check.specs.declared.fault.NameRule.{NameRule};
+ghost use Rattle.odb_check.specs.declared.fault.NameRule.TheVariants as rules;
 
 use crate::fault::{CheckFault, NameRule};
 use crate::tables::Tables;
 
-/// Whether an earlier request has the same identifier.
+/// F30: whether an earlier request has the same identifier.
 fn repeats_id(tables: &Tables<'_>, i: u32) -> bool
-    requires { i < length (records tables.now.batch.now) }
-    ensures { result ≡ tests.repeats_id (records tables.now.batch.now) i }
+    requires { i < length (requests tables.now) }
+    ensures { Decides result (StandsAt rules.IdTwice (requests tables.now) i) }
 {
-    match tables.position_of(tables.request(i).id) {
+    match tables.position_of(tables.id(i)) {
         Some(first) => first < i,
         None => false,
     }
 }
 
-/// Whether the identifier is a group.
+/// F31: whether the identifier is a group.
 fn has_id_of_group(tables: &Tables<'_>, i: u32) -> bool
-    requires { i < length (records tables.now.batch.now) }
-    ensures { result ≡ tests.has_id_of_group (records tables.now.batch.now) i }
+    requires { i < length (requests tables.now) }
+    ensures { Decides result (StandsAt rules.IdIsGroup (requests tables.now) i) }
 {
-    tables.unit_of_group(tables.request(i).id).is_some()
+    tables.unit_of_group(tables.id(i)).is_some()
 }
 
-/// Whether the group of the request is that of earlier ones, but not of the one just before.
+/// F32: whether the group of the request is that of earlier ones, but not of the one just before.
 fn splits_group(tables: &Tables<'_>, i: u32) -> bool
-    requires { i < length (records tables.now.batch.now) }
-    ensures { result ≡ tests.splits_group (records tables.now.batch.now) i }
+    requires { i < length (requests tables.now) }
+    ensures { Decides result (StandsAt rules.GroupSplit (requests tables.now) i) }
 {
     tables.begin_of(i) < i && tables.unit_of(i - 1) != tables.unit_of(i)
 }
 
 /// The first rule on identifiers and groups that the request breaks.
 fn broken_id(tables: &Tables<'_>, i: u32) -> Option<NameRule>
-    requires { i < length (records tables.now.batch.now) }
-    ensures { result ≡ tests.broken_id (records tables.now.batch.now) i }
+    requires { i < length (requests tables.now) }
+    ensures some { IfSome result (IsLeast number (λ rule. BreaksIn 3 (requests tables.now) rule i)) }
+    ensures none { result ≡ None → (rule : NameRule) → ¬ BreaksIn 3 (requests tables.now) rule i }
 {
     if repeats_id(tables, i) {
         return Some(NameRule::IdTwice);
@@ -52,9 +58,8 @@ fn broken_id(tables: &Tables<'_>, i: u32) -> Option<NameRule>
 
 /// Looks for the first request whose identifier or group breaks a rule.
 pub(crate) fn check_ids(tables: &Tables<'_>) -> Result<(), CheckFault>
-    ensures none { OnOk result ((k : ℕ) → k < length (records tables.now.batch.now)
-        → tests.broken_id (records tables.now.batch.now) k ≡ None) }
-    ensures first { IfErr result (FailsFirst (tests.broken_id (records tables.now.batch.now))) }
+    ensures sound { OnOk result (HasSoundIds (requests tables.now)) }
+    ensures least { IfErr result (λ fault. RefusesNames fault (requests tables.now)) }
 {
     for i in 0..tables.len() {
         if let Some(rule) = broken_id(tables, i) {

@@ -1,9 +1,9 @@
 ghost use Rattle.std.specs.Prelude.{◌≡◌, ◌≤◌, ◌<◌, ◌+◌, ℕ, length, slice_index, All, IfOk};
-ghost use Rattle.odb_doc.specs.Batches.{records};
 ghost use Rattle.odb_check.specs.LeastNameFault.{HasGoodNames};
 ghost use Rattle.odb_check.specs.Levels.{level_needed, levels_below, next_level};
 ghost use Rattle.odb_check.specs.Marks.{IsWithin};
 ghost use Rattle.odb_check.specs.Needs.{AreNeedsOf};
+ghost use Rattle.odb_check.specs.Requests.{requests};
 
 use crate::need::Need;
 use crate::needs::{Needs, needs_of_request};
@@ -43,11 +43,11 @@ pub(crate) fn levels_of(
     tables: &Tables<'_>,
     needs: &Needs,
 ) -> Result<Vec<u32>, AllocError>
-    requires good { HasGoodNames (records tables.now.batch.now) }
-    requires needs { AreNeedsOf (records tables.now.batch.now)
-        (length (records tables.now.batch.now)) needs.now.list.items needs.now.offsets.items }
+    requires good { HasGoodNames (requests tables.now) }
+    requires needs { AreNeedsOf (requests tables.now)
+        (length (requests tables.now)) needs.now.list.items needs.now.offsets.items }
     ensures { IfOk result (λ levels. levels.items
-        ≡ levels_below (records tables.now.batch.now) (length (records tables.now.batch.now))) }
+        ≡ levels_below (requests tables.now) (length (requests tables.now))) }
 {
     let mut levels = Vec::with_capacity(alloc, tables.len() as usize)?;
     let mut unit_levels = vec![in alloc; 0_u32; tables.unit_count() as usize]?;

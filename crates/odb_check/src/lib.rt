@@ -11,8 +11,8 @@ mod fault;
 mod ids;
 pub mod laws;
 mod levels;
-mod listed;
 mod marks;
+mod names;
 mod need;
 mod needs;
 mod plan;
@@ -20,6 +20,7 @@ mod seed;
 mod table;
 mod tables;
 mod text;
+mod walk;
 
 pub use checking::{check, check_with};
 pub use fault::{CheckFault, NameRule};

@@ -1,7 +1,9 @@
 ghost use Rattle.std.specs.Prelude.{◌≡◌, ◌<◌, ◌==◌, length, slice_index, IfOk};
 ghost use Rattle.odb_check.specs.Marks.{AreUpTo, IsWithin, ones_with, groups_with};
+ghost use Rattle.odb_check.specs.Requests.{requests};
 
 use crate::need::Need;
+use crate::tables::Tables;
 use std::alloc::{AllocError, Global};
 
 /// Which requests and units the current request names: arrays of generation stamps.
@@ -15,13 +17,13 @@ pub(crate) struct Marks {
 
 impl Marks {
     /// No marks yet, for stamps from 1 on.
-    pub(crate) fn new(alloc: Global, requests: u32, units: u32) -> Result<Marks, AllocError>
-        ensures { IfOk result (λ marks. AreUpTo 0 requests units marks.ones.items
+    pub(crate) fn new(alloc: Global, tables: &Tables<'_>) -> Result<Marks, AllocError>
+        ensures { IfOk result (λ marks. AreUpTo (requests tables.now) 0 marks.ones.items
             marks.groups.items) }
     {
         Ok(Marks {
-            ones: vec![in alloc; 0_u32; requests as usize]?,
-            groups: vec![in alloc; 0_u32; units as usize]?,
+            ones: vec![in alloc; 0_u32; tables.len() as usize]?,
+            groups: vec![in alloc; 0_u32; tables.unit_count() as usize]?,
         })
     }
 

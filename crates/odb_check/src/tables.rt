@@ -1,6 +1,7 @@
-ghost use Rattle.std.specs.Prelude.{◌≡◌, ◌≤◌, ◌<◌, ◌==◌, ◌+◌, ◌∷◌, ◌++◌, [], ℕ, List, length, cond, Some, None, option_copied, OnOk, IfOk, slice_get};
+ghost use Rattle.std.specs.Prelude.{◌≡◌, ◌≤◌, ◌<◌, ◌==◌, ◌+◌, ◌∷◌, ◌++◌, [], ℕ, List, length, cond, Some, None, option_copied, option_and_then, OnOk, IfOk, slice_get};
 ghost use Rattle.std.proofs.Props.{props};
 ghost use Rattle.odb_doc.specs.Batches.{records};
+ghost use Rattle.odb_doc.specs.Names.{texts_in};
 ghost use Rattle.odb_doc.specs.Records.{IsSoundRecord, record_of};
 ghost use Rattle.odb_check.specs.Firsts.{or_else, is_text};
 ghost use Rattle.odb_check.specs.Tables.{AreTablesOf, at_text, more_with, table_len, unit_among};
@@ -139,6 +140,7 @@ pub(crate) fn tables_of<'b>(
 impl<'b> Tables<'b> {
     ghost use Rattle.odb_check.specs.Groups.{groups_of};
     ghost use Rattle.odb_check.specs.Needs.{need_of};
+    ghost use Rattle.odb_check.specs.Positions.{id_at, group_at, names_at, reference_at};
     ghost use Rattle.odb_check.specs.Units as spec;
 
     pub(crate) fn len(&self) -> u32
@@ -154,6 +156,37 @@ impl<'b> Tables<'b> {
         ensures sound { IsSoundRecord (record_of result.now) }
     {
         self.batch.request(i)
+    }
+
+    pub(crate) fn id(&self, i: u32) -> &'b str
+        requires { i < length (records self.now.batch.now) }
+        ensures { id_at (records self.now.batch.now) i ≡ Some result.now }
+    {
+        self.request(i).id
+    }
+
+    pub(crate) fn group(&self, i: u32) -> Option<&'b str>
+        requires { i < length (records self.now.batch.now) }
+        ensures { group_at (records self.now.batch.now) i ≡ option_copied result }
+    {
+        self.request(i).group
+    }
+
+    pub(crate) fn names(&self, i: u32) -> &[&'b str]
+        requires { i < length (records self.now.batch.now) }
+        ensures { texts_in result.now ≡ names_at (records self.now.batch.now) i }
+    {
+        &self.request(i).names
+    }
+
+    pub(crate) fn reference(&self, i: u32) -> Option<&str>
+        requires { i < length (records self.now.batch.now) }
+        ensures { reference_at (records self.now.batch.now) i ≡ option_copied result }
+    {
+        match &self.request(i).reference {
+            Some(id) => Some(id.as_str()),
+            None => None,
+        }
     }
 
     pub(crate) fn unit_count(&self) -> u32
@@ -199,6 +232,15 @@ impl<'b> Tables<'b> {
         ensures { result ≡ spec.position_of (records self.now.batch.now) id.now }
     {
         self.ids.get(id)
+    }
+
+    /// The request that the URL of another refers to, if the batch has that.
+    pub(crate) fn referred_to(&self, i: u32) -> Option<u32>
+        requires { i < length (records self.now.batch.now) }
+        ensures { result ≡ option_and_then (spec.position_of (records self.now.batch.now))
+            (reference_at (records self.now.batch.now) i) }
+    {
+        self.position_of(self.reference(i)?)
     }
 
     pub(crate) fn unit_of_group(&self, group: &str) -> Option<u32>

@@ -1,8 +1,9 @@
-use Rattle.std.proofs.Common.{◌≡◌, ◌<◌, ℕ, None}
-use Rattle.odb_doc.specs.Batches.{records}
-use Rattle.odb_check.specs.Tests.{broken_id}
+use Rattle.std.proofs.Common.{◌<◌, ℕ}
+use Rattle.odb_check.specs.declared.fault.NameRule.{NameRule}
+use Rattle.odb_check.specs.LeastNameFault.{BreaksIn}
+use Rattle.odb_check.specs.Requests.{requests}
 use Rattle.odb_check.proofs.ids.check_ids.Given as goal
 
 -- the requests before i break no rule
 abbrev pub invariant-loop-i : goal.invariant-loop-i
-invariant-loop-i l = (k : ℕ) → k < l.i → broken_id (records l.tables.batch.now) k ≡ None
+invariant-loop-i l = (rule : NameRule) (k : ℕ) → k < l.i → ¬ BreaksIn 3 (requests l.tables) rule k

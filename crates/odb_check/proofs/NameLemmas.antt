@@ -1,0 +1,165 @@
+-- Where names break a rule, in a batch whose identifiers and groups break none.
+use Rattle.std.proofs.Common.{◌≡◌, ◌≤◌, ◌<◌, ◌⊎◌, ℕ, Bool, true, false, not, List, Option, Some, None, refl, sym, ap, ◌∙◌, subst, inl, inr, arith, length, get_or}
+use Rattle.std.specs.Prelude.{◌==◌, nat_lt, nat_le, is_some, Contains, IsSomeAnd}
+use Rattle.std.specs.Bool.{Decides}
+use Rattle.std.specs.List.{list_any, IsAnyAnswer}
+use Rattle.std.proofs.lemmas.Bool.{cases_lt, eqb-true, eq-eqb, ltb-true, lt-ltb, leb-true, le-leb, false≢true}
+use Rattle.std.proofs.lemmas.Bool.Decides.{Decides-eqb, Decides-like, Decides-not}
+use Rattle.std.proofs.lemmas.List.Elements.{Contains-get_or}
+use Rattle.odb_doc.specs.Records.{Record}
+use Rattle.odb_check.specs.declared.fault.NameRule.TheVariants.{IdTwice, IdIsGroup, GroupSplit, UnknownName}
+use Rattle.odb_check.specs.declared.need.Need.{Need}
+use Rattle.odb_check.specs.declared.need.Need.TheVariants.{One, Group}
+use Rattle.odb_check.specs.Judged.{IsAnswer}
+use Rattle.odb_check.specs.LeastNameFault.{HasSoundIds}
+use Rattle.odb_check.specs.Marks.{is_group}
+use Rattle.odb_check.specs.NameFaults.{SomeName, StandsAt, IsMemberAlone}
+use Rattle.odb_check.specs.Needs.{need_of, named_at}
+use Rattle.odb_check.specs.Positions.{id_at, group_at, names_at, IsId, IsIdFrom, IsGroup, IsGroupAfter, IsInGroupOf, NamesGroupOf}
+use Rattle.odb_check.specs.Units.{begin_in, unit_begin, unit_at}
+use Rattle.odb_check.proofs.AnyLemmas.{SomePasses, StandsFor, any_passes, some_passes, stands_for, Contains-meaning}
+use Rattle.odb_check.proofs.DecideLemmas.{Decides-none}
+use Rattle.odb_check.proofs.NeedLemmas.{IsMeant, is_meant, group_need, means_nothing, no_group, one_id}
+use Rattle.odb_check.proofs.PositionLemmas.{IsFirstAt}
+use Rattle.odb_check.proofs.UnitLemmas.{BeginsAt, unit_begins, unit_before, same_begin, same_group, one_unit, begin_of_group, in_group, in_unit, in_order}
+
+pub once : (rs : List Record) → HasSoundIds rs → (i : ℕ) → ¬ StandsAt IdTwice rs i
+once rs sound i h = sound IdTwice i (refl, h)
+
+pub apart : (rs : List Record) → HasSoundIds rs → (i : ℕ) → ¬ StandsAt IdIsGroup rs i
+apart rs sound i h = sound IdIsGroup i (refl, h)
+
+-- a later unit has later positions
+pub later_unit : (rs : List Record) → HasSoundIds rs → (i j : ℕ) → unit_at rs i < unit_at rs j → i < j
+later_unit rs sound i j less =
+    elim (cases_lt i j) [ inl before ↦ before | inr more ↦ absurd (omega (arith, in_order rs (λ k h. sound GroupSplit k (refl, h)) j i more)) ]
+
+-- ---- names that are unknown
+
+pub unknown : (rs : List Record) (i : ℕ) (name : List ℕ) → Contains (names_at rs i) name → need_of rs name ≡ None → StandsAt UnknownName rs i
+unknown rs i name listed e =
+    let nothing : ((j : ℕ) → ¬ (id_at rs j ≡ Some name)) × ((j : ℕ) → ¬ (group_at rs j ≡ Some name)) = means_nothing rs name e in
+    record { name = name; listed = listed; holds = ((λ h. nothing.0 h.0 h.1), (λ h. nothing.1 h.0 h.1)) }
+
+pub meant_known : (rs : List Record) (name : List ℕ) (need : Need) → IsMeant rs name need → ¬ IsId rs name → ¬ IsGroup rs name → ⊥
+meant_known rs name (One p) is no_id not_group = no_id (p, is.1.here)
+meant_known rs name (Group u) is no_id not_group = not_group (is.unit.start, is.unit.first.here)
+
+-- ---- any of the names
+
+answered_yes : (rs : List Record) (i k : ℕ) (P : List ℕ → Type 0) → k < length (named_at rs i) → ((d : Need) → IsAnswer rs (get_or (named_at rs i) k d) true P) → SomeName rs i P
+answered_yes rs i k P within answers =
+    let need = get_or (named_at rs i) k (One 0) in
+    let name : StandsFor (need_of rs) (names_at rs i) need = stands_for (need_of rs) (names_at rs i) need (Contains-get_or (named_at rs i) k (One 0) within) in
+    record { name = name.element; listed = name.inside; holds = (answers (One 0) name.element name.means).0 refl }
+
+answered_no : (rs : List Record) (i : ℕ) (P : List ℕ → Type 0) → ¬ StandsAt UnknownName rs i → ((k : ℕ) (d : Need) → 0 ≤ k → k < length (named_at rs i) → IsAnswer rs (get_or (named_at rs i) k d) false P)
+    → (some : SomeName rs i P) → (found : Option Need) → need_of rs some.name ≡ found → ⊥
+answered_no rs i P known answers some None e = known (unknown rs i some.name some.listed e)
+answered_no rs i P known answers some (Some need) e =
+    let inside : Contains (named_at rs i) need = Contains-meaning (need_of rs) (names_at rs i) some.name need some.listed e in
+    let answer : IsAnswer rs need false P = subst (λ x. IsAnswer rs x false P) inside.2 (answers inside.0 need (omega arith) inside.1) in
+    false≢true ((answer some.name e).1 some.holds)
+
+any_case : (rs : List Record) (i : ℕ) (P : List ℕ → Type 0) → ¬ StandsAt UnknownName rs i → (answer : Bool) → IsAnyAnswer (λ need b. IsAnswer rs need b P) (named_at rs i) answer → Decides answer (SomeName rs i P)
+any_case rs i P known true h = ((λ e. answered_yes rs i h.0 P h.1 h.2), λ some. refl)
+any_case rs i P known false h = Decides-none (λ some. answered_no rs i P known h some (need_of rs some.name) refl)
+
+-- what is answered of the needs, where the names are known, is so of the names
+pub any_Decides : (rs : List Record) (i : ℕ) (P : List ℕ → Type 0) (named : List Need) → ¬ StandsAt UnknownName rs i → named ≡ named_at rs i → (answer : Bool)
+    → IsAnyAnswer (λ need b. IsAnswer rs need b P) named answer → Decides answer (SomeName rs i P)
+any_Decides rs i P named known is answer h = any_case rs i P known answer (subst (λ xs. IsAnyAnswer (λ need b. IsAnswer rs need b P) xs answer) is h)
+
+-- ---- names that appear later
+
+pub later_one : (rs : List Record) → HasSoundIds rs → (i p : ℕ) (name : List ℕ) → IsMeant rs name (One p) → Decides (nat_le i p) (IsIdFrom rs name i ⊎ IsGroupAfter rs name i)
+later_one rs sound i p name is = (
+  (λ e. inl (p, leb-true i p e, is.1.here)),
+  (λ h. elim h [
+    | inl from ↦ let same : p ≡ from.0 = one_id rs (once rs sound) name p from.0 is.1.here from.2 in le-leb i p (omega (arith, from.1))
+    | inr after ↦ absurd (no_group rs (apart rs sound) name p after.0.0 is.1.here after.0.1)
+  ]),
+)
+
+start_unit : (rs : List Record) (name : List ℕ) (i j : ℕ) → group_at rs j ≡ Some name → ((k : ℕ) → group_at rs k ≡ Some name → i < k) → unit_at rs i < unit_at rs j
+start_unit rs name i j there after =
+    let first : IsFirstAt (group_at rs) name (unit_begin rs j) = begin_of_group rs j name there in
+    unit_before rs i (unit_begin rs j) (after (unit_begin rs j) first.here)
+
+pub later_group : (rs : List Record) → HasSoundIds rs → (i u : ℕ) (name : List ℕ) → IsMeant rs name (Group u) → Decides (nat_lt (unit_at rs i) u) (IsIdFrom rs name i ⊎ IsGroupAfter rs name i)
+later_group rs sound i u name is = (
+  (λ e.
+      let less : unit_at rs i < u = ltb-true (unit_at rs i) u e in
+      inr ((is.unit.start, is.unit.first.here), (λ j there. later_unit rs sound i j (let at_u : unit_at rs j ≡ u = in_unit rs name u j is.unit there in omega arith)))),
+  (λ h. elim h [
+    | inl from ↦ absurd (is.no_id from.0 from.2)
+    | inr after ↦ lt-ltb (unit_at rs i) u (subst (λ v. unit_at rs i < v) (in_unit rs name u after.0.0 is.unit after.0.1) (start_unit rs name i after.0.0 after.0.1 after.1))
+  ]),
+)
+
+-- ---- the own group
+
+pub own_group : (rs : List Record) (i u : ℕ) (name : List ℕ) → IsMeant rs name (Group u) → Decides (u == unit_at rs i) (group_at rs i ≡ Some name)
+own_group rs i u name is = ((λ e. in_group rs name u i is.unit (sym (eqb-true u (unit_at rs i) e))), (λ here. eq-eqb u (unit_at rs i) (sym (in_unit rs name u i is.unit here))))
+
+-- ---- members of other groups
+
+-- p precedes i and the two are not in one group
+together_case : (rs : List Record) (i p : ℕ) → p < i → unit_at rs p ≡ unit_at rs i → (group : Option (List ℕ)) → group_at rs i ≡ group → IsInGroupOf rs i p
+together_case rs i p less same None e =
+    let at_itself : unit_begin rs i ≡ i = ap (begin_in rs i) e in
+    let begun : BeginsAt rs p (unit_begin rs p) = unit_begins rs p in
+    absurd (omega (arith, same_begin rs p i same, begun.upto))
+together_case rs i p less same (Some g) e = (g, e, same_group rs p i same ∙ e)
+
+pub outside_Decides : (rs : List Record) (i p : ℕ) → p < i → Decides (not (unit_at rs p == unit_at rs i)) ((p < i) × ¬ IsInGroupOf rs i p)
+outside_Decides rs i p less = Decides-like (not (unit_at rs p == unit_at rs i)) (λ other. (less, (λ h. other (one_unit rs p i h.0 h.2 h.1))))
+    (λ h same. h.1 (together_case rs i p less same (group_at rs i) refl)) (Decides-not (unit_at rs p == unit_at rs i) (Decides-eqb (unit_at rs p) (unit_at rs i)))
+
+-- the unit of p is named where its group is
+unit_sound : (rs : List Record) (p : ℕ) (name : List ℕ) (need : Need) → IsMeant rs name need → is_group (unit_at rs p) need ≡ true → group_at rs p ≡ Some name
+unit_sound rs p name (One q) is e = cc
+unit_sound rs p name (Group u) is e = in_group rs name u p is.unit (sym (eqb-true u (unit_at rs p) e))
+
+pub group_listed : (rs : List Record) → HasSoundIds rs → (i p : ℕ) → Decides (list_any (is_group (unit_at rs p)) (named_at rs i)) (NamesGroupOf rs i p)
+group_listed rs sound i p = (
+  (λ e.
+      let found : SomePasses (is_group (unit_at rs p)) (named_at rs i) = some_passes (is_group (unit_at rs p)) (named_at rs i) e in
+      let name : StandsFor (need_of rs) (names_at rs i) found.element = stands_for (need_of rs) (names_at rs i) found.element found.inside in
+      (name.element, unit_sound rs p name.element found.element (is_meant rs name.element found.element name.means) found.passes, name.inside)),
+  (λ h.
+      let means : need_of rs h.0 ≡ Some (Group (unit_at rs p)) = group_need rs (apart rs sound) h.0 p h.1 in
+      any_passes (is_group (unit_at rs p)) (named_at rs i) (Group (unit_at rs p)) (Contains-meaning (need_of rs) (names_at rs i) h.0 (Group (unit_at rs p)) h.2 means) (eq-eqb (unit_at rs p) (unit_at rs p) refl)),
+)
+
+-- p precedes i in another group, which the names at i lack
+abbrev pub MissesGroupOf : List Record → ℕ → ℕ → Type 0
+MissesGroupOf rs i p = (p < i) × ¬ IsInGroupOf rs i p × ¬ NamesGroupOf rs i p
+
+missed_case : (rs : List Record) (i p : ℕ) (group : Option (List ℕ)) → group_at rs p ≡ group → IsSomeAnd group (λ g. ¬ (group_at rs i ≡ Some g) × ¬ Contains (names_at rs i) g)
+    → (is_some group ≡ true) × ¬ IsInGroupOf rs i p × ¬ NamesGroupOf rs i p
+missed_case rs i p None e h = absurd h
+missed_case rs i p (Some g) e h = (
+  refl,
+  (λ both. let same : both.0 ≡ g = (let s : Some both.0 ≡ Some g = sym both.2 ∙ e in cc) in h.0 (subst (λ x. group_at rs i ≡ Some x) same both.1)),
+  (λ named. let same : named.0 ≡ g = (let s : Some named.0 ≡ Some g = sym named.1 ∙ e in cc) in h.1 (subst (Contains (names_at rs i)) same named.2)),
+)
+
+alone_missed : (rs : List Record) → HasSoundIds rs → (i p : ℕ) (name : List ℕ) → IsMeant rs name (One p) → IsMemberAlone rs i name → (p < i) × (is_some (group_at rs p) ≡ true) × ¬ IsInGroupOf rs i p × ¬ NamesGroupOf rs i p
+alone_missed rs sound i p name is h =
+    let same : h.0 ≡ p = one_id rs (once rs sound) name h.0 p h.2 is.1.here in
+    let missed : (is_some (group_at rs p) ≡ true) × ¬ IsInGroupOf rs i p × ¬ NamesGroupOf rs i p =
+    missed_case rs i p (group_at rs p) refl (subst (λ k. IsSomeAnd (group_at rs k) (λ g. ¬ (group_at rs i ≡ Some g) × ¬ Contains (names_at rs i) g)) same h.3) in
+    (omega (arith, h.1), missed.0, missed.1, missed.2)
+
+pub alone_misses : (rs : List Record) → HasSoundIds rs → (i p : ℕ) (name : List ℕ) → IsMeant rs name (One p) → IsMemberAlone rs i name → MissesGroupOf rs i p
+alone_misses rs sound i p name is h =
+    let missed : (p < i) × (is_some (group_at rs p) ≡ true) × ¬ IsInGroupOf rs i p × ¬ NamesGroupOf rs i p = alone_missed rs sound i p name is h in
+    (missed.0, missed.2, missed.3)
+
+misses_alone : (rs : List Record) (i p : ℕ) → MissesGroupOf rs i p → (group : Option (List ℕ)) → group_at rs p ≡ group → is_some group ≡ true → IsSomeAnd group (λ g. ¬ (group_at rs i ≡ Some g) × ¬ Contains (names_at rs i) g)
+misses_alone rs i p misses None e some = cc
+misses_alone rs i p misses (Some g) e some = ((λ here. misses.1 (g, here, e)), (λ h. misses.2 (g, e, h)))
+
+pub alone_Decides : (rs : List Record) → HasSoundIds rs → (i p : ℕ) (name : List ℕ) → IsMeant rs name (One p) → MissesGroupOf rs i p → Decides (is_some (group_at rs p)) (IsMemberAlone rs i name)
+alone_Decides rs sound i p name is misses = ((λ e. (p, misses.0, is.1.here, misses_alone rs i p misses (group_at rs p) refl e)), (λ h. (alone_missed rs sound i p name is h).1))

@@ -1,0 +1,14 @@
+use Rattle.std.proofs.Common.{ℕ, List, true, false, rules, tests}
+use Rattle.std.proofs.lemmas.Iterator.{cases_from_any, YieldsList-from_slice}
+use Rattle.odb_check.specs.Judged.{IsAnswer, batch_of}
+use Rattle.odb_check.specs.NameFaults.{IsMemberAlone}
+use Rattle.odb_check.proofs.NameLemmas.{any_Decides}
+use Rattle.odb_check.proofs.names.Judged.names_member_alone.Goals as goal
+
+pub returns : goal.returns
+returns c =
+    let j = c.args.self.now in
+    let rs = batch_of j in
+    let P : List ℕ → Type 0 = IsMemberAlone rs j.i in
+    any_Decides rs j.i P j.named.now j.known j.names _
+    (cases_from_any _ _ _ (λ need. IsAnswer rs need true P) (λ need. IsAnswer rs need false P) c.any.ensures.ran (YieldsList-from_slice j.named.now cc) (λ x q k. search (rules, tests)) (λ x q k. search (rules, tests)))

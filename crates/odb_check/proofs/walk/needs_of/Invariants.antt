@@ -1,0 +1,15 @@
+use Rattle.std.proofs.Common.{◌<◌, ℕ}
+use Rattle.odb_check.specs.declared.fault.NameRule.{NameRule}
+use Rattle.odb_check.specs.LeastNameFault.{BreaksIn}
+use Rattle.odb_check.specs.Marks.{AreUpTo}
+use Rattle.odb_check.specs.Needs.{AreNeedsOf}
+use Rattle.odb_check.specs.Requests.{requests}
+use Rattle.odb_check.proofs.walk.needs_of.Given as goal
+
+-- the requests before i break no rule, and their needs stand in the list
+abbrev pub invariant-loop-i : goal.invariant-loop-i
+invariant-loop-i l = record {
+  none : (rule : NameRule) (k : ℕ) → k < l.i → ¬ BreaksIn 4 (requests l.tables) rule k;
+  needs : AreNeedsOf (requests l.tables) l.i l.list.items l.offsets.items;
+  marks : AreUpTo (requests l.tables) l.i l.marks.ones.items l.marks.groups.items;
+}

@@ -1,0 +1,16 @@
+-- The request under judgement.
+use Rattle.std.specs.Prelude.{◌≡◌, ℕ, Bool, List, Some}
+use Rattle.std.specs.Bool.{Decides}
+use Rattle.odb_doc.specs.Records.{Record}
+use Rattle.odb_check.specs.declared.names.Judged.{Judged}
+use Rattle.odb_check.specs.declared.need.Need.{Need}
+use Rattle.odb_check.specs.Needs.{need_of}
+use Rattle.odb_check.specs.Requests.{requests}
+
+-- the requests of its batch
+abbrev pub batch_of : Judged → List Record
+batch_of judged = requests judged.tables.now
+
+-- what is answered of a need is so of each name that stands for it
+abbrev pub IsAnswer : List Record → Need → Bool → (List ℕ → Type 0) → Type 0
+IsAnswer rs need answer P = (name : List ℕ) → need_of rs name ≡ Some need → Decides answer (P name)

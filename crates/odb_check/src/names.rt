@@ -1,0 +1,211 @@
+ghost use Rattle.std.specs.Prelude.{◌≡◌, ◌<◌, ◌+◌, ◌⊎◌, ◌∷◌, [], ℕ, List, length, Some, None, IfSome, Contains, option_and_then};
+ghost use Rattle.std.specs.Bool.{Decides};
+ghost use Rattle.std.proofs.Props.{props};
+ghost use Rattle.odb_doc.specs.LeastRules.{IsLeast};
+ghost use Rattle.odb_check.specs.Faults.{number};
+ghost use Rattle.odb_check.specs.LeastNameFault.{BreaksIn, HasSoundIds};
+ghost use Rattle.odb_check.specs.Marks.{AreMarksOf};
+ghost use Rattle.odb_check.specs.NameFaults.{StandsAt, IsMemberAlone};
+ghost use Rattle.odb_check.specs.Needs.{named_at, further_needs};
+ghost use Rattle.odb_check.specs.Positions.{id_at, group_at, names_at, reference_at, IsIdFrom, IsGroupAfter, IsInGroupOf, NamesGroupOf};
+ghost use Rattle.odb_check.specs.Requests.{requests};
+ghost use Rattle.odb_check.specs.Units.{position_of};
+ghost use Rattle.odb_check.specs.declared.fault.NameRule.TheVariants as rules;
+
+use crate::fault::NameRule;
+use crate::marks::Marks;
+use crate::need::Need;
+use crate::tables::Tables;
+
+/// A request of a batch whose identifiers and groups break no rule, once each of its names is known.
+#[derive(Clone, Copy)]
+pub(crate) struct Judged<'w, 'b> {
+    pub(crate) tables: &'w Tables<'b>,
+    pub(crate) i: u32,
+    /// What its names stand for.
+    pub(crate) named: &'w [Need],
+    /// The marks, among which that has the stamp `i + 1`.
+    pub(crate) marks: &'w Marks,
+    /// The request that its URL refers to, if the batch has that.
+    pub(crate) referred: Option<u32>,
+    ghost within: { i < length (requests tables.now) },
+    ghost sound: { HasSoundIds (requests tables.now) },
+    ghost known: { ¬ StandsAt rules.UnknownName (requests tables.now) i },
+    ghost names: { named.now ≡ named_at (requests tables.now) i },
+    ghost marked: { AreMarksOf (requests tables.now) (named_at (requests tables.now) i) (i + 1)
+        marks.now.ones.items marks.now.groups.items } by { Prim.hlevel props },
+    ghost refers: { referred
+        ≡ option_and_then (position_of (requests tables.now)) (reference_at (requests tables.now) i) },
+}
+
+impl Judged<'_, '_> {
+    ghost use Rattle.odb_check.specs.Judged.{IsAnswer, batch_of};
+    ghost use Rattle.odb_check.specs.declared.fault.NameRule.{NameRule};
+
+    /// Whether what is needed is this request or a later one, or a group that begins later.
+    fn is_later(&self, need: Need) -> bool
+        ensures { IsAnswer (batch_of self.now) need result (λ name.
+            IsIdFrom (batch_of self.now) name self.now.i ⊎ IsGroupAfter (batch_of self.now) name self.now.i) }
+    {
+        match need {
+            Need::One(position) => self.i <= position,
+            Need::Group(unit) => self.tables.unit_of(self.i) < unit,
+        }
+    }
+
+    /// Whether what is needed is the group of this request.
+    fn is_own(&self, need: Need) -> bool
+        ensures { IsAnswer (batch_of self.now) need result (λ name.
+            group_at (batch_of self.now) self.now.i ≡ Some name) }
+    {
+        match need {
+            Need::One(_) => false,
+            Need::Group(unit) => unit == self.tables.unit_of(self.i),
+        }
+    }
+
+    /// Whether the other request precedes this one and is not in its group.
+    fn is_outside(&self, position: u32) -> bool
+        ensures { Decides result ((position < self.now.i)
+            × ¬ IsInGroupOf (batch_of self.now) self.now.i position) }
+    {
+        position < self.i && self.tables.unit_of(position) != self.tables.unit_of(self.i)
+    }
+
+    /// Whether `dependsOn` lists the group of the other request.
+    fn lists_group_of(&self, position: u32) -> bool
+        requires { position < length (batch_of self.now) }
+        ensures { Decides result (NamesGroupOf (batch_of self.now) self.now.i position) }
+    {
+        self.marks
+            .has_group(self.tables.unit_of(position), self.i + 1)
+    }
+
+    /// Whether `dependsOn` lists the other request.
+    fn lists(&self, position: u32) -> bool
+        requires { position < length (batch_of self.now) }
+        ensures { (id : List ℕ) → id_at (batch_of self.now) position ≡ Some id
+            → Decides result (Contains (names_at (batch_of self.now) self.now.i) id) }
+    {
+        self.marks.has_one(position, self.i + 1)
+    }
+
+    /// Whether the other request precedes this one, is not in its group, and `dependsOn` does not list
+    /// the group of the other.
+    fn misses_group_of(&self, position: u32) -> bool
+        ensures { Decides result ((position < self.now.i)
+            × ¬ IsInGroupOf (batch_of self.now) self.now.i position
+            × ¬ NamesGroupOf (batch_of self.now) self.now.i position) }
+    {
+        self.is_outside(position) && !self.lists_group_of(position)
+    }
+
+    /// Whether what is needed is an earlier request in another group, which `dependsOn` does not list.
+    fn is_member_alone(&self, need: Need) -> bool
+        ensures { IsAnswer (batch_of self.now) need result
+            (IsMemberAlone (batch_of self.now) self.now.i) }
+    {
+        match need {
+            Need::One(position) => {
+                self.misses_group_of(position) && self.tables.group(position).is_some()
+            }
+            Need::Group(_) => false,
+        }
+    }
+
+    /// F41: whether `dependsOn` lists a request or a group that does not precede.
+    fn names_later(&self) -> bool
+        ensures { Decides result (StandsAt rules.ForwardName (batch_of self.now) self.now.i) }
+    {
+        self.named.iter().any(|need| self.is_later(*need))
+    }
+
+    /// F42: whether `dependsOn` lists the group of the request.
+    fn names_own_group(&self) -> bool
+        ensures { Decides result (StandsAt rules.OwnGroup (batch_of self.now) self.now.i) }
+    {
+        self.named.iter().any(|need| self.is_own(*need))
+    }
+
+    /// F43: whether `dependsOn` lists a member of another group without that group.
+    fn names_member_alone(&self) -> bool
+        ensures { Decides result (StandsAt rules.GroupNotListed (batch_of self.now) self.now.i) }
+    {
+        self.named.iter().any(|need| self.is_member_alone(*need))
+    }
+
+    /// F44: whether the URL refers to a request that the batch does not have.
+    fn has_unknown_reference(&self) -> bool
+        ensures { Decides result (StandsAt rules.UnknownReference (batch_of self.now) self.now.i) }
+    {
+        match self.referred {
+            Some(_) => false,
+            None => self.tables.reference(self.i).is_some(),
+        }
+    }
+
+    /// F45: whether the URL refers to a request that does not precede.
+    fn has_forward_reference(&self) -> bool
+        ensures { Decides result (StandsAt rules.ForwardReference (batch_of self.now) self.now.i) }
+    {
+        match self.referred {
+            Some(position) => self.i <= position,
+            None => false,
+        }
+    }
+
+    /// F46: whether the URL refers to an earlier request outside the group, and `dependsOn` lists
+    /// neither that request nor its group.
+    fn lacks_reference(&self) -> bool
+        ensures { Decides result (StandsAt rules.ReferenceNotListed (batch_of self.now) self.now.i) }
+    {
+        match self.referred {
+            Some(position) => self.misses_group_of(position) && !self.lists(position),
+            None => false,
+        }
+    }
+
+    /// The first rule on names and references that the request breaks.
+    pub(crate) fn broken_rule(&self) -> Option<NameRule>
+        ensures some { IfSome result (IsLeast number (λ rule. BreaksIn 4 (batch_of self.now) rule self.now.i)) }
+        ensures none { result ≡ None → (rule : NameRule) → ¬ BreaksIn 4 (batch_of self.now) rule self.now.i }
+    {
+        if self.names_later() {
+            return Some(NameRule::ForwardName);
+        }
+        if self.names_own_group() {
+            return Some(NameRule::OwnGroup);
+        }
+        if self.names_member_alone() {
+            return Some(NameRule::GroupNotListed);
+        }
+        if self.has_unknown_reference() {
+            return Some(NameRule::UnknownReference);
+        }
+        if self.has_forward_reference() {
+            return Some(NameRule::ForwardReference);
+        }
+        if self.lacks_reference() {
+            return Some(NameRule::ReferenceNotListed);
+        }
+        None
+    }
+
+    /// The request that the URL refers to, unless `dependsOn` lists it.
+    pub(crate) fn further_need(&self) -> Option<Need>
+        requires { ¬ StandsAt rules.UnknownReference (batch_of self.now) self.now.i }
+        ensures some { IfSome result (λ need. further_needs (batch_of self.now) self.now.i ≡ need ∷ []) }
+        ensures none { result ≡ None → further_needs (batch_of self.now) self.now.i ≡ [] }
+    {
+        match self.referred {
+            Some(position) => {
+                if self.lists(position) {
+                    None
+                } else {
+                    Some(Need::One(position))
+                }
+            }
+            None => None,
+        }
+    }
+}

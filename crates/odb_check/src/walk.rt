@@ -1,0 +1,107 @@
+ghost use Rattle.std.specs.Prelude.{◌≡◌, ◌<◌, ◌+◌, ◌++◌, length, OnOk, IfOk, IfErr};
+ghost use Rattle.odb_doc.specs.LeastRules.{IsLeast};
+ghost use Rattle.odb_doc.specs.Names.{texts_in};
+ghost use Rattle.odb_check.specs.Faults.{number};
+ghost use Rattle.odb_check.specs.LeastNameFault.{BreaksIn, HasGoodNames, HasSoundIds, RefusesNames};
+ghost use Rattle.odb_check.specs.Marks.{AreMarksOf, AreUpTo};
+ghost use Rattle.odb_check.specs.NameFaults.{StandsAt};
+ghost use Rattle.odb_check.specs.Needs.{AreNeedsOf, named_at, needs_at};
+ghost use Rattle.odb_check.specs.Positions.{names_at};
+ghost use Rattle.odb_check.specs.Requests.{requests};
+ghost use Rattle.odb_check.specs.Walks.{FailsAt};
+ghost use Rattle.odb_check.specs.declared.fault.NameRule.{NameRule};
+ghost use Rattle.odb_check.specs.declared.fault.NameRule.TheVariants as rules;
+
+use crate::fault::{CheckFault, NameRule};
+use crate::marks::Marks;
+use crate::names::Judged;
+use crate::need::Need;
+use crate::needs::Needs;
+use crate::tables::Tables;
+use std::alloc::Global;
+
+/// F40: adds and marks what the names of the request at `i` stand for, unless one stands for nothing.
+fn add_names(
+    tables: &Tables<'_>,
+    i: u32,
+    names: &[&str],
+    list: &mut Vec<Need>,
+    marks: &mut Marks,
+) -> Result<(), CheckFault>
+    requires position { i < length (requests tables.now) }
+    requires names { texts_in names.now ≡ names_at (requests tables.now) i }
+    requires marks { AreUpTo (requests tables.now) i marks.old.ones.items marks.old.groups.items }
+    ensures known { OnOk result (¬ StandsAt rules.UnknownName (requests tables.now) i) }
+    ensures added { OnOk result (list.new.items ≡ list.old.items ++ named_at (requests tables.now) i) }
+    ensures marked { OnOk result (AreMarksOf (requests tables.now) (named_at (requests tables.now) i)
+        (i + 1) marks.new.ones.items marks.new.groups.items) }
+    ensures least { IfErr result (FailsAt i
+        (IsLeast number (λ rule. BreaksIn 4 (requests tables.now) rule i))) }
+{
+    for name in names {
+        let Some(need) = tables.need_of(name) else {
+            let at = i as usize;
+            let rule = NameRule::UnknownName;
+            return Err(CheckFault::Request { at, rule });
+        };
+        marks.mark(need, i + 1);
+        list.push(need)?;
+    }
+    Ok(())
+}
+
+/// Adds the needs of the request at `i`, or reports the first rule on names and references that it
+/// breaks.
+fn add_request(
+    tables: &Tables<'_>,
+    i: u32,
+    list: &mut Vec<Need>,
+    marks: &mut Marks,
+) -> Result<(), CheckFault>
+    requires position { i < length (requests tables.now) }
+    requires sound { HasSoundIds (requests tables.now) }
+    requires marks { AreUpTo (requests tables.now) i marks.old.ones.items marks.old.groups.items }
+    ensures none { OnOk result ((rule : NameRule) → ¬ BreaksIn 4 (requests tables.now) rule i) }
+    ensures needs { OnOk result (list.new.items ≡ list.old.items ++ needs_at (requests tables.now) i) }
+    ensures marks { OnOk result (AreUpTo (requests tables.now) (i + 1) marks.new.ones.items
+        marks.new.groups.items) }
+    ensures least { IfErr result (FailsAt i
+        (IsLeast number (λ rule. BreaksIn 4 (requests tables.now) rule i))) }
+{
+    let from = list.len();
+    add_names(tables, i, tables.names(i), list, marks)?;
+    let judged = Judged {
+        tables,
+        i,
+        named: &list[from..],
+        marks,
+        referred: tables.referred_to(i),
+    };
+    if let Some(rule) = judged.broken_rule() {
+        let at = i as usize;
+        return Err(CheckFault::Request { at, rule });
+    }
+    if let Some(need) = judged.further_need() {
+        list.push(need)?;
+    }
+    Ok(())
+}
+
+/// The needs of the requests, or the first of them that breaks a rule on names and references.
+pub(crate) fn needs_of(alloc: Global, tables: &Tables<'_>) -> Result<Needs, CheckFault>
+    requires { HasSoundIds (requests tables.now) }
+    ensures good { OnOk result (HasGoodNames (requests tables.now)) }
+    ensures needs { IfOk result (λ needs. AreNeedsOf (requests tables.now)
+        (length (requests tables.now)) needs.list.items needs.offsets.items) }
+    ensures least { IfErr result (λ fault. RefusesNames fault (requests tables.now)) }
+{
+    let mut marks = Marks::new(alloc, tables)?;
+    let mut list = Vec::new(alloc);
+    let mut offsets = Vec::new(alloc);
+    offsets.push(0)?;
+    for i in 0..tables.len() {
+        add_request(tables, i, &mut list, &mut marks)?;
+        offsets.push(list.len())?;
+    }
+    Ok(Needs { list, offsets })
+}
