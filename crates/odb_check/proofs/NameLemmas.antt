@@ -11,7 +11,7 @@ use Rattle.odb_check.specs.declared.fault.NameRule.TheVariants.{IdTwice, IdIsGro
 use Rattle.odb_check.specs.declared.need.Need.{Need}
 use Rattle.odb_check.specs.declared.need.Need.TheVariants.{One, Group}
 use Rattle.odb_check.specs.Judged.{IsAnswer}
-use Rattle.odb_check.specs.LeastNameFault.{HasSoundIds}
+use Rattle.odb_check.specs.Walks.{HasSoundIds}
 use Rattle.odb_check.specs.Marks.{is_group}
 use Rattle.odb_check.specs.NameFaults.{SomeName, StandsAt, IsMemberAlone}
 use Rattle.odb_check.specs.Needs.{need_of, named_at}

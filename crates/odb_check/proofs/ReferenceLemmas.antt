@@ -9,7 +9,7 @@ use Rattle.odb_doc.specs.Records.{Record}
 use Rattle.odb_check.specs.declared.fault.NameRule.TheVariants.{UnknownReference, ForwardReference, ReferenceNotListed}
 use Rattle.odb_check.specs.declared.need.Need.{Need}
 use Rattle.odb_check.specs.declared.need.Need.TheVariants.{One, Group}
-use Rattle.odb_check.specs.LeastNameFault.{HasSoundIds}
+use Rattle.odb_check.specs.Walks.{HasSoundIds}
 use Rattle.odb_check.specs.Marks.{is_one}
 use Rattle.odb_check.specs.NameFaults.{StandsAt}
 use Rattle.odb_check.specs.Needs.{need_of, further_names, further_needs, named_at}

@@ -5,7 +5,7 @@ use Rattle.std.specs.Prelude.{Contains, Result, Ok, Err, IfErr, IsErrAnd}
 use Rattle.std.specs.List.{filter_map, cons_option}
 use Rattle.std.proofs.lemmas.List.{map-append, take_more}
 use Rattle.std.proofs.lemmas.List.Elements.{filter_map-append, Contains-append_cases, Contains-get_or}
-use Rattle.odb_doc.specs.LeastRules.{IsFirst, IsLeast}
+use Rattle.odb_doc.specs.LeastRules.{IsFirst}
 use Rattle.odb_doc.specs.Names.{texts_in}
 use Rattle.odb_doc.specs.Records.{Record}
 use Rattle.odb_check.specs.declared.fault.CheckFault.{CheckFault}
@@ -14,12 +14,12 @@ use Rattle.odb_check.specs.declared.fault.NameRule.{NameRule}
 use Rattle.odb_check.specs.declared.fault.NameRule.TheVariants.{UnknownName}
 use Rattle.odb_check.specs.declared.need.Need.{Need}
 use Rattle.odb_check.specs.Faults.{number, phase}
-use Rattle.odb_check.specs.LeastNameFault.{BreaksIn, HasGoodNames, HasSoundIds, RefusesNames}
+use Rattle.odb_check.specs.LeastNameFault.{BreaksIn, HasGoodNames, RefusesNames}
 use Rattle.odb_check.specs.Marks.{ones_with, groups_with, AreUpTo, AreMarksOf}
 use Rattle.odb_check.specs.NameFaults.{StandsAt}
 use Rattle.odb_check.specs.Needs.{need_of, further_names, further_needs, named_at, needs_at}
 use Rattle.odb_check.specs.Positions.{names_at, reference_at}
-use Rattle.odb_check.specs.Walks.{FailsAt}
+use Rattle.odb_check.specs.Walks.{BreaksFirst, FailsAt, HasSoundIds}
 use Rattle.odb_check.proofs.AnyLemmas.{Contains-cases, Contains-map, Contains-none}
 use Rattle.odb_check.proofs.MarkLemmas.{mark_on, mark_none}
 use Rattle.odb_check.proofs.NameLemmas.{meant_known, unknown}
@@ -96,11 +96,10 @@ needs_added rs i before middle further first second =
 -- ---- the first fault is the least
 
 -- F40 is the first rule on names
-pub unknown_least : (rs : List Record) (i : ℕ) → StandsAt UnknownName rs i → IsLeast number (λ rule. BreaksIn 4 rs rule i) UnknownName
+pub unknown_least : (rs : List Record) (i : ℕ) → StandsAt UnknownName rs i → BreaksFirst 4 rs i UnknownName
 unknown_least rs i stands = record { broken = (refl, stands); least = λ other less broken. omega (arith, less, broken.0) }
 
-pub names_refused : (rs : List Record) (i : ℕ) → HasSoundIds rs → ((rule : NameRule) (k : ℕ) → k < i → ¬ BreaksIn 4 rs rule k) → (fault : CheckFault)
-    → FailsAt i (IsLeast number (λ rule. BreaksIn 4 rs rule i)) fault → RefusesNames fault rs
+pub names_refused : (rs : List Record) (i : ℕ) → HasSoundIds rs → ((rule : NameRule) (k : ℕ) → k < i → ¬ BreaksIn 4 rs rule k) → (fault : CheckFault) → FailsAt 4 rs i fault → RefusesNames fault rs
 names_refused rs i sound before faults.OutOfMemory fails = tt
 names_refused rs i sound before (faults.Request at_place rule) fails =
     let fourth : phase rule ≡ 4 = fails.1.broken.0 in

@@ -25,7 +25,3 @@ HasGoodNames rs = AreSound (λ rule i. StandsAt rule rs i)
 abbrev pub RefusesNames : CheckFault → List Record → Type 0
 RefusesNames (faults.Request at rule) rs = IsLeastAt rs rule at
 RefusesNames faults.OutOfMemory rs = Unit {0}
-
--- no identifier and no group breaks a rule
-abbrev pub HasSoundIds : List Record → Type 0
-HasSoundIds rs = AreSound (BreaksIn 3 rs)

@@ -3,6 +3,7 @@ use Rattle.std.specs.Prelude.{◌≡◌, ℕ, suc, List, [], ◌∷◌, ◌++◌
 use Rattle.std.specs.List.{list_any, filter_map}
 use Rattle.odb_doc.specs.Records.{Record}
 use Rattle.odb_check.specs.declared.need.Need.{Need}
+use Rattle.odb_check.specs.declared.needs.Needs.{Needs}
 use Rattle.odb_check.specs.declared.need.Need.TheVariants.{One, Group}
 use Rattle.odb_check.specs.Positions.{names_at, reference_at}
 use Rattle.odb_check.specs.Firsts.{list_below, joined_below}
@@ -43,3 +44,7 @@ needs_at rs i = filter_map (need_of rs) (needed_names rs i)
 pub record AreNeedsOf (rs : List Record) (n : ℕ) (needs : List Need) (offsets : List ℕ) : Type 0 where
   pub needs_are : needs ≡ joined_below n (needs_at rs)
   pub offsets_are : offsets ≡ list_below (suc n) (λ k. length (joined_below k (needs_at rs)))
+
+-- the needs of all requests
+abbrev pub AreNeeds : List Record → Needs → Type 0
+AreNeeds rs needs = AreNeedsOf rs (length rs) needs.list.items needs.offsets.items

@@ -2,7 +2,7 @@ ghost use Rattle.std.specs.Prelude.{◌≡◌, length, OnOk, IfOk, IfErr};
 ghost use Rattle.odb_doc.specs.Batches.{records};
 ghost use Rattle.odb_check.specs.LeastNameFault.{HasGoodNames, RefusesNames};
 ghost use Rattle.odb_check.specs.Levels.{levels_below};
-ghost use Rattle.odb_check.specs.Needs.{AreNeedsOf};
+ghost use Rattle.odb_check.specs.Needs.{AreNeeds};
 ghost use Rattle.odb_check.specs.Plans.{plan_records};
 ghost use Rattle.odb_check.specs.Requests.{requests};
 
@@ -20,8 +20,7 @@ use std::alloc::Global;
 /// The needs and the levels of a batch whose names fit together.
 fn needs_and_levels(alloc: Global, tables: &Tables<'_>) -> Result<(Needs, Vec<u32>), CheckFault>
     ensures good { OnOk result (HasGoodNames (requests tables.now)) }
-    ensures needs { IfOk result (λ found. AreNeedsOf (requests tables.now)
-        (length (requests tables.now)) found.0.list.items found.0.offsets.items) }
+    ensures needs { IfOk result (λ found. AreNeeds (requests tables.now) found.0) }
     ensures levels { IfOk result (λ found. found.1.items
         ≡ levels_below (requests tables.now) (length (requests tables.now))) }
     ensures least { IfErr result (λ fault. RefusesNames fault (requests tables.now)) }

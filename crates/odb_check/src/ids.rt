@@ -1,11 +1,9 @@
 ghost use Rattle.std.specs.Prelude.{◌≡◌, ◌<◌, length, None, IfSome, OnOk, IfErr};
 ghost use Rattle.std.specs.Bool.{Decides};
-ghost use Rattle.odb_doc.specs.LeastRules.{IsLeast};
-ghost use Rattle.odb_check.specs.Faults.{number};
-ghost use Rattle.odb_check.specs.LeastNameFault.{BreaksIn, HasSoundIds, RefusesNames};
+ghost use Rattle.odb_check.specs.LeastNameFault.{RefusesNames};
 ghost use Rattle.odb_check.specs.NameFaults.{StandsAt};
 ghost use Rattle.odb_check.specs.Requests.{requests};
-ghost use Rattle.odb_check.specs.declared.fault.NameRule.{NameRule};
+ghost use Rattle.odb_check.specs.Walks.{BreaksFirst, BreaksNone, HasSoundIds};
 ghost use Rattle.odb_check.specs.declared.fault.NameRule.TheVariants as rules;
 
 use crate::fault::{CheckFault, NameRule};
@@ -41,8 +39,8 @@ fn splits_group(tables: &Tables<'_>, i: u32) -> bool
 /// The first rule on identifiers and groups that the request breaks.
 fn broken_id(tables: &Tables<'_>, i: u32) -> Option<NameRule>
     requires { i < length (requests tables.now) }
-    ensures some { IfSome result (IsLeast number (λ rule. BreaksIn 3 (requests tables.now) rule i)) }
-    ensures none { result ≡ None → (rule : NameRule) → ¬ BreaksIn 3 (requests tables.now) rule i }
+    ensures some { IfSome result (BreaksFirst 3 (requests tables.now) i) }
+    ensures none { result ≡ None → BreaksNone 3 (requests tables.now) i }
 {
     if repeats_id(tables, i) {
         return Some(NameRule::IdTwice);

@@ -2,7 +2,7 @@ ghost use Rattle.std.specs.Prelude.{◌≡◌, ◌≤◌, ◌<◌, ◌+◌, ℕ,
 ghost use Rattle.odb_check.specs.LeastNameFault.{HasGoodNames};
 ghost use Rattle.odb_check.specs.Levels.{level_needed, levels_below, next_level};
 ghost use Rattle.odb_check.specs.Marks.{IsWithin};
-ghost use Rattle.odb_check.specs.Needs.{AreNeedsOf};
+ghost use Rattle.odb_check.specs.Needs.{AreNeeds};
 ghost use Rattle.odb_check.specs.Requests.{requests};
 
 use crate::need::Need;
@@ -44,8 +44,7 @@ pub(crate) fn levels_of(
     needs: &Needs,
 ) -> Result<Vec<u32>, AllocError>
     requires good { HasGoodNames (requests tables.now) }
-    requires needs { AreNeedsOf (requests tables.now)
-        (length (requests tables.now)) needs.now.list.items needs.now.offsets.items }
+    requires needs { AreNeeds (requests tables.now) needs.now }
     ensures { IfOk result (λ levels. levels.items
         ≡ levels_below (requests tables.now) (length (requests tables.now))) }
 {

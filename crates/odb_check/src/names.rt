@@ -1,15 +1,13 @@
 ghost use Rattle.std.specs.Prelude.{◌≡◌, ◌<◌, ◌+◌, ◌⊎◌, ◌∷◌, [], ℕ, List, length, Some, None, IfSome, Contains, option_and_then};
 ghost use Rattle.std.specs.Bool.{Decides};
 ghost use Rattle.std.proofs.Props.{props};
-ghost use Rattle.odb_doc.specs.LeastRules.{IsLeast};
-ghost use Rattle.odb_check.specs.Faults.{number};
-ghost use Rattle.odb_check.specs.LeastNameFault.{BreaksIn, HasSoundIds};
 ghost use Rattle.odb_check.specs.Marks.{AreMarksOf};
 ghost use Rattle.odb_check.specs.NameFaults.{StandsAt, IsMemberAlone};
 ghost use Rattle.odb_check.specs.Needs.{named_at, further_needs};
 ghost use Rattle.odb_check.specs.Positions.{id_at, group_at, names_at, reference_at, IsIdFrom, IsGroupAfter, IsInGroupOf, NamesGroupOf};
 ghost use Rattle.odb_check.specs.Requests.{requests};
 ghost use Rattle.odb_check.specs.Units.{position_of};
+ghost use Rattle.odb_check.specs.Walks.{BreaksFirst, BreaksNone, HasSoundIds};
 ghost use Rattle.odb_check.specs.declared.fault.NameRule.TheVariants as rules;
 
 use crate::fault::NameRule;
@@ -40,7 +38,6 @@ pub(crate) struct Judged<'w, 'b> {
 
 impl Judged<'_, '_> {
     ghost use Rattle.odb_check.specs.Judged.{IsAnswer, batch_of};
-    ghost use Rattle.odb_check.specs.declared.fault.NameRule.{NameRule};
 
     /// Whether what is needed is this request or a later one, or a group that begins later.
     fn is_later(&self, need: Need) -> bool
@@ -167,8 +164,8 @@ impl Judged<'_, '_> {
 
     /// The first rule on names and references that the request breaks.
     pub(crate) fn broken_rule(&self) -> Option<NameRule>
-        ensures some { IfSome result (IsLeast number (λ rule. BreaksIn 4 (batch_of self.now) rule self.now.i)) }
-        ensures none { result ≡ None → (rule : NameRule) → ¬ BreaksIn 4 (batch_of self.now) rule self.now.i }
+        ensures some { IfSome result (BreaksFirst 4 (batch_of self.now) self.now.i) }
+        ensures none { result ≡ None → BreaksNone 4 (batch_of self.now) self.now.i }
     {
         if self.names_later() {
             return Some(NameRule::ForwardName);

@@ -1,5 +1,5 @@
 ghost use Rattle.std.specs.Prelude.{◌≡◌, ◌≤◌, ◌<◌, length, slice_index, slice_range};
-ghost use Rattle.odb_check.specs.Needs.{AreNeedsOf, needs_at};
+ghost use Rattle.odb_check.specs.Needs.{AreNeeds, needs_at};
 ghost use Rattle.odb_check.specs.Requests.{requests};
 
 use crate::need::Need;
@@ -35,8 +35,7 @@ impl Needs {
 /// The needs of the request at `i`.
 pub(crate) fn needs_of_request<'n>(tables: &Tables<'_>, needs: &'n Needs, i: u32) -> &'n [Need]
     requires position { i < length (requests tables.now) }
-    requires needs { AreNeedsOf (requests tables.now) (length (requests tables.now))
-        needs.now.list.items needs.now.offsets.items }
+    requires needs { AreNeeds (requests tables.now) needs.now }
     ensures { result.now ≡ needs_at (requests tables.now) i }
 {
     needs.part(needs.offset(i as usize), needs.offset(i as usize + 1))

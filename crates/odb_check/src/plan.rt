@@ -1,10 +1,10 @@
 ghost use Rattle.std.specs.Prelude.{◌≡◌, ◌≤◌, ◌<◌, length, slice_get, Some};
 ghost use Rattle.std.proofs.Props.{props};
-ghost use Rattle.odb_doc.specs.Batches.{records};
 ghost use Rattle.odb_doc.specs.Records.{IsSoundRecord, record_of};
 ghost use Rattle.odb_check.specs.LeastNameFault.{HasGoodNames};
 ghost use Rattle.odb_check.specs.Levels.{HasLevels, level_at, levels_below};
-ghost use Rattle.odb_check.specs.Needs.{AreNeedsOf};
+ghost use Rattle.odb_check.specs.Needs.{AreNeeds};
+ghost use Rattle.odb_check.specs.Requests.{requests};
 ghost use Rattle.odb_check.specs.Units as units;
 
 use crate::need::Need;
@@ -23,11 +23,9 @@ pub struct Plan<'b> {
     pub(crate) tables: Tables<'b>,
     pub(crate) needs: Needs,
     pub(crate) levels: Vec<u32>,
-    ghost good: { HasGoodNames (records tables.batch.now) },
-    ghost needed: { AreNeedsOf (records tables.batch.now) (length (records tables.batch.now))
-        needs.list.items needs.offsets.items } by { Prim.hlevel props },
-    ghost leveled: { levels.items
-        ≡ levels_below (records tables.batch.now) (length (records tables.batch.now)) },
+    ghost good: { HasGoodNames (requests tables) },
+    ghost needed: { AreNeeds (requests tables) needs } by { Prim.hlevel props },
+    ghost leveled: { levels.items ≡ levels_below (requests tables) (length (requests tables)) },
 }
 
 impl<'b> Plan<'b> {

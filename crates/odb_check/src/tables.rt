@@ -141,47 +141,48 @@ impl<'b> Tables<'b> {
     ghost use Rattle.odb_check.specs.Groups.{groups_of};
     ghost use Rattle.odb_check.specs.Needs.{need_of};
     ghost use Rattle.odb_check.specs.Positions.{id_at, group_at, names_at, reference_at};
+    ghost use Rattle.odb_check.specs.Requests.{requests};
     ghost use Rattle.odb_check.specs.Units as spec;
 
     pub(crate) fn len(&self) -> u32
-        ensures count { result ≡ length (records self.now.batch.now) }
+        ensures count { result ≡ length (requests self.now) }
         ensures small { result ≤ 10000 }
     {
         self.batch.len()
     }
 
     pub(crate) fn request(&self, i: u32) -> &'b Request<'b>
-        requires { i < length (records self.now.batch.now) }
-        ensures value { slice_get (records self.now.batch.now) i ≡ Some (record_of result.now) }
+        requires { i < length (requests self.now) }
+        ensures value { slice_get (requests self.now) i ≡ Some (record_of result.now) }
         ensures sound { IsSoundRecord (record_of result.now) }
     {
         self.batch.request(i)
     }
 
     pub(crate) fn id(&self, i: u32) -> &'b str
-        requires { i < length (records self.now.batch.now) }
-        ensures { id_at (records self.now.batch.now) i ≡ Some result.now }
+        requires { i < length (requests self.now) }
+        ensures { id_at (requests self.now) i ≡ Some result.now }
     {
         self.request(i).id
     }
 
     pub(crate) fn group(&self, i: u32) -> Option<&'b str>
-        requires { i < length (records self.now.batch.now) }
-        ensures { group_at (records self.now.batch.now) i ≡ option_copied result }
+        requires { i < length (requests self.now) }
+        ensures { group_at (requests self.now) i ≡ option_copied result }
     {
         self.request(i).group
     }
 
     pub(crate) fn names(&self, i: u32) -> &[&'b str]
-        requires { i < length (records self.now.batch.now) }
-        ensures { texts_in result.now ≡ names_at (records self.now.batch.now) i }
+        requires { i < length (requests self.now) }
+        ensures { texts_in result.now ≡ names_at (requests self.now) i }
     {
         &self.request(i).names
     }
 
     pub(crate) fn reference(&self, i: u32) -> Option<&str>
-        requires { i < length (records self.now.batch.now) }
-        ensures { reference_at (records self.now.batch.now) i ≡ option_copied result }
+        requires { i < length (requests self.now) }
+        ensures { reference_at (requests self.now) i ≡ option_copied result }
     {
         match &self.request(i).reference {
             Some(id) => Some(id.as_str()),
@@ -190,68 +191,68 @@ impl<'b> Tables<'b> {
     }
 
     pub(crate) fn unit_count(&self) -> u32
-        ensures count { result ≡ spec.unit_count (records self.now.batch.now) }
-        ensures few { result ≤ length (records self.now.batch.now) }
+        ensures count { result ≡ spec.unit_count (requests self.now) }
+        ensures few { result ≤ length (requests self.now) }
     {
         self.starts.len() as u32
     }
 
     /// How many different groups there are.
     pub(crate) fn group_count(&self) -> u32
-        ensures { result ≡ length (groups_of (records self.now.batch.now)) }
+        ensures { result ≡ length (groups_of (requests self.now)) }
     {
         self.groups.len() as u32
     }
 
     pub(crate) fn unit_of(&self, i: u32) -> u32
-        requires { i < length (records self.now.batch.now) }
-        ensures value { result ≡ spec.unit_at (records self.now.batch.now) i }
-        ensures within { result < spec.unit_count (records self.now.batch.now) }
+        requires { i < length (requests self.now) }
+        ensures value { result ≡ spec.unit_at (requests self.now) i }
+        ensures within { result < spec.unit_count (requests self.now) }
     {
         self.units[i as usize]
     }
 
     /// Where the unit begins.
     pub(crate) fn start_of(&self, u: u32) -> u32
-        requires { u < spec.unit_count (records self.now.batch.now) }
-        ensures { spec.IsStartOf (records self.now.batch.now) u result }
+        requires { u < spec.unit_count (requests self.now) }
+        ensures { spec.IsStartOf (requests self.now) u result }
     {
         self.starts[u as usize]
     }
 
     /// Where the unit of the request begins.
     pub(crate) fn begin_of(&self, i: u32) -> u32
-        requires { i < length (records self.now.batch.now) }
-        ensures { result ≡ spec.unit_begin (records self.now.batch.now) i }
+        requires { i < length (requests self.now) }
+        ensures { result ≡ spec.unit_begin (requests self.now) i }
     {
         self.start_of(self.unit_of(i))
     }
 
     /// The first position with the identifier.
     pub(crate) fn position_of(&self, id: &str) -> Option<u32>
-        ensures { result ≡ spec.position_of (records self.now.batch.now) id.now }
+        ensures { result ≡ spec.position_of (requests self.now) id.now }
     {
         self.ids.get(id)
     }
 
     /// The request that the URL of another refers to, if the batch has that.
     pub(crate) fn referred_to(&self, i: u32) -> Option<u32>
-        requires { i < length (records self.now.batch.now) }
-        ensures { result ≡ option_and_then (spec.position_of (records self.now.batch.now))
-            (reference_at (records self.now.batch.now) i) }
+        requires { i < length (requests self.now) }
+        ensures { result
+            ≡ option_and_then (spec.position_of (requests self.now)) (reference_at (requests self.now) i) }
     {
         self.position_of(self.reference(i)?)
     }
 
     pub(crate) fn unit_of_group(&self, group: &str) -> Option<u32>
-        ensures { result ≡ spec.unit_of_group (records self.now.batch.now) group.now }
+        ensures { result ≡ spec.unit_of_group (requests self.now) group.now }
     {
         self.groups.get(group)
     }
 
     /// What a name stands for.
     pub(crate) fn need_of(&self, name: &str) -> Option<Need>
-        ensures { result ≡ need_of (records self.now.batch.now) name.now }
+        ensures { result ≡ need_of (requests self.now) name.now }
     {
         match self.position_of(name) {
             Some(position) => Some(Need::One(position)),

@@ -1,15 +1,12 @@
 ghost use Rattle.std.specs.Prelude.{◌≡◌, ◌<◌, ◌+◌, ◌++◌, length, OnOk, IfOk, IfErr};
-ghost use Rattle.odb_doc.specs.LeastRules.{IsLeast};
 ghost use Rattle.odb_doc.specs.Names.{texts_in};
-ghost use Rattle.odb_check.specs.Faults.{number};
-ghost use Rattle.odb_check.specs.LeastNameFault.{BreaksIn, HasGoodNames, HasSoundIds, RefusesNames};
+ghost use Rattle.odb_check.specs.LeastNameFault.{HasGoodNames, RefusesNames};
 ghost use Rattle.odb_check.specs.Marks.{AreMarksOf, AreUpTo};
 ghost use Rattle.odb_check.specs.NameFaults.{StandsAt};
-ghost use Rattle.odb_check.specs.Needs.{AreNeedsOf, named_at, needs_at};
+ghost use Rattle.odb_check.specs.Needs.{AreNeeds, named_at, needs_at};
 ghost use Rattle.odb_check.specs.Positions.{names_at};
 ghost use Rattle.odb_check.specs.Requests.{requests};
-ghost use Rattle.odb_check.specs.Walks.{FailsAt};
-ghost use Rattle.odb_check.specs.declared.fault.NameRule.{NameRule};
+ghost use Rattle.odb_check.specs.Walks.{BreaksNone, FailsAt, HasSoundIds};
 ghost use Rattle.odb_check.specs.declared.fault.NameRule.TheVariants as rules;
 
 use crate::fault::{CheckFault, NameRule};
@@ -35,8 +32,7 @@ fn add_names(
     ensures added { OnOk result (list.new.items ≡ list.old.items ++ named_at (requests tables.now) i) }
     ensures marked { OnOk result (AreMarksOf (requests tables.now) (named_at (requests tables.now) i)
         (i + 1) marks.new.ones.items marks.new.groups.items) }
-    ensures least { IfErr result (FailsAt i
-        (IsLeast number (λ rule. BreaksIn 4 (requests tables.now) rule i))) }
+    ensures least { IfErr result (FailsAt 4 (requests tables.now) i) }
 {
     for name in names {
         let Some(need) = tables.need_of(name) else {
@@ -61,12 +57,11 @@ fn add_request(
     requires position { i < length (requests tables.now) }
     requires sound { HasSoundIds (requests tables.now) }
     requires marks { AreUpTo (requests tables.now) i marks.old.ones.items marks.old.groups.items }
-    ensures none { OnOk result ((rule : NameRule) → ¬ BreaksIn 4 (requests tables.now) rule i) }
+    ensures none { OnOk result (BreaksNone 4 (requests tables.now) i) }
     ensures needs { OnOk result (list.new.items ≡ list.old.items ++ needs_at (requests tables.now) i) }
     ensures marks { OnOk result (AreUpTo (requests tables.now) (i + 1) marks.new.ones.items
         marks.new.groups.items) }
-    ensures least { IfErr result (FailsAt i
-        (IsLeast number (λ rule. BreaksIn 4 (requests tables.now) rule i))) }
+    ensures least { IfErr result (FailsAt 4 (requests tables.now) i) }
 {
     let from = list.len();
     add_names(tables, i, tables.names(i), list, marks)?;
@@ -91,8 +86,7 @@ fn add_request(
 pub(crate) fn needs_of(alloc: Global, tables: &Tables<'_>) -> Result<Needs, CheckFault>
     requires { HasSoundIds (requests tables.now) }
     ensures good { OnOk result (HasGoodNames (requests tables.now)) }
-    ensures needs { IfOk result (λ needs. AreNeedsOf (requests tables.now)
-        (length (requests tables.now)) needs.list.items needs.offsets.items) }
+    ensures needs { IfOk result (AreNeeds (requests tables.now)) }
     ensures least { IfErr result (λ fault. RefusesNames fault (requests tables.now)) }
 {
     let mut marks = Marks::new(alloc, tables)?;
