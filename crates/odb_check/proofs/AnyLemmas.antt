@@ -1,15 +1,10 @@
 -- Tests of some element of a list, and lists of what elements stand for.
-use Rattle.std.proofs.Common.{◌≡◌, ◌<◌, ◌⊎◌, ℕ, zero, suc, Bool, true, false, ◌||◌, List, [], ◌∷◌, Option, Some, None, refl, sym, ap, ◌∙◌, subst, inl, inr, arith, length, get_or}
-use Rattle.std.specs.Prelude.{Contains, map, bytes_eq}
+use Rattle.std.proofs.Common.{◌≡◌, ◌<◌, ◌⊎◌, ℕ, zero, suc, Bool, true, List, [], ◌∷◌, Option, Some, None, refl, sym, ap, ◌∙◌, subst, inl, inr, arith, length, get_or}
+use Rattle.std.specs.Prelude.{Contains, map, bytes_eq, Any}
 use Rattle.std.specs.Bool.{Decides}
 use Rattle.std.specs.List.{list_any, filter_map, cons_option}
+use Rattle.std.proofs.lemmas.List.Folds.{Any-from_list_any, list_any_at}
 use Rattle.std.proofs.lemmas.Slice.Eq.{bytes_eq-Decides}
-
--- an element passes
-pub record SomePasses {X : Type 0} (test : X → Bool) (xs : List X) : Type 0 where
-  pub element : X
-  pub inside : Contains xs element
-  pub passes : test element ≡ true
 
 pub Contains-head : {X : Type 0} (x : X) (xs : List X) → Contains (x ∷ xs) x
 Contains-head x xs = (zero, omega arith, refl)
@@ -28,27 +23,19 @@ at_place x y xs (suc k) less e = inr (k, omega arith, e)
 pub Contains-cases : {X : Type 0} (x y : X) (xs : List X) → Contains (x ∷ xs) y → (x ≡ y) ⊎ Contains xs y
 Contains-cases x y xs h = at_place x y xs h.0 h.1 h.2
 
-or_true : (v w : Bool) → w ≡ true → (v || w) ≡ true
-or_true true w e = refl
-or_true false w e = e
-
 pub any_passes : {X : Type 0} (test : X → Bool) (xs : List X) (x : X) → Contains xs x → test x ≡ true → list_any test xs ≡ true
-any_passes test [] x h e = absurd (Contains-none x h)
-any_passes test (y ∷ ys) x h e =
-    elim (Contains-cases y x ys h) [
-      | inl same ↦ ap (λ v. v || list_any test ys) (ap test same ∙ e)
-      | inr more ↦ or_true (test y) (list_any test ys) (any_passes test ys x more e)
-    ]
+any_passes test xs x h e = list_any_at test xs h.0 x h.1 (ap test h.2 ∙ e)
 
-passes_case : {X : Type 0} (test : X → Bool) (y : X) (ys : List X) → (list_any test ys ≡ true → SomePasses test ys) → (v : Bool) → test y ≡ v → (v || list_any test ys) ≡ true → SomePasses test (y ∷ ys)
-passes_case test y ys rest true here e = record { element = y; inside = Contains-head y ys; passes = here }
-passes_case test y ys rest false here e =
-    let more : SomePasses test ys = rest e in
-    record { element = more.element; inside = Contains-tail y more.element ys more.inside; passes = more.passes }
+-- an element passes
+pub record SomePasses {X : Type 0} (test : X → Bool) (xs : List X) : Type 0 where
+  pub element : X
+  pub inside : Contains xs element
+  pub passes : test element ≡ true
 
 pub some_passes : {X : Type 0} (test : X → Bool) (xs : List X) → list_any test xs ≡ true → SomePasses test xs
-some_passes test [] e = cc
-some_passes test (y ∷ ys) e = passes_case test y ys (λ h. some_passes test ys h) (test y) refl e
+some_passes test xs e =
+    let any : Any (λ x. test x ≡ true) xs = Any-from_list_any test xs e in
+    record { element = any.1; inside = (any.0, any.2, any.3); passes = any.4 }
 
 -- whether a text is among others
 pub Contains-Decides : (text : List ℕ) (texts : List (List ℕ)) → Decides (list_any (bytes_eq text) texts) (Contains texts text)
@@ -101,8 +88,3 @@ Contains-map f (z ∷ zs) x h =
       | inl same ↦ subst (λ w. Contains (f z ∷ map f zs) w) (ap f same) (Contains-head (f z) (map f zs))
       | inr more ↦ Contains-tail (f z) (f x) (map f zs) (Contains-map f zs x more)
     ]
-
-pub Contains-get_or : {X : Type 0} (xs : List X) (k : ℕ) (d : X) → k < length xs → Contains xs (get_or xs k d)
-Contains-get_or [] k d h = absurd (omega arith)
-Contains-get_or (x ∷ xs) zero d h = Contains-head x xs
-Contains-get_or (x ∷ xs) (suc k) d h = Contains-tail x (get_or xs k d) xs (Contains-get_or xs k d (omega arith))

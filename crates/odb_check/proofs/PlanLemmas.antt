@@ -5,7 +5,9 @@ use Rattle.std.specs.List.{list_any, filter_map, cons_option, IsDistinct}
 use Rattle.std.proofs.lemmas.Map.Made.{AllPairs-from_IsDistinct}
 use Rattle.std.proofs.lemmas.Bool.{cases_lt, cases_eq, cases_Bool, both_ways}
 use Rattle.std.proofs.lemmas.Option.{slice_get_cases}
-use Rattle.std.proofs.lemmas.List.Elements.{Contains-append_left, Contains-append_right, Contains-append_cases}
+use Rattle.std.proofs.lemmas.List.Kept.{AllPairs-cons}
+use Rattle.std.proofs.lemmas.List.Quantifiers.{all_pairs_push}
+use Rattle.std.proofs.lemmas.List.Elements.{Contains-get_or, Contains-append_left, Contains-append_right, Contains-append_cases}
 use Rattle.std.proofs.lemmas.Slice.Eq.{bytes_eq-Decides}
 use Rattle.odb_doc.specs.Records.{Record}
 use Rattle.odb_check.specs.declared.fault.NameRule.TheVariants.{IdTwice, IdIsGroup, GroupSplit, ForwardName, OwnGroup, GroupNotListed, UnknownReference, ForwardReference, ReferenceNotListed}
@@ -18,7 +20,7 @@ use Rattle.odb_check.specs.Needs.{need_of, further_names, needed_names, needs_at
 use Rattle.odb_check.specs.Positions.{id_at, group_at, names_at, reference_at, IsId, IsIdFrom, IsInGroupOf, NamesGroupOf}
 use Rattle.odb_check.specs.Shape.{unit_of, needs_of, shape_of, IsEarlier, IsAlone, IsPlan, HasNamesAsNeeds}
 use Rattle.odb_check.specs.Units.{begin_in, unit_begin, unit_at}
-use Rattle.odb_check.proofs.AnyLemmas.{StandsFor, stands_for, Contains-meaning, Contains-head, Contains-tail, Contains-none, Contains-cases, Contains-Decides, Contains-get_or}
+use Rattle.odb_check.proofs.AnyLemmas.{StandsFor, stands_for, Contains-meaning, Contains-head, Contains-tail, Contains-none, Contains-cases, Contains-Decides}
 use Rattle.odb_check.proofs.BelowLemmas.{length-list_below, get_or-list_below}
 use Rattle.odb_check.proofs.LevelLemmas.{HasNeedsBefore}
 use Rattle.odb_check.proofs.NameLemmas.{later_unit}
@@ -146,56 +148,31 @@ one_name rs (Group u) name other is also =
     let there : group_at rs is.unit.start ≡ Some other = in_group rs other u is.unit.start also.unit (unit_at_start rs name u is.unit) in
     let s : Some name ≡ Some other = sym is.unit.first.here ∙ there in cc
 
--- no element stands twice
-abbrev AreApart : {X : Type 0} → List X → Type 0
-AreApart [] = Unit {0}
-AreApart {X} (x ∷ xs) = ((y : X) → Contains xs y → x ≢ y) × AreApart xs
+further_apart : (names : List (List ℕ)) (id : List ℕ) → AllPairs (λ x y. x ≢ y) names → (v : Bool) → list_any (bytes_eq id) names ≡ v → AllPairs (λ x y. x ≢ y) (names ++ cond v [] (id ∷ []))
+further_apart names id apart true e = subst (AllPairs (λ x y. x ≢ y)) (sym (append-nil names)) apart
+further_apart names id apart false e = all_pairs_push (λ x y. x ≢ y) names id apart
+    (λ k d less same. both_ways (list_any (bytes_eq id) names) e ((Contains-Decides id names).1 (subst (Contains names) same (Contains-get_or names k d less))))
 
-texts_apart : (texts : List (List ℕ)) → AllPairs (λ text other. text ≢ other) texts → AreApart texts
-texts_apart [] pairs = tt
-texts_apart (text ∷ texts) pairs = (
-  (λ other h same. pairs zero (suc h.0) other (omega arith) (omega (arith, h.1)) (same ∙ sym h.2)),
-  texts_apart texts (λ i j d less inside. pairs (suc i) (suc j) d (omega arith) (omega arith)),
-)
-
-with_last : {X : Type 0} (xs : List X) (last : X) → AreApart xs → (Contains xs last → ⊥) → AreApart (xs ++ last ∷ [])
-with_last [] last apart absent = ((λ y h. absurd (Contains-none y h)), tt)
-with_last (x ∷ xs) last apart absent = (
-  (λ y h same. elim (Contains-append_cases xs (last ∷ []) y h) [
-    | inl before ↦ apart.0 y before same
-    | inr at_last ↦ elim (Contains-cases last y [] at_last) [ inl is ↦ absent (subst (Contains (x ∷ xs)) (same ∙ sym is) (Contains-head x xs)) | inr more ↦ Contains-none y more ]
-  ]),
-  with_last xs last apart.1 (λ h. absent (Contains-tail x last xs h)),
-)
-
-further_apart : (names : List (List ℕ)) (id : List ℕ) → AreApart names → (v : Bool) → list_any (bytes_eq id) names ≡ v → AreApart (names ++ cond v [] (id ∷ []))
-further_apart names id apart true e = subst AreApart (sym (append-nil names)) apart
-further_apart names id apart false e = with_last names id apart (λ h. both_ways (list_any (bytes_eq id) names) e ((Contains-Decides id names).1 h))
-
-needed_apart : (names : List (List ℕ)) (reference : Option (List ℕ)) → AreApart names → AreApart (names ++ further_names names reference)
-needed_apart names None apart = subst AreApart (sym (append-nil names)) apart
+-- no name is needed twice
+needed_apart : (names : List (List ℕ)) (reference : Option (List ℕ)) → AllPairs (λ x y. x ≢ y) names → AllPairs (λ x y. x ≢ y) (names ++ further_names names reference)
+needed_apart names None apart = subst (AllPairs (λ x y. x ≢ y)) (sym (append-nil names)) apart
 needed_apart names (Some id) apart = further_apart names id apart (list_any (bytes_eq id) names) refl
 
-means_apart : (rs : List Record) (name : List ℕ) (names : List (List ℕ)) → ((other : List ℕ) → Contains names other → name ≢ other) → AreApart (filter_map (need_of rs) names) → (found : Option Need) → need_of rs name ≡ found
-    → AreApart (cons_option found (filter_map (need_of rs) names))
+means_apart : (rs : List Record) (name : List ℕ) (names : List (List ℕ)) → ((other : List ℕ) → Contains names other → name ≢ other) → AllPairs (λ x y. x ≢ y) (filter_map (need_of rs) names) → (found : Option Need) → need_of rs name ≡ found
+    → AllPairs (λ x y. x ≢ y) (cons_option found (filter_map (need_of rs) names))
 means_apart rs name names apart more None e = more
-means_apart rs name names apart more (Some need) e = (
-  (λ other h same.
-      let stands : StandsFor (need_of rs) names other = stands_for (need_of rs) names other h in
-      apart stands.element stands.inside (one_name rs need name stands.element (is_meant rs name need e) (is_meant rs stands.element need (stands.means ∙ ap Some (sym same))))),
-  more,
-)
+means_apart rs name names apart more (Some need) e = AllPairs-cons (λ x y. x ≢ y) need (filter_map (need_of rs) names)
+    (λ k d less same.
+    let inside : Contains (filter_map (need_of rs) names) need = subst (Contains (filter_map (need_of rs) names)) (sym same) (Contains-get_or (filter_map (need_of rs) names) k d less) in
+    let stands : StandsFor (need_of rs) names need = stands_for (need_of rs) names need inside in
+    apart stands.element stands.inside (one_name rs need name stands.element (is_meant rs name need e) (is_meant rs stands.element need stands.means)))
+    more
 
-needs_apart : (rs : List Record) (names : List (List ℕ)) → AreApart names → AreApart (filter_map (need_of rs) names)
-needs_apart rs [] apart = tt
-needs_apart rs (name ∷ names) apart = means_apart rs name names apart.0 (needs_apart rs names apart.1) (need_of rs name) refl
-
-pairs_apart : {X : Type 0} (xs : List X) → AreApart xs → AllPairs (λ x y. x ≢ y) xs
-pairs_apart [] apart i j d less inside = absurd (omega arith)
-pairs_apart (x ∷ xs) apart zero zero d less inside = absurd (omega arith)
-pairs_apart (x ∷ xs) apart zero (suc j) d less inside = apart.0 (get_or xs j d) (Contains-get_or xs j d (omega arith))
-pairs_apart (x ∷ xs) apart (suc i) zero d less inside = absurd (omega arith)
-pairs_apart (x ∷ xs) apart (suc i) (suc j) d less inside = pairs_apart xs apart.1 i j d (omega arith) (omega arith)
+-- different names stand for different needs
+needs_apart : (rs : List Record) (names : List (List ℕ)) → AllPairs (λ x y. x ≢ y) names → AllPairs (λ x y. x ≢ y) (filter_map (need_of rs) names)
+needs_apart rs [] apart = λ i j d less inside. absurd (omega arith)
+needs_apart rs (name ∷ names) apart = means_apart rs name names (λ other h same. apart zero (suc h.0) other (omega arith) (omega (arith, h.1)) (same ∙ sym h.2))
+    (needs_apart rs names (λ i j d less inside. apart (suc i) (suc j) d (omega arith) (omega arith))) (need_of rs name) refl
 
 -- units and needs of the plan as data
 unit_there : (rs : List Record) (i : ℕ) → i < length rs → unit_of (shape_of rs) i ≡ unit_at rs i
@@ -239,7 +216,7 @@ is_plan rs good few distinct =
           elim (cases_lt (unit_of (shape_of rs) r) (unit_of (shape_of rs) i)) [ inl smaller ↦ smaller | inr more ↦ absurd (other (omega arith)) ];
       listed = λ i r h inside. let here : i < length rs = in_plan rs i h in let need : Contains (needs_at rs i) (One r) = needs i (One r) here inside in plan_listed rs good i r here (let less : r < i = before.one i r need in omega arith) need;
       distinct = λ i h. let here : i < length rs = in_plan rs i h in subst (AllPairs (λ need other. need ≢ other)) (sym (needs_there rs i here))
-          (pairs_apart (needs_at rs i) (needs_apart rs (needed_names rs i) (needed_apart (names_at rs i) (reference_at rs i) (texts_apart (names_at rs i) (AllPairs-from_IsDistinct bytes_eq-Decides (names_at rs i) (distinct i here))))));
+          (needs_apart rs (needed_names rs i) (needed_apart (names_at rs i) (reference_at rs i) (AllPairs-from_IsDistinct bytes_eq-Decides (names_at rs i) (distinct i here))));
     }
 
 further_there : (names : List (List ℕ)) (id : List ℕ) → (v : Bool) → list_any (bytes_eq id) names ≡ v → Contains (names ++ cond v [] (id ∷ [])) id

@@ -2,6 +2,7 @@
 use Rattle.std.proofs.Common.{◌≡◌, ◌<◌, ℕ, List, [], ◌∷◌, ◌++◌, sym, ap, ◌∙◌, arith, length, get_or, append_assoc, append-nil}
 use Rattle.std.specs.Prelude.{All, codes, ◌==◌, option_and_then}
 use Rattle.std.proofs.lemmas.Bool.{eq-eqb, ne_eqb}
+use Rattle.std.proofs.lemmas.List.Elements.{Contains-get_or}
 use Rattle.odb_doc.specs.Records.{Record}
 use Rattle.odb_check.specs.declared.need.Need.{Need}
 use Rattle.odb_check.specs.Marks.{IsWithin}
@@ -9,7 +10,7 @@ use Rattle.odb_check.specs.Needs.{need_of, needed_names, needs_at}
 use Rattle.odb_check.specs.Positions.{group_at}
 use Rattle.odb_check.specs.Texts.{need_name, further_text, group_of_unit}
 use Rattle.odb_check.specs.Units.{unit_at, unit_count, HasMembers}
-use Rattle.odb_check.proofs.AnyLemmas.{StandsFor, stands_for, Contains-get_or}
+use Rattle.odb_check.proofs.AnyLemmas.{StandsFor, stands_for}
 use Rattle.odb_check.proofs.FirstLemmas.{first_some}
 use Rattle.odb_check.proofs.NeedLemmas.{need_within}
 

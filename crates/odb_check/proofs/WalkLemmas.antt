@@ -4,7 +4,7 @@ use Rattle.std.specs.Borrow.{Bor}
 use Rattle.std.specs.Prelude.{Contains, Result, Ok, Err, IfErr, IsErrAnd}
 use Rattle.std.specs.List.{filter_map, cons_option}
 use Rattle.std.proofs.lemmas.List.{map-append, take_more}
-use Rattle.std.proofs.lemmas.List.Elements.{filter_map-append, Contains-append_cases, Contains-get_or}
+use Rattle.std.proofs.lemmas.List.Elements.{filter_map-append, Contains-push_cases, Contains-get_or}
 use Rattle.odb_doc.specs.LeastRules.{IsFirst}
 use Rattle.odb_doc.specs.Names.{texts_in}
 use Rattle.odb_doc.specs.Records.{Record}
@@ -20,7 +20,7 @@ use Rattle.odb_check.specs.NameFaults.{StandsAt}
 use Rattle.odb_check.specs.Needs.{need_of, further_names, further_needs, named_at, needs_at}
 use Rattle.odb_check.specs.Positions.{names_at, reference_at}
 use Rattle.odb_check.specs.Walks.{BreaksFirst, FailsAt, HasSoundIds}
-use Rattle.odb_check.proofs.AnyLemmas.{Contains-cases, Contains-map, Contains-none}
+use Rattle.odb_check.proofs.AnyLemmas.{Contains-map, Contains-none}
 use Rattle.odb_check.proofs.MarkLemmas.{mark_on, mark_none}
 use Rattle.odb_check.proofs.NameLemmas.{meant_known, unknown}
 use Rattle.odb_check.proofs.NeedLemmas.{is_meant, need_within}
@@ -48,12 +48,9 @@ names_on rs names name need stamp before list ones groups means adds =
     let more : filter_map (need_of rs) (names ++ name ∷ []) ≡ filter_map (need_of rs) names ++ need ∷ [] =
     filter_map-append (need_of rs) names (name ∷ []) ∙ ap (λ o. filter_map (need_of rs) names ++ cons_option o []) means in
     record {
-      known = λ other h. elim (Contains-append_cases names (name ∷ []) other h) [
+      known = λ other h. elim (Contains-push_cases names name other h) [
         | inl earlier ↦ adds.known other earlier
-        | inr here ↦ elim (Contains-cases name other [] here) [
-          | inl same ↦ λ e. let nothing : Some need ≡ None = sym means ∙ ap (need_of rs) same ∙ e in cc
-          | inr later ↦ absurd (Contains-none other later)
-        ]
+        | inr same ↦ λ e. let nothing : Some need ≡ None = sym means ∙ ap (need_of rs) same ∙ e in cc
       ];
       added = ap (λ xs. xs ++ need ∷ []) adds.added ∙ append_assoc before (filter_map (need_of rs) names) (need ∷ []) ∙ ap (λ xs. before ++ xs) (sym more);
       marked = subst (λ named. AreMarksOf rs named stamp (ones_with need stamp ones) (groups_with need stamp groups)) (sym more)

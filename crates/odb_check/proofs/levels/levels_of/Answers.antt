@@ -1,12 +1,12 @@
 use Rattle.std.proofs.Common.{◌≡◌, ◌<◌, ap, ◌∙◌, sym, subst, length, get_or, arith, add-one}
 use Rattle.std.specs.Prelude.{Contains, max, slice_index, slice_set}
 use Rattle.std.proofs.lemmas.Grind.{get_or_default_zero}
+use Rattle.std.proofs.lemmas.List.Elements.{Contains-get_or}
 use Rattle.odb_doc.specs.Batches.{records}
 use Rattle.odb_check.specs.Levels.{next_level}
 use Rattle.odb_check.specs.Marks.{IsWithin}
 use Rattle.odb_check.specs.Needs.{needs_at}
 use Rattle.odb_check.specs.Units.{unit_at, unit_count}
-use Rattle.odb_check.proofs.AnyLemmas.{Contains-get_or}
 use Rattle.odb_check.proofs.LevelLemmas.{length-levels_below, levels_on, need_known}
 use Rattle.odb_check.proofs.PlanLemmas.{needs_before}
 use Rattle.odb_check.proofs.levels.levels_of.Goals as goal
