@@ -1,16 +1,17 @@
--- Where names break a rule, in a batch whose identifiers and groups break none.
-use Rattle.std.proofs.Common.{◌≡◌, ◌≤◌, ◌<◌, ◌⊎◌, ℕ, Bool, true, false, not, List, Option, Some, None, refl, sym, ap, ◌∙◌, subst, inl, inr, arith, length, get_or}
-use Rattle.std.specs.Prelude.{◌==◌, nat_lt, nat_le, is_some, Contains, IsSomeAnd}
+-- Where the names of the request under judgement break a rule.
+use Rattle.std.proofs.Common.{◌≡◌, ◌≤◌, ◌<◌, ◌+◌, ◌⊎◌, ℕ, Bool, true, false, not, List, Option, Some, None, refl, sym, ap, ◌∙◌, subst, inl, inr, arith, length, get_or}
+use Rattle.std.specs.Prelude.{◌==◌, nat_lt, nat_le, is_some, slice_index, Contains, IsSomeAnd}
 use Rattle.std.specs.Bool.{Decides}
 use Rattle.std.specs.List.{list_any, IsAnyAnswer}
 use Rattle.std.proofs.lemmas.Bool.{cases_lt, eqb-true, eq-eqb, ltb-true, lt-ltb, leb-true, le-leb, false≢true}
-use Rattle.std.proofs.lemmas.Bool.Decides.{Decides-eqb, Decides-like, Decides-not}
+use Rattle.std.proofs.lemmas.Bool.Decides.{Decides-at, Decides-eqb, Decides-like, Decides-not}
 use Rattle.std.proofs.lemmas.List.Elements.{Contains-get_or}
 use Rattle.odb_doc.specs.Records.{Record}
 use Rattle.odb_check.specs.declared.fault.NameRule.TheVariants.{IdTwice, IdIsGroup, GroupSplit, UnknownName}
+use Rattle.odb_check.specs.declared.names.Judged.{Judged}
 use Rattle.odb_check.specs.declared.need.Need.{Need}
 use Rattle.odb_check.specs.declared.need.Need.TheVariants.{One, Group}
-use Rattle.odb_check.specs.Judged.{IsAnswer}
+use Rattle.odb_check.specs.Judged.{IsAnswer, MissesGroupOf, batch_of}
 use Rattle.odb_check.specs.Walks.{HasSoundIds}
 use Rattle.odb_check.specs.Marks.{is_group}
 use Rattle.odb_check.specs.NameFaults.{SomeName, StandsAt, IsMemberAlone}
@@ -66,18 +67,17 @@ any_case rs i P known true h = ((λ e. answered_yes rs i h.0 P h.1 h.2), λ some
 any_case rs i P known false h = Decides-none (λ some. answered_no rs i P known h some (need_of rs some.name) refl)
 
 -- what is answered of the needs, where the names are known, is so of the names
-pub any_Decides : (rs : List Record) (i : ℕ) (P : List ℕ → Type 0) (named : List Need) → ¬ StandsAt UnknownName rs i → named ≡ named_at rs i → (answer : Bool)
-    → IsAnyAnswer (λ need b. IsAnswer rs need b P) named answer → Decides answer (SomeName rs i P)
-any_Decides rs i P named known is answer h = any_case rs i P known answer (subst (λ xs. IsAnyAnswer (λ need b. IsAnswer rs need b P) xs answer) is h)
+pub any_Decides : (j : Judged) (P : List ℕ → Type 0) (answer : Bool) → IsAnyAnswer (λ need b. IsAnswer (batch_of j) need b P) j.named.now answer → Decides answer (SomeName (batch_of j) j.i P)
+any_Decides j P answer h = any_case (batch_of j) j.i P j.known answer (subst (λ xs. IsAnyAnswer (λ need b. IsAnswer (batch_of j) need b P) xs answer) j.names h)
 
 -- ---- names that appear later
 
-pub later_one : (rs : List Record) → HasSoundIds rs → (i p : ℕ) (name : List ℕ) → IsMeant rs name (One p) → Decides (nat_le i p) (IsIdFrom rs name i ⊎ IsGroupAfter rs name i)
-later_one rs sound i p name is = (
-  (λ e. inl (p, leb-true i p e, is.1.here)),
+pub later_one : (j : Judged) (p : ℕ) (name : List ℕ) → IsMeant (batch_of j) name (One p) → Decides (nat_le j.i p) (IsIdFrom (batch_of j) name j.i ⊎ IsGroupAfter (batch_of j) name j.i)
+later_one j p name is = (
+  (λ e. inl (p, leb-true j.i p e, is.1.here)),
   (λ h. elim h [
-    | inl from ↦ let same : p ≡ from.0 = one_id rs (once rs sound) name p from.0 is.1.here from.2 in le-leb i p (omega (arith, from.1))
-    | inr after ↦ absurd (no_group rs (apart rs sound) name p after.0.0 is.1.here after.0.1)
+    | inl from ↦ let same : p ≡ from.0 = one_id (batch_of j) (once (batch_of j) j.sound) name p from.0 is.1.here from.2 in le-leb j.i p (omega (arith, from.1))
+    | inr after ↦ absurd (no_group (batch_of j) (apart (batch_of j) j.sound) name p after.0.0 is.1.here after.0.1)
   ]),
 )
 
@@ -86,21 +86,27 @@ start_unit rs name i j there after =
     let first : IsFirstAt (group_at rs) name (unit_begin rs j) = begin_of_group rs j name there in
     unit_before rs i (unit_begin rs j) (after (unit_begin rs j) first.here)
 
-pub later_group : (rs : List Record) → HasSoundIds rs → (i u : ℕ) (name : List ℕ) → IsMeant rs name (Group u) → Decides (nat_lt (unit_at rs i) u) (IsIdFrom rs name i ⊎ IsGroupAfter rs name i)
-later_group rs sound i u name is = (
-  (λ e.
-      let less : unit_at rs i < u = ltb-true (unit_at rs i) u e in
-      inr ((is.unit.start, is.unit.first.here), (λ j there. later_unit rs sound i j (let at_u : unit_at rs j ≡ u = in_unit rs name u j is.unit there in omega arith)))),
-  (λ h. elim h [
-    | inl from ↦ absurd (is.no_id from.0 from.2)
-    | inr after ↦ lt-ltb (unit_at rs i) u (subst (λ v. unit_at rs i < v) (in_unit rs name u after.0.0 is.unit after.0.1) (start_unit rs name i after.0.0 after.0.1 after.1))
-  ]),
-)
+pub later_group : (j : Judged) (u : ℕ) (name : List ℕ) → IsMeant (batch_of j) name (Group u) → Decides (nat_lt (unit_at (batch_of j) j.i) u) (IsIdFrom (batch_of j) name j.i ⊎ IsGroupAfter (batch_of j) name j.i)
+later_group j u name is =
+    let rs = batch_of j in (
+      (λ e.
+          let less : unit_at rs j.i < u = ltb-true (unit_at rs j.i) u e in
+          inr ((is.unit.start, is.unit.first.here), (λ k there. later_unit rs j.sound j.i k (let at_u : unit_at rs k ≡ u = in_unit rs name u k is.unit there in omega arith)))),
+      (λ h. elim h [
+        | inl from ↦ absurd (is.no_id from.0 from.2)
+        | inr after ↦ lt-ltb (unit_at rs j.i) u (subst (λ v. unit_at rs j.i < v) (in_unit rs name u after.0.0 is.unit after.0.1) (start_unit rs name j.i after.0.0 after.0.1 after.1))
+      ]),
+    )
 
 -- ---- the own group
 
-pub own_group : (rs : List Record) (i u : ℕ) (name : List ℕ) → IsMeant rs name (Group u) → Decides (u == unit_at rs i) (group_at rs i ≡ Some name)
-own_group rs i u name is = ((λ e. in_group rs name u i is.unit (sym (eqb-true u (unit_at rs i) e))), (λ here. eq-eqb u (unit_at rs i) (sym (in_unit rs name u i is.unit here))))
+pub own_one : (j : Judged) (p : ℕ) (name : List ℕ) → IsMeant (batch_of j) name (One p) → ¬ (group_at (batch_of j) j.i ≡ Some name)
+own_one j p name is = no_group (batch_of j) (apart (batch_of j) j.sound) name p j.i is.1.here
+
+pub own_group : (j : Judged) (u : ℕ) (name : List ℕ) → IsMeant (batch_of j) name (Group u) → Decides (u == unit_at (batch_of j) j.i) (group_at (batch_of j) j.i ≡ Some name)
+own_group j u name is =
+    let rs = batch_of j in
+    ((λ e. in_group rs name u j.i is.unit (sym (eqb-true u (unit_at rs j.i) e))), (λ here. eq-eqb u (unit_at rs j.i) (sym (in_unit rs name u j.i is.unit here))))
 
 -- ---- members of other groups
 
@@ -121,7 +127,7 @@ unit_sound : (rs : List Record) (p : ℕ) (name : List ℕ) (need : Need) → Is
 unit_sound rs p name (One q) is e = cc
 unit_sound rs p name (Group u) is e = in_group rs name u p is.unit (sym (eqb-true u (unit_at rs p) e))
 
-pub group_listed : (rs : List Record) → HasSoundIds rs → (i p : ℕ) → Decides (list_any (is_group (unit_at rs p)) (named_at rs i)) (NamesGroupOf rs i p)
+group_listed : (rs : List Record) → HasSoundIds rs → (i p : ℕ) → Decides (list_any (is_group (unit_at rs p)) (named_at rs i)) (NamesGroupOf rs i p)
 group_listed rs sound i p = (
   (λ e.
       let found : SomePasses (is_group (unit_at rs p)) (named_at rs i) = some_passes (is_group (unit_at rs p)) (named_at rs i) e in
@@ -132,9 +138,9 @@ group_listed rs sound i p = (
       any_passes (is_group (unit_at rs p)) (named_at rs i) (Group (unit_at rs p)) (Contains-meaning (need_of rs) (names_at rs i) h.0 (Group (unit_at rs p)) h.2 means) (eq-eqb (unit_at rs p) (unit_at rs p) refl)),
 )
 
--- p precedes i in another group, which the names at i lack
-abbrev pub MissesGroupOf : List Record → ℕ → ℕ → Type 0
-MissesGroupOf rs i p = (p < i) × ¬ IsInGroupOf rs i p × ¬ NamesGroupOf rs i p
+-- a group is listed where its unit has the stamp
+pub group_marked : (j : Judged) (p : ℕ) → Decides (slice_index j.marks.now.groups.items (unit_at (batch_of j) p) == j.i + 1) (NamesGroupOf (batch_of j) j.i p)
+group_marked j p = Decides-at _ _ (j.marked.groups_are (unit_at (batch_of j) p)) (group_listed (batch_of j) j.sound j.i p)
 
 missed_case : (rs : List Record) (i p : ℕ) (group : Option (List ℕ)) → group_at rs p ≡ group → IsSomeAnd group (λ g. ¬ (group_at rs i ≡ Some g) × ¬ Contains (names_at rs i) g)
     → (is_some group ≡ true) × ¬ IsInGroupOf rs i p × ¬ NamesGroupOf rs i p
@@ -145,21 +151,17 @@ missed_case rs i p (Some g) e h = (
   (λ named. let same : named.0 ≡ g = (let s : Some named.0 ≡ Some g = sym named.1 ∙ e in cc) in h.1 (subst (Contains (names_at rs i)) same named.2)),
 )
 
-alone_missed : (rs : List Record) → HasSoundIds rs → (i p : ℕ) (name : List ℕ) → IsMeant rs name (One p) → IsMemberAlone rs i name → (p < i) × (is_some (group_at rs p) ≡ true) × ¬ IsInGroupOf rs i p × ¬ NamesGroupOf rs i p
-alone_missed rs sound i p name is h =
-    let same : h.0 ≡ p = one_id rs (once rs sound) name h.0 p h.2 is.1.here in
-    let missed : (is_some (group_at rs p) ≡ true) × ¬ IsInGroupOf rs i p × ¬ NamesGroupOf rs i p =
-    missed_case rs i p (group_at rs p) refl (subst (λ k. IsSomeAnd (group_at rs k) (λ g. ¬ (group_at rs i ≡ Some g) × ¬ Contains (names_at rs i) g)) same h.3) in
-    (omega (arith, h.1), missed.0, missed.1, missed.2)
-
-pub alone_misses : (rs : List Record) → HasSoundIds rs → (i p : ℕ) (name : List ℕ) → IsMeant rs name (One p) → IsMemberAlone rs i name → MissesGroupOf rs i p
-alone_misses rs sound i p name is h =
-    let missed : (p < i) × (is_some (group_at rs p) ≡ true) × ¬ IsInGroupOf rs i p × ¬ NamesGroupOf rs i p = alone_missed rs sound i p name is h in
-    (missed.0, missed.2, missed.3)
+pub alone_missed : (j : Judged) (p : ℕ) (name : List ℕ) → IsMeant (batch_of j) name (One p) → IsMemberAlone (batch_of j) j.i name → MissesGroupOf (batch_of j) j.i p × (is_some (group_at (batch_of j) p) ≡ true)
+alone_missed j p name is h =
+    let rs = batch_of j in
+    let same : h.0 ≡ p = one_id rs (once rs j.sound) name h.0 p h.2 is.1.here in
+    let missed : (is_some (group_at rs p) ≡ true) × ¬ IsInGroupOf rs j.i p × ¬ NamesGroupOf rs j.i p =
+    missed_case rs j.i p (group_at rs p) refl (subst (λ k. IsSomeAnd (group_at rs k) (λ g. ¬ (group_at rs j.i ≡ Some g) × ¬ Contains (names_at rs j.i) g)) same h.3) in
+    ((omega (arith, h.1), missed.1, missed.2), missed.0)
 
 misses_alone : (rs : List Record) (i p : ℕ) → MissesGroupOf rs i p → (group : Option (List ℕ)) → group_at rs p ≡ group → is_some group ≡ true → IsSomeAnd group (λ g. ¬ (group_at rs i ≡ Some g) × ¬ Contains (names_at rs i) g)
 misses_alone rs i p misses None e some = cc
 misses_alone rs i p misses (Some g) e some = ((λ here. misses.1 (g, here, e)), (λ h. misses.2 (g, e, h)))
 
-pub alone_Decides : (rs : List Record) → HasSoundIds rs → (i p : ℕ) (name : List ℕ) → IsMeant rs name (One p) → MissesGroupOf rs i p → Decides (is_some (group_at rs p)) (IsMemberAlone rs i name)
-alone_Decides rs sound i p name is misses = ((λ e. (p, misses.0, is.1.here, misses_alone rs i p misses (group_at rs p) refl e)), (λ h. (alone_missed rs sound i p name is h).1))
+pub alone_Decides : (j : Judged) (p : ℕ) (name : List ℕ) → IsMeant (batch_of j) name (One p) → MissesGroupOf (batch_of j) j.i p → Decides (is_some (group_at (batch_of j) p)) (IsMemberAlone (batch_of j) j.i name)
+alone_Decides j p name is misses = ((λ e. (p, misses.0, is.1.here, misses_alone (batch_of j) j.i p misses (group_at (batch_of j) p) refl e)), (λ h. (alone_missed j p name is h).1))

@@ -1,14 +1,16 @@
--- Where references break a rule, and what they add to the needs, in a batch whose identifiers and groups break none.
-use Rattle.std.proofs.Common.{◌≡◌, ◌<◌, ℕ, Bool, true, false, not, cond, List, [], ◌∷◌, Option, Some, None, refl, sym, ap, ◌∙◌, subst, arith, length}
-use Rattle.std.specs.Prelude.{nat_le, is_some, option_and_then, Contains, bytes_eq, IsSomeAnd}
+-- Where the reference of the request under judgement breaks a rule, and what it adds to the needs.
+use Rattle.std.proofs.Common.{◌≡◌, ◌<◌, ◌+◌, ℕ, Bool, true, false, not, cond, List, [], ◌∷◌, Option, Some, None, refl, sym, ap, ◌∙◌, subst, arith, length}
+use Rattle.std.specs.Prelude.{◌==◌, nat_le, is_some, slice_index, option_and_then, Contains, bytes_eq, IsSomeAnd}
 use Rattle.std.specs.Bool.{Decides}
 use Rattle.std.specs.List.{list_any, filter_map, cons_option}
 use Rattle.std.proofs.lemmas.Bool.{eqb-true, eq-eqb, leb-true, le-leb}
-use Rattle.std.proofs.lemmas.Bool.Decides.{Decides-like, Decides-not, same_from_decides}
+use Rattle.std.proofs.lemmas.Bool.Decides.{Decides-at, Decides-like, Decides-not, same_from_decides}
 use Rattle.odb_doc.specs.Records.{Record}
 use Rattle.odb_check.specs.declared.fault.NameRule.TheVariants.{UnknownReference, ForwardReference, ReferenceNotListed}
+use Rattle.odb_check.specs.declared.names.Judged.{Judged}
 use Rattle.odb_check.specs.declared.need.Need.{Need}
 use Rattle.odb_check.specs.declared.need.Need.TheVariants.{One, Group}
+use Rattle.odb_check.specs.Judged.{MissesGroupOf, batch_of}
 use Rattle.odb_check.specs.Walks.{HasSoundIds}
 use Rattle.odb_check.specs.Marks.{is_one}
 use Rattle.odb_check.specs.NameFaults.{StandsAt}
@@ -17,67 +19,77 @@ use Rattle.odb_check.specs.Positions.{id_at, names_at, reference_at, IsId, IsIdF
 use Rattle.odb_check.specs.Units.{position_of}
 use Rattle.odb_check.proofs.AnyLemmas.{SomePasses, StandsFor, any_passes, some_passes, stands_for, Contains-meaning, Contains-Decides}
 use Rattle.odb_check.proofs.DecideLemmas.{Decides-none, some_Decides, IsThere, is_there}
-use Rattle.odb_check.proofs.NameLemmas.{once, MissesGroupOf}
+use Rattle.odb_check.proofs.NameLemmas.{once}
 use Rattle.odb_check.proofs.NeedLemmas.{is_meant, id_need, one_id}
 use Rattle.odb_check.proofs.PositionLemmas.{IsFirstAt, position_first, position_none}
 
--- i refers to p
-pub record RefersTo (rs : List Record) (i p : ℕ) : Type 0 where
+-- the request refers to p
+pub record RefersTo (j : Judged) (p : ℕ) : Type 0 where
   pub id : List ℕ
-  pub here : reference_at rs i ≡ Some id
-  pub within : p < length rs
-  pub there : id_at rs p ≡ Some id
+  pub here : reference_at (batch_of j) j.i ≡ Some id
+  pub within : p < length (batch_of j)
+  pub there : id_at (batch_of j) p ≡ Some id
 
-refers_case : (rs : List Record) (i p : ℕ) (reference : Option (List ℕ)) → reference_at rs i ≡ reference → option_and_then (position_of rs) reference ≡ Some p → RefersTo rs i p
-refers_case rs i p None e known = cc
-refers_case rs i p (Some id) e known =
-    let first : (p < length rs) × IsFirstAt (id_at rs) id p = position_first rs id p known in
+refers_case : (j : Judged) (p : ℕ) (reference : Option (List ℕ)) → reference_at (batch_of j) j.i ≡ reference → option_and_then (position_of (batch_of j)) reference ≡ Some p → RefersTo j p
+refers_case j p None e found = cc
+refers_case j p (Some id) e found =
+    let first : (p < length (batch_of j)) × IsFirstAt (id_at (batch_of j)) id p = position_first (batch_of j) id p found in
     record { id = id; here = e; within = first.0; there = first.1.here }
 
-pub refers : (rs : List Record) (i p : ℕ) → option_and_then (position_of rs) (reference_at rs i) ≡ Some p → RefersTo rs i p
-refers rs i p known = refers_case rs i p (reference_at rs i) refl known
+pub refers : (j : Judged) (p : ℕ) → j.referred ≡ Some p → RefersTo j p
+refers j p found = refers_case j p (reference_at (batch_of j) j.i) refl (sym j.refers ∙ found)
 
--- where i refers to no position its reference is no identifier
-pub refers_nowhere : (rs : List Record) (i : ℕ) (id : List ℕ) → option_and_then (position_of rs) (reference_at rs i) ≡ None → reference_at rs i ≡ Some id → ¬ IsId rs id
-refers_nowhere rs i id none here h = position_none rs id (sym (ap (option_and_then (position_of rs)) here) ∙ none) h.0 h.1
+-- where the request refers to none its reference is not an identifier
+refers_nowhere : (j : Judged) (id : List ℕ) → j.referred ≡ None → reference_at (batch_of j) j.i ≡ Some id → ¬ IsId (batch_of j) id
+refers_nowhere j id none here h = position_none (batch_of j) id (sym (ap (option_and_then (position_of (batch_of j))) here) ∙ sym j.refers ∙ none) h.0 h.1
 
-pub unknown_Decides : (rs : List Record) (i : ℕ) → option_and_then (position_of rs) (reference_at rs i) ≡ None → (reference : Option (List ℕ)) → reference_at rs i ≡ reference → Decides (is_some reference) (StandsAt UnknownReference rs i)
-unknown_Decides rs i none None e = Decides-none (λ h. let there : IsThere (reference_at rs i) (λ id. ¬ IsId rs id) = is_there (reference_at rs i) _ h in cc (e, there.here))
-unknown_Decides rs i none (Some id) e = some_Decides (reference_at rs i) id (λ x. ¬ IsId rs x) true e ((λ yes. refers_nowhere rs i id none e), λ h. refl)
+-- ---- an unknown reference
 
-pub known : (rs : List Record) (i p : ℕ) → RefersTo rs i p → ¬ StandsAt UnknownReference rs i
-known rs i p to h = subst (λ o. IsSomeAnd o (λ id. ¬ IsId rs id)) to.here h (p, to.there)
+unknown_case : (j : Judged) → j.referred ≡ None → (reference : Option (List ℕ)) → reference_at (batch_of j) j.i ≡ reference → Decides (is_some reference) (IsSomeAnd reference (λ id. ¬ IsId (batch_of j) id))
+unknown_case j none None e = Decides-none (λ h. h)
+unknown_case j none (Some id) e = ((λ yes. refers_nowhere j id none e), λ h. refl)
 
-pub forward_Decides : (rs : List Record) → HasSoundIds rs → (i p : ℕ) → RefersTo rs i p → Decides (nat_le i p) (StandsAt ForwardReference rs i)
-forward_Decides rs sound i p to = some_Decides (reference_at rs i) to.id (λ id. IsIdFrom rs id i) (nat_le i p) to.here (
-  (λ e. (p, leb-true i p e, to.there)),
-  (λ h. let same : p ≡ h.0 = one_id rs (once rs sound) to.id p h.0 to.there h.2 in le-leb i p (omega (arith, h.1))),
+pub unknown_Decides : (j : Judged) → j.referred ≡ None → Decides (is_some (reference_at (batch_of j) j.i)) (StandsAt UnknownReference (batch_of j) j.i)
+unknown_Decides j none = unknown_case j none (reference_at (batch_of j) j.i) refl
+
+pub known : (j : Judged) (p : ℕ) → RefersTo j p → ¬ StandsAt UnknownReference (batch_of j) j.i
+known j p to h = subst (λ o. IsSomeAnd o (λ id. ¬ IsId (batch_of j) id)) to.here h (p, to.there)
+
+-- ---- a reference that does not precede
+
+pub forward_Decides : (j : Judged) (p : ℕ) → RefersTo j p → Decides (nat_le j.i p) (StandsAt ForwardReference (batch_of j) j.i)
+forward_Decides j p to = some_Decides (reference_at (batch_of j) j.i) to.id (λ id. IsIdFrom (batch_of j) id j.i) (nat_le j.i p) to.here (
+  (λ e. (p, leb-true j.i p e, to.there)),
+  (λ h. let same : p ≡ h.0 = one_id (batch_of j) (once (batch_of j) j.sound) to.id p h.0 to.there h.2 in le-leb j.i p (omega (arith, h.1))),
 )
 
--- what a reference that is not listed says of its position
+pub nowhere_forward : (j : Judged) → j.referred ≡ None → ¬ StandsAt ForwardReference (batch_of j) j.i
+nowhere_forward j none h =
+    let there : IsThere (reference_at (batch_of j) j.i) (λ id. IsIdFrom (batch_of j) id j.i) = is_there (reference_at (batch_of j) j.i) _ h in
+    refers_nowhere j there.value none there.here (there.holds.0, there.holds.2)
+
+-- ---- a reference that is not listed
+
+-- what such a reference says of its position
 abbrev IsNotListed : List Record → ℕ → List ℕ → Type 0
 IsNotListed rs i id = (j : ℕ) × (j < i) × (id_at rs j ≡ Some id) × ¬ IsInGroupOf rs i j × ¬ Contains (names_at rs i) id × ¬ NamesGroupOf rs i j
 
-pub unlisted_misses : (rs : List Record) → HasSoundIds rs → (i p : ℕ) → RefersTo rs i p → StandsAt ReferenceNotListed rs i → MissesGroupOf rs i p
-unlisted_misses rs sound i p to h =
-    let at_id : IsNotListed rs i to.id = subst (λ o. IsSomeAnd o (IsNotListed rs i)) to.here h in
-    let same : at_id.0 ≡ p = one_id rs (once rs sound) to.id at_id.0 p at_id.2 to.there in
-    (omega (arith, at_id.1), subst (λ k. ¬ IsInGroupOf rs i k) same at_id.3, subst (λ k. ¬ NamesGroupOf rs i k) same at_id.5)
+pub unlisted_misses : (j : Judged) (p : ℕ) → RefersTo j p → StandsAt ReferenceNotListed (batch_of j) j.i → MissesGroupOf (batch_of j) j.i p
+unlisted_misses j p to h =
+    let rs = batch_of j in
+    let at_id : IsNotListed rs j.i to.id = subst (λ o. IsSomeAnd o (IsNotListed rs j.i)) to.here h in
+    let same : at_id.0 ≡ p = one_id rs (once rs j.sound) to.id at_id.0 p at_id.2 to.there in
+    (omega (arith, at_id.1), subst (λ k. ¬ IsInGroupOf rs j.i k) same at_id.3, subst (λ k. ¬ NamesGroupOf rs j.i k) same at_id.5)
 
-pub unlisted_Decides : (rs : List Record) (i p : ℕ) (to : RefersTo rs i p) → MissesGroupOf rs i p → (listed : Bool) → Decides listed (Contains (names_at rs i) to.id) → Decides (not listed) (StandsAt ReferenceNotListed rs i)
-unlisted_Decides rs i p to misses listed decides = some_Decides (reference_at rs i) to.id (IsNotListed rs i) (not listed) to.here
+pub unlisted_Decides : (j : Judged) (p : ℕ) (to : RefersTo j p) → MissesGroupOf (batch_of j) j.i p → (listed : Bool) → Decides listed (Contains (names_at (batch_of j) j.i) to.id)
+    → Decides (not listed) (StandsAt ReferenceNotListed (batch_of j) j.i)
+unlisted_Decides j p to misses listed decides = some_Decides (reference_at (batch_of j) j.i) to.id (IsNotListed (batch_of j) j.i) (not listed) to.here
     (Decides-like (not listed) (λ lacks. (p, misses.0, to.there, misses.1, lacks, misses.2)) (λ h. h.4) (Decides-not listed decides))
 
--- where i refers to no position its reference breaks no rule on a position
-pub nowhere_forward : (rs : List Record) (i : ℕ) → option_and_then (position_of rs) (reference_at rs i) ≡ None → ¬ StandsAt ForwardReference rs i
-nowhere_forward rs i none h =
-    let there : IsThere (reference_at rs i) (λ id. IsIdFrom rs id i) = is_there (reference_at rs i) _ h in
-    refers_nowhere rs i there.value none there.here (there.holds.0, there.holds.2)
-
-pub nowhere_unlisted : (rs : List Record) (i : ℕ) → option_and_then (position_of rs) (reference_at rs i) ≡ None → ¬ StandsAt ReferenceNotListed rs i
-nowhere_unlisted rs i none h =
-    let there : IsThere (reference_at rs i) (IsNotListed rs i) = is_there (reference_at rs i) _ h in
-    refers_nowhere rs i there.value none there.here (there.holds.0, there.holds.2)
+pub nowhere_unlisted : (j : Judged) → j.referred ≡ None → ¬ StandsAt ReferenceNotListed (batch_of j) j.i
+nowhere_unlisted j none h =
+    let there : IsThere (reference_at (batch_of j) j.i) (IsNotListed (batch_of j) j.i) = is_there (reference_at (batch_of j) j.i) _ h in
+    refers_nowhere j there.value none there.here (there.holds.0, there.holds.2)
 
 -- ---- among the names
 
@@ -89,7 +101,7 @@ one_means rs id name p here (One q) means e =
 one_means rs id name p here (Group u) means e = cc
 
 -- a position is among what the names stand for where its identifier is among the names
-pub one_listed : (rs : List Record) → HasSoundIds rs → (i : ℕ) (id : List ℕ) (p : ℕ) → id_at rs p ≡ Some id → Decides (list_any (is_one p) (named_at rs i)) (Contains (names_at rs i) id)
+one_listed : (rs : List Record) → HasSoundIds rs → (i : ℕ) (id : List ℕ) (p : ℕ) → id_at rs p ≡ Some id → Decides (list_any (is_one p) (named_at rs i)) (Contains (names_at rs i) id)
 one_listed rs sound i id p here = (
   (λ e.
       let found : SomePasses (is_one p) (named_at rs i) = some_passes (is_one p) (named_at rs i) e in
@@ -98,20 +110,27 @@ one_listed rs sound i id p here = (
   (λ h. any_passes (is_one p) (named_at rs i) (One p) (Contains-meaning (need_of rs) (names_at rs i) id (One p) h (id_need rs (once rs sound) id p here)) (eq-eqb p p refl)),
 )
 
+-- an identifier is listed where its position has the stamp
+pub one_marked : (j : Judged) (p : ℕ) (id : List ℕ) → id_at (batch_of j) p ≡ Some id → Decides (slice_index j.marks.now.ones.items p == j.i + 1) (Contains (names_at (batch_of j) j.i) id)
+one_marked j p id here = Decides-at _ _ (j.marked.ones_are p) (one_listed (batch_of j) j.sound j.i id p here)
+
+-- ---- what a reference adds
+
 further_case : (rs : List Record) (id : List ℕ) (need : Need) → need_of rs id ≡ Some need → (v : Bool) → filter_map (need_of rs) (cond v [] (id ∷ [])) ≡ cond v [] (need ∷ [])
 further_case rs id need means true = refl
 further_case rs id need means false = ap (λ o. cons_option o []) means
 
--- a reference that is known adds its position, unless that is named
-pub further_is : (rs : List Record) → HasSoundIds rs → (i p : ℕ) (to : RefersTo rs i p) (listed : Bool) → Decides listed (Contains (names_at rs i) to.id) → further_needs rs i ≡ cond listed [] (One p ∷ [])
-further_is rs sound i p to listed decides =
-    let same : list_any (bytes_eq to.id) (names_at rs i) ≡ listed = same_from_decides (list_any (bytes_eq to.id) (names_at rs i)) listed (Contains-Decides to.id (names_at rs i)) decides in
-    ap (λ o. filter_map (need_of rs) (further_names (names_at rs i) o)) to.here ∙ ap (λ v. filter_map (need_of rs) (cond v [] (to.id ∷ []))) same
-    ∙ further_case rs to.id (One p) (id_need rs (once rs sound) to.id p to.there) listed
+-- a reference that is known adds its position, unless that is listed
+pub further_is : (j : Judged) (p : ℕ) (to : RefersTo j p) (listed : Bool) → Decides listed (Contains (names_at (batch_of j) j.i) to.id) → further_needs (batch_of j) j.i ≡ cond listed [] (One p ∷ [])
+further_is j p to listed decides =
+    let rs = batch_of j in
+    let same : list_any (bytes_eq to.id) (names_at rs j.i) ≡ listed = same_from_decides (list_any (bytes_eq to.id) (names_at rs j.i)) listed (Contains-Decides to.id (names_at rs j.i)) decides in
+    ap (λ o. filter_map (need_of rs) (further_names (names_at rs j.i) o)) to.here ∙ ap (λ v. filter_map (need_of rs) (cond v [] (to.id ∷ []))) same
+    ∙ further_case rs to.id (One p) (id_need rs (once rs j.sound) to.id p to.there) listed
 
-none_case : (rs : List Record) (i : ℕ) → option_and_then (position_of rs) (reference_at rs i) ≡ None → ¬ StandsAt UnknownReference rs i → (reference : Option (List ℕ)) → reference_at rs i ≡ reference → further_needs rs i ≡ []
-none_case rs i none is_known None e = ap (λ o. filter_map (need_of rs) (further_names (names_at rs i) o)) e
-none_case rs i none is_known (Some id) e = absurd (is_known (subst (λ o. IsSomeAnd o (λ x. ¬ IsId rs x)) (sym e) (refers_nowhere rs i id none e)))
+none_case : (j : Judged) → j.referred ≡ None → ¬ StandsAt UnknownReference (batch_of j) j.i → (reference : Option (List ℕ)) → reference_at (batch_of j) j.i ≡ reference → further_needs (batch_of j) j.i ≡ []
+none_case j none is_known None e = ap (λ o. filter_map (need_of (batch_of j)) (further_names (names_at (batch_of j) j.i) o)) e
+none_case j none is_known (Some id) e = absurd (is_known (subst (λ o. IsSomeAnd o (λ x. ¬ IsId (batch_of j) x)) (sym e) (refers_nowhere j id none e)))
 
-pub further_none : (rs : List Record) (i : ℕ) → option_and_then (position_of rs) (reference_at rs i) ≡ None → ¬ StandsAt UnknownReference rs i → further_needs rs i ≡ []
-further_none rs i none is_known = none_case rs i none is_known (reference_at rs i) refl
+pub further_none : (j : Judged) → j.referred ≡ None → ¬ StandsAt UnknownReference (batch_of j) j.i → further_needs (batch_of j) j.i ≡ []
+further_none j none is_known = none_case j none is_known (reference_at (batch_of j) j.i) refl

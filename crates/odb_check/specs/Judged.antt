@@ -1,10 +1,11 @@
 -- The request under judgement.
-use Rattle.std.specs.Prelude.{◌≡◌, ℕ, Bool, List, Some}
+use Rattle.std.specs.Prelude.{◌≡◌, ◌<◌, ℕ, Bool, List, Some}
 use Rattle.std.specs.Bool.{Decides}
 use Rattle.odb_doc.specs.Records.{Record}
 use Rattle.odb_check.specs.declared.names.Judged.{Judged}
 use Rattle.odb_check.specs.declared.need.Need.{Need}
 use Rattle.odb_check.specs.Needs.{need_of}
+use Rattle.odb_check.specs.Positions.{IsInGroupOf, NamesGroupOf}
 use Rattle.odb_check.specs.Requests.{requests}
 
 -- the requests of its batch
@@ -14,3 +15,7 @@ batch_of judged = requests judged.tables.now
 -- what is answered of a need is so of each name that stands for it
 abbrev pub IsAnswer : List Record → Need → Bool → (List ℕ → Type 0) → Type 0
 IsAnswer rs need answer P = (name : List ℕ) → need_of rs name ≡ Some need → Decides answer (P name)
+
+-- p precedes i and is in another group, which the names at i lack
+abbrev pub MissesGroupOf : List Record → ℕ → ℕ → Type 0
+MissesGroupOf rs i p = (p < i) × ¬ IsInGroupOf rs i p × ¬ NamesGroupOf rs i p

@@ -37,7 +37,7 @@ pub(crate) struct Judged<'w, 'b> {
 }
 
 impl Judged<'_, '_> {
-    ghost use Rattle.odb_check.specs.Judged.{IsAnswer, batch_of};
+    ghost use Rattle.odb_check.specs.Judged.{IsAnswer, MissesGroupOf, batch_of};
 
     /// Whether what is needed is this request or a later one, or a group that begins later.
     fn is_later(&self, need: Need) -> bool
@@ -90,9 +90,7 @@ impl Judged<'_, '_> {
     /// Whether the other request precedes this one, is not in its group, and `dependsOn` does not list
     /// the group of the other.
     fn misses_group_of(&self, position: u32) -> bool
-        ensures { Decides result ((position < self.now.i)
-            × ¬ IsInGroupOf (batch_of self.now) self.now.i position
-            × ¬ NamesGroupOf (batch_of self.now) self.now.i position) }
+        ensures { Decides result (MissesGroupOf (batch_of self.now) self.now.i position) }
     {
         self.is_outside(position) && !self.lists_group_of(position)
     }

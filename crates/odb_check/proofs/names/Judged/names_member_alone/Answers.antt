@@ -10,5 +10,5 @@ returns c =
     let j = c.args.self.now in
     let rs = batch_of j in
     let P : List ℕ → Type 0 = IsMemberAlone rs j.i in
-    any_Decides rs j.i P j.named.now j.known j.names _
+    any_Decides j P _
     (cases_from_any _ _ _ (λ need. IsAnswer rs need true P) (λ need. IsAnswer rs need false P) c.any.ensures.ran (YieldsList-from_slice j.named.now cc) (λ x q k. search (rules, tests)) (λ x q k. search (rules, tests)))
