@@ -163,5 +163,6 @@ misses_alone : (rs : List Record) (i p : ℕ) → MissesGroupOf rs i p → (grou
 misses_alone rs i p misses None e some = cc
 misses_alone rs i p misses (Some g) e some = ((λ here. misses.1 (g, here, e)), (λ h. misses.2 (g, e, h)))
 
-pub alone_Decides : (j : Judged) (p : ℕ) (name : List ℕ) → IsMeant (batch_of j) name (One p) → MissesGroupOf (batch_of j) j.i p → Decides (is_some (group_at (batch_of j) p)) (IsMemberAlone (batch_of j) j.i name)
-alone_Decides j p name is misses = ((λ e. (p, misses.0, is.1.here, misses_alone (batch_of j) j.i p misses (group_at (batch_of j) p) refl e)), (λ h. (alone_missed j p name is h).1))
+pub alone_Decides : (j : Judged) (p : ℕ) (name : List ℕ) → IsMeant (batch_of j) name (One p) → is_some (group_at (batch_of j) p) ≡ true → (misses : Bool) → Decides misses (MissesGroupOf (batch_of j) j.i p)
+    → Decides misses (IsMemberAlone (batch_of j) j.i name)
+alone_Decides j p name is some misses = Decides-like misses (λ m. (p, m.0, is.1.here, misses_alone (batch_of j) j.i p m (group_at (batch_of j) p) refl some)) (λ h. (alone_missed j p name is h).0)

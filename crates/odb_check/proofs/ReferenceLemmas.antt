@@ -74,17 +74,19 @@ nowhere_forward j none h =
 abbrev IsNotListed : List Record → ℕ → List ℕ → Type 0
 IsNotListed rs i id = (j : ℕ) × (j < i) × (id_at rs j ≡ Some id) × ¬ IsInGroupOf rs i j × ¬ Contains (names_at rs i) id × ¬ NamesGroupOf rs i j
 
-pub unlisted_misses : (j : Judged) (p : ℕ) → RefersTo j p → StandsAt ReferenceNotListed (batch_of j) j.i → MissesGroupOf (batch_of j) j.i p
-unlisted_misses j p to h =
+unlisted_at : (j : Judged) (p : ℕ) (to : RefersTo j p) → StandsAt ReferenceNotListed (batch_of j) j.i → MissesGroupOf (batch_of j) j.i p × ¬ Contains (names_at (batch_of j) j.i) to.id
+unlisted_at j p to h =
     let rs = batch_of j in
     let at_id : IsNotListed rs j.i to.id = subst (λ o. IsSomeAnd o (IsNotListed rs j.i)) to.here h in
     let same : at_id.0 ≡ p = one_id rs (once rs j.sound) to.id at_id.0 p at_id.2 to.there in
-    (omega (arith, at_id.1), subst (λ k. ¬ IsInGroupOf rs j.i k) same at_id.3, subst (λ k. ¬ NamesGroupOf rs j.i k) same at_id.5)
+    ((omega (arith, at_id.1), subst (λ k. ¬ IsInGroupOf rs j.i k) same at_id.3, subst (λ k. ¬ NamesGroupOf rs j.i k) same at_id.5), at_id.4)
 
-pub unlisted_Decides : (j : Judged) (p : ℕ) (to : RefersTo j p) → MissesGroupOf (batch_of j) j.i p → (listed : Bool) → Decides listed (Contains (names_at (batch_of j) j.i) to.id)
-    → Decides (not listed) (StandsAt ReferenceNotListed (batch_of j) j.i)
-unlisted_Decides j p to misses listed decides = some_Decides (reference_at (batch_of j) j.i) to.id (IsNotListed (batch_of j) j.i) (not listed) to.here
-    (Decides-like (not listed) (λ lacks. (p, misses.0, to.there, misses.1, lacks, misses.2)) (λ h. h.4) (Decides-not listed decides))
+pub unlisted_Decides : (j : Judged) (p : ℕ) (to : RefersTo j p) → ¬ Contains (names_at (batch_of j) j.i) to.id → (misses : Bool) → Decides misses (MissesGroupOf (batch_of j) j.i p) → Decides misses (StandsAt ReferenceNotListed (batch_of j) j.i)
+unlisted_Decides j p to lacks misses decides = some_Decides (reference_at (batch_of j) j.i) to.id (IsNotListed (batch_of j) j.i) misses to.here
+    (Decides-like misses (λ m. (p, m.0, to.there, m.1, lacks, m.2)) (λ h. (unlisted_at j p to (subst (λ o. IsSomeAnd o (IsNotListed (batch_of j) j.i)) (sym to.here) h)).0) decides)
+
+pub listed_never : (j : Judged) (p : ℕ) (to : RefersTo j p) → Contains (names_at (batch_of j) j.i) to.id → ¬ StandsAt ReferenceNotListed (batch_of j) j.i
+listed_never j p to listed h = (unlisted_at j p to h).1 listed
 
 pub nowhere_unlisted : (j : Judged) → j.referred ≡ None → ¬ StandsAt ReferenceNotListed (batch_of j) j.i
 nowhere_unlisted j none h =

@@ -102,7 +102,10 @@ impl Judged<'_, '_> {
     {
         match need {
             Need::One(position) => {
-                self.misses_group_of(position) && self.tables.group(position).is_some()
+                if position >= self.i {
+                    return false;
+                }
+                self.tables.group(position).is_some() && self.misses_group_of(position)
             }
             Need::Group(_) => false,
         }
@@ -155,7 +158,7 @@ impl Judged<'_, '_> {
         ensures { Decides result (StandsAt rules.ReferenceNotListed (batch_of self.now) self.now.i) }
     {
         match self.referred {
-            Some(position) => self.misses_group_of(position) && !self.lists(position),
+            Some(position) => !self.lists(position) && self.misses_group_of(position),
             None => false,
         }
     }
