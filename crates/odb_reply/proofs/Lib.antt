@@ -3,4 +3,5 @@ pub mod QuoteLemmas
 pub mod PartLemmas
 pub mod HeaderLemmas
 pub mod RestLemmas
+pub mod DocumentLemmas
 pub mod OneLemmas

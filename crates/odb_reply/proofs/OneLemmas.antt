@@ -5,8 +5,7 @@ use Rattle.std.specs.Option.{IsSomeAnd}
 use Rattle.std.proofs.lemmas.List.Sums.{sum_by-cons}
 use Rattle.std.proofs.lemmas.Slice.Eq.{bytes_eq-Decides}
 use Rattle.serde_json.specs.Data.{Data, string, object, put, no_members}
-use Rattle.serde_json.specs.View.{items_of}
-use Rattle.odb_doc.specs.Members.{list_of, text_at}
+use Rattle.odb_doc.specs.Members.{text_at}
 use Rattle.odb_doc.specs.Records.{Record}
 use Rattle.odb_doc.specs.declared.outcome.Outcome.{Outcome}
 use Rattle.odb_check.specs.LeastNameFault.{HasGoodNames}
@@ -16,7 +15,9 @@ use Rattle.odb_check.specs.Plans.{plan_records}
 use Rattle.odb_sched.specs.Answers.{answer}
 use Rattle.odb_sched.specs.State.{State}
 use Rattle.odb_reply.specs.Responses.{with_some, response, responses_from, responses, response_value}
-use Rattle.odb_reply.specs.OnePerId.{responses_in, has_id, HasOnePerId}
+use Rattle.odb_reply.specs.OnePerId.{has_id, HasOnePerId}
+use Rattle.odb_reply.specs.ResponseDocuments.{responses_in}
+use Rattle.odb_reply.proofs.DocumentLemmas.{list_of-items_of}
 
 -- the member `id`, whatever other members there are
 id_among : (group body headers : Option Data) (id : List ℕ) (status : Data)
@@ -32,10 +33,6 @@ id_among (Some group) (Some body) (Some headers) id status = refl
 
 id_of_response : (request : Record) (answer : Option Outcome) → text_at (codes "id") (response request answer) ≡ Some request.id
 id_of_response request answer = id_among _ _ _ request.id _
-
-list_of-items_of : (ds : List Data) → list_of (items_of ds) ≡ ds
-list_of-items_of [] = refl
-list_of-items_of (d ∷ ds) = ap (λ rest. d ∷ rest) (list_of-items_of ds)
 
 responses_in-value : (state : State) → responses_in (response_value state) ≡ responses state
 responses_in-value state = list_of-items_of (responses state)

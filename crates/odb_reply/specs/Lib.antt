@@ -4,3 +4,5 @@ pub mod Parts
 pub mod OnePerId
 pub mod NotWhole
 pub mod ReplyFaults
+pub mod ResponseDocuments
+pub mod ResponseFaults

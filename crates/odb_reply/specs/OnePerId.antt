@@ -1,14 +1,10 @@
 -- One response per id (OData JSON Format 4.01, section 19.5).
-use Rattle.std.specs.Prelude.{◌≡◌, ℕ, Bool, false, List, [], Some, option_map, option_and_then, unwrap_or, bytes_eq, codes, count_by, Contains, IsSomeAnd}
+use Rattle.std.specs.Prelude.{◌≡◌, ℕ, Bool, false, List, Some, option_map, unwrap_or, bytes_eq, codes, count_by, Contains, IsSomeAnd}
 use Rattle.serde_json.specs.Data.{Data}
-use Rattle.serde_json.specs.Find.{get, as_array}
-use Rattle.odb_doc.specs.Members.{list_of, text_at}
+use Rattle.odb_doc.specs.Members.{text_at}
 use Rattle.odb_doc.specs.Records.{Record}
 use Rattle.odb_check.specs.Positions.{id_at, IsId}
-
--- the elements of `responses`
-abbrev pub responses_in : Data → List Data
-responses_in value = unwrap_or (option_map list_of (option_and_then as_array (get (codes "responses") value))) []
+use Rattle.odb_reply.specs.ResponseDocuments.{responses_in}
 
 -- whether the response has this id
 abbrev pub has_id : List ℕ → Data → Bool

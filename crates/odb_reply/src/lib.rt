@@ -1,19 +1,25 @@
-//! The response to an OData JSON batch, as text.
+//! The response to an OData JSON batch: as text, and as a service gave it.
 //!
 //! [`response_text`] returns the response of a finished run (OData JSON Format 4.01, section 19.5),
 //! and [`write_responses`] writes it to an output through a buffer. Both refuse a run that answers a
 //! body with a number that is not whole, since only whole numbers are kept exactly. [`laws`] says
 //! what is true of every response. [`write_text`] writes any text. What runs, and what each request
 //! is answered, is decided by `odb_sched`.
+//!
+//! [`Responses::read`] reads the response document of a service.
 #![tactic(auto)]
 
 pub mod laws;
 mod parts;
 mod reply;
+mod response_fault;
+mod responses;
 mod text;
 mod whole;
 mod writing;
 
 pub use reply::{ReplyFault, write_responses};
+pub use response_fault::ResponseFault;
+pub use responses::{Response, Responses};
 pub use text::response_text;
 pub use writing::{WriteFault, write_text};

@@ -1,0 +1,54 @@
+-- The responses that elements say, one by one, and the first element that is not a response.
+use Rattle.std.proofs.Common.{◌≡◌, ◌+◌, ◌<◌, ◌≤◌, ℕ, List, [], ◌∷◌, ◌++◌, length, take, get_or, map, Some, ap, refl, subst, arith}
+use Rattle.std.specs.List.{AllZip, All}
+use Rattle.std.proofs.lemmas.List.{take_more, take_all, length-take, get_or-take}
+use Rattle.std.proofs.lemmas.List.Elements.{All-more, All-nil}
+use Rattle.std.proofs.lemmas.Option.{slice_get-get_or}
+use Rattle.std.proofs.lemmas.Slice.Zip.{all_zipped_more}
+use Rattle.serde_json.specs.Data.{Data}
+use Rattle.serde_json.specs.View.{items_of, items_view, view}
+use Rattle.serde_json.specs.declared.value.Value.{Value}
+use Rattle.odb_doc.specs.Members.{list_of}
+use Rattle.odb_reply.specs.ResponseDocuments.{IsResponse, Entry, Says, IsFirstBad, array_in, responses_in}
+
+pub list_of-items_of : (ds : List Data) → list_of (items_of ds) ≡ ds
+list_of-items_of [] = refl
+list_of-items_of (d ∷ ds) = ap (λ rest. d ∷ rest) (list_of-items_of ds)
+
+-- the document's elements are what the array holds
+pub responses_in-array : (d : Data) (vs : List Value) → array_in d ≡ Some (items_view vs) → responses_in d ≡ map view vs
+responses_in-array d vs is = rw is (list_of-items_of (map view vs))
+
+-- the first n elements say these responses
+pub record AreReadUpTo (ds : List Data) (entries : List Entry) (n : ℕ) : Type 0 where
+  pub good : All IsResponse (take n ds)
+  pub says : AllZip Says (take n ds) entries
+
+pub AreReadUpTo-none : (ds : List Data) → AreReadUpTo ds [] 0
+AreReadUpTo-none ds = record { good = All-nil IsResponse; says = tt }
+
+-- one element more
+pub AreReadUpTo-more : (ds : List Data) (entries : List Entry) (n : ℕ) (d : Data) (entry : Entry) → n < length ds → get_or ds n d ≡ d
+    → AreReadUpTo ds entries n → IsResponse d → Says d entry → AreReadUpTo ds (entries ++ entry ∷ []) (n + 1)
+AreReadUpTo-more ds entries n d entry within is before good says = record {
+  good = All-more IsResponse ds n d within before.good (rw is good);
+  says = rw (take_more ds n d within, is) (all_zipped_more Says (take n ds) entries d entry before.says says);
+}
+
+pub AreReadUpTo-good : (ds : List Data) (entries : List Entry) (n : ℕ) → length ds ≤ n → AreReadUpTo ds entries n → All IsResponse ds
+AreReadUpTo-good ds entries n end read = rw (take_all n ds end) at read.good
+
+pub AreReadUpTo-says : (ds : List Data) (entries : List Entry) (n : ℕ) → length ds ≤ n → AreReadUpTo ds entries n → AllZip Says ds entries
+AreReadUpTo-says ds entries n end read = rw (take_all n ds end) at read.says
+
+-- an element that is not a response is the first where those before it are responses
+pub IsFirstBad-from : (ds : List Data) (entries : List Entry) (n : ℕ) (d : Data) → n < length ds → get_or ds n d ≡ d
+    → AreReadUpTo ds entries n → ¬ IsResponse d → IsFirstBad ds n
+IsFirstBad-from ds entries n d within is read bad = record {
+  bad = rw (slice_get-get_or ds n d within, is) bad;
+  before = λ i less.
+      let inside : i < length ds = omega arith in
+      let taken : i < length (take n ds) = omega (arith, length-take n ds) in
+      let same : get_or (take n ds) i d ≡ get_or ds i d = get_or-take n ds i d less in
+      rw (slice_get-get_or ds i d inside) (subst IsResponse same (read.good i d taken));
+}

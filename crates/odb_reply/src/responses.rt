@@ -1,0 +1,145 @@
+ghost use Rattle.std.specs.Prelude.{◌≡◌, ◌<◌, length, map, slice_get, Some, IsSomeAnd, MatchOption, IfOk, IfErr, OnOk, IfSome, IfNone, OnSome, IsSome, option_map, All};
+ghost use Rattle.std.specs.List.{AllZip};
+ghost use Rattle.serde_json.specs.Data.{string, unsigned};
+ghost use Rattle.serde_json.specs.Find.{as_str};
+ghost use Rattle.serde_json.specs.View.{view};
+ghost use Rattle.odb_doc.specs.Outcomes as members;
+ghost use Rattle.odb_reply.specs.ResponseDocuments as documents;
+
+use crate::response_fault::ResponseFault;
+use serde_json::Value;
+use std::alloc::Global;
+
+/// A response that a service gave to one request of a batch (OData JSON Format 4.01, section 19.5).
+///
+/// Its texts are borrowed from the value of the document. Headers and body are not read.
+#[derive(Clone, Copy, Debug, PartialEq, Eq)]
+pub struct Response<'a> {
+    /// The identifier of the request. It may be any string.
+    pub id: &'a str,
+    /// The atomicity group, if any; `null` is treated as none, the empty string is not.
+    pub group: Option<&'a str>,
+    /// The status, from 100 to 599.
+    pub status: u16,
+}
+
+/// The responses of a service's response document, in the order of the document.
+#[derive(Debug, Drop)]
+pub struct Responses<'a> {
+    list: Vec<Response<'a>>,
+}
+
+/// Returns the status of a response, or `None` if it is not a whole number from 100 to 599.
+fn status_of(element: &Value) -> Option<u16>
+    ensures { MatchOption result
+        (¬ IsSomeAnd (members.status_of (view element.now)) documents.IsStatus)
+        (λ status. documents.IsStatus (unsigned status)
+        × (members.status_of (view element.now) ≡ Some (unsigned status))) }
+{
+    let status = element.get("status")?.as_u64()?;
+    if (100..=599).contains(&status) {
+        Some(status as u16)
+    } else {
+        None
+    }
+}
+
+/// Returns the group of a response, if any, or `None` if it is neither absent, null nor a string.
+fn group_of(element: &Value) -> Option<Option<&str>>
+    ensures { MatchOption result
+        (¬ IfSome (documents.group_in (view element.now)) (λ group. IsSome (as_str group)))
+        (λ group. documents.group_in (view element.now)
+        ≡ option_map string (option_map (λ text. text.now) group)) }
+{
+    match element.get("atomicityGroup") {
+        Some(value) if !value.is_null() => Some(Some(value.as_str()?)),
+        _ => Some(None),
+    }
+}
+
+/// Reads one element, or returns `None` if it is not a response.
+fn read_response(element: &Value) -> Option<Response<'_>>
+    ensures none { IfNone result (¬ documents.IsResponse (view element.now)) }
+    ensures good { OnSome result (documents.IsResponse (view element.now)) }
+    ensures says { IfSome result (λ response. documents.Says (view element.now)
+        (documents.entry_of response)) }
+{
+    let id = element.get("id")?.as_str()?;
+    let status = status_of(element)?;
+    let group = group_of(element)?;
+    Some(Response { id, group, status })
+}
+
+/// Returns the elements of `responses`.
+fn elements_of(document: &Value) -> Option<&[Value]>
+    ensures none { IfNone result (¬ IsSome (documents.array_in (view document.now))) }
+    ensures array { OnSome result (IsSome (documents.array_in (view document.now))) }
+    ensures elements { IfSome result (λ found. documents.responses_in (view document.now)
+        ≡ map view found.now) }
+{
+    Some(document.get("responses")?.as_array()?.as_slice())
+}
+
+/// Reads all elements, or returns the first fault among them.
+fn responses_from<'a>(
+    alloc: Global,
+    elements: &'a [Value],
+) -> Result<Vec<Response<'a>>, ResponseFault>
+    ensures good { OnOk result (All documents.IsResponse (map view elements.now)) }
+    ensures says { IfOk result (λ found. AllZip documents.Says (map view elements.now)
+        (map documents.entry_of found.items)) }
+    ensures first { IfErr result (λ fault. documents.RefusesElements fault
+        (map view elements.now)) }
+{
+    let mut list = Vec::with_capacity(alloc, elements.len())?;
+    for (at, element) in elements.iter().enumerate() {
+        match read_response(element) {
+            Some(response) => list.push(response)?,
+            None => return Err(ResponseFault::Response { at }),
+        }
+    }
+    Ok(list)
+}
+
+impl<'a> Responses<'a> {
+    ghost use Rattle.odb_reply.specs.ResponseDocuments.{entries, entry_of, IsResponseDocument, RefusesResponses, Says, responses_in};
+
+    /// Reads the responses of a document: an object with `responses`, an array of objects with an
+    /// `id`, a `status` and maybe an `atomicityGroup` (OData JSON Format 4.01, section 19.5).
+    ///
+    /// `document` is the value that [`odb_doc::parse`] made; texts are borrowed from it. Other
+    /// members, of the document and of its elements, are ignored. Allocates the list of responses.
+    /// Takes O(n) for a document of n bytes.
+    ///
+    /// # Errors
+    ///
+    /// `Document` if the document is not such an object, else `Response` at the first element that
+    /// is not a response: both are F70. `OutOfMemory` if an allocation fails.
+    pub fn read(alloc: Global, document: &'a Value) -> Result<Responses<'a>, ResponseFault>
+        ensures good { OnOk result (IsResponseDocument (view document.now)) }
+        ensures responses { IfOk result (λ responses. AllZip Says
+            (responses_in (view document.now)) (entries responses)) }
+        ensures least { IfErr result (λ fault. RefusesResponses fault (view document.now)) }
+    {
+        let Some(elements) = elements_of(document) else {
+            return Err(ResponseFault::Document);
+        };
+        let list = responses_from(alloc, elements)?;
+        Ok(Responses { list })
+    }
+
+    /// Returns the number of responses.
+    pub fn len(&self) -> usize
+        ensures { result ≡ length (entries self.now) }
+    {
+        self.list.len()
+    }
+
+    /// Returns the response at a position, counted from 0.
+    pub fn entry(&self, k: usize) -> &Response<'a>
+        requires { k < length (entries self.now) }
+        ensures { slice_get (entries self.now) k ≡ Some (entry_of result.now) }
+    {
+        &self.list[k]
+    }
+}
