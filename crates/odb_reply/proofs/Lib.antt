@@ -5,3 +5,10 @@ pub mod HeaderLemmas
 pub mod RestLemmas
 pub mod DocumentLemmas
 pub mod OneLemmas
+pub mod SliceLemmas
+pub mod IdLemmas
+pub mod PlaceLemmas
+pub mod RowLemmas
+pub mod UnitLemmas
+pub mod RuleLemmas
+pub mod FitLemmas

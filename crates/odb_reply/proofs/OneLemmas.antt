@@ -49,7 +49,7 @@ count_by-responses id state i (request ∷ requests) =
     ∙ rw (has_id-response id request (answer state i), count_by-responses id state (i + 1) requests) (sym (sum_by-cons (λ (r : Record). named r.id) request requests))
 
 -- no id stands twice
-abbrev IsOnce : List Record → Type 0
+abbrev pub IsOnce : List Record → Type 0
 IsOnce requests = (i j : ℕ) (id : List ℕ) → id_at requests i ≡ Some id → id_at requests j ≡ Some id → i ≡ j
 
 unlike : (id other : List ℕ) (same : Bool) → bytes_eq id other ≡ same → id ≢ other → same ≡ false
@@ -75,7 +75,7 @@ count_one (request ∷ requests) (suc i) id once is =
     sum_by-cons (λ (r : Record). cond (bytes_eq id r.id) 1 0) request requests ∙ rw (other, count_one requests i id later is) refl
 
 -- the names of a plan are good, so no id stands twice
-once_in_plan : (requests : List Record) → HasGoodNames requests → IsOnce requests
+pub once_in_plan : (requests : List Record) → HasGoodNames requests → IsOnce requests
 once_in_plan requests good i j id here there =
     let twice : (k l : ℕ) → k < l → id_at requests k ≡ Some id → id_at requests l ≡ Some id → ⊥ =
     λ k l less first second. good IdTwice l (subst (λ found. IsSomeAnd found (λ name. IsIdBefore requests name l)) (sym second) (k, less, first)) in

@@ -6,3 +6,8 @@ pub mod NotWhole
 pub mod ReplyFaults
 pub mod ResponseDocuments
 pub mod ResponseFaults
+pub mod Fits
+pub mod MatchFaults
+pub mod LeastMatchFault
+pub mod Places
+pub mod Tables

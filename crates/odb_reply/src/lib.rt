@@ -6,20 +6,28 @@
 //! what is true of every response. [`write_text`] writes any text. What runs, and what each request
 //! is answered, is decided by `odb_sched`.
 //!
-//! [`Responses::read`] reads the response document of a service.
+//! [`Responses::read`] reads the response document of a service, and [`match_responses`] checks that
+//! its responses fit the batch of a plan.
 #![tactic(auto)]
 
 pub mod laws;
+mod match_fault;
+mod matching;
 mod parts;
+mod places;
 mod reply;
 mod response_fault;
 mod responses;
+mod table;
 mod text;
 mod whole;
 mod writing;
 
+pub use match_fault::{MatchFault, MatchRule};
+pub use matching::match_responses;
 pub use reply::{ReplyFault, write_responses};
 pub use response_fault::ResponseFault;
 pub use responses::{Response, Responses};
+pub use table::Table;
 pub use text::response_text;
 pub use writing::{WriteFault, write_text};

@@ -1,0 +1,92 @@
+-- Where responses do not fit a batch, over all pairs of responses and requests (OData JSON Format 4.01, section 19.5), and
+-- what is printed of it.
+use Rattle.std.specs.Prelude.{◌≡◌, ◌≢◌, ◌<◌, ℕ, List, [], Some, Contains, IsSomeAnd, IsTrue, codes}
+use Rattle.odb_doc.specs.Faults.{code_of}
+use Rattle.odb_doc.specs.Records.{Record}
+use Rattle.odb_doc.specs.declared.fault.Place.{Place}
+use Rattle.odb_doc.specs.declared.fault.Place.TheVariants as places
+use Rattle.odb_check.specs.declared.need.Need.{Need}
+use Rattle.odb_check.specs.declared.need.Need.TheVariants.{One, Group}
+use Rattle.odb_check.specs.Needs.{needs_at}
+use Rattle.odb_check.specs.Positions.{id_at, group_at, IsId}
+use Rattle.odb_check.specs.Units.{unit_at}
+use Rattle.odb_sched.specs.Statuses.{is_success}
+use Rattle.odb_reply.specs.declared.match_fault.MatchRule.{MatchRule}
+use Rattle.odb_reply.specs.declared.match_fault.MatchRule.TheVariants.{UnknownResponse, ResponseTwice, ResponseMissing, GroupDiffers, UnsoundSuccess}
+use Rattle.odb_reply.specs.declared.match_fault.MatchFault.{MatchFault}
+use Rattle.odb_reply.specs.declared.match_fault.MatchFault.TheVariants as faults
+use Rattle.odb_reply.specs.ResponseDocuments.{Entry}
+use Rattle.odb_reply.specs.Fits.{id_in, Responds}
+
+-- a response to the request has a status that is not from 200 to 299
+abbrev pub Fails : List Record → List Entry → ℕ → Type 0
+Fails rs es r = (e : Entry) × Responds rs es r e × ¬ IsTrue (is_success e.status)
+
+-- what is needed has failed: the request, or some member of the group
+abbrev pub IsUnmet : List Record → List Entry → Need → Type 0
+IsUnmet rs es (One r) = Fails rs es r
+IsUnmet rs es (Group u) = (r : ℕ) × (unit_at rs r ≡ u) × Fails rs es r
+
+-- a response to the request has another group
+pub record DiffersInGroup (rs : List Record) (es : List Entry) (i : ℕ) : Type 0 where
+  pub response : Entry
+  pub responds : Responds rs es i response
+  pub differs : ¬ (response.group ≡ group_at rs i)
+
+-- a response to the request is a success, and something that the request needs has failed
+pub record RestsOnFailure (rs : List Record) (es : List Entry) (i : ℕ) : Type 0 where
+  pub response : Entry
+  pub responds : Responds rs es i response
+  pub success : IsTrue (is_success response.status)
+  pub need : Need
+  pub needed : Contains (needs_at rs i) need
+  pub unmet : IsUnmet rs es need
+
+-- The rule is broken at a place of the responses (the first two), or at a position of the requests.
+abbrev pub StandsAt : MatchRule → List Record → List Entry → ℕ → Type 0
+StandsAt UnknownResponse rs es k = IsSomeAnd (id_in es k) (λ id. ¬ IsId rs id)
+StandsAt ResponseTwice rs es k = IsSomeAnd (id_in es k) (λ id. (j : ℕ) × (j < k) × (id_in es j ≡ Some id))
+StandsAt ResponseMissing rs es i = IsSomeAnd (id_at rs i) (λ id. (k : ℕ) → ¬ (id_in es k ≡ Some id))
+StandsAt GroupDiffers rs es i = DiffersInGroup rs es i
+StandsAt UnsoundSuccess rs es i = RestsOnFailure rs es i
+
+-- the number in the code
+abbrev pub number : MatchRule → ℕ
+number UnknownResponse = 71
+number ResponseTwice = 72
+number ResponseMissing = 73
+number GroupDiffers = 74
+number UnsoundSuccess = 75
+
+abbrev pub rule_code : MatchRule → List ℕ
+rule_code rule = code_of (number rule)
+
+abbrev pub rule_name : MatchRule → List ℕ
+rule_name UnknownResponse = codes "UnknownResponse"
+rule_name ResponseTwice = codes "ResponseTwice"
+rule_name ResponseMissing = codes "ResponseMissing"
+rule_name GroupDiffers = codes "GroupDiffers"
+rule_name UnsoundSuccess = codes "UnsoundSuccess"
+
+abbrev pub rule_place : MatchRule → ℕ → Place
+rule_place UnknownResponse at = places.Response at
+rule_place ResponseTwice at = places.Response at
+rule_place ResponseMissing at = places.Request at
+rule_place GroupDiffers at = places.Request at
+rule_place UnsoundSuccess at = places.Request at
+
+-- any fault but out of memory
+abbrev pub IsNumbered : MatchFault → Type 0
+IsNumbered fault = fault ≢ faults.OutOfMemory
+
+abbrev pub fault_code : MatchFault → List ℕ
+fault_code (faults.Misfit at rule) = rule_code rule
+fault_code faults.OutOfMemory = []
+
+abbrev pub fault_name : MatchFault → List ℕ
+fault_name (faults.Misfit at rule) = rule_name rule
+fault_name faults.OutOfMemory = []
+
+abbrev pub fault_place : MatchFault → Place
+fault_place (faults.Misfit at rule) = rule_place rule at
+fault_place faults.OutOfMemory = places.Responses

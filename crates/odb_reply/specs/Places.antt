@@ -1,0 +1,97 @@
+-- Where the responses to requests were found: for private clauses, nothing to believe.
+use Rattle.std.specs.Prelude.{◌≡◌, ◌<◌, ℕ, List, length, Option, Some, None, Bool, true, false, slice_get, slice_set, slice_index, slice_index_or}
+use Rattle.odb_doc.specs.Records.{Record}
+use Rattle.odb_check.specs.declared.need.Need.{Need}
+use Rattle.odb_check.specs.declared.need.Need.TheVariants.{One, Group}
+use Rattle.odb_check.specs.Units.{position_of, unit_at, unit_count}
+use Rattle.odb_sched.specs.Statuses.{is_success}
+use Rattle.odb_reply.specs.declared.match_fault.MatchRule.{MatchRule}
+use Rattle.odb_reply.specs.declared.match_fault.MatchRule.TheVariants.{UnknownResponse, ResponseTwice, ResponseMissing, GroupDiffers, UnsoundSuccess}
+use Rattle.odb_reply.specs.declared.match_fault.MatchFault.{MatchFault}
+use Rattle.odb_reply.specs.declared.match_fault.MatchFault.TheVariants as faults
+use Rattle.odb_reply.specs.ResponseDocuments.{Entry}
+use Rattle.odb_reply.specs.Fits.{id_in, Responds, IsTableOf}
+use Rattle.odb_reply.specs.LeastMatchFault.{NoneIn, IsFirstIn}
+
+-- the places of responses by the positions of their requests, none where none was found
+abbrev pub Places : Type 0
+Places = List (Option ℕ)
+
+-- the response with this id was noted at a free position, which is that of the id
+pub record IsNoted (rs : List Record) (id : List ℕ) (at_place : ℕ) (old new : Places) : Type 0 where
+  pub position : ℕ
+  pub is : position_of rs id ≡ Some position
+  pub free : slice_get old position ≡ Some None
+  pub noted : new ≡ slice_set old position (Some at_place)
+
+-- a response with this id has a position already
+pub record IsTaken (rs : List Record) (id : List ℕ) (found : Places) : Type 0 where
+  pub position : ℕ
+  pub is : position_of rs id ≡ Some position
+  pub other : ℕ
+  pub taken : slice_get found position ≡ Some (Some other)
+
+-- why a response with this id cannot be noted
+abbrev pub IsMisplaced : List Record → List ℕ → Places → MatchRule → Type 0
+IsMisplaced rs id found UnknownResponse = position_of rs id ≡ None
+IsMisplaced rs id found ResponseTwice = IsTaken rs id found
+IsMisplaced rs id found ResponseMissing = ⊥
+IsMisplaced rs id found GroupDiffers = ⊥
+IsMisplaced rs id found UnsoundSuccess = ⊥
+
+-- the response at place k is noted at position i, which is that of its id
+pub record IsNotedAt (rs : List Record) (es : List Entry) (i k : ℕ) : Type 0 where
+  pub id : List ℕ
+  pub has : id_in es k ≡ Some id
+  pub is : position_of rs id ≡ Some i
+
+-- the first n responses are noted, each at the position of its id, and nothing else is
+pub record AreNoted (rs : List Record) (es : List Entry) (n : ℕ) (found : Places) : Type 0 where
+  pub count : length found ≡ length rs
+  pub noted : (i k : ℕ) → slice_get found i ≡ Some (Some k) → (k < n) × IsNotedAt rs es i k
+  pub each : (k : ℕ) (id : List ℕ) → k < n → id_in es k ≡ Some id → (i : ℕ) × (position_of rs id ≡ Some i) × (slice_get found i ≡ Some (Some k))
+
+-- this place was found at position i, and the response there has this status
+pub record IsListed (es : List Entry) (found : Places) (i k status : ℕ) : Type 0 where
+  pub found_at : slice_get found i ≡ Some (Some k)
+  pub response : Entry
+  pub given : slice_get es k ≡ Some response
+  pub status_is : response.status ≡ status
+
+-- a place was found at each of the first n positions, and these are the places and the statuses there
+pub record AreListed (es : List Entry) (found : Places) (n : ℕ) (places statuses : List ℕ) : Type 0 where
+  pub places_count : length places ≡ n
+  pub statuses_count : length statuses ≡ n
+  pub each : (i k status : ℕ) → slice_get places i ≡ Some k → slice_get statuses i ≡ Some status → IsListed es found i k status
+
+-- no place was found at the position, and one at each before it
+pub record IsFirstFree (found : Places) (at_place : ℕ) : Type 0 where
+  pub free : slice_get found at_place ≡ Some None
+  pub before : (i : ℕ) → i < at_place → (k : ℕ) × (slice_get found i ≡ Some (Some k))
+
+-- the fault is that of the first position where no place was found. Out of memory says nothing.
+abbrev pub IsMissing : Places → MatchFault → Type 0
+IsMissing found (faults.Misfit at_place ResponseMissing) = IsFirstFree found at_place
+IsMissing found (faults.Misfit at_place rule) = ⊥
+IsMissing found faults.OutOfMemory = Unit {0}
+
+-- the table is that of the responses, and each request has one response at most
+pub record HasRows (rs : List Record) (es : List Entry) (places statuses : List ℕ) : Type 0 where
+  pub table : IsTableOf rs es places statuses
+  pub only : (i k : ℕ) (e : Entry) → Responds rs es i e → slice_get places i ≡ Some k → slice_get es k ≡ Some e
+
+-- of each unit, whether the statuses of all its members among the first n requests are successes
+pub record AreUnits (rs : List Record) (statuses : List ℕ) (n : ℕ) (units : List Bool) : Type 0 where
+  pub count : length units ≡ unit_count rs
+  pub passed : (u r : ℕ) → slice_get units u ≡ Some true → r < n → unit_at rs r ≡ u → is_success (slice_index statuses r) ≡ true
+  pub failed : (u : ℕ) → slice_get units u ≡ Some false → (r : ℕ) × (r < length rs) × (unit_at rs r ≡ u) × (is_success (slice_index statuses r) ≡ false)
+
+-- whether what is needed has succeeded, by the statuses of the requests and by what is known of the units
+abbrev pub is_met : List ℕ → List Bool → Need → Bool
+is_met statuses units (One r) = is_success (slice_index statuses r)
+is_met statuses units (Group u) = slice_index_or units u false
+
+-- the fault is the first of the last phase. Out of memory says nothing.
+abbrev pub IsFirstOfLast : List Record → List Entry → MatchFault → Type 0
+IsFirstOfLast rs es (faults.Misfit at_place rule) = IsFirstIn 3 rs es at_place rule × ((i : ℕ) → i < at_place → NoneIn 3 rs es i)
+IsFirstOfLast rs es faults.OutOfMemory = Unit {0}

@@ -1,0 +1,65 @@
+ghost use Rattle.std.specs.Prelude.{◌≡◌, None, length, replicate, IfOk, IfErr, OnOk};
+ghost use Rattle.odb_check.specs.LeastNameFault.{HasGoodNames};
+ghost use Rattle.odb_check.specs.Plans.{plan_records};
+ghost use Rattle.odb_reply.specs.LeastMatchFault.{RefusesMatch};
+ghost use Rattle.odb_reply.specs.Places.{AreNoted, IsMisplaced, IsNoted};
+ghost use Rattle.odb_reply.specs.ResponseDocuments.{entries};
+
+use crate::match_fault::{MatchFault, MatchRule};
+use crate::responses::Responses;
+use odb_check::Plan;
+use std::alloc::{AllocError, Global};
+
+/// Returns no place for each of so many requests.
+fn no_places(alloc: Global, count: u32) -> Result<Vec<Option<usize>>, AllocError>
+    ensures { IfOk result (λ places. places.items ≡ replicate count None) }
+{
+    let mut places = Vec::with_capacity(alloc, count as usize)?;
+    for _ in 0..count {
+        places.push(None)?;
+    }
+    Ok(places)
+}
+
+/// Notes the place of the response with this id, or returns the rule that the response breaks.
+fn note_place(
+    plan: &Plan<'_>,
+    places: &mut [Option<usize>],
+    id: &str,
+    at: usize,
+) -> Result<(), MatchRule>
+    requires { length places.old ≡ length (plan_records plan.now) }
+    ensures noted { OnOk result (IsNoted (plan_records plan.now) id.now at places.old places.new) }
+    ensures misplaced { IfErr result (IsMisplaced (plan_records plan.now) id.now places.old) }
+{
+    let Some(i) = plan.position_of(id) else {
+        return Err(MatchRule::UnknownResponse);
+    };
+    if places[i as usize].is_some() {
+        return Err(MatchRule::ResponseTwice);
+    }
+    places[i as usize] = Some(at);
+    Ok(())
+}
+
+/// Returns the place of the response to each request, or the first response that is unknown or
+/// repeated.
+pub(crate) fn places_of(
+    alloc: Global,
+    plan: &Plan<'_>,
+    responses: &Responses<'_>,
+) -> Result<Vec<Option<usize>>, MatchFault>
+    ensures noted { IfOk result (λ places. AreNoted (plan_records plan.now) (entries responses.now)
+        (length (entries responses.now)) places.items) }
+    ensures first { IfErr result (λ fault. RefusesMatch fault (plan_records plan.now)
+        (entries responses.now)) }
+    ensures good { HasGoodNames (plan_records plan.now) }
+{
+    let mut places = no_places(alloc, plan.len())?;
+    for at in 0..responses.len() {
+        if let Err(rule) = note_place(plan, &mut places, responses.entry(at).id, at) {
+            return Err(MatchFault::Misfit { at, rule });
+        }
+    }
+    Ok(places)
+}
