@@ -12,3 +12,4 @@ pub mod RowLemmas
 pub mod UnitLemmas
 pub mod RuleLemmas
 pub mod FitLemmas
+pub mod AnsweredLemmas

@@ -31,10 +31,10 @@ id_among (Some group) None (Some headers) id status = refl
 id_among (Some group) (Some body) None id status = refl
 id_among (Some group) (Some body) (Some headers) id status = refl
 
-id_of_response : (request : Record) (answer : Option Outcome) → text_at (codes "id") (response request answer) ≡ Some request.id
+pub id_of_response : (request : Record) (answer : Option Outcome) → text_at (codes "id") (response request answer) ≡ Some request.id
 id_of_response request answer = id_among _ _ _ request.id _
 
-responses_in-value : (state : State) → responses_in (response_value state) ≡ responses state
+pub responses_in-value : (state : State) → responses_in (response_value state) ≡ responses state
 responses_in-value state = list_of-items_of (responses state)
 
 has_id-response : (id : List ℕ) (request : Record) (answer : Option Outcome) → has_id id (response request answer) ≡ bytes_eq id request.id

@@ -59,11 +59,11 @@ AreUnits-failed rs statuses n units before inside within here = record {
 
 -- ---- the plan's laws, by the words of its requests
 
-length-list_below : {X : Type 0} (n : ℕ) (value : ℕ → X) → length (list_below n value) ≡ n
+pub length-list_below : {X : Type 0} (n : ℕ) (value : ℕ → X) → length (list_below n value) ≡ n
 length-list_below zero value = refl
 length-list_below (suc n) value = let rest : length (list_below n value) ≡ n = length-list_below n value in omega (arith, length-append (list_below n value) (value n ∷ []))
 
-get_or-list_below : {X : Type 0} (n i : ℕ) (value : ℕ → X) (d : X) → i < n → get_or (list_below n value) i d ≡ value i
+pub get_or-list_below : {X : Type 0} (n i : ℕ) (value : ℕ → X) (d : X) → i < n → get_or (list_below n value) i d ≡ value i
 get_or-list_below zero i value d within = absurd (omega arith)
 get_or-list_below (suc n) i value d within = elim (cases_lt i n) [
   | inl before ↦ get_or_append_left (list_below n value) (value n ∷ []) d i (rw (length-list_below n value) before) ∙ get_or-list_below n i value d before

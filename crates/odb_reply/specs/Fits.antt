@@ -1,5 +1,7 @@
 -- When the responses of a service fit a batch (OData JSON Format 4.01, section 19.5; OData Protocol 4.01, section 11.7).
 use Rattle.std.specs.Prelude.{◌≡◌, ℕ, List, length, Option, Some, option_map, slice_get, Contains, IsTrue}
+use Rattle.std.specs.List.{AllZip}
+use Rattle.serde_json.specs.Data.{Data}
 use Rattle.odb_doc.specs.Records.{Record}
 use Rattle.odb_check.specs.declared.need.Need.{Need}
 use Rattle.odb_check.specs.declared.need.Need.TheVariants.{One, Group}
@@ -7,7 +9,7 @@ use Rattle.odb_check.specs.Needs.{needs_at}
 use Rattle.odb_check.specs.Positions.{id_at, group_at, IsId}
 use Rattle.odb_check.specs.Units.{unit_at}
 use Rattle.odb_sched.specs.Statuses.{is_success}
-use Rattle.odb_reply.specs.ResponseDocuments.{Entry}
+use Rattle.odb_reply.specs.ResponseDocuments.{Entry, Says, responses_in}
 
 -- the id of the response at a place
 abbrev pub id_in : List Entry → ℕ → Option (List ℕ)
@@ -53,3 +55,9 @@ pub record IsTableOf (rs : List Record) (es : List Entry) (places statuses : Lis
   pub places_count : length places ≡ length rs
   pub statuses_count : length statuses ≡ length rs
   pub each : (i k status : ℕ) → slice_get places i ≡ Some k → slice_get statuses i ≡ Some status → IsRow rs es i k status
+
+-- the responses that a response document lists fit the batch
+pub record ListsFit (rs : List Record) (d : Data) : Type 0 where
+  pub listed : List Entry
+  pub says : AllZip Says (responses_in d) listed
+  pub fits : Fits rs listed

@@ -2,6 +2,7 @@ ghost use Rattle.std.specs.Prelude.{◌≡◌, ◌≢◌, ◌↔◌, ◌++◌, �
 ghost use Rattle.std.specs.Io.KnownBytes.{Appends};
 ghost use Rattle.odb_check.specs.Plans.{plan_records};
 ghost use Rattle.odb_reply.specs.declared.reply.ReplyFault.TheVariants as faults;
+ghost use Rattle.odb_reply.specs.Fits.{ListsFit};
 ghost use Rattle.odb_reply.specs.NotWhole.{HasWholeBodies, IsFirstNotWhole};
 ghost use Rattle.odb_reply.specs.OnePerId.{HasOnePerId};
 ghost use Rattle.odb_reply.specs.Outputs.{HasWritten, AppendsFront};
@@ -156,6 +157,7 @@ pub fn write_responses<W: Write>(
         → (result ≡ Err (faults.NotWhole at)) ↔ IsFirstNotWhole done.now at }
     ensures unwritten { (at : ℕ) → result ≡ Err (faults.NotWhole at) → output.new ≡ output.old }
     ensures one_per_id { HasOnePerId (plan_records done.now.plan) (response_value done.now) }
+    ensures fits { ListsFit (plan_records done.now.plan) (response_value done.now) }
 {
     every_response(done);
     if let Some(at) = first_not_whole(done) {

@@ -1,6 +1,7 @@
 ghost use Rattle.std.specs.Prelude.{◌≡◌, ◌↔◌, ℕ, string_bytes, IfOk};
 ghost use Rattle.odb_doc.specs.declared.fault.TextFault.TheVariants as faults;
 ghost use Rattle.odb_check.specs.Plans.{plan_records};
+ghost use Rattle.odb_reply.specs.Fits.{ListsFit};
 ghost use Rattle.odb_reply.specs.NotWhole.{HasWholeBodies, IsFirstNotWhole};
 ghost use Rattle.odb_reply.specs.OnePerId.{HasOnePerId};
 ghost use Rattle.odb_reply.specs.Responses as responses;
@@ -44,6 +45,7 @@ pub fn response_text(alloc: Global, done: &Done<'_>) -> Result<String, TextFault
     ensures not_whole { (at : ℕ) → (result ≡ Err (faults.NotWhole at)) ↔ IsFirstNotWhole done.now at }
     ensures one_per_id { HasOnePerId (plan_records done.now.plan)
         (responses.response_value done.now) }
+    ensures fits { ListsFit (plan_records done.now.plan) (responses.response_value done.now) }
 {
     every_response(done);
     if let Some(at) = first_not_whole(done) {
