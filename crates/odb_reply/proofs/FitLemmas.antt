@@ -15,7 +15,7 @@ use Rattle.odb_reply.specs.declared.match_fault.MatchFault.TheVariants as faults
 use Rattle.odb_reply.specs.ResponseDocuments.{Entry}
 use Rattle.odb_reply.specs.Fits.{id_in, IsOnlyOne, IsMet, Fits}
 use Rattle.odb_reply.specs.LeastMatchFault.{phase, NoneIn, HasNoMisfit, RefusesMatch}
-use Rattle.odb_reply.specs.MatchFaults.{StandsAt, IsUnmet}
+use Rattle.odb_reply.specs.MatchFaults.{StandsAt, IsUnmet, IsNumbered}
 use Rattle.odb_reply.specs.Places.{IsFirstOfLast}
 use Rattle.odb_reply.proofs.IdLemmas.{id_within, position_id, position_none}
 
@@ -163,3 +163,21 @@ RefusesMatch-last rs es (faults.Misfit at_place rule) before first = record {
   ];
 }
 RefusesMatch-last rs es faults.OutOfMemory before first = tt
+
+first_rule : (rule : MatchRule) → (phase rule ≡ 1) ⊎ (1 < phase rule)
+first_rule UnknownResponse = inl refl
+first_rule ResponseTwice = inl refl
+first_rule ResponseMissing = inr (omega arith)
+first_rule GroupDiffers = inr (omega arith)
+first_rule UnsoundSuccess = inr (omega arith)
+
+pub HasNoMisfit-Fits : (rs : List Record) (es : List Entry) → Fits rs es → HasNoMisfit rs es
+HasNoMisfit-Fits rs es fits rule i = elim (first_rule rule) [
+  | inl response ↦ none_of rs es fits rule i (id_in es i) (λ is. absurd (omega (arith, ap phase is, response))) (λ _. refl)
+  | inr request ↦ none_of rs es fits rule i (id_at rs i) (λ _. refl) (λ is. absurd (omega (arith, is, request)))
+]
+
+-- where a fault is reported, the responses do not fit
+pub no_fit : (rs : List Record) (es : List Entry) (fault : MatchFault) → IsNumbered fault → RefusesMatch fault rs es → ¬ Fits rs es
+no_fit rs es (faults.Misfit at_place rule) numbered refused fits = HasNoMisfit-Fits rs es fits rule at_place refused.stands
+no_fit rs es faults.OutOfMemory numbered refused fits = numbered refl

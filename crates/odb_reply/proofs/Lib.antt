@@ -13,3 +13,4 @@ pub mod UnitLemmas
 pub mod RuleLemmas
 pub mod FitLemmas
 pub mod AnsweredLemmas
+pub mod OneFaultLemmas

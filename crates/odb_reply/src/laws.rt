@@ -1,13 +1,49 @@
-//! What is true of the response of every finished run (OData JSON Format 4.01, section 19.5).
+//! What is true of the response of every finished run, and of every response document of a service
+//! (OData JSON Format 4.01, section 19.5).
 //!
-//! The laws are clauses of a function that changes nothing.
+//! The laws are clauses of functions that change nothing.
 
+ghost use Rattle.std.specs.Prelude.{◌≡◌, ◌↔◌, List};
+ghost use Rattle.std.specs.List.{AllZip};
+ghost use Rattle.serde_json.specs.Data.{Data};
+ghost use Rattle.odb_doc.specs.Records.{Record};
 ghost use Rattle.odb_check.specs.Plans.{plan_records};
-ghost use Rattle.odb_reply.specs.Fits.{ListsFit};
+ghost use Rattle.odb_reply.specs.declared.match_fault.MatchFault.{MatchFault};
+ghost use Rattle.odb_reply.specs.declared.response_fault.ResponseFault.{ResponseFault};
+ghost use Rattle.odb_reply.specs.Fits.{Fits, ListsFit};
+ghost use Rattle.odb_reply.specs.LeastMatchFault.{HasNoMisfit, RefusesMatch};
+ghost use Rattle.odb_reply.specs.MatchFaults as matches;
+ghost use Rattle.odb_reply.specs.ResponseDocuments.{Entry, IsResponseDocument, RefusesResponses, Says};
+ghost use Rattle.odb_reply.specs.ResponseFaults as documents;
 ghost use Rattle.odb_reply.specs.OnePerId.{HasOnePerId};
 ghost use Rattle.odb_reply.specs.Responses.{response_value};
 
 use odb_sched::Done;
+
+/// A response document has one first fault at most, none if it is good, and one list of responses.
+pub fn one_document()
+    ensures one { (value : Data) (fault other : ResponseFault) → documents.IsNumbered fault
+        → documents.IsNumbered other → RefusesResponses fault value → RefusesResponses other value
+        → fault ≡ other }
+    ensures none { (value : Data) (fault : ResponseFault) → documents.IsNumbered fault
+        → RefusesResponses fault value → ¬ IsResponseDocument value }
+    ensures entries { (elements : List Data) (entries others : List Entry)
+        → AllZip Says elements entries → AllZip Says elements others → entries ≡ others }
+{}
+
+/// Responses fit a batch if and only if they break none of the rules F71 to F75, and if they do not
+/// fit, there is one first fault.
+pub fn one_match()
+    ensures fits { (requests : List Record) (responses : List Entry)
+        → Fits requests responses ↔ HasNoMisfit requests responses }
+    ensures one { (requests : List Record) (responses : List Entry) (fault other : MatchFault)
+        → matches.IsNumbered fault → matches.IsNumbered other
+        → RefusesMatch fault requests responses → RefusesMatch other requests responses
+        → fault ≡ other }
+    ensures none { (requests : List Record) (responses : List Entry) (fault : MatchFault)
+        → matches.IsNumbered fault → RefusesMatch fault requests responses
+        → ¬ Fits requests responses }
+{}
 
 /// Each id of the batch is the id of exactly one response, and no response has another id. The
 /// responses fit the batch, as [`crate::match_responses`] checks those of a service: each has the

@@ -1,0 +1,122 @@
+-- A response document has one first fault and one list of responses at most, and a match one first fault.
+use Rattle.std.proofs.Common.{◌≡◌, ◌∙◌, ◌⊎◌, ◌==◌, ℕ, cond, List, [], ◌∷◌, Option, Some, None, option_map, slice_get, IsSomeAnd, inl, inr, refl, ap, sym, subst, All}
+use Rattle.std.specs.List.{AllZip}
+use Rattle.std.proofs.lemmas.Bool.{cases_order}
+use Rattle.std.proofs.lemmas.Option.{get_or_from_slice_get, slice_get_within}
+use Rattle.serde_json.specs.Data.{Data, string}
+use Rattle.odb_doc.specs.Records.{Record}
+use Rattle.odb_reply.specs.declared.match_fault.MatchFault.{MatchFault}
+use Rattle.odb_reply.specs.declared.match_fault.MatchFault.TheVariants as misfits
+use Rattle.odb_reply.specs.declared.match_fault.MatchRule.{MatchRule}
+use Rattle.odb_reply.specs.declared.match_fault.MatchRule.TheVariants.{UnknownResponse, ResponseTwice, ResponseMissing, GroupDiffers, UnsoundSuccess}
+use Rattle.odb_reply.specs.declared.response_fault.ResponseFault.{ResponseFault}
+use Rattle.odb_reply.specs.declared.response_fault.ResponseFault.TheVariants as faults
+use Rattle.odb_reply.specs.LeastMatchFault.{ComesBefore, IsLeastAt, RefusesMatch, phase}
+use Rattle.odb_reply.specs.MatchFaults as matches
+use Rattle.odb_reply.specs.MatchFaults.{number}
+use Rattle.odb_reply.specs.ResponseDocuments.{Entry, Says, IsResponse, IsResponseDocument, IsFirstBad, RefusesResponses, responses_in}
+use Rattle.odb_reply.specs.ResponseFaults as documents
+
+-- ---- the fault of a document
+
+bad_or_good : (o : Option Data) → IsSomeAnd o (λ d. ¬ IsResponse d) → ¬ IsSomeAnd o IsResponse
+bad_or_good None bad = λ good. good
+bad_or_good (Some d) bad = bad
+
+one_bad : (ds : List Data) (at_place other : ℕ) → IsFirstBad ds at_place → IsFirstBad ds other → at_place ≡ other
+one_bad ds at_place other one two = elim (cases_order at_place other) [
+  | inl same ↦ same
+  | inr (inl before) ↦ absurd (bad_or_good (slice_get ds at_place) one.bad (two.before at_place before))
+  | inr (inr after) ↦ absurd (bad_or_good (slice_get ds other) two.bad (one.before other after))
+]
+
+pub one_document_fault : (d : Data) (fault other : ResponseFault) → documents.IsNumbered fault → documents.IsNumbered other → RefusesResponses fault d → RefusesResponses other d → fault ≡ other
+one_document_fault d faults.Document faults.Document numbered also one two = refl
+one_document_fault d faults.Document (faults.Response at_place) numbered also one two = absurd (one two.0)
+one_document_fault d (faults.Response at_place) faults.Document numbered also one two = absurd (two one.0)
+one_document_fault d (faults.Response at_place) (faults.Response other) numbered also one two = ap faults.Response (one_bad (responses_in d) at_place other one.1 two.1)
+one_document_fault d faults.OutOfMemory other numbered also one two = absurd (numbered refl)
+one_document_fault d faults.Document faults.OutOfMemory numbered also one two = absurd (also refl)
+one_document_fault d (faults.Response at_place) faults.OutOfMemory numbered also one two = absurd (also refl)
+
+good_at : (ds : List Data) (i : ℕ) → All IsResponse ds → ¬ IsSomeAnd (slice_get ds i) (λ d. ¬ IsResponse d)
+good_at ds i all = at_element (slice_get ds i) refl
+  where
+    at_element : (o : Option Data) → slice_get ds i ≡ o → ¬ IsSomeAnd (slice_get ds i) (λ d. ¬ IsResponse d)
+    at_element None none bad = rw none at bad
+    at_element (Some d) is bad = (rw is at bad) (subst IsResponse (get_or_from_slice_get ds i d d is) (all i d (slice_get_within ds i d is)))
+
+pub no_document_fault : (d : Data) (fault : ResponseFault) → documents.IsNumbered fault → RefusesResponses fault d → ¬ IsResponseDocument d
+no_document_fault d faults.Document numbered refused good = refused good.array
+no_document_fault d (faults.Response at_place) numbered refused good = good_at (responses_in d) at_place good.each refused.1.bad
+no_document_fault d faults.OutOfMemory numbered refused good = numbered refl
+
+-- ---- what a document says
+
+one_group : (a b : Option (List ℕ)) → option_map string a ≡ option_map string b → a ≡ b
+one_group None None same = refl
+one_group None (Some b) same = absurd (cc (same))
+one_group (Some a) None same = absurd (cc (same))
+one_group (Some a) (Some b) same = cc (same)
+
+abbrev made : List ℕ → Option (List ℕ) → ℕ → Entry
+made id group status = record { id = id; group = group; status = status }
+
+one_entry : (d : Data) (entry other : Entry) → Says d entry → Says d other → entry ≡ other
+one_entry d entry other one two =
+    let id : entry.id ≡ other.id = cc (one.id, two.id) in
+    let status : entry.status ≡ other.status = cc (one.status, two.status) in
+    let group : entry.group ≡ other.group = one_group entry.group other.group (sym one.group ∙ two.group) in
+    ap (λ x. made x entry.group entry.status) id ∙ ap (λ x. made other.id x entry.status) group ∙ ap (λ x. made other.id other.group x) status
+
+pub one_list : (ds : List Data) (entries others : List Entry) → AllZip Says ds entries → AllZip Says ds others → entries ≡ others
+one_list [] [] [] one two = refl
+one_list [] (e ∷ es) others one two = absurd one
+one_list [] [] (f ∷ fs) one two = absurd two
+one_list (d ∷ ds) [] others one two = absurd one
+one_list (d ∷ ds) (e ∷ es) [] one two = absurd two
+one_list (d ∷ ds) (e ∷ es) (f ∷ fs) one two = ap (λ x. x ∷ es) (one_entry d e f one.0 two.0) ∙ ap (λ xs. f ∷ xs) (one_list ds es fs one.1 two.1)
+
+-- ---- the fault of a match
+
+rule_of : ℕ → MatchRule
+rule_of n = cond (n == 71) UnknownResponse (cond (n == 72) ResponseTwice (cond (n == 73) ResponseMissing (cond (n == 74) GroupDiffers UnsoundSuccess)))
+
+rule_again : (rule : MatchRule) → rule_of (number rule) ≡ rule
+unfolding rule_of
+rule_again UnknownResponse = refl
+rule_again ResponseTwice = refl
+rule_again ResponseMissing = refl
+rule_again GroupDiffers = refl
+rule_again UnsoundSuccess = refl
+
+same_rule : (rule other : MatchRule) → number rule ≡ number other → rule ≡ other
+same_rule rule other same = sym (rule_again rule) ∙ ap rule_of same ∙ rule_again other
+
+-- of two misfits one comes before the other, or they are one
+order : (rule other : MatchRule) (i j : ℕ) → ((rule ≡ other) × (i ≡ j)) ⊎ (ComesBefore rule i other j ⊎ ComesBefore other j rule i)
+order rule other i j = elim (cases_order (phase rule) (phase other)) [
+  | inr (inl before) ↦ inr (inl (inl before))
+  | inr (inr after) ↦ inr (inr (inl after))
+  | inl level ↦ elim (cases_order i j) [
+    | inr (inl before) ↦ inr (inl (inr (level, inl before)))
+    | inr (inr after) ↦ inr (inr (inr (sym level, inl after)))
+    | inl here ↦ elim (cases_order (number rule) (number other)) [
+      | inl same ↦ inl (same_rule rule other same, here)
+      | inr (inl before) ↦ inr (inl (inr (level, inr (here, before))))
+      | inr (inr after) ↦ inr (inr (inr (sym level, inr (sym here, after))))
+    ]
+  ]
+]
+
+one_least : (rs : List Record) (es : List Entry) (rule other : MatchRule) (i j : ℕ) → IsLeastAt rs es rule i → IsLeastAt rs es other j → misfits.Misfit i rule ≡ misfits.Misfit j other
+one_least rs es rule other i j one two = elim (order rule other i j) [
+  | inl same ↦ ap (λ r. misfits.Misfit i r) same.0 ∙ ap (λ k. misfits.Misfit k other) same.1
+  | inr (inl before) ↦ absurd (two.least rule i before one.stands)
+  | inr (inr after) ↦ absurd (one.least other j after two.stands)
+]
+
+pub one_match_fault : (rs : List Record) (es : List Entry) (fault other : MatchFault) → matches.IsNumbered fault → matches.IsNumbered other → RefusesMatch fault rs es → RefusesMatch other rs es → fault ≡ other
+one_match_fault rs es (misfits.Misfit i rule) (misfits.Misfit j other) numbered also one two = one_least rs es rule other i j one two
+one_match_fault rs es (misfits.Misfit i rule) misfits.OutOfMemory numbered also one two = absurd (also refl)
+one_match_fault rs es misfits.OutOfMemory other numbered also one two = absurd (numbered refl)
