@@ -1,8 +1,8 @@
--- A response document has one first fault and one list of responses at most, and a match one first fault.
-use Rattle.std.proofs.Common.{◌≡◌, ◌∙◌, ◌⊎◌, ◌==◌, ℕ, cond, List, [], ◌∷◌, Option, Some, None, option_map, slice_get, IsSomeAnd, inl, inr, refl, ap, sym, subst, All}
+-- A response document has one first fault and one list of responses at most, and a match one first fault or one table.
+use Rattle.std.proofs.Common.{arith, length, ◌<◌, ◌≡◌, ◌∙◌, ◌⊎◌, ◌==◌, ℕ, cond, List, [], ◌∷◌, Option, Some, None, option_map, slice_get, IsSomeAnd, inl, inr, refl, ap, sym, subst, All, suc, get_or}
 use Rattle.std.specs.List.{AllZip}
 use Rattle.std.proofs.lemmas.Bool.{cases_order}
-use Rattle.std.proofs.lemmas.Option.{get_or_from_slice_get, slice_get_within}
+use Rattle.std.proofs.lemmas.Option.{get_or_from_slice_get, slice_get_within, slice_get-get_or, same_Some}
 use Rattle.serde_json.specs.Data.{Data, string}
 use Rattle.odb_doc.specs.Records.{Record}
 use Rattle.odb_reply.specs.declared.match_fault.MatchFault.{MatchFault}
@@ -11,6 +11,7 @@ use Rattle.odb_reply.specs.declared.match_fault.MatchRule.{MatchRule}
 use Rattle.odb_reply.specs.declared.match_fault.MatchRule.TheVariants.{UnknownResponse, ResponseTwice, ResponseMissing, GroupDiffers, UnsoundSuccess}
 use Rattle.odb_reply.specs.declared.response_fault.ResponseFault.{ResponseFault}
 use Rattle.odb_reply.specs.declared.response_fault.ResponseFault.TheVariants as faults
+use Rattle.odb_reply.specs.Fits.{Fits, IsRow, IsTableOf}
 use Rattle.odb_reply.specs.LeastMatchFault.{ComesBefore, IsLeastAt, RefusesMatch, phase}
 use Rattle.odb_reply.specs.MatchFaults as matches
 use Rattle.odb_reply.specs.MatchFaults.{number}
@@ -120,3 +121,34 @@ pub one_match_fault : (rs : List Record) (es : List Entry) (fault other : MatchF
 one_match_fault rs es (misfits.Misfit i rule) (misfits.Misfit j other) numbered also one two = one_least rs es rule other i j one two
 one_match_fault rs es (misfits.Misfit i rule) misfits.OutOfMemory numbered also one two = absurd (also refl)
 one_match_fault rs es misfits.OutOfMemory other numbered also one two = absurd (numbered refl)
+
+-- ---- the table of a match
+
+one_number : (rs : List Record) (es : List Entry) (i k l status other : ℕ) → Fits rs es → IsRow rs es i k status → IsRow rs es i l other → (k ≡ l) × (status ≡ other)
+one_number rs es i k l status other fits one two =
+    let id : one.entry.id ≡ two.entry.id = cc (one.id, two.id) in
+    let only = fits.one i one.entry.id one.id in
+    let first : k ≡ only.0 = only.1.only k (ap (option_map (λ (e : Entry). e.id)) one.given) in
+    let second : l ≡ only.0 = only.1.only l (ap (option_map (λ (e : Entry). e.id)) two.given ∙ ap Some (sym id)) in
+    let place : k ≡ l = first ∙ sym second in
+    let entry : one.entry ≡ two.entry = same_Some one.entry two.entry (sym one.given ∙ ap (slice_get es) place ∙ two.given) in
+    (place, sym one.status_is ∙ ap (λ (e : Entry). e.status) entry ∙ two.status_is)
+
+same_lists : (xs ys : List ℕ) → length xs ≡ length ys → ((i : ℕ) → i < length xs → get_or xs i 0 ≡ get_or ys i 0) → xs ≡ ys
+same_lists [] [] long same = refl
+same_lists [] (y ∷ ys) long same = absurd (omega arith)
+same_lists (x ∷ xs) [] long same = absurd (omega arith)
+same_lists (x ∷ xs) (y ∷ ys) long same = ap (λ z. z ∷ xs) (same 0 (omega arith)) ∙ ap (λ zs. y ∷ zs) (same_lists xs ys (omega arith) (λ i within. same (suc i) (omega arith)))
+
+row_of : (rs : List Record) (es : List Entry) (places statuses : List ℕ) (i : ℕ) → IsTableOf rs es places statuses → i < length rs → IsRow rs es i (get_or places i 0) (get_or statuses i 0)
+row_of rs es places statuses i table within =
+    table.each i (get_or places i 0) (get_or statuses i 0) (slice_get-get_or places i 0 (omega (arith, table.places_count))) (slice_get-get_or statuses i 0 (omega (arith, table.statuses_count)))
+
+pub one_table : (rs : List Record) (es : List Entry) (places others statuses different : List ℕ) → Fits rs es → IsTableOf rs es places statuses → IsTableOf rs es others different → (places ≡ others) × (statuses ≡ different)
+one_table rs es places others statuses different fits one two = (
+  same_lists places others (one.places_count ∙ sym two.places_count) (λ i within. (row i (omega (arith, one.places_count))).0),
+  same_lists statuses different (one.statuses_count ∙ sym two.statuses_count) (λ i within. (row i (omega (arith, one.statuses_count))).1),
+)
+  where
+    row : (i : ℕ) → i < length rs → (get_or places i 0 ≡ get_or others i 0) × (get_or statuses i 0 ≡ get_or different i 0)
+    row i within = one_number rs es i (get_or places i 0) (get_or others i 0) (get_or statuses i 0) (get_or different i 0) fits (row_of rs es places statuses i one within) (row_of rs es others different i two within)

@@ -3,14 +3,14 @@
 //!
 //! The laws are clauses of functions that change nothing.
 
-ghost use Rattle.std.specs.Prelude.{◌≡◌, ◌↔◌, List};
+ghost use Rattle.std.specs.Prelude.{◌≡◌, ◌↔◌, ℕ, List};
 ghost use Rattle.std.specs.List.{AllZip};
 ghost use Rattle.serde_json.specs.Data.{Data};
 ghost use Rattle.odb_doc.specs.Records.{Record};
 ghost use Rattle.odb_check.specs.Plans.{plan_records};
 ghost use Rattle.odb_reply.specs.declared.match_fault.MatchFault.{MatchFault};
 ghost use Rattle.odb_reply.specs.declared.response_fault.ResponseFault.{ResponseFault};
-ghost use Rattle.odb_reply.specs.Fits.{Fits, ListsFit};
+ghost use Rattle.odb_reply.specs.Fits.{Fits, IsTableOf, ListsFit};
 ghost use Rattle.odb_reply.specs.LeastMatchFault.{HasNoMisfit, RefusesMatch};
 ghost use Rattle.odb_reply.specs.MatchFaults as matches;
 ghost use Rattle.odb_reply.specs.ResponseDocuments.{Entry, IsResponseDocument, RefusesResponses, Says};
@@ -31,8 +31,8 @@ pub fn one_document()
         → AllZip Says elements entries → AllZip Says elements others → entries ≡ others }
 {}
 
-/// Responses fit a batch if and only if they break none of the rules F71 to F75, and if they do not
-/// fit, there is one first fault.
+/// Responses fit a batch if and only if they break none of the rules F71 to F75. Those that fit have
+/// one table, and the others one first fault at most.
 pub fn one_match()
     ensures fits { (requests : List Record) (responses : List Entry)
         → Fits requests responses ↔ HasNoMisfit requests responses }
@@ -43,6 +43,11 @@ pub fn one_match()
     ensures none { (requests : List Record) (responses : List Entry) (fault : MatchFault)
         → matches.IsNumbered fault → RefusesMatch fault requests responses
         → ¬ Fits requests responses }
+    ensures table { (requests : List Record) (responses : List Entry)
+        (places others statuses different : List ℕ) → Fits requests responses
+        → IsTableOf requests responses places statuses
+        → IsTableOf requests responses others different
+        → (places ≡ others) × (statuses ≡ different) }
 {}
 
 /// Each id of the batch is the id of exactly one response, and no response has another id. The
