@@ -1,5 +1,5 @@
 -- The exits of an engine: each `?` leaves what the cascade says.
-use Rattle.std.proofs.Common.{◌≡◌, ◌⊎◌, ◌↔◌, ℕ, ◌≤◌, ◌<◌, ◌∙◌, ◌+◌, List, [], ◌++◌, length, take, drop, Option, None, Some, Result, Ok, Err, IsTrue, IfOk, IfErr, String, string_bytes, inl, inr, refl, sym, subst, ap, arith}
+use Rattle.std.proofs.Common.{◌≡◌, ◌⊎◌, ◌↔◌, ℕ, ◌≤◌, ◌<◌, ◌∙◌, List, [], length, take, drop, Option, None, Some, Result, Ok, Err, IfOk, IfErr, String, string_bytes, inl, inr, refl, sym, subst, ap, arith}
 use Rattle.std.proofs.lemmas.List.{take-append-drop, length-take, drop_all}
 use Rattle.std.specs.Result.{IsErrAnd}
 use Rattle.std.proofs.lemmas.Result.{err_from_is_err_and, IfOk-weaker}
@@ -9,13 +9,13 @@ use Rattle.odb_doc.specs.Devices.{Writing}
 use Rattle.odb_doc.specs.declared.fault.Place.{Place}
 use Rattle.odb_doc.specs.declared.fault.Place.TheVariants.{Batch}
 use Rattle.odb_doc.specs.declared.fault.DocFault.{DocFault}
-use Rattle.odb_doc.specs.Documents.{IsDocument, RefusesDocument}
+use Rattle.odb_doc.specs.Documents.{IsDocument}
 use Rattle.odb_doc.specs.FaultTable as document
 use Rattle.odb_doc.specs.LeastFault.{IsWellShaped, IsLeastFault}
 use Rattle.odb_doc.specs.Records.{Record, IsBatchOf}
 use Rattle.odb_check.specs.declared.fault.CheckFault.{CheckFault}
 use Rattle.odb_check.specs.FaultTable as names
-use Rattle.odb_check.specs.LeastNameFault.{HasGoodNames, RefusesNames}
+use Rattle.odb_check.specs.LeastNameFault.{RefusesNames}
 use Rattle.odb_engine.specs.declared.ending.Ended.{Ended}
 use Rattle.odb_engine.specs.declared.ending.Ended.TheVariants.{Done, Refused}
 use Rattle.odb_engine.specs.declared.ending.EngineFault.{EngineFault}
@@ -25,9 +25,9 @@ use Rattle.odb_engine.specs.declared.reading.TheConstants.{MAX_READ_BYTES}
 use Rattle.odb_engine.specs.declared.stop.Stop.{Stop}
 use Rattle.odb_engine.specs.declared.stop.Stop.TheVariants as stops
 use Rattle.odb_engine.specs.Inputs.{GivesDocument, SomeDocument}
-use Rattle.odb_engine.specs.Cascade.{Writes, Refusal, line_of, Reports, RefusesBytes, IsLeast, Accepts, Answers, HasValue, SaysBatch, document_refusal, names_refusal}
+use Rattle.odb_engine.specs.Cascade.{Writes, Prints, Refusal, line_of, Reports, RefusesBytes, IsLeast, Answers, document_refusal, names_refusal}
 use Rattle.odb_engine.specs.Cascade.IsLeast.{OfBytes, OfShape, OfNames}
-use Rattle.odb_engine.specs.Engines.{Found, Stopped, text_found, StopsBy, stop_of, Ends, WritesText, WritesPrefix}
+use Rattle.odb_engine.specs.Engines.{Found, Refuses, Sent, Stopped, text_found, StopsBy, stop_of, Ends, WritesPrefix}
 
 -- a result of the search for a text
 abbrev pub FoundText : Type 0
@@ -52,19 +52,24 @@ some-document (Some left) = (
     all : (n : ℕ) (xs : List ℕ) → length (take n xs) < n → length xs ≤ n
     all n xs less = omega (arith, length-take n xs, less)
 
--- an exit of a `?`
-pub at-exit : (P : Writes) (Q : Stop → Type 0) (r : FoundText) → IsErrAnd r Q → ((stop : Stop) → Q stop → Found P (Err stop)) → Found P r
-at-exit P Q r is to = let (stop, same, holds) = err_from_is_err_and r is in subst (Found P) (sym same) (to stop holds)
+-- the exit of a `?`: what is so at the error is so of the result
+pub at-exit : {T E : Type 0} (C : Result T E → Type 0) (Q : E → Type 0) (r : Result T E) → IsErrAnd r Q → ((error : E) → Q error → C (Err error)) → C r
+at-exit C Q r is to = let (error, same, holds) = err_from_is_err_and r is in subst C (sym same) (to error holds)
 
--- the line of the fault may be written
-pub refused-by : (P : Writes) (Numbered : Type 0) (refusal : Refusal) → (Numbered → P Refused (line_of refusal)) → (stop : Stop) → StopsBy Numbered refusal stop → Found P (Err stop)
-refused-by P Numbered refusal may (stops.Refused code name place) (numbered, same) = subst (λ t. P Refused (line_of t)) same (may numbered)
-refused-by P Numbered refusal may stops.Read by = absurd by
-refused-by P Numbered refusal may stops.OutOfMemory by = tt
+-- the exit of a `?` that passes an error on
+pub exit-stop : {T E : Type 0} (C : Result T E → Type 0) (error : E) (r : Result T E) → IsErrAnd r (λ other. other ≡ error) → C (Err error) → C r
+exit-stop C error r is so = at-exit C (λ other. other ≡ error) r is (λ other same. subst (λ s. C (Err s)) (sym same) so)
 
--- the exit of a `?` that reports of a fault
-pub exit-refusal : (P : Writes) (Numbered : Type 0) (refusal : Refusal) (r : FoundText) → (Numbered → P Refused (line_of refusal)) → IsErrAnd r (StopsBy Numbered refusal) → Found P r
-exit-refusal P Numbered refusal r may is = at-exit P _ r is (refused-by P Numbered refusal may)
+-- a stop by a fault, where it is numbered
+pub stopped-by : (Is : Refusal → Type 0) (Numbered : Type 0) (refusal : Refusal) → (Numbered → Is refusal) → (stop : Stop) → StopsBy Numbered refusal stop → Stopped Is stop
+stopped-by Is Numbered refusal may (stops.Refused code name place) (numbered, same) = subst Is same (may numbered)
+stopped-by Is Numbered refusal may stops.Read by = absurd by
+stopped-by Is Numbered refusal may stops.OutOfMemory by = tt
+
+pub Stopped-weaker : (Is Js : Refusal → Type 0) → ((refusal : Refusal) → Is refusal → Js refusal) → (stop : Stop) → Stopped Is stop → Stopped Js stop
+Stopped-weaker Is Js to (stops.Refused code name place) so = to _ so
+Stopped-weaker Is Js to stops.Read so = tt
+Stopped-weaker Is Js to stops.OutOfMemory so = tt
 
 pub reports : (Is : Refusal → Type 0) (refusal : Refusal) → Is refusal → Reports Is Refused (line_of refusal)
 reports Is refusal is = record { refusal = refusal; is = is; ends = refl; line = refl }
@@ -74,55 +79,67 @@ pub unread-value : {T : Type 0} (left : Option (List ℕ)) (Q : List ℕ → T �
     → SomeDocument left (λ bytes. IfOk r (Q bytes) × IfErr r (Stopped (Is bytes)))
 unread-value left Q Is read r is =
     let (bytes, gives) = some-document left in
-    let (stop, same, holds) = err_from_is_err_and r is in
-    (bytes, gives, subst (λ x. IfOk x (Q bytes) × IfErr x (Stopped (Is bytes))) (sym (same ∙ ap Err holds)) (tt, unrefused (Is bytes) read))
+    (bytes, gives, exit-stop (λ x. IfOk x (Q bytes) × IfErr x (Stopped (Is bytes))) (stop_of read) r is (tt, unrefused (Is bytes) read))
   where
     unrefused : (Is : Refusal → Type 0) (read : ReadFault) → Stopped Is (stop_of read)
     unrefused Is reads.Read = tt
     unrefused Is reads.OutOfMemory = tt
 
--- no document was read
-pub exit-unread : (left : Option (List ℕ)) (P : List ℕ → Writes) (read : ReadFault) (r : FoundText) → IsErrAnd r (λ stop. stop ≡ stop_of read) → SomeDocument left (λ bytes. Found (P bytes) r)
-exit-unread left P read r is =
-    let (bytes, gives) = some-document left in
-    let (stop, same, holds) = err_from_is_err_and r is in
-    (bytes, gives, subst (Found (P bytes)) (sym (same ∙ ap Err holds)) (untold (P bytes) read))
+-- the bytes of the batch document are refused
+pub stop-bytes : (P : List Record → Writes) (bytes : List ℕ) (stop : Stop) → Stopped (RefusesBytes Batch bytes) stop → Refuses (Answers P bytes) stop
+stop-bytes P bytes = Stopped-weaker (RefusesBytes Batch bytes) (λ refusal. Answers P bytes Refused (line_of refusal))
+    (λ refusal refused. inl (reports (IsLeast bytes) refusal (OfBytes refused)))
+
+-- its value has a fault of shape
+pub stop-shape : (P : List Record → Writes) (bytes : List ℕ) (fault : DocFault) (value : Data) → IsDocument bytes value → IsLeastFault fault value
+    → (stop : Stop) → StopsBy (document.IsNumbered fault) (document_refusal fault) stop → Refuses (Answers P bytes) stop
+stop-shape P bytes fault value is_document least = stopped-by (λ refusal. Answers P bytes Refused (line_of refusal)) _ _
+    (λ numbered. inl (reports (IsLeast bytes) (document_refusal fault) (OfShape fault numbered (record { value = value; document = is_document; holds = least }) refl)))
+
+-- the names of its requests have a fault
+pub stop-names : (P : List Record → Writes) (bytes : List ℕ) (fault : CheckFault) (value : Data) (batch : List Record) → IsDocument bytes value → IsWellShaped value → IsBatchOf value batch
+    → RefusesNames fault batch → (stop : Stop) → StopsBy (names.IsNumbered fault) (names_refusal fault) stop → Refuses (Answers P bytes) stop
+stop-names P bytes fault value batch is_document shape says least = stopped-by (λ refusal. Answers P bytes Refused (line_of refusal)) _ _
+    (λ numbered. inl (reports (IsLeast bytes) (names_refusal fault) (OfNames fault numbered (record { value = value; document = is_document; holds = record { batch = batch; shape = shape; says = says; holds = least } }) refl)))
+
+-- what may be written in less cases may be written
+pub Refuses-weaker : (P Q : Writes) (stop : Stop) → ((ended : Ended) (text : List ℕ) → P ended text → Q ended text) → Refuses P stop → Refuses Q stop
+Refuses-weaker P Q stop to = Stopped-weaker (λ refusal. P Refused (line_of refusal)) (λ refusal. Q Refused (line_of refusal)) (λ refusal. to Refused (line_of refusal)) stop
+
+pub Found-weaker : (P Q : Writes) (found : FoundText) → ((ended : Ended) (text : List ℕ) → P ended text → Q ended text) → Found P found → Found Q found
+Found-weaker P Q (Ok text) to so = to Done _ so
+Found-weaker P Q (Err stop) to so = Refuses-weaker P Q stop to so
+
+prefix-weaker : (P Q : Writes) (old new : Option (List ℕ)) → ((ended : Ended) (text : List ℕ) → P ended text → Q ended text) → WritesPrefix old new P → WritesPrefix old new Q
+prefix-weaker P Q old new to part = record { ended = part.ended; text = part.text; so = to part.ended part.text part.so; written = part.written }
+
+pub Ends-weaker : {W : Type 0} (contents : W → Option (List ℕ)) (P Q : Writes) (F G : Type 0) (old new : Writing W) (result : Result Ended EngineFault) → ((ended : Ended) (text : List ℕ) → P ended text → Q ended text)
+    → (F ↔ G) → Ends contents P F old new result → Ends contents Q G old new result
+Ends-weaker contents P Q F G old new result to read is = record {
+  ended = IfOk-weaker result _ _ (λ ended writes. record { text = writes.text; so = to ended writes.text writes.so; written = writes.written }) is.ended;
+  read = (λ e. read.0 (is.read.0 e), λ g. is.read.1 (read.1 g));
+  unread = is.unread;
+  write = is.write;
+  part = λ e. prefix-weaker P Q _ _ to (is.part e);
+  memory = λ e. at (is.memory e);
+}
   where
-    untold : (Q : Writes) (read : ReadFault) → Found Q (Err (stop_of read))
-    untold Q reads.Read = tt
-    untold Q reads.OutOfMemory = tt
+    at : (new ≡ old) ⊎ WritesPrefix (contents old.writer) (contents new.writer) P → (new ≡ old) ⊎ WritesPrefix (contents old.writer) (contents new.writer) Q
+    at (inl same) = inl same
+    at (inr part) = inr (prefix-weaker P Q _ _ to part)
 
--- the exit of a `?` on a function that returns a stop
-pub exit-stopped : (P : Writes) (Is : Refusal → Type 0) (stop : Stop) (r : FoundText) → ((refusal : Refusal) → Is refusal → P Refused (line_of refusal)) → Stopped Is stop
-    → IsErrAnd r (λ other. other ≡ stop) → Found P r
-exit-stopped P Is stop r may stopped is = at-exit P _ r is (λ other same. subst (λ s. Found P (Err s)) (sym same) (at stop stopped))
-  where
-    at : (stop : Stop) → Stopped Is stop → Found P (Err stop)
-    at (stops.Refused code name place) so = may _ so
-    at stops.Read none = tt
-    at stops.OutOfMemory none = tt
+pub Sent-weaker : {W : Type 0} (contents : W → Option (List ℕ)) (P Q : Writes) (old new : Writing W) (sent : Result (Result Ended EngineFault) Stop) → ((ended : Ended) (text : List ℕ) → P ended text → Q ended text)
+    → Sent contents P old new sent → Sent contents Q old new sent
+Sent-weaker contents P Q old new (Ok result) to sent = Ends-weaker contents P Q ⊥ ⊥ old new result to (λ f. f, λ f. f) sent
+Sent-weaker contents P Q old new (Err stop) to (same, refuses) = (same, Refuses-weaker P Q stop to refuses)
 
-pub exit-bytes : (P : List Record → Writes) (bytes : List ℕ) (stop : Stop) (r : FoundText) → Stopped (RefusesBytes Batch bytes) stop
-    → IsErrAnd r (λ other. other ≡ stop) → Found (Answers P bytes) r
-exit-bytes P bytes stop r stopped is =
-    exit-stopped (Answers P bytes) (RefusesBytes Batch bytes) stop r (λ refusal refused. inl (reports (IsLeast bytes) refusal (OfBytes refused))) stopped is
-
-pub exit-shape : (P : List Record → Writes) (bytes : List ℕ) (fault : DocFault) (value : Data) (r : FoundText) → IsDocument bytes value → IsLeastFault fault value
-    → IsErrAnd r (StopsBy (document.IsNumbered fault) (document_refusal fault)) → Found (Answers P bytes) r
-exit-shape P bytes fault value r is_document least is =
-    exit-refusal (Answers P bytes) _ _ r (λ numbered. inl (reports (IsLeast bytes) (document_refusal fault) (OfShape fault numbered (record { value = value; document = is_document; holds = least }) refl))) is
-
-pub exit-names : (P : List Record → Writes) (bytes : List ℕ) (fault : CheckFault) (value : Data) (batch : List Record) (r : FoundText) → IsDocument bytes value → IsWellShaped value → IsBatchOf value batch
-    → RefusesNames fault batch → IsErrAnd r (StopsBy (names.IsNumbered fault) (names_refusal fault)) → Found (Answers P bytes) r
-exit-names P bytes fault value batch r is_document shape says least is =
-    exit-refusal (Answers P bytes) _ _ r (λ numbered. inl (reports (IsLeast bytes) (names_refusal fault) (OfNames fault numbered (record { value = value; document = is_document; holds = record { batch = batch; shape = shape; says = says; holds = least } }) refl))) is
-
-pub exit-memory : (P : Writes) (r : FoundText) → IsErrAnd r (λ stop. stop ≡ stops.OutOfMemory) → Found P r
-exit-memory P r is = at-exit P _ r is (λ stop same. subst (λ s. Found P (Err s)) (sym same) tt)
+-- a text that may be written
+pub printed : (P : Writes) (line : List ℕ) → P Done line → (ended : Ended) (text : List ℕ) → Prints line ended text → P ended text
+printed P line so ended text (ends, same) = subst (λ e. P e text) (sym ends) (subst (P Done) (sym same) so)
 
 -- what is written of what was found is what may be written
 answered : (P : Writes) (found : FoundText) → Found P found → (ended : Ended) (text : List ℕ) → text_found found ended text → P ended text
-answered P (Ok found) so ended text (ends, line) = subst (λ e. P e text) (sym ends) (subst (P Done) (sym line) so)
+answered P (Ok found) so ended text prints = printed P (string_bytes found) so ended text prints
 answered P (Err (stops.Refused code name place)) so ended text (ends, line) = subst (λ e. P e text) (sym ends) (subst (P Refused) (sym line) so)
 answered P (Err stops.Read) so ended text none = absurd none
 answered P (Err stops.OutOfMemory) so ended text none = absurd none
@@ -130,21 +147,20 @@ answered P (Err stops.OutOfMemory) so ended text none = absurd none
 -- an engine that ends by what was found
 pub Ends-found : {W : Type 0} (contents : W → Option (List ℕ)) (P : Writes) (ReadFailed : Type 0) (old new : Writing W) (found : FoundText) (result : Result Ended EngineFault)
     → Found P found → ((found ≡ Err stops.Read) ↔ ReadFailed) → Ends contents (text_found found) (found ≡ Err stops.Read) old new result → Ends contents P ReadFailed old new result
-Ends-found contents P ReadFailed old new found result so read is = record {
-  ended = IfOk-weaker result _ _ (λ ended writes. record { text = writes.text; so = answered P found so ended writes.text writes.so; written = writes.written }) is.ended;
-  read = (λ e. read.0 (is.read.0 e), λ f. is.read.1 (read.1 f));
-  unread = is.unread;
-  memory = is.memory;
-  write = is.write;
-  part = λ e. let front = is.part e in record { ended = front.ended; text = front.text; so = answered P found so front.ended front.text front.so; written = front.written };
-}
+Ends-found contents P ReadFailed old new found result so read is =
+    Ends-weaker contents (text_found found) P _ ReadFailed old new result (answered P found so) read is
 
--- what may be written in less cases may be written
-pub Found-weaker : (P Q : Writes) (found : FoundText) → ((ended : Ended) (text : List ℕ) → P ended text → Q ended text) → Found P found → Found Q found
-Found-weaker P Q (Ok text) to so = to Done _ so
-Found-weaker P Q (Err (stops.Refused code name place)) to so = to Refused _ so
-Found-weaker P Q (Err stops.Read) to so = tt
-Found-weaker P Q (Err stops.OutOfMemory) to so = tt
+abbrev stop_in : {T : Type 0} → Result T Stop → Stop
+stop_in (Ok value) = stops.Read
+stop_in (Err stop) = stop
+
+-- an engine that ends by a stop before which nothing was written
+pub Ends-stopped : {T W : Type 0} (contents : W → Option (List ℕ)) (P : Writes) (ReadFailed : Type 0) (old mid new : Writing W) (stop : Stop) (result : Result Ended EngineFault)
+    → (mid ≡ old) × Refuses P stop → (◌≡◌ {A = Result T Stop} (Err stop) (Err stops.Read) ↔ ReadFailed) → Ends contents (text_found (Err stop)) (◌≡◌ {A = FoundText} (Err stop) (Err stops.Read)) mid new result
+    → Ends contents P ReadFailed old new result
+Ends-stopped contents P ReadFailed old mid new stop result (same, refuses) read is =
+    subst (λ o. Ends contents P ReadFailed o new result) same (Ends-found contents P ReadFailed mid new (Err stop) result refuses
+    (λ e. read.0 (ap (λ r. Err (stop_in r)) e), λ f. ap (λ r. Err (stop_in r)) (read.1 f)) is)
 
 abbrev pub the_refusal : List ℕ → List ℕ → Place → Refusal
 the_refusal code name place = record { code = code; name = name; place = place }

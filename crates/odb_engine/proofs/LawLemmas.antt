@@ -1,5 +1,5 @@
 -- Two texts that the cascade allows for the same bytes are equal, where P allows one for each batch.
-use Rattle.std.proofs.Common.{◌≡◌, ◌⊎◌, ℕ, ◌≤◌, ◌<◌, ◌∙◌, List, length, unwrap_or, inl, inr, refl, sym, subst, ap, arith}
+use Rattle.std.proofs.Common.{◌≡◌, ℕ, ◌≤◌, ◌<◌, ◌∙◌, List, length, unwrap_or, inl, inr, refl, sym, subst, ap, arith}
 use Rattle.serde_json.specs.Data.{Data}
 use Rattle.odb_doc.specs.declared.document.TheConstants.{MAX_DOCUMENT_BYTES}
 use Rattle.odb_doc.specs.declared.fault.Place.TheVariants.{Batch}
@@ -13,9 +13,8 @@ use Rattle.odb_doc.specs.Records.{Record, IsBatchOf}
 use Rattle.odb_check.specs.declared.fault.CheckFault.{CheckFault}
 use Rattle.odb_check.specs.FaultTable as names
 use Rattle.odb_check.specs.LeastNameFault.{HasGoodNames, RefusesNames}
-use Rattle.odb_engine.specs.declared.ending.Ended.{Ended}
 use Rattle.odb_engine.specs.Laws.{IsOne}
-use Rattle.odb_engine.specs.Cascade.{Writes, Refusal, line_of, Reports, RefusesBytes, IsLeast, Accepts, Answers, HasValue, document_refusal, names_refusal}
+use Rattle.odb_engine.specs.Cascade.{Writes, Refusal, line_of, RefusesBytes, IsLeast, Accepts, Answers, HasValue, document_refusal, names_refusal}
 use Rattle.odb_engine.specs.Cascade.IsLeast.{OfBytes, OfShape, OfNames}
 
 -- what the crates below say of their own relations, in their laws

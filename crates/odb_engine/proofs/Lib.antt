@@ -1,5 +1,6 @@
 mod ReadLemmas
 mod TraceLemmas
 mod EngineLemmas
+mod SendLemmas
 mod ReplayLemmas
 mod LawLemmas

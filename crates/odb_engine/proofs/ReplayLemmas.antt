@@ -5,7 +5,6 @@ use Rattle.std.proofs.lemmas.Bool.Decides.{nat_tests}
 use Rattle.std.proofs.lemmas.List.Elements.{All-contains, Contains-append_right}
 use Rattle.serde_json.specs.View.{view}
 use Rattle.odb_doc.specs.declared.outcome.Outcome.{Outcome}
-use Rattle.odb_doc.specs.declared.fault.Place.{Place}
 use Rattle.odb_doc.specs.Outcomes.{Recorded, IsSoundOutcome}
 use Rattle.odb_doc.specs.Records.{Record}
 use Rattle.odb_doc.specs.WholeNumbers.{IsWhole}
@@ -21,13 +20,12 @@ use Rattle.odb_sched.specs.declared.fault.ExecFault.{ExecFault}
 use Rattle.odb_sched.specs.declared.fault.ExecFault.TheVariants as fault
 use Rattle.odb_sched.specs.Answers.{answer, answer_of, outcome_of, reported}
 use Rattle.odb_sched.specs.Courses.{Allowance, IsDue, IsCausedBy}
-use Rattle.odb_sched.specs.ExecFaults.{IsNumbered, exec_code, exec_name, exec_place}
+use Rattle.odb_sched.specs.ExecFaults.{IsNumbered}
 use Rattle.odb_sched.specs.Recordings.{outcome_for, recorded_for, offered, OffersRecorded}
 use Rattle.odb_sched.specs.State.{State, phase_at, at_first}
 use Rattle.odb_sched.specs.Statuses.{is_status, is_success}
 use Rattle.odb_sched.specs.Steps.{unit_succeeded}
 use Rattle.odb_reply.specs.NotWhole.{HasWholeBody, HasWholeBodies}
-use Rattle.odb_engine.specs.declared.ending.Ended.{Ended}
 use Rattle.odb_engine.specs.declared.ending.Ended.TheVariants.{Refused}
 use Rattle.odb_engine.specs.Cascade.{line_of}
 use Rattle.odb_engine.specs.Replays.{LacksOutcome, offers_of, execution_refusal}

@@ -1,6 +1,5 @@
 -- What is written of a batch document: the line of its least fault, or what a command says of its requests.
-use Rattle.std.specs.Prelude.{◌≡◌, ◌⊎◌, ℕ, List, Result, Ok, Err, String, string_bytes}
-use Rattle.std.specs.declared.alloc.Global.{Global}
+use Rattle.std.specs.Prelude.{◌≡◌, ◌⊎◌, ℕ, List}
 use Rattle.serde_json.specs.Data.{Data}
 use Rattle.odb_doc.specs.declared.fault.Place.{Place}
 use Rattle.odb_doc.specs.declared.fault.Place.TheVariants.{Batch}
@@ -14,13 +13,15 @@ use Rattle.odb_check.specs.FaultTable as names
 use Rattle.odb_check.specs.LeastNameFault.{HasGoodNames, RefusesNames}
 use Rattle.odb_engine.specs.declared.ending.Ended.{Ended}
 use Rattle.odb_engine.specs.declared.ending.Ended.TheVariants.{Done, Refused}
-use Rattle.odb_engine.specs.declared.stop.Stop.{Stop}
-use Rattle.odb_engine.specs.declared.stop.Stop.TheVariants as stops
 use Rattle.odb_engine.specs.Lines.{fault_line}
 
 -- how a command ends, and what it has written then
 abbrev pub Writes : Type 1
 Writes = Ended → List ℕ → Type 0
+
+-- the result is this text
+abbrev pub Prints : List ℕ → Writes
+Prints text ended written = (ended ≡ Done) × (written ≡ text)
 
 -- what is reported of a fault: its code, its name, and where it lies
 pub record Refusal : Type 0 where

@@ -1,17 +1,15 @@
 -- What each command says of the requests of a batch that is accepted.
-use Rattle.std.specs.Prelude.{◌≡◌, ℕ, List, length}
+use Rattle.std.specs.Prelude.{List, length}
 use Rattle.odb_doc.specs.Records.{Record}
-use Rattle.odb_check.specs.Texts.{plan_text}
-use Rattle.odb_engine.specs.declared.ending.Ended.{Ended}
-use Rattle.odb_engine.specs.declared.ending.Ended.TheVariants.{Done}
-use Rattle.odb_engine.specs.Cascade.{Writes}
 use Rattle.odb_check.specs.Groups.{groups_of}
+use Rattle.odb_check.specs.Texts.{plan_text}
+use Rattle.odb_engine.specs.Cascade.{Writes, Prints}
 use Rattle.odb_engine.specs.Lines.{accepted_line}
 
 -- how many requests and groups there are
 abbrev pub Counts : List Record → Writes
-Counts batch ended text = (ended ≡ Done) × (text ≡ accepted_line (length batch) (length (groups_of batch)))
+Counts batch = Prints (accepted_line (length batch) (length (groups_of batch)))
 
 -- the plan
 abbrev pub Plans : List Record → Writes
-Plans batch ended text = (ended ≡ Done) × (text ≡ plan_text batch)
+Plans batch = Prints (plan_text batch)

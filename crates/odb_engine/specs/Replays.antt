@@ -1,11 +1,7 @@
 -- What a run by recorded outcomes writes of a batch.
 use Rattle.std.specs.Prelude.{◌≡◌, ◌⊎◌, ℕ, Bool, List, [], ◌∷◌, ◌++◌, Option, Err, codes, if◌then◌else◌}
-use Rattle.odb_doc.specs.declared.fault.Place.{Place}
 use Rattle.odb_doc.specs.declared.fault.Place.TheVariants as places
-use Rattle.odb_doc.specs.declared.fault.DocFault.{DocFault}
 use Rattle.odb_doc.specs.declared.outcome_fault.OutcomeFault.{OutcomeFault}
-use Rattle.odb_doc.specs.Documents.{RefusesDocument}
-use Rattle.odb_doc.specs.FaultTable as document
 use Rattle.odb_doc.specs.Devices.{Reading}
 use Rattle.odb_doc.specs.LeastOutcomeFault.{IsOutcomesDocument, RefusesOutcomes}
 use Rattle.odb_doc.specs.OutcomeFaults as outcomes
@@ -31,9 +27,13 @@ use Rattle.odb_sched.specs.declared.fault.ExecFault.{ExecFault}
 use Rattle.odb_sched.specs.ExecFaults.{exec_code, exec_name, exec_place}
 use Rattle.odb_engine.specs.Inputs.{SomeDocument}
 
--- the response, after the trace where one is wanted
+-- the trace, where one is wanted
+abbrev pub trace_part : Bool → State → List Step → List ℕ
+trace_part traced state steps = if traced then trace_text state steps else []
+
+-- the response as a line, after the trace where one is wanted
 abbrev pub result_text : Bool → State → List Step → List ℕ
-result_text traced state steps = (if traced then trace_text state steps else []) ++ response_text state ++ newline ∷ []
+result_text traced state steps = trace_part traced state steps ++ response_text state ++ newline ∷ []
 
 -- what is offered by these recorded outcomes
 abbrev pub offers_of : Plan → List Recorded → Offer

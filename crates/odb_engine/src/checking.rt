@@ -1,85 +1,54 @@
-ghost use Rattle.std.specs.Prelude.{◌≡◌, ◌↔◌, false, Err, IsTrue};
-ghost use Rattle.odb_engine.specs.declared.stop.Stop.TheVariants as stops;
+ghost use Rattle.std.specs.Prelude.{◌≡◌, false, Err, IsTrue};
 ghost use Rattle.odb_engine.specs.Inputs.{IsFresh, ReadsFew, SomeDocument};
 ghost use Rattle.odb_engine.specs.Cascade.{Answers};
-ghost use Rattle.odb_engine.specs.Engines.{Ends, Found};
-ghost use Rattle.odb_engine.specs.Commands.{Counts, Plans};
+ghost use Rattle.odb_engine.specs.Engines.{Ends};
+ghost use Rattle.odb_engine.specs.Commands as commands;
 
-use crate::ending::{Ended, EngineFault, end};
-use crate::held::{Held, Remains};
+use crate::command::{Command, answer};
+use crate::ending::{Ended, EngineFault};
+use crate::held::Remains;
 use crate::lines::accepted_line;
-use crate::reading::value_of;
 use crate::stop::Stop;
-use odb_check::{Seed, check_with};
-use odb_doc::{Batch, Input, Output, Place};
+use odb_check::{Plan, Seed};
+use odb_doc::{Input, Output};
 use std::alloc::Global;
 use std::io::{Read, Write};
 
-/// Returns the line of the counts of the batch in a document.
-fn counts_of<R: Read>(
-    alloc: Global,
-    input: &mut Input<R>,
-    seed: Seed,
-    remains: Remains,
-) -> Result<String, Stop>
-    requires { IsFresh input.old }
-    ensures found { SomeDocument (R.remaining input.old.reader)
-        (λ bytes. Found (Answers Counts bytes) result) }
-    ensures read { (result ≡ Err stops.Read) ↔ IsTrue input.new.failed }
-    ensures input { ReadsFew R.remaining input.old input.new }
-{
-    let value = Held {
-        value: value_of(alloc, input, Place::Batch)?,
-        remains,
-    };
-    let batch = Held {
-        value: Batch::read(alloc, &value.value)?,
-        remains,
-    };
-    let plan = Held {
-        value: check_with(alloc, seed, &batch.value)?,
-        remains,
-    };
-    Ok(accepted_line(alloc, plan.value.len(), plan.value.group_count())?)
+/// Prints how many requests and groups there are.
+struct Counts;
+
+impl Command for Counts {
+    ghost says = { λ _. commands.Counts };
+
+    fn text(&self, alloc: Global, plan: &Plan<'_>) -> Result<String, Stop> {
+        Ok(accepted_line(alloc, plan.len(), plan.group_count())?)
+    }
 }
 
-/// Returns the plan of the batch in a document, as it is printed.
-fn plan_of<R: Read>(
-    alloc: Global,
-    input: &mut Input<R>,
-    seed: Seed,
-    remains: Remains,
-) -> Result<String, Stop>
-    requires { IsFresh input.old }
-    ensures found { SomeDocument (R.remaining input.old.reader)
-        (λ bytes. Found (Answers Plans bytes) result) }
-    ensures read { (result ≡ Err stops.Read) ↔ IsTrue input.new.failed }
-    ensures input { ReadsFew R.remaining input.old input.new }
-{
-    let value = Held {
-        value: value_of(alloc, input, Place::Batch)?,
-        remains,
-    };
-    let batch = Held {
-        value: Batch::read(alloc, &value.value)?,
-        remains,
-    };
-    let plan = Held {
-        value: check_with(alloc, seed, &batch.value)?,
-        remains,
-    };
-    Ok(plan.value.text(alloc)?)
+/// Prints the plan.
+struct Plans;
+
+impl Command for Plans {
+    ghost says = { λ _. commands.Plans };
+
+    fn text(&self, alloc: Global, plan: &Plan<'_>) -> Result<String, Stop> {
+        Ok(plan.text(alloc)?)
+    }
 }
 
 /// Checks the batch in a document: writes the line of its counts, or of its least fault.
 ///
-/// A secret random seed keeps the tables of names fast whatever the names; what is written does not
-/// depend on it.
+/// The seed should be random and secret: it keeps the tables of names fast whatever the names, and
+/// what is written does not depend on it. `remains` says whether the document is dropped at the end.
+///
+/// The whole document is held in memory. Beyond that a check takes time and memory in proportion to
+/// the document.
 ///
 /// # Errors
 ///
-/// `Read` if and only if the input failed, `Write` if and only if the output did; `OutOfMemory`
-/// where memory was refused.
+/// - `Read` if and only if the input failed; nothing was written.
+/// - `Write` if and only if the output failed; it has received a prefix of the text.
+/// - `OutOfMemory` if an allocation fails; nothing was written.
 pub fn check_batch<R: Read, W: Write>(
     alloc: Global,
     input: &mut Input<R>,
@@ -90,14 +59,18 @@ pub fn check_batch<R: Read, W: Write>(
     requires input { IsFresh input.old }
     requires output { output.old.failed ≡ false }
     ensures ends { SomeDocument (R.remaining input.old.reader) (λ bytes. Ends W.contents
-        (Answers Counts bytes) (IsTrue input.new.failed) output.old output.new result) }
+        (Answers commands.Counts bytes) (IsTrue input.new.failed)
+        output.old output.new result) }
+    ensures memory { result ≡ Err EngineFault.OutOfMemory → output.new ≡ output.old }
     ensures reads { ReadsFew R.remaining input.old input.new }
 {
-    let found = counts_of(alloc, input, seed, remains);
-    end(alloc, found, output)
+    answer(alloc, input, output, &Counts, seed, remains)
 }
 
 /// Plans the batch in a document: writes a line per request, or the line of its least fault.
+///
+/// The seed and `remains` are as for [`check_batch`], and so is the cost: the text of the plan is held
+/// in memory too.
 ///
 /// # Errors
 ///
@@ -112,9 +85,10 @@ pub fn plan_batch<R: Read, W: Write>(
     requires input { IsFresh input.old }
     requires output { output.old.failed ≡ false }
     ensures ends { SomeDocument (R.remaining input.old.reader) (λ bytes. Ends W.contents
-        (Answers Plans bytes) (IsTrue input.new.failed) output.old output.new result) }
+        (Answers commands.Plans bytes) (IsTrue input.new.failed)
+        output.old output.new result) }
+    ensures memory { result ≡ Err EngineFault.OutOfMemory → output.new ≡ output.old }
     ensures reads { ReadsFew R.remaining input.old input.new }
 {
-    let found = plan_of(alloc, input, seed, remains);
-    end(alloc, found, output)
+    answer(alloc, input, output, &Plans, seed, remains)
 }

@@ -11,7 +11,7 @@ use std::alloc::{AllocError, Global};
 use std::io::Write;
 use thiserror::Error;
 
-/// How an engine ended that wrote its whole output.
+/// How an engine ended that has written its whole output.
 #[derive(Clone, Copy, Debug, PartialEq, Eq)]
 pub enum Ended {
     /// It wrote its result.
@@ -20,16 +20,17 @@ pub enum Ended {
     Refused,
 }
 
-/// Why an engine did not write its whole output.
+/// Why an engine has not written its whole output.
 #[derive(Clone, Copy, Debug, PartialEq, Eq, Error)]
 pub enum EngineFault {
     /// An input failed. Nothing was written.
     #[error("an input failed")]
     Read,
-    /// The output failed. It has received a prefix of the text.
+    /// The output failed. It has received a prefix of what the engine writes.
     #[error("the output failed")]
     Write,
-    /// Memory was refused. Nothing was written.
+    /// An allocation failed. Nothing was written; by [`crate::replay_batch`] nothing or a prefix of
+    /// what it writes.
     #[error("out of memory")]
     OutOfMemory,
 }
@@ -57,7 +58,9 @@ pub fn end<W: Write>(
     output: &mut Output<W>,
 ) -> Result<Ended, EngineFault>
     requires { output.old.failed ≡ false }
-    ensures { Ends W.contents (text_found found) (found ≡ Err stops.Read) output.old output.new result }
+    ensures ends { Ends W.contents (text_found found) (found ≡ Err stops.Read)
+        output.old output.new result }
+    ensures memory { result ≡ Err EngineFault.OutOfMemory → output.new ≡ output.old }
 {
     let (ended, text) = match found {
         Ok(text) => (Ended::Done, text),

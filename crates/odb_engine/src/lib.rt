@@ -6,12 +6,15 @@
 #![tactic(auto)]
 
 mod checking;
+mod command;
 mod ending;
 mod held;
 pub mod laws;
 mod lines;
 mod reading;
 mod replaying;
+mod running;
+mod sending;
 mod stop;
 mod trace;
 

@@ -1,140 +1,132 @@
-ghost use Rattle.std.specs.Prelude.{◌≡◌, ◌<◌, ◌↔◌, ◌⊎◌, false, All, Err, IsTrue, IfOk, OnOk, string_bytes};
-ghost use Rattle.odb_sched.specs.State.{size};
-ghost use Rattle.odb_sched.specs.Advances.{position_in};
-ghost use Rattle.odb_check.specs.Plans.{plan_records};
-ghost use Rattle.odb_reply.specs.NotWhole.{HasWholeBodies};
-ghost use Rattle.odb_reply.specs.OnePerId.{HasOnePerId};
-ghost use Rattle.odb_reply.specs.Responses as responses;
+ghost use Rattle.std.specs.Prelude.{◌≡◌, ◌↔◌, ◌⊎◌, ℕ, List, false, Err, IsTrue};
+ghost use Rattle.serde_json.specs.View.{view};
+ghost use Rattle.odb_doc.specs.Documents.{IsDocument};
 ghost use Rattle.odb_engine.specs.declared.stop.Stop.TheVariants as stops;
 ghost use Rattle.odb_engine.specs.Inputs.{IsFresh, ReadsFew, SomeDocument};
 ghost use Rattle.odb_engine.specs.Cascade.{Answers};
-ghost use Rattle.odb_engine.specs.Engines.{Ends, Found};
+ghost use Rattle.odb_engine.specs.Engines.{Ends, Sent};
 ghost use Rattle.odb_engine.specs.Replays as replays;
 
 use crate::ending::{Ended, EngineFault, end};
 use crate::held::{Held, Remains};
 use crate::reading::value_of;
+use crate::running::{outcomes_of, run_of};
+use crate::sending::send;
 use crate::stop::Stop;
-use crate::trace::trace_text;
 use odb_check::{Plan, Seed, check_with};
-use odb_doc::{Batch, Input, Outcomes, Output, Place, TextFault};
-use odb_reply::response_text;
-use odb_sched::{Chooser, Policy, Recorded, Trace, execute};
-use std::alloc::{AllocError, Global};
+use odb_doc::{Batch, Input, Output, Place};
+use odb_sched::{Chooser, Policy};
+use serde_json::Value;
+use std::alloc::Global;
 use std::io::{Read, Write};
 
-/// Returns the response to a run whose bodies hold whole numbers alone.
-fn whole_response(alloc: Global, trace: &Trace<'_>) -> Result<String, AllocError>
-    requires { HasWholeBodies trace.now.done }
-    ensures text { IfOk result (λ text. string_bytes text
-        ≡ responses.response_text trace.now.done) }
-    ensures one_per_id { HasOnePerId (plan_records trace.now.done.plan)
-        (responses.response_value trace.now.done) }
-{
-    match response_text(alloc, &trace.done) {
-        Ok(text) => Ok(text),
-        Err(TextFault::OutOfMemory) => Err(AllocError),
-        Err(TextFault::NotWhole { .. }) => unreachable!(),
-    }
-}
-
-/// Returns the response of an execution, after its trace where one is wanted.
-fn result_text(alloc: Global, trace: &Trace<'_>, traced: bool) -> Result<String, AllocError>
-    requires within { All (λ step. position_in step < size trace.now.done) trace.now.steps.items }
-    requires whole { HasWholeBodies trace.now.done }
-    ensures text { IfOk result (λ text. string_bytes text
-        ≡ replays.result_text traced trace.now.done trace.now.steps.items) }
-    ensures one_per_id { OnOk result (HasOnePerId (plan_records trace.now.done.plan)
-        (responses.response_value trace.now.done)) }
-{
-    let response = whole_response(alloc, trace)?;
-    let mut text = if traced {
-        let mut trace = trace_text(alloc, trace)?;
-        trace.push_str(&response)?;
-        trace
-    } else {
-        response
-    };
-    text.push_str("\n")?;
-    Ok(text)
-}
-
-/// Returns what is printed of the execution of a plan by the outcomes in a document.
-fn response_of<S: Read>(
+/// Executes a plan by the outcomes in a document, and writes the result. If it stops, nothing is
+/// written.
+fn replay_plan<S: Read, W: Write>(
     alloc: Global,
     plan: &Plan<'_>,
-    input: &mut Input<S>,
+    outcomes: &mut Input<S>,
+    output: &mut Output<W>,
     policy: Policy,
     chooser: &mut dyn Chooser,
     traced: bool,
     remains: Remains,
-) -> Result<String, Stop>
-    requires { IsFresh input.old }
-    ensures found { SomeDocument (S.remaining input.old.reader) (λ bytes.
-        Found (replays.ReplaysBy (allows chooser.old) policy traced plan.now bytes) result) }
-    ensures read { (result ≡ Err stops.Read) ↔ IsTrue input.new.failed }
-    ensures input { ReadsFew S.remaining input.old input.new }
+) -> Result<Result<Ended, EngineFault>, Stop>
+    requires outcomes { IsFresh outcomes.old }
+    requires output { output.old.failed ≡ false }
+    ensures sent { SomeDocument (S.remaining outcomes.old.reader) (λ bytes. Sent W.contents
+        (replays.ReplaysBy (allows chooser.old) policy traced plan.now bytes)
+        output.old output.new result) }
+    ensures read { (result ≡ Err stops.Read) ↔ IsTrue outcomes.new.failed }
+    ensures outcomes { ReadsFew S.remaining outcomes.old outcomes.new }
 {
-    let value = value_of(alloc, input, Place::Outcomes)?;
-    let (outcomes, emptied) = Outcomes::split(alloc, value)?;
-    drop(Held {
-        value: emptied,
-        remains,
-    });
-    // That recorded outcomes are sound is known from a call on them alone.
-    let _count = outcomes.len();
-    let mut service = Held {
-        value: Recorded::new(alloc, plan, outcomes)?,
-        remains,
-    };
+    let recorded = outcomes_of(alloc, outcomes, remains)?;
     let trace = Held {
-        value: execute(alloc, plan, policy, chooser, &mut service.value)?,
+        value: run_of(alloc, plan, recorded, policy, chooser, remains)?,
         remains,
     };
-    Ok(result_text(alloc, &trace.value, traced)?)
+    Ok(send(alloc, output, &trace.value, traced))
 }
 
-/// Returns what is printed of the batch in a document by the outcomes in another.
-fn replay_of<R: Read, S: Read>(
+/// Replays the batch in a value. If it stops, nothing is written.
+fn replay_value<S: Read, W: Write>(
     alloc: Global,
-    input: &mut Input<R>,
+    value: &Value,
     outcomes: &mut Input<S>,
+    output: &mut Output<W>,
     policy: Policy,
     chooser: &mut dyn Chooser,
     traced: bool,
     seed: Seed,
     remains: Remains,
-) -> Result<String, Stop>
-    requires batch { IsFresh input.old }
+) -> Result<Result<Ended, EngineFault>, Stop>
     requires outcomes { IsFresh outcomes.old }
-    ensures found { SomeDocument (R.remaining input.old.reader) (λ bytes.
-        Found (Answers (replays.Replays (allows chooser.old) policy traced
-        (S.remaining outcomes.old.reader)) bytes) result
-        × replays.AskedFor bytes outcomes.old outcomes.new) }
-    ensures read { (result ≡ Err stops.Read)
-        ↔ (IsTrue input.new.failed ⊎ IsTrue outcomes.new.failed) }
-    ensures batch { ReadsFew R.remaining input.old input.new }
+    requires output { output.old.failed ≡ false }
+    ensures sent { (bytes : List ℕ) → IsDocument bytes (view value.now) → Sent W.contents
+        (Answers (replays.Replays (allows chooser.old) policy traced
+        (S.remaining outcomes.old.reader)) bytes) output.old output.new result }
+    ensures asked { (bytes : List ℕ) → IsDocument bytes (view value.now)
+        → replays.AskedFor bytes outcomes.old outcomes.new }
+    ensures read { (result ≡ Err stops.Read) ↔ IsTrue outcomes.new.failed }
     ensures outcomes { ReadsFew S.remaining outcomes.old outcomes.new }
 {
-    let value = Held {
-        value: value_of(alloc, input, Place::Batch)?,
-        remains,
-    };
     let batch = Held {
-        value: Batch::read(alloc, &value.value)?,
+        value: Batch::read(alloc, value)?,
         remains,
     };
     let plan = Held {
         value: check_with(alloc, seed, &batch.value)?,
         remains,
     };
-    response_of(
+    replay_plan(
         alloc,
         &plan.value,
         outcomes,
+        output,
         policy,
         chooser,
         traced,
+        remains,
+    )
+}
+
+/// Replays the batch in a document. If it stops, nothing is written.
+fn replay_of<R: Read, S: Read, W: Write>(
+    alloc: Global,
+    batch: &mut Input<R>,
+    outcomes: &mut Input<S>,
+    output: &mut Output<W>,
+    policy: Policy,
+    chooser: &mut dyn Chooser,
+    traced: bool,
+    seed: Seed,
+    remains: Remains,
+) -> Result<Result<Ended, EngineFault>, Stop>
+    requires batch { IsFresh batch.old }
+    requires outcomes { IsFresh outcomes.old }
+    requires output { output.old.failed ≡ false }
+    ensures sent { SomeDocument (R.remaining batch.old.reader) (λ bytes. Sent W.contents
+        (Answers (replays.Replays (allows chooser.old) policy traced
+        (S.remaining outcomes.old.reader)) bytes) output.old output.new result
+        × replays.AskedFor bytes outcomes.old outcomes.new) }
+    ensures read { (result ≡ Err stops.Read)
+        ↔ (IsTrue batch.new.failed ⊎ IsTrue outcomes.new.failed) }
+    ensures batch { ReadsFew R.remaining batch.old batch.new }
+    ensures outcomes { ReadsFew S.remaining outcomes.old outcomes.new }
+{
+    let value = Held {
+        value: value_of(alloc, batch, Place::Batch)?,
+        remains,
+    };
+    replay_value(
+        alloc,
+        &value.value,
+        outcomes,
+        output,
+        policy,
+        chooser,
+        traced,
+        seed,
         remains,
     )
 }
@@ -143,12 +135,19 @@ fn replay_of<R: Read, S: Read>(
 /// the trace of the steps where `traced` asks for it; or the line of a fault.
 ///
 /// The chooser gives the order, and the policy whether an error stops the run and how many requests
-/// may run at once; the seed is as for [`crate::check_batch`]. The second input is read only if the first has a batch that the check accepts.
+/// may run at once. The seed and `remains` are as for [`crate::check_batch`]. The outcomes are read
+/// only if the check accepts the batch.
+///
+/// Both documents and the lines of the trace are held in memory; the response is written through a
+/// buffer of about 64 KiB. Where the chooser follows an order, a replay takes time in proportion to
+/// the documents and to what is written, up to a logarithm of the number of requests.
 ///
 /// # Errors
 ///
-/// `Read` if and only if an input failed, and then nothing is written; `Write` if and only if the
-/// output did; `OutOfMemory` where memory was refused.
+/// - `Read` if and only if an input failed; nothing was written.
+/// - `Write` if and only if the output failed; it has received a prefix of what is written.
+/// - `OutOfMemory` if an allocation fails; nothing was written, or a prefix of the trace and the
+///   response.
 pub fn replay_batch<R: Read, S: Read, W: Write>(
     alloc: Global,
     batch: &mut Input<R>,
@@ -171,8 +170,11 @@ pub fn replay_batch<R: Read, S: Read, W: Write>(
     ensures batch { ReadsFew R.remaining batch.old batch.new }
     ensures outcomes { ReadsFew S.remaining outcomes.old outcomes.new }
 {
-    let found = replay_of(
-        alloc, batch, outcomes, policy, chooser, traced, seed, remains,
+    let sent = replay_of(
+        alloc, batch, outcomes, output, policy, chooser, traced, seed, remains,
     );
-    end(alloc, found, output)
+    match sent {
+        Ok(ended) => ended,
+        Err(stop) => end(alloc, Err(stop), output),
+    }
 }

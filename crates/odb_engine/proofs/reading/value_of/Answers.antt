@@ -1,4 +1,4 @@
-use Rattle.std.proofs.Common.{sym, subst, refl, rules}
+use Rattle.std.proofs.Common.{sym, subst, rules}
 use Rattle.serde_json.specs.View.{view}
 use Rattle.odb_doc.specs.Documents.{IsDocument}
 use Rattle.odb_doc.specs.FaultTable as document
