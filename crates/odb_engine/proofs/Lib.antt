@@ -4,3 +4,4 @@ mod EngineLemmas
 mod SendLemmas
 mod ReplayLemmas
 mod LawLemmas
+mod CourseLemmas

@@ -3,10 +3,17 @@
 //! The laws are clauses of a function that changes nothing. They speak of the words that the clauses
 //! of the engines use.
 
-ghost use Rattle.std.specs.Prelude.{ℕ, List};
+ghost use Rattle.std.specs.Prelude.{ℕ, Bool, List};
+ghost use Rattle.odb_doc.specs.Outcomes.{Recorded};
+ghost use Rattle.odb_sched.specs.Choosing.{AllowsOrder};
+ghost use Rattle.odb_sched.specs.declared.order.Order.{Order};
+ghost use Rattle.odb_sched.specs.declared.policy.Policy.{Policy};
 ghost use Rattle.odb_engine.specs.Cascade.{Answers};
 ghost use Rattle.odb_engine.specs.Commands.{Counts, Plans};
 ghost use Rattle.odb_engine.specs.Laws.{IsOne};
+ghost use Rattle.odb_engine.specs.Replays.{ReplaysPlan};
+
+use odb_check::Plan;
 
 /// Two texts that a check may write for the same bytes are equal, and so are the ends; likewise for a
 /// plan. So what these commands write is a function of the bytes.
@@ -17,4 +24,13 @@ pub fn one_text()
     odb_doc::laws::one_batch();
     odb_doc::laws::one_fault();
     odb_check::laws::one_fault();
+}
+
+/// In an order, as that of `First`, `Last` or `Wide`, a plan, a policy and a record of outcomes have one
+/// course. So two texts that a replay may write of them are equal, and so are the ends.
+pub fn one_replay(plan: &Plan<'_>)
+    ensures { (order : Order) (policy : Policy) (traced : Bool) (entries : List Recorded)
+        → IsOne (ReplaysPlan (AllowsOrder order) policy traced plan.now entries) }
+{
+    odb_sched::laws::every_order(plan);
 }
