@@ -1,4 +1,4 @@
--- What a replay may write of one plan, by one record, in an order: one text.
+-- What a replay may write of the same requests, by one record, in an order: one text.
 use Rattle.std.proofs.Common.{◌∙◌, ℕ, Bool, List, Option, inl, inr, sym, ap, rules}
 use Rattle.odb_doc.specs.declared.outcome.Outcome.{Outcome}
 use Rattle.odb_doc.specs.Outcomes.{Recorded}
@@ -14,7 +14,8 @@ use Rattle.odb_sched.specs.State.{State, at_first}
 use Rattle.odb_engine.specs.declared.ending.Ended.{Ended}
 use Rattle.odb_engine.specs.Cascade.{line_of}
 use Rattle.odb_engine.specs.Laws.{IsOne}
-use Rattle.odb_engine.specs.Replays.{ReplaysPlan, LacksOutcome, execution_refusal, result_text}
+use Rattle.odb_engine.specs.Replays.{ReplaysPlan, ReplaysBatch, LacksOutcome, execution_refusal, result_text}
+use Rattle.odb_engine.proofs.PlanLemmas.{replays-plan}
 
 -- what odb_sched says of an order, at the start of a run and with the outcomes recorded
 pub record HasOrder (order : Order) (recorded : List (Option Outcome)) (first : State) : Type 0 where
@@ -27,12 +28,16 @@ module _ (order : Order) (policy : Policy) (traced : Bool) (plan : Plan) (entrie
       → Faults order (recorded_for (plan_records plan) entries) (at_first plan policy.mode policy.width) (fault.NoOutcome lacks.at)
   missing ended text lacks = (search rules, (lacks.due, lacks.none))
 
-  pub one_replay : HasOrder order (recorded_for (plan_records plan) entries) (at_first plan policy.mode policy.width) → IsOne (ReplaysPlan (AllowsOrder order) policy traced plan entries)
-  one_replay law a b s t (inl x) (inl y) =
+  one_plan : HasOrder order (recorded_for (plan_records plan) entries) (at_first plan policy.mode policy.width) → IsOne (ReplaysPlan (AllowsOrder order) policy traced plan entries)
+  one_plan law a b s t (inl x) (inl y) =
       let (steps, last) = law.course x.steps y.steps x.last y.last x.course y.course in
       (x.ends ∙ sym y.ends, x.result ∙ ap (λ e. result_text traced e x.steps) last ∙ ap (λ e. result_text traced y.last e) steps ∙ sym y.result)
-  one_replay law a b s t (inl x) (inr y) = absurd (law.apart (fault.NoOutcome y.at) x.steps x.last (missing b t y) x.course)
-  one_replay law a b s t (inr x) (inl y) = absurd (law.apart (fault.NoOutcome x.at) y.steps y.last (missing a s x) y.course)
-  one_replay law a b s t (inr x) (inr y) =
+  one_plan law a b s t (inl x) (inr y) = absurd (law.apart (fault.NoOutcome y.at) x.steps x.last (missing b t y) x.course)
+  one_plan law a b s t (inr x) (inl y) = absurd (law.apart (fault.NoOutcome x.at) y.steps y.last (missing a s x) y.course)
+  one_plan law a b s t (inr x) (inr y) =
       let same = law.fault (fault.NoOutcome x.at) (fault.NoOutcome y.at) (missing a s x) (missing b t y) in
       (x.ends ∙ sym y.ends, x.line ∙ ap (λ cause. line_of (execution_refusal cause)) same ∙ sym y.line)
+
+  pub one_replay : HasOrder order (recorded_for (plan_records plan) entries) (at_first plan policy.mode policy.width) → IsOne (ReplaysBatch (AllowsOrder order) policy traced entries (plan_records plan))
+  one_replay law a b s t (one, same, x) (two, equal, y) =
+      one_plan law a b s t (replays-plan (AllowsOrder order) policy traced plan one (sym same) entries a s x) (replays-plan (AllowsOrder order) policy traced plan two (sym equal) entries b t y)

@@ -95,13 +95,22 @@ least_not law bytes P refusal (OfNames f n has e) is =
     let says = subst (λ v. IsBatchOf v has.holds.batch) same has.holds.says in
     law.no_name is.batch f n (subst (RefusesNames f) (law.one_batch is.value _ _ says is.says) has.holds.holds) is.names
 
-pub answers_one : AreFunctional → (P : List Record → Writes) → ((xs : List Record) → IsOne (P xs)) → (bytes : List ℕ) → IsOne (Answers P bytes)
-answers_one law P one bytes a b s t (inl x) (inl y) =
+-- two readings of a batch that is accepted have the same requests
+same_batch : AreFunctional → (bytes : List ℕ) (P Q : List Record → Type 0) → (one : Accepts bytes P) (two : Accepts bytes Q) → one.batch ≡ two.batch
+same_batch law bytes P Q one two =
+    law.one_batch two.value one.batch two.batch (subst (λ v. IsBatchOf v one.batch) (one_value bytes one.value two.value one.document two.document) one.says) two.says
+
+pub answers_one : AreFunctional → (P : List Record → Writes) (bytes : List ℕ) → ((xs : List Record) → Accepts bytes (λ batch. batch ≡ xs) → IsOne (P xs)) → IsOne (Answers P bytes)
+answers_one law P bytes one a b s t (inl x) (inl y) =
     let same = least_one law bytes x.refusal y.refusal x.is y.is in
     (x.ends ∙ sym y.ends, x.line ∙ ap line_of same ∙ sym y.line)
-answers_one law P one bytes a b s t (inl x) (inr y) = absurd (least_not law bytes (λ batch. P batch b t) x.refusal x.is y)
-answers_one law P one bytes a b s t (inr x) (inl y) = absurd (least_not law bytes (λ batch. P batch a s) y.refusal y.is x)
-answers_one law P one bytes a b s t (inr x) (inr y) =
-    let same = one_value bytes x.value y.value x.document y.document in
-    let says = subst (λ v. IsBatchOf v x.batch) same x.says in
-    one y.batch a b s t (subst (λ xs. P xs a s) (law.one_batch y.value _ _ says y.says) x.holds) y.holds
+answers_one law P bytes one a b s t (inl x) (inr y) = absurd (least_not law bytes (λ batch. P batch b t) x.refusal x.is y)
+answers_one law P bytes one a b s t (inr x) (inl y) = absurd (least_not law bytes (λ batch. P batch a s) y.refusal y.is x)
+answers_one law P bytes one a b s t (inr x) (inr y) =
+    let here : Accepts bytes (λ batch. batch ≡ y.batch) = record { value = y.value; document = y.document; shape = y.shape; batch = y.batch; says = y.says; names = y.names; holds = refl } in
+    one y.batch here a b s t (subst (λ xs. P xs a s) (same_batch law bytes (λ batch. P batch a s) (λ batch. P batch b t) x y) x.holds) y.holds
+
+-- where a text is one for some requests, it is for the documents of them
+pub answers_of : AreFunctional → (P : List Record → Writes) (bytes : List ℕ) (requests : List Record) → Accepts bytes (λ batch. batch ≡ requests) → IsOne (P requests) → IsOne (Answers P bytes)
+answers_of law P bytes requests accepted one = answers_one law P bytes
+    (λ xs here. subst (λ batch. IsOne (P batch)) (sym accepted.holds ∙ same_batch law bytes (λ batch. batch ≡ requests) (λ batch. batch ≡ xs) accepted here ∙ here.holds) one)

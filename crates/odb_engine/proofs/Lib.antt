@@ -4,4 +4,5 @@ mod EngineLemmas
 mod SendLemmas
 mod ReplayLemmas
 mod LawLemmas
+mod PlanLemmas
 mod CourseLemmas

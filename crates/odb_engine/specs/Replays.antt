@@ -62,6 +62,10 @@ pub record LacksOutcome (allows : Allowance) (policy : Policy) (plan : Plan) (en
 abbrev pub ReplaysPlan : Allowance → Policy → Bool → Plan → List Recorded → Writes
 ReplaysPlan allows policy traced plan entries ended text = IsResult allows policy traced plan entries ended text ⊎ LacksOutcome allows policy plan entries ended text
 
+-- the same of requests: what a plan of them gives
+abbrev pub ReplaysBatch : Allowance → Policy → Bool → List Recorded → List Record → Writes
+ReplaysBatch allows policy traced entries batch ended text = (plan : Plan) × (plan_records plan ≡ batch) × ReplaysPlan allows policy traced plan entries ended text
+
 abbrev pub outcomes_refusal : OutcomeFault → Refusal
 outcomes_refusal fault = record { code = outcomes.fault_code fault; name = outcomes.fault_name fault; place = outcomes.fault_place fault }
 

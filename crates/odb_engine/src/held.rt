@@ -1,11 +1,13 @@
 use std::mem::forget;
 
-/// What becomes of the documents that an engine read, once it has ended.
+/// What happens to the documents that an engine has read, once it has ended.
+///
+/// What is written does not depend on it. Dropping takes time in proportion to the documents.
 #[derive(Clone, Copy, Debug, PartialEq, Eq)]
 pub enum Remains {
     /// They are dropped.
     Dropped,
-    /// They are leaked, for a process that is about to exit: dropping a large document takes long.
+    /// They are leaked, for a process that is about to exit.
     Left,
 }
 

@@ -3,15 +3,16 @@
 //! The laws are clauses of a function that changes nothing. They speak of the words that the clauses
 //! of the engines use.
 
-ghost use Rattle.std.specs.Prelude.{ℕ, Bool, List};
+ghost use Rattle.std.specs.Prelude.{◌≡◌, ℕ, Bool, List};
 ghost use Rattle.odb_doc.specs.Outcomes.{Recorded};
+ghost use Rattle.odb_check.specs.Plans.{plan_records};
 ghost use Rattle.odb_sched.specs.Choosing.{AllowsOrder};
 ghost use Rattle.odb_sched.specs.declared.order.Order.{Order};
 ghost use Rattle.odb_sched.specs.declared.policy.Policy.{Policy};
-ghost use Rattle.odb_engine.specs.Cascade.{Answers};
+ghost use Rattle.odb_engine.specs.Cascade.{Accepts, Answers};
 ghost use Rattle.odb_engine.specs.Commands.{Counts, Plans};
 ghost use Rattle.odb_engine.specs.Laws.{IsOne};
-ghost use Rattle.odb_engine.specs.Replays.{ReplaysPlan};
+ghost use Rattle.odb_engine.specs.Replays.{ReplaysBatch};
 
 use odb_check::Plan;
 
@@ -27,10 +28,17 @@ pub fn one_text()
 }
 
 /// In an order, as that of `First`, `Last` or `Wide`, a plan, a policy and a record of outcomes have one
-/// course. So two texts that a replay may write of them are equal, and so are the ends.
+/// course. So two texts that a replay may write of the same requests by the same record are equal, and
+/// so are the ends, whatever else their plans hold; likewise for a document of these requests.
 pub fn one_replay(plan: &Plan<'_>)
-    ensures { (order : Order) (policy : Policy) (traced : Bool) (entries : List Recorded)
-        → IsOne (ReplaysPlan (AllowsOrder order) policy traced plan.now entries) }
+    ensures requests { (order : Order) (policy : Policy) (traced : Bool) (entries : List Recorded)
+        → IsOne (ReplaysBatch (AllowsOrder order) policy traced entries (plan_records plan.now)) }
+    ensures document { (order : Order) (policy : Policy) (traced : Bool) (entries : List Recorded)
+        (bytes : List ℕ) → Accepts bytes (λ batch. batch ≡ plan_records plan.now)
+        → IsOne (Answers (ReplaysBatch (AllowsOrder order) policy traced entries) bytes) }
 {
+    odb_doc::laws::one_batch();
+    odb_doc::laws::one_fault();
+    odb_check::laws::one_fault();
     odb_sched::laws::every_order(plan);
 }

@@ -25,7 +25,7 @@ pub enum Stop {
     },
     /// An input failed.
     Read,
-    /// Memory was refused.
+    /// An allocation failed.
     OutOfMemory,
 }
 

@@ -12,7 +12,7 @@ returns-clause-check c =
       one_name = c.one_fault-2.ensures.one;
       no_name = c.one_fault-2.ensures.none;
     } in
-    answers_one law Counts (λ xs a b s t x y. (x.0 ∙ sym y.0, x.1 ∙ sym y.1))
+    λ bytes. answers_one law Counts bytes (λ xs here a b s t x y. (x.0 ∙ sym y.0, x.1 ∙ sym y.1))
 
 pub returns-clause-plan : goal.returns-clause-plan
 returns-clause-plan c =
@@ -23,4 +23,4 @@ returns-clause-plan c =
       one_name = c.one_fault-2.ensures.one;
       no_name = c.one_fault-2.ensures.none;
     } in
-    answers_one law Plans (λ xs a b s t x y. (x.0 ∙ sym y.0, x.1 ∙ sym y.1))
+    λ bytes. answers_one law Plans bytes (λ xs here a b s t x y. (x.0 ∙ sym y.0, x.1 ∙ sym y.1))
