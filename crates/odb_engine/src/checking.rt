@@ -38,11 +38,11 @@ impl Command for Plans {
 
 /// Checks the batch in a document: writes the line of its counts, or of its least fault.
 ///
-/// The seed should be random and secret: it keeps the tables of names fast whatever the names, and
-/// what is written does not depend on it. `remains` says whether the document is dropped at the end.
+/// The input must be new, and the output must not have failed. The seed should be random and secret:
+/// it keeps the tables of names fast whatever the names. `remains` says whether the document is
+/// dropped at the end. What is written depends on neither.
 ///
-/// The whole document is held in memory. Beyond that a check takes time and memory in proportion to
-/// the document.
+/// Takes O(n log n) time and O(n) memory for a document of n bytes.
 ///
 /// # Errors
 ///
@@ -69,12 +69,12 @@ pub fn check_batch<R: Read, W: Write>(
 
 /// Plans the batch in a document: writes a line per request, or the line of its least fault.
 ///
-/// The seed and `remains` are as for [`check_batch`], and so is the cost: the text of the plan is held
-/// in memory too.
+/// The arguments are those of [`check_batch`], and so is the cost; the text of the plan is held in
+/// memory too.
 ///
 /// # Errors
 ///
-/// As for [`check_batch`].
+/// Those of [`check_batch`].
 pub fn plan_batch<R: Read, W: Write>(
     alloc: Global,
     input: &mut Input<R>,

@@ -134,13 +134,13 @@ fn replay_of<R: Read, S: Read, W: Write>(
 /// Replays the batch in a document by the recorded outcomes in another: writes the response, after
 /// the trace of the steps where `traced` asks for it; or the line of a fault.
 ///
-/// The chooser gives the order, and the policy whether an error stops the run and how many requests
-/// may run at once. The seed and `remains` are as for [`crate::check_batch`]. The outcomes are read
-/// only if the check accepts the batch.
+/// The inputs must be new, and the output must not have failed. The chooser gives the order, and the
+/// policy whether an error stops the run and how many requests may run at once. The seed and `remains`
+/// are as for [`crate::check_batch`]. The outcomes are read only if the check accepts the batch.
 ///
 /// Both documents and the lines of the trace are held in memory; the response is written through a
-/// buffer of about 64 KiB. Where the chooser follows an order, a replay takes time in proportion to
-/// the documents and to what is written, up to a logarithm of the number of requests.
+/// buffer, as [`odb_reply::write_responses`] does. If the chooser follows an order, takes O(n log n)
+/// time for n bytes of documents and output; else the chooser is asked at each step.
 ///
 /// # Errors
 ///
