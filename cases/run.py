@@ -1,0 +1,114 @@
+#!/usr/bin/env python3
+"""Runs the worked cases of this folder against the program and compares all that it does.
+
+Each run has a fresh folder with the case's files. Its standard output, its standard error and its
+exit status have to be the ones that the case shows. The last line is `N passed, N failed`.
+"""
+
+import argparse
+import os
+import subprocess
+import sys
+import tempfile
+from concurrent.futures import ThreadPoolExecutor
+
+sys.dont_write_bytecode = True
+
+import pages
+
+HERE = os.path.dirname(os.path.realpath(__file__))
+PROGRAM = os.path.join(os.path.dirname(HERE), "crates", "odb_batch", "out", "odb_batch")
+SECONDS = 60
+SHOWN = 600
+
+
+def read_arguments():
+    parser = argparse.ArgumentParser(description="Runs the worked cases of this folder.")
+    parser.add_argument("--binary", default=PROGRAM, metavar="PATH", help="the program; else the one built here")
+    parser.add_argument("--commands", default=",".join(pages.COMMANDS), metavar="NAME,..", help="only these commands")
+    parser.add_argument("--only", default="", metavar="WORD", help="only the cases with WORD in page or title")
+    parser.add_argument("--jobs", type=int, default=4, metavar="N", help="how many run at once; 4")
+    return parser.parse_args()
+
+
+def write_files(run, folder):
+    """Makes the files and folders of a case."""
+    for name, pieces in run.documents.items():
+        with open(os.path.join(folder, name), "wb") as file:
+            file.write(pages.joined(pieces))
+    for name in run.folders:
+        os.mkdir(os.path.join(folder, name))
+
+
+def call(run, binary, folder):
+    """Calls the program in this folder; returns its output, its messages and its status."""
+    output = open(run.to, "wb") if run.to else subprocess.PIPE
+    try:
+        done = subprocess.run(
+            ["odb_batch", *run.arguments],
+            executable=binary,
+            cwd=folder,
+            input=pages.joined(run.input),
+            stdout=output,
+            stderr=subprocess.PIPE,
+            timeout=SECONDS,
+        )
+    finally:
+        if run.to:
+            output.close()
+    return done.stdout or b"", done.stderr, done.returncode
+
+
+def shown(data):
+    """The bytes as a text for the reader, cut in its middle where it is long."""
+    text = data.decode(errors="backslashreplace")
+    return text if len(text) <= SHOWN else f"{text[:SHOWN // 2]} .. {text[-SHOWN // 2:]}"
+
+
+def differences(run, out, err, status):
+    """What the program did otherwise than the case shows, a line each."""
+    wanted = pages.joined(run.out)
+    messages = "".join(line + "\n" for line in run.errors).encode()
+    found = []
+    if status != run.status:
+        found.append(f"exit status wanted: {run.status}, got: {status}")
+    if out != wanted:
+        found.append(f"standard output wanted:\n{shown(wanted)}\ngot:\n{shown(out)}")
+    if err != messages and (run.errors != [pages.SOMETHING] or not err):
+        found.append(f"standard error wanted:\n{shown(messages)}\ngot:\n{shown(err)}")
+    return found
+
+
+def tried(run, binary):
+    """Runs a case once; returns what went otherwise."""
+    with tempfile.TemporaryDirectory(prefix="cases-") as folder:
+        write_files(run, folder)
+        try:
+            return differences(run, *call(run, binary, folder))
+        except subprocess.TimeoutExpired:
+            return [f"not finished after {SECONDS} seconds"]
+
+
+def main():
+    options = read_arguments()
+    binary = os.path.abspath(options.binary)
+    if not os.access(binary, os.X_OK):
+        sys.exit(f"{binary} is not there: build it first, as bin/odb_batch does")
+    commands = options.commands.split(",")
+    chosen = [
+        run
+        for run in pages.read_folder(HERE)
+        if run.command in commands and options.only in f"{run.page} {run.title}"
+    ]
+    failed = 0
+    with ThreadPoolExecutor(options.jobs) as pool:
+        for run, found in zip(chosen, pool.map(lambda run: tried(run, binary), chosen)):
+            if found:
+                failed += 1
+                print(run.name, *found, sep="\n", end="\n\n")
+    print(f"{len(chosen) - failed} passed, {failed} failed")
+    return 1 if failed else 0
+
+
+if __name__ == "__main__":
+    sys.exit(main())
