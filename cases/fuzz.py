@@ -1,0 +1,181 @@
+#!/usr/bin/env python3
+"""Compares the program with the plain rules of rules.py on documents made at random.
+
+The same seed makes the same documents. With `--mistakes` it shows, too, that each planted mistake of
+mistakes.py is found: that the rules with it print something else than the program. The last line is
+`N documents, M differ`.
+"""
+
+import argparse
+import os
+import subprocess
+import sys
+import tempfile
+from collections import Counter
+from concurrent.futures import ThreadPoolExecutor
+from dataclasses import dataclass
+from random import Random
+
+sys.dont_write_bytecode = True
+
+import grammar
+import mistakes
+import rules
+import rules_of_runs
+from pages import COMMANDS
+from run import PROGRAM
+
+SECONDS = 60
+SHOWN = 5
+
+
+@dataclass
+class Trial:
+    """A command, its options as the rules take them, and its documents."""
+
+    command: str
+    options: dict
+    documents: list
+    by_input: bool
+
+    def arguments(self):
+        words = [self.command]
+        for name, value in self.options.items():
+            words += [f"--{name}"] * (value is True) if isinstance(value, bool) else [f"--{name}", str(value)]
+        return words
+
+    def by_rules(self):
+        """What the rules print; a planted mistake may also make them fail."""
+        try:
+            return rules_of_runs.printed(self.command, *self.documents, **self.options)
+        except (ArithmeticError, AttributeError, LookupError, RecursionError, TypeError, ValueError) as error:
+            return repr(error).encode(), None
+
+
+def options_of(random, command):
+    if command not in ("replay", "run"):
+        return {}
+    found = {"stop": random.random() < 0.3}
+    if random.random() < 0.5:
+        found["width"] = random.choice((1, 1, 2, 3, 10_000))
+    if command == "replay":
+        found |= {"order": random.choice(("first", "last", "wide")), "trace": random.random() < 0.6}
+    return found
+
+
+def second_document(random, command, first, options):
+    """The second document of a command, which fits the batch where that is a good one."""
+    try:
+        requests = rules.check(first)
+    except rules.Fault:
+        requests = []
+    if command == "replay":
+        return [grammar.outcomes(random, [it.id for it in requests])]
+    if command == "match":
+        return [grammar.responses(random, requests)]
+    if command == "run":
+        return [grammar.events(random, requests, options["stop"], options.get("width", 10_000))]
+    return []
+
+
+def trial(random, commands):
+    command = random.choice(commands)
+    alone = command in ("check", "plan", "canon")
+    options, first = options_of(random, command), grammar.batch(random, 0.9 if alone else 0.3)
+    documents = [first, *second_document(random, command, first, options)]
+    return Trial(command, options, documents, command == "check" and random.random() < 0.5)
+
+
+def call(trial, binary):
+    """What the program prints for a trial; any message on standard error is a difference."""
+    with tempfile.TemporaryDirectory(prefix="fuzz-") as folder:
+        names = [f"document{k}" for k in range(len(trial.documents))]
+        for name, data in zip(names, trial.documents):
+            with open(os.path.join(folder, name), "wb") as file:
+                file.write(data)
+        words = trial.arguments() + ([] if trial.by_input else names)
+        given = trial.documents[0] if trial.by_input else b""
+        done = subprocess.run([binary, *words], cwd=folder, input=given, capture_output=True, timeout=SECONDS)
+    return done.stdout + done.stderr, done.returncode
+
+
+def show(number, trial, got):
+    """Prints a difference, with all that is needed to see it again."""
+    wanted, status = trial.by_rules()
+    print(f"document {number}: {' '.join(trial.arguments())}")
+    for data in trial.documents:
+        print("  document:", data.decode(errors="backslashreplace"))
+    print(f"  by the rules, status {status}: {wanted.decode()}  by the program, status {got[1]}: {got[0].decode()}")
+
+
+def kind(output):
+    """What an output is counted as: the code of its fault, or `good`."""
+    words = output[0].split()
+    return words[1].decode() if words[:1] == [b"fault"] else "good"
+
+
+def found_at(name, trials, outputs):
+    """The first trial that shows a planted mistake, counted from 1, or None."""
+    seen = mistakes.MISTAKES[name].commands
+    with mistakes.planted(name):
+        for number, (trial, got) in enumerate(zip(trials, outputs), 1):
+            if trial.command in seen and trial.by_rules() != got:
+                return number
+    return None
+
+
+def look_for_mistakes(trials, outputs, commands):
+    """Prints where each mistake is found; returns how many are not."""
+    names = [name for name, it in mistakes.MISTAKES.items() if set(it.commands) & set(commands)]
+    missed = 0
+    for name in names:
+        number = found_at(name, trials, outputs)
+        missed += number is None
+        print(f"{name}: " + ("not found" if number is None else f"found by document {number}"))
+    print(f"{len(names) - missed} mistakes found, {missed} not found")
+    return missed
+
+
+def read_arguments():
+    parser = argparse.ArgumentParser(description="Compares the program with plain rules on random documents.")
+    option = parser.add_argument
+    option("--binary", default=PROGRAM, metavar="PATH", help="the program; else the one built here")
+    option("--commands", default=",".join(COMMANDS), metavar="NAME,..", help="only these commands")
+    option("--count", type=int, default=2000, metavar="N", help="how many documents; 2000")
+    option("--seed", type=int, default=1, metavar="S", help="which documents; 1")
+    option("--jobs", type=int, default=4, metavar="N", help="how many run at once; 4")
+    option("--mistakes", action="store_true", help="show that each planted mistake is found")
+    option("--plant", choices=list(mistakes.MISTAKES), help="compare with rules that have this mistake")
+    return parser.parse_args()
+
+
+def compare(trials, outputs):
+    """Shows the first differences; returns how many there are."""
+    differ = [(k, it, got) for k, (it, got) in enumerate(zip(trials, outputs), 1) if it.by_rules() != got]
+    for number, it, got in differ[:SHOWN]:
+        show(number, it, got)
+    return len(differ)
+
+
+def main():
+    options = read_arguments()
+    binary, commands = os.path.abspath(options.binary), options.commands.split(",")
+    if not os.access(binary, os.X_OK):
+        sys.exit(f"{binary} is not there: build it first, as bin/odb_batch does")
+    trials = [trial(Random(f"{options.seed} {k}"), commands) for k in range(options.count)]
+    with ThreadPoolExecutor(options.jobs) as pool:
+        outputs = list(pool.map(lambda it: call(it, binary), trials))
+    counts = Counter(map(kind, outputs))
+    print("seen:", ", ".join(f"{name} {counts[name]}" for name in sorted(counts)))
+    missed = look_for_mistakes(trials, outputs, commands) if options.mistakes else 0
+    if options.plant:
+        with mistakes.planted(options.plant):
+            differ = compare(trials, outputs)
+    else:
+        differ = compare(trials, outputs)
+    print(f"{len(trials)} documents, {differ} differ")
+    return 1 if differ or missed else 0
+
+
+if __name__ == "__main__":
+    sys.exit(main())
