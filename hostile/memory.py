@@ -1,0 +1,158 @@
+#!/usr/bin/env python3
+"""Refuses requests for memory of the program, one run for each, and looks at how it ends.
+
+For each command on small documents the first request is refused, then the second, and so on until a
+run meets no refusal. That is done twice: the one request is refused, or all from it on. On a batch of
+1,000 requests one of ten requests is refused, chosen by a seed. A run has to end with status 4,
+`error: memory`, and the beginning of what it prints else; or exactly as if nothing had been refused.
+The last line is `N runs, M wrong`.
+"""
+
+import argparse
+import os
+import subprocess
+import sys
+import tempfile
+from concurrent.futures import ThreadPoolExecutor
+from dataclasses import dataclass
+from random import Random
+
+sys.dont_write_bytecode = True
+
+import documents
+
+HERE = os.path.dirname(os.path.realpath(__file__))
+ROOT = os.path.dirname(HERE)
+PROGRAM = os.path.join(ROOT, "crates", "odb_batch", "out", "odb_batch")
+MEMORY = (4, b"error: memory\n")
+SECONDS = 60
+SHARE = 10
+SHOWN = 400
+
+
+@dataclass
+class Ending:
+    """How a run ended; whether it met a refusal, and how many requests for memory it made."""
+
+    status: int
+    out: bytes
+    err: bytes
+    refused: bool
+    requests: int
+
+    def text(self):
+        return self.status, self.out, self.err
+
+
+class Program:
+    """The program with the library that refuses memory."""
+
+    def __init__(self, binary, folder):
+        self.binary, self.folder = binary, folder
+        self.library = os.path.join(folder, "refuse.so")
+        source = os.path.join(HERE, "refuse.c")
+        subprocess.run(["cc", "-shared", "-fPIC", "-O2", "-o", self.library, source], check=True)
+
+    def run(self, trial, at=0, rest=False):
+        """Runs a trial in which the request `at` is refused, and the later ones too if `rest`."""
+        read, write = os.pipe()
+        told = {"LD_PRELOAD": self.library, "REFUSE_AT": str(at), "REFUSE_TELL": str(write)}
+        done = subprocess.run(
+            ["odb_batch", *trial.arguments],
+            executable=self.binary,
+            cwd=self.folder,
+            env={**told, **({"REFUSE_REST": "1"} if rest else {})},
+            pass_fds=[write],
+            input=trial.input,
+            capture_output=True,
+            timeout=SECONDS,
+        )
+        os.close(write)
+        with os.fdopen(read, "rb") as file:
+            said = file.read().decode()
+        return Ending(done.returncode, done.stdout, done.stderr, "!" in said, int(said.strip("!") or 0))
+
+
+def is_right(trial, got, whole):
+    """Whether a run with a refusal ended as it may, beside the same run without one."""
+    if got.text() == whole.text():
+        return True
+    begun = whole.out.startswith(got.out) and (trial.may_begin or not got.out)
+    return (got.status, got.err) == MEMORY and begun
+
+
+def places(trial, whole, seed):
+    """Which requests are refused: all, or of a large trial one of ten."""
+    every = range(1, whole.requests + 1)
+    if not trial.large:
+        return list(every)
+    random = Random(f"{seed} {trial.title}")
+    return [at for at in every if random.randrange(SHARE) == 0]
+
+
+def undisturbed_place(program, trial, rest, after):
+    """Goes on from the last place until a run meets no refusal; returns the places that were passed."""
+    passed = []
+    while program.run(trial, after + len(passed) + 1, rest).refused:
+        passed.append(after + len(passed) + 1)
+    return passed
+
+
+def show(trial, at, rest, got):
+    later = " and all later ones" if rest else ""
+    print(f"{trial.title}: request {at}{later} refused: status {got.status}")
+    print(f"  standard output: {got.out[:SHOWN]!r}\n  standard error: {got.err[:SHOWN]!r}")
+
+
+def tried(program, pool, trial, rest, seed):
+    """Tries a trial at each of its places; returns how many runs that were and how many ended wrong."""
+    whole = program.run(trial)
+    chosen = places(trial, whole, seed)
+    if not trial.large:
+        chosen += undisturbed_place(program, trial, rest, whole.requests)
+    endings = list(pool.map(lambda at: program.run(trial, at, rest), chosen))
+    wrong = [(at, got) for at, got in zip(chosen, endings) if not (got.refused and is_right(trial, got, whole))]
+    for at, got in wrong:
+        show(trial, at, rest, got)
+    begun = sum(got.status == MEMORY[0] and bool(got.out) for got in endings)
+    same = sum(got.text() == whole.text() for got in endings)
+    how = "and all later ones" if rest else "alone"
+    print(
+        f"{trial.title}: each of {len(chosen)} requests of {whole.requests} refused {how}:"
+        f" {len(wrong)} wrong, {same} as undisturbed, {begun} with output begun"
+    )
+    return len(chosen), len(wrong)
+
+
+def read_arguments():
+    parser = argparse.ArgumentParser(description="Refuses requests for memory of the program.")
+    option = parser.add_argument
+    option("--binary", default=PROGRAM, metavar="PATH", help="the program; else the one built here")
+    option("--commands", default="check,plan,canon,replay,match,run", metavar="NAME,..", help="only these commands")
+    option("--seed", type=int, default=1, metavar="S", help="which requests of the large batch are refused; 1")
+    option("--jobs", type=int, default=4, metavar="N", help="how many runs at once; 4")
+    option("--only", default="", metavar="WORD", help="only the trials with WORD in their title")
+    return parser.parse_args()
+
+
+def main():
+    options = read_arguments()
+    binary = os.path.abspath(options.binary)
+    if not os.access(binary, os.X_OK):
+        sys.exit(f"{binary} is not there: build it first, as bin/odb_batch does")
+    runs = wrong = 0
+    with tempfile.TemporaryDirectory(prefix="hostile-") as folder, ThreadPoolExecutor(options.jobs) as pool:
+        program = Program(binary, folder)
+        documents.write(folder, os.path.join(ROOT, "examples"))
+        for trial in documents.trials(options.commands.split(",")):
+            if options.only not in trial.title:
+                continue
+            for rest in (False,) if trial.large else (False, True):
+                more, bad = tried(program, pool, trial, rest, options.seed)
+                runs, wrong = runs + more, wrong + bad
+    print(f"{runs} runs, {wrong} wrong")
+    return 1 if wrong else 0
+
+
+if __name__ == "__main__":
+    sys.exit(main())
