@@ -9,14 +9,16 @@ import rules_of_runs
 IDS = ("a", "b", "c", "d", "e", "f", "1", "2", "A", "x-1", "~", "metadata", "all")
 GROUPS = ("g", "h", "G")
 URLS = (
-    "Books", "/service/Books('dune')", "", "https://host/s/X", "$crossjoin(A,B)", "$metadata", "$all%ffx", "%zz",
-    "/$a/Pages", "/service/%2524batch", "$batch/", "Books?x=/$batch", "$root/Books#$", "%", "Bücher",
+    "Books", "/service/Books('dune')", "", "https://host/s/X", "$crossjoin(A,B)", "$metadata", "$all%ffx",
+    "%zz", "/$a/Pages", "/service/%2524batch", "$batch/", "Books?x=/$batch", "$root/Books#$", "%", "Bücher",
 )  # fmt: skip
 BAD_URLS = (
-    "$", "$a(5)", "$a%2Fb", "%24", "$$", "$aä", "$batch", "/s/$batch?x", "/s/%24batch#y", "$nobody/X", "$all-", None, 7,
+    "$", "$a(5)", "$a%2Fb", "%24", "$$", "$aä", "$batch", "/s/$batch?x", "/s/%24batch#y",
+    "$nobody/X", "$all-", None, 7,
 )  # fmt: skip
 TAILS = ("", "/Pages", "?$top=1", "#x")
-BODIES = ({}, [], 0, False, "", "text!", {"b": 1, "a": [2, {"z": None}]}, "@@1.5@@", ["@@1E2@@"], 2**64 - 1, -(2**63), 2**64)
+WHOLE_BODIES = ({}, [], 0, False, "", "text!", {"b": 1, "a": [2, {"z": None}]}, 2**64 - 1, -(2**63))
+BODIES = (*WHOLE_BODIES, "@@1.5@@", ["@@1E2@@"], 2**64)
 TYPES = {
     None: BODIES,
     "application/json": BODIES,
@@ -28,8 +30,13 @@ TYPES = {
     "image/png": ("", "AA", "AAA", "AAAA", "AA==", "AA=", "=", "AAAAAA=", "-_A="),
 }
 BAD_BODIES = (7, "A", "AA===", "A+BC", "AAAAA", "AA A", {})
-BAD_HEADERS = ({"X": "1", "x": "2"}, {"a": 1}, [], {"Content-Type": "text/plain"}, {"Content-Type": "x/y", "content-type": "x/y"})
-VALUES = (None, 0, 1, True, "", "a", "a b", [], ["a"], [None], {}, {"a": "b"}, {"X": "1", "x": "2"}, {"a": 1}, "@@1.5@@")
+BAD_HEADERS = (
+    {"X": "1", "x": "2"}, {"a": 1}, [], {"Content-Type": "text/plain"},
+    {"Content-Type": "x/y", "content-type": "x/y"},
+)  # fmt: skip
+VALUES = (
+    None, 0, 1, True, "", "a", "a b", [], ["a"], [None], {}, {"a": "b"}, {"X": "1", "x": "2"}, {"a": 1}, "@@1.5@@",
+)  # fmt: skip
 NAMES = (*rules.MEMBERS, "if", "other", "@note", "url@note", "Id", "status", "start", "report")
 SUCCESSES, FAILURES = (200, 201, 204, 299), (304, 300, 399, 400, 404, 409, 500, 599)
 BAD_STATUSES = (199, 600, -1, 0, 65535, 65536, "200", "@@200.0@@", "@@2e2@@", None, 99, 100)
@@ -46,8 +53,8 @@ def damaged_text(random, data):
     """The bytes, now and then cut or with one byte changed."""
     if random.random() > 0.03 or not data:
         return data
-    at = random.randrange(len(data))
-    return data[:at] if random.random() < 0.5 else data[:at] + random.choice((b"\xff", b"}", b"[", b" ", b"\\")) + data[at + 1 :]
+    at, other = random.randrange(len(data)), random.choice((b"\xff", b"}", b"[", b" ", b"\\"))
+    return data[:at] if random.random() < 0.5 else data[:at] + other + data[at + 1 :]
 
 
 def document(random, value):
@@ -223,7 +230,7 @@ def with_rest(random, element):
     if random.random() < 0.3:
         element["headers"] = random.choice(HEADERS)
     if random.random() < 0.3:
-        element["body"] = random.choice(BODIES[:7] if random.random() < 0.9 else BODIES)
+        element["body"] = random.choice(WHOLE_BODIES if random.random() < 0.9 else BODIES)
     return element
 
 

@@ -77,7 +77,7 @@ def range_of(word):
 
 
 def words_of(value, count):
-    """The first words of a value, and the rest of it as it stands."""
+    """The first words of a value, and the rest of it unchanged."""
     words = value.split(" ", count)
     if len(words) <= count:
         raise BadPage(f"{count} words and a text are wanted: {value!r}")

@@ -328,12 +328,13 @@ def checked_line(batch):
     return f"ok {len(batch)} requests {len(groups)} groups\n"
 
 
+def plan_line(batch, i):
+    request, names = batch[i], ",".join(needs(batch, i))
+    return f"{i} {request.id} level {level(batch, i)} group {request.group or '*'} needs {names or '*'}\n"
+
+
 def plan_text(batch):
-    lines = [
-        f"{i} {request.id} level {level(batch, i)} group {request.group or '*'} needs {','.join(needs(batch, i)) or '*'}\n"
-        for i, request in enumerate(batch)
-    ]
-    return "".join(lines)
+    return "".join(plan_line(batch, i) for i in range(len(batch)))
 
 
 def json_text(value):
@@ -341,9 +342,14 @@ def json_text(value):
 
 
 def canonical_request(request):
-    members_of = {"id": request.id, "method": request.method, "url": request.url}
-    optional = dict(atomicityGroup=request.group, dependsOn=request.names or None, headers=request.headers or None, body=request.body)
-    return members_of | {name: value for name, value in optional.items() if value is not None}
+    optional = {
+        "atomicityGroup": request.group,
+        "body": request.body,
+        "dependsOn": request.names or None,
+        "headers": request.headers or None,
+    }
+    given = {name: value for name, value in optional.items() if value is not None}
+    return given | {"id": request.id, "method": request.method, "url": request.url}
 
 
 def canonical_text(batch):

@@ -6,6 +6,7 @@ import shutil
 from dataclasses import dataclass
 
 MANY = 1000
+WRITE_AS_THEY_GO = ("canon", "replay", "match", "run")
 USUAL_EVENTS = [
     {"start": "0"},
     {"report": "0", "status": 200, "headers": {"ETag": "7"}, "body": {"Title": "Dune"}},
@@ -24,14 +25,19 @@ USUAL_RESPONSES = [
 
 @dataclass
 class Trial:
-    """A call of the program, and whether its output may have begun when memory is refused."""
+    """A call of the program, and its status; of a large one only some requests for memory are refused."""
 
     title: str
     command: str
     arguments: list
-    may_begin: bool = False
+    status: int
     input: bytes = b""
     large: bool = False
+
+    @property
+    def may_begin(self):
+        """Whether a part of the output may have been written when memory is refused."""
+        return self.command in WRITE_AS_THEY_GO
 
 
 def many_requests():
@@ -45,9 +51,20 @@ def many_requests():
     return found
 
 
-def many_events():
-    names = [f"r{i}" for i in range(MANY)]
-    return [event for name in names for event in ({"start": name}, {"report": name, "status": 201, "body": {"id": name}})]
+def many_events(requests):
+    found = []
+    for request in requests:
+        found.append({"start": request["id"]})
+        found.append({"report": request["id"], "status": 201, "body": request["body"]})
+    return found
+
+
+def many_outcomes(requests):
+    return [{"id": it["id"], "status": 201, "body": it["body"]} for it in requests]
+
+
+def many_responses(requests):
+    return [{"id": it["id"], "status": 201, "atomicityGroup": it["atomicityGroup"]} for it in requests]
 
 
 def write(folder, examples):
@@ -59,51 +76,51 @@ def write(folder, examples):
         "usual_responses.json": {"responses": USUAL_RESPONSES},
         "usual_events.json": {"events": USUAL_EVENTS},
         "many.json": {"requests": many},
-        "many_outcomes.json": {"outcomes": [{"id": it["id"], "status": 201, "body": it["body"]} for it in many]},
-        "many_events.json": {"events": many_events()},
-        "many_responses.json": {"responses": [{"id": it["id"], "status": 201, "atomicityGroup": it["atomicityGroup"]} for it in many]},
+        "many_outcomes.json": {"outcomes": many_outcomes(many)},
+        "many_events.json": {"events": many_events(many)},
+        "many_responses.json": {"responses": many_responses(many)},
     }
     for name, value in made.items():
         with open(os.path.join(folder, name), "w", encoding="utf-8") as file:
             json.dump(value, file)
 
 
-def trial(line, may_begin=False, large=False):
+def trial(line, status=0, large=False):
     words = line.split()
     command = "check" if words[0].startswith("-") else words[0]
-    return Trial(line, command, words, may_begin, large=large)
+    return Trial(line, command, words, status, large=large)
 
 
 def trials(commands):
     """The trials of these commands, the small ones first."""
     bad = b'{"requests":[{"id":"a","method":"get","url":"$b"}]}'
     found = [
-        Trial("no arguments, a bad batch on standard input", "check", [], input=bad),
+        Trial("no arguments, a bad batch on standard input", "check", [], 1, input=bad),
         trial("check usual.json"),
-        trial("check wrong_body.json"),
-        trial("check missing.json"),
-        Trial("check with a file name that is not UTF-8", "check", [b"check", b"\xff"]),
-        trial("--help", may_begin=True),
-        trial("--version", may_begin=True),
-        trial("check usual.json more.json"),
+        trial("check wrong_body.json", 1),
+        trial("check missing.json", 3),
+        Trial("check with a file name that is not UTF-8", "check", [b"check", b"\xff"], 2),
+        trial("--help"),
+        trial("--version"),
+        trial("check usual.json more.json", 2),
         trial("plan usual.json"),
-        trial("plan"),
+        trial("plan", 2),
         trial("canon usual.json"),
-        trial("replay usual.json lent.json", may_begin=True),
-        trial("replay usual.json not_lent.json --order wide --trace", may_begin=True),
-        trial("replay usual.json not_lent.json --order last --stop --width 2 --trace", may_begin=True),
-        trial("replay usual.json usual.json"),
-        trial("replay usual.json lent.json --width 0"),
-        trial("replay --help", may_begin=True),
+        trial("replay usual.json lent.json"),
+        trial("replay usual.json not_lent.json --order wide --trace"),
+        trial("replay usual.json not_lent.json --order last --stop --width 2 --trace"),
+        trial("replay usual.json usual.json", 1),
+        trial("replay usual.json lent.json --width 0", 2),
+        trial("replay --help"),
         trial("match usual.json usual_responses.json"),
-        trial("match usual.json lent.json"),
-        trial("run usual.json usual_events.json", may_begin=True),
-        trial("run usual.json usual_events.json --stop --width 1"),
+        trial("match usual.json lent.json", 1),
+        trial("run usual.json usual_events.json"),
+        trial("run usual.json usual_events.json --stop --width 1", 1),
         trial("check many.json", large=True),
         trial("plan many.json", large=True),
         trial("canon many.json", large=True),
-        trial("replay many.json many_outcomes.json --order wide --trace", may_begin=True, large=True),
+        trial("replay many.json many_outcomes.json --order wide --trace", large=True),
         trial("match many.json many_responses.json", large=True),
-        trial("run many.json many_events.json", may_begin=True, large=True),
+        trial("run many.json many_events.json", large=True),
     ]
     return [it for it in found if it.command in commands]

@@ -57,18 +57,20 @@ class Program:
         """Runs a trial in which the request `at` is refused, and the later ones too if `rest`."""
         read, write = os.pipe()
         told = {"LD_PRELOAD": self.library, "REFUSE_AT": str(at), "REFUSE_TELL": str(write)}
-        done = subprocess.run(
-            ["odb_batch", *trial.arguments],
-            executable=self.binary,
-            cwd=self.folder,
-            env={**told, **({"REFUSE_REST": "1"} if rest else {})},
-            pass_fds=[write],
-            input=trial.input,
-            capture_output=True,
-            timeout=SECONDS,
-        )
-        os.close(write)
         with os.fdopen(read, "rb") as file:
+            try:
+                done = subprocess.run(
+                    ["odb_batch", *trial.arguments],
+                    executable=self.binary,
+                    cwd=self.folder,
+                    env=told | ({"REFUSE_REST": "1"} if rest else {}),
+                    pass_fds=[write],
+                    input=trial.input,
+                    capture_output=True,
+                    timeout=SECONDS,
+                )
+            finally:
+                os.close(write)
             said = file.read().decode()
         return Ending(done.returncode, done.stdout, done.stderr, "!" in said, int(said.strip("!") or 0))
 
@@ -107,6 +109,9 @@ def show(trial, at, rest, got):
 def tried(program, pool, trial, rest, seed):
     """Tries a trial at each of its places; returns how many runs that were and how many ended wrong."""
     whole = program.run(trial)
+    if whole.status != trial.status:
+        print(f"{trial.title}: status {whole.status} with all the memory, not {trial.status}")
+        return 1, 1
     chosen = places(trial, whole, seed)
     if not trial.large:
         chosen += undisturbed_place(program, trial, rest, whole.requests)
