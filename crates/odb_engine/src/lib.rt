@@ -16,6 +16,7 @@ mod ending;
 mod held;
 pub mod laws;
 mod lines;
+mod pair;
 mod reading;
 mod replaying;
 mod running;

@@ -1,0 +1,131 @@
+ghost use Rattle.std.specs.Prelude.{◌≡◌, ◌↔◌, ◌⊎◌, ℕ, List, false, Err, IsTrue};
+ghost use Rattle.serde_json.specs.View.{view};
+ghost use Rattle.odb_doc.specs.Documents.{IsDocument};
+ghost use Rattle.odb_engine.specs.declared.stop.Stop.TheVariants as stops;
+ghost use Rattle.odb_engine.specs.Cascade.{Answers};
+ghost use Rattle.odb_engine.specs.Engines.{Ends, Found};
+ghost use Rattle.odb_engine.specs.Inputs.{IsFresh, ReadsFew, SomeDocument};
+ghost use Rattle.odb_engine.specs.Commands.{BySecond};
+ghost use Rattle.odb_engine.specs.Replays.{AskedFor};
+
+use crate::ending::{Ended, EngineFault, end};
+use crate::held::{Held, Remains};
+use crate::reading::value_of;
+use crate::stop::Stop;
+use odb_check::{Plan, Seed, check_with};
+use odb_doc::{Batch, Input, Output, Place};
+use serde_json::Value;
+use std::alloc::Global;
+use std::io::{Read, Write};
+
+/// A command over two documents: what it prints of a batch that the check accepts, by the second.
+///
+/// [`answer_pair`] is its engine.
+pub trait PairCommand {
+    ghost use Rattle.std.specs.Prelude.{◌≡◌, ◌↔◌, ℕ, List, Err, IsTrue};
+    ghost use Rattle.odb_doc.specs.Records.{Record};
+    ghost use Rattle.odb_check.specs.Plans.{plan_records};
+    ghost use Rattle.odb_engine.specs.declared.ending.Ended.{Ended};
+    ghost use Rattle.odb_engine.specs.declared.stop.Stop.TheVariants as stops;
+    ghost use Rattle.odb_engine.specs.Engines.{Found};
+    ghost use Rattle.odb_engine.specs.Inputs.{IsFresh, ReadsFew, SomeDocument};
+
+    /// How it ends for the requests of a batch and the bytes of a second document, and what it has
+    /// written then.
+    ghost says: { Self → List Record → List ℕ → Ended → List ℕ → Type 0 };
+
+    /// Returns what is printed of a plan by the second document.
+    fn text<S: Read>(
+        &self,
+        alloc: Global,
+        plan: &Plan<'_>,
+        second: &mut Input<S>,
+        remains: Remains,
+    ) -> Result<String, Stop>
+        requires { IsFresh second.old }
+        ensures found { SomeDocument (S.remaining second.old.reader)
+            (λ bytes. Found (says self.now (plan_records plan.now) bytes) result) }
+        ensures read { (result ≡ Err stops.Read) ↔ IsTrue second.new.failed }
+        ensures second { ReadsFew S.remaining second.old second.new };
+}
+
+/// Returns what the command prints of the batch in a value.
+fn text_of<S: Read, C: PairCommand>(
+    alloc: Global,
+    value: &Value,
+    second: &mut Input<S>,
+    command: &C,
+    seed: Seed,
+    remains: Remains,
+) -> Result<String, Stop>
+    requires { IsFresh second.old }
+    ensures found { (bytes : List ℕ) → IsDocument bytes (view value.now)
+        → Found (Answers (BySecond (S.remaining second.old.reader) (C.says command.now)) bytes)
+        result }
+    ensures asked { (bytes : List ℕ) → IsDocument bytes (view value.now)
+        → AskedFor bytes second.old second.new }
+    ensures read { (result ≡ Err stops.Read) ↔ IsTrue second.new.failed }
+    ensures second { ReadsFew S.remaining second.old second.new }
+{
+    let batch = Held {
+        value: Batch::read(alloc, value)?,
+        remains,
+    };
+    let plan = Held {
+        value: check_with(alloc, seed, &batch.value)?,
+        remains,
+    };
+    command.text(alloc, &plan.value, second, remains)
+}
+
+/// Returns what the command prints of the batch in a document.
+fn found_by<R: Read, S: Read, C: PairCommand>(
+    alloc: Global,
+    batch: &mut Input<R>,
+    second: &mut Input<S>,
+    command: &C,
+    seed: Seed,
+    remains: Remains,
+) -> Result<String, Stop>
+    requires batch { IsFresh batch.old }
+    requires second { IsFresh second.old }
+    ensures found { SomeDocument (R.remaining batch.old.reader) (λ bytes.
+        Found (Answers (BySecond (S.remaining second.old.reader) (C.says command.now)) bytes) result
+        × AskedFor bytes second.old second.new) }
+    ensures read { (result ≡ Err stops.Read)
+        ↔ (IsTrue batch.new.failed ⊎ IsTrue second.new.failed) }
+    ensures batch { ReadsFew R.remaining batch.old batch.new }
+    ensures second { ReadsFew S.remaining second.old second.new }
+{
+    let value = Held {
+        value: value_of(alloc, batch, Place::Batch)?,
+        remains,
+    };
+    text_of(alloc, &value.value, second, command, seed, remains)
+}
+
+/// Runs a command over two documents: writes what it prints of the batch, or the line of the least
+/// fault. The second document is read only if the check accepts the batch.
+pub fn answer_pair<R: Read, S: Read, W: Write, C: PairCommand>(
+    alloc: Global,
+    batch: &mut Input<R>,
+    second: &mut Input<S>,
+    output: &mut Output<W>,
+    command: &C,
+    seed: Seed,
+    remains: Remains,
+) -> Result<Ended, EngineFault>
+    requires batch { IsFresh batch.old }
+    requires second { IsFresh second.old }
+    requires output { output.old.failed ≡ false }
+    ensures ends { SomeDocument (R.remaining batch.old.reader) (λ bytes. Ends W.contents
+        (Answers (BySecond (S.remaining second.old.reader) (C.says command.now)) bytes)
+        (IsTrue batch.new.failed ⊎ IsTrue second.new.failed) output.old output.new result
+        × AskedFor bytes second.old second.new) }
+    ensures memory { result ≡ Err EngineFault.OutOfMemory → output.new ≡ output.old }
+    ensures batch { ReadsFew R.remaining batch.old batch.new }
+    ensures second { ReadsFew S.remaining second.old second.new }
+{
+    let found = found_by(alloc, batch, second, command, seed, remains);
+    end(alloc, found, output)
+}
