@@ -1,5 +1,7 @@
 -- What the response to a finished run lists, and that it fits the batch.
-use Rattle.std.proofs.Common.{◌≡◌, ◌∙◌, ◌+◌, ◌<◌, ℕ, zero, suc, true, List, [], ◌∷◌, length, Option, Some, None, option_map, option_and_then, slice_get, codes, refl, ap, sym, subst, arith, Contains}
+use Rattle.std.proofs.Common.{◌≡◌, ◌∙◌, ◌+◌, ◌<◌, ℕ, zero, suc, true, List, [], ◌∷◌, length, Option, Some, None, option_map, option_and_then, slice_get, codes, refl, ap, sym, subst, arith, Contains, IfSome, IsSome, All}
+use Rattle.std.proofs.lemmas.List.Elements.{All-nil, All-cons}
+use Rattle.serde_json.specs.Find.{as_str}
 use Rattle.std.specs.List.{AllZip}
 use Rattle.std.proofs.lemmas.Bool.{true≢false}
 use Rattle.serde_json.specs.Data.{Data, string, number, unsigned, object, put, no_members}
@@ -18,8 +20,8 @@ use Rattle.odb_sched.specs.Answers.{answer, status_of, is_answered_2xx}
 use Rattle.odb_sched.specs.Laws.{IsSound}
 use Rattle.odb_sched.specs.State.{State, shape, size}
 use Rattle.odb_sched.specs.Statuses.{is_success}
-use Rattle.odb_reply.specs.Fits.{id_in, Responds, Succeeds, IsMet, Fits, ListsFit}
-use Rattle.odb_reply.specs.ResponseDocuments.{Entry, Says, group_in}
+use Rattle.odb_reply.specs.Fits.{id_in, Responds, Succeeds, IsMet, Fits, ListsFit, AnswersStatuses}
+use Rattle.odb_reply.specs.ResponseDocuments.{Entry, IsResponse, IsResponseDocument, IsStatus, Says, group_in}
 use Rattle.odb_reply.specs.Responses.{with_some, response, responses_from, response_value}
 use Rattle.odb_reply.proofs.IdLemmas.{id_within}
 use Rattle.odb_reply.proofs.OneLemmas.{IsOnce, once_in_plan, id_of_response, responses_in-value}
@@ -180,4 +182,36 @@ ListsFit-answered state good sound same count = record {
   listed = listed state;
   says = rw (responses_in-value state) (says_entries state 0 (plan_records state.plan));
   fits = fits_answered state (once_in_plan (plan_records state.plan) good) sound same count;
+}
+
+-- ---- the response is a response document
+
+group_is_text : (group : Option (List ℕ)) → IfSome (option_map string group) (λ d. IsSome (as_str d))
+group_is_text None = tt
+group_is_text (Some group) = refl
+
+response_of : (d : Data) (entry : Entry) → Says d entry → IsStatus (unsigned entry.status) → IsResponse d
+response_of d entry says status = record {
+  id = rw says.id refl;
+  status = rw says.status status;
+  group = rw says.group (group_is_text entry.group);
+}
+
+all_responses : (state : State) (i : ℕ) (requests : List Record) → ((k : ℕ) → k < length requests → IsStatus (unsigned (status_of (answer state (i + k))))) → All IsResponse (responses_from state i requests)
+all_responses state i [] statuses = All-nil IsResponse
+all_responses state i (request ∷ requests) statuses =
+    let first : i + 0 ≡ i = omega arith in
+    let here = subst (λ (j : ℕ). IsStatus (unsigned (status_of (answer state j)))) first (statuses 0 (omega arith)) in
+    All-cons IsResponse (response request (answer state i)) (responses_from state (i + 1) requests)
+    (response_of (response request (answer state i)) (entry_for request (answer state i)) (says_entry request (answer state i)) here)
+    (all_responses state (i + 1) requests (λ k within.
+    let next : i + suc k ≡ i + 1 + k = omega arith in
+    subst (λ (j : ℕ). IsStatus (unsigned (status_of (answer state j)))) next (statuses (suc k) (omega arith))))
+
+pub IsResponseDocument-answered : (state : State) → size state ≡ length (plan_records state.plan) → AnswersStatuses state → IsResponseDocument (response_value state)
+IsResponseDocument-answered state count statuses = record {
+  array = refl;
+  each = rw (responses_in-value state) (all_responses state 0 (plan_records state.plan) (λ k within.
+      let place : k ≡ 0 + k = omega arith in
+      subst (λ (j : ℕ). IsStatus (unsigned (status_of (answer state j)))) place (statuses k (omega (arith, count)))));
 }

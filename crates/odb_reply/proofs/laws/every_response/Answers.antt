@@ -1,6 +1,6 @@
 use Rattle.odb_check.specs.LeastNameFault.{HasGoodNames}
 use Rattle.odb_check.specs.Plans.{plan_records}
-use Rattle.odb_reply.proofs.AnsweredLemmas.{ListsFit-answered}
+use Rattle.odb_reply.proofs.AnsweredLemmas.{ListsFit-answered, IsResponseDocument-answered}
 use Rattle.odb_reply.proofs.OneLemmas.{one_per_id}
 use Rattle.odb_reply.proofs.laws.every_response.Goals as goal
 
@@ -11,4 +11,5 @@ returns c =
     record {
       one_per_id = one_per_id state good;
       fits = ListsFit-answered state good c.plan.ensures.sound c.plan.ensures.shape c.plan.ensures.size;
+      document = IsResponseDocument-answered state c.plan.ensures.size;
     }
