@@ -3,26 +3,22 @@ ghost use Rattle.odb_reply.specs.declared.match_fault.MatchFault.TheVariants.{Ou
 
 use odb_doc::Place;
 use std::alloc::{AllocError, AllocFailed};
+use std::fmt::{self, Display, Formatter};
 use thiserror::Error;
 
 /// A rule that responses break where they do not fit a batch (OData JSON Format 4.01, section 19.5).
-#[derive(Clone, Copy, Debug, PartialEq, Eq, Error)]
+#[derive(Clone, Copy, Debug, PartialEq, Eq)]
 pub enum MatchRule {
     /// F71: the id of the response is not an id of the batch.
-    #[error("the `id` of the response is not an id of the batch")]
     UnknownResponse,
     /// F72: an earlier response has the same id.
-    #[error("an earlier response has the same `id`")]
     ResponseTwice,
     /// F73: no response has the id of the request.
-    #[error("no response has the `id` of the request")]
     ResponseMissing,
     /// F74: the response has another atomicity group than the request.
-    #[error("the response has another `atomicityGroup` than the request")]
     GroupDiffers,
     /// F75: the response is a success, and what the request needs has failed: a request whose
     /// response is not a success, or a group with such a member.
-    #[error("the response is a success, though something that the request needs failed")]
     UnsoundSuccess,
 }
 
@@ -41,29 +37,37 @@ pub enum MatchFault {
 impl MatchRule {
     ghost use Rattle.odb_reply.specs.MatchFaults.{rule_code, rule_name, rule_place};
 
-    /// Returns the code, from `F71` to `F75`.
-    fn code(self) -> &'static str
-        ensures { result.now ≡ rule_code self }
+    /// Returns the code, the name and the message.
+    fn row(self) -> (&'static str, &'static str, &'static str)
+        ensures code { result.0.now ≡ rule_code self }
+        ensures name { result.1.now ≡ rule_name self }
     {
         match self {
-            MatchRule::UnknownResponse => "F71",
-            MatchRule::ResponseTwice => "F72",
-            MatchRule::ResponseMissing => "F73",
-            MatchRule::GroupDiffers => "F74",
-            MatchRule::UnsoundSuccess => "F75",
-        }
-    }
-
-    /// Returns the name, as `GroupDiffers`.
-    fn name(self) -> &'static str
-        ensures { result.now ≡ rule_name self }
-    {
-        match self {
-            MatchRule::UnknownResponse => "UnknownResponse",
-            MatchRule::ResponseTwice => "ResponseTwice",
-            MatchRule::ResponseMissing => "ResponseMissing",
-            MatchRule::GroupDiffers => "GroupDiffers",
-            MatchRule::UnsoundSuccess => "UnsoundSuccess",
+            MatchRule::UnknownResponse => (
+                "F71",
+                "UnknownResponse",
+                "the `id` of the response is not an id of the batch",
+            ),
+            MatchRule::ResponseTwice => (
+                "F72",
+                "ResponseTwice",
+                "an earlier response has the same `id`",
+            ),
+            MatchRule::ResponseMissing => (
+                "F73",
+                "ResponseMissing",
+                "no response has the `id` of the request",
+            ),
+            MatchRule::GroupDiffers => (
+                "F74",
+                "GroupDiffers",
+                "the response has another `atomicityGroup` than the request",
+            ),
+            MatchRule::UnsoundSuccess => (
+                "F75",
+                "UnsoundSuccess",
+                "the response is a success, though something that the request needs failed",
+            ),
         }
     }
 
@@ -80,6 +84,14 @@ impl MatchRule {
     }
 }
 
+impl Display for MatchRule {
+    fn fmt<W: fmt::Write>(&self, f: &mut Formatter<W>) -> fmt::Result {
+        f.write_str(self.row().2)
+    }
+}
+
+impl std::error::Error for MatchRule {}
+
 impl MatchFault {
     ghost use Rattle.odb_reply.specs.MatchFaults.{IsNumbered, fault_code, fault_name, fault_place};
 
@@ -89,7 +101,7 @@ impl MatchFault {
         ensures { result.now ≡ fault_code self.now }
     {
         match *self {
-            MatchFault::Misfit { rule, .. } => rule.code(),
+            MatchFault::Misfit { rule, .. } => rule.row().0,
             MatchFault::OutOfMemory => unreachable!(),
         }
     }
@@ -100,7 +112,7 @@ impl MatchFault {
         ensures { result.now ≡ fault_name self.now }
     {
         match *self {
-            MatchFault::Misfit { rule, .. } => rule.name(),
+            MatchFault::Misfit { rule, .. } => rule.row().1,
             MatchFault::OutOfMemory => unreachable!(),
         }
     }
