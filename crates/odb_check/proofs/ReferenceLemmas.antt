@@ -1,16 +1,16 @@
 -- Where the reference of the request under judgement breaks a rule, and what it adds to the needs.
-use Rattle.std.proofs.Common.{◌≡◌, ◌<◌, ◌+◌, ℕ, Bool, true, false, not, cond, List, [], ◌∷◌, Option, Some, None, refl, sym, ap, ◌∙◌, subst, arith, length}
+use Rattle.std.proofs.Common.{◌≡◌, ◌<◌, ◌+◌, ℕ, Bool, true, false, cond, List, [], ◌∷◌, Option, Some, None, refl, sym, ap, ◌∙◌, subst, arith, length}
 use Rattle.std.specs.Prelude.{◌==◌, nat_le, is_some, slice_index, option_and_then, Contains, bytes_eq, IsSomeAnd}
 use Rattle.std.specs.Bool.{Decides}
 use Rattle.std.specs.List.{list_any, filter_map, cons_option}
 use Rattle.std.proofs.lemmas.Bool.{eqb-true, eq-eqb, leb-true, le-leb}
-use Rattle.std.proofs.lemmas.Bool.Decides.{Decides-at, Decides-like, Decides-not, same_from_decides}
+use Rattle.std.proofs.lemmas.Bool.Decides.{Decides-at, Decides-like, same_from_decides}
 use Rattle.odb_doc.specs.Records.{Record}
 use Rattle.odb_check.specs.declared.fault.NameRule.TheVariants.{UnknownReference, ForwardReference, ReferenceNotListed}
 use Rattle.odb_check.specs.declared.names.Judged.{Judged}
 use Rattle.odb_check.specs.declared.need.Need.{Need}
 use Rattle.odb_check.specs.declared.need.Need.TheVariants.{One, Group}
-use Rattle.odb_check.specs.Judged.{MissesGroupOf, batch_of}
+use Rattle.odb_check.specs.Judged.{MissesGroupOf, batch_of, referred_by}
 use Rattle.odb_check.specs.Walks.{HasSoundIds}
 use Rattle.odb_check.specs.Marks.{is_one}
 use Rattle.odb_check.specs.NameFaults.{StandsAt}
@@ -36,20 +36,20 @@ refers_case j p (Some id) e found =
     let first : (p < length (batch_of j)) × IsFirstAt (id_at (batch_of j)) id p = position_first (batch_of j) id p found in
     record { id = id; here = e; within = first.0; there = first.1.here }
 
-pub refers : (j : Judged) (p : ℕ) → j.referred ≡ Some p → RefersTo j p
-refers j p found = refers_case j p (reference_at (batch_of j) j.i) refl (sym j.refers ∙ found)
+pub refers : (j : Judged) (p : ℕ) → referred_by j ≡ Some p → RefersTo j p
+refers j p found = refers_case j p (reference_at (batch_of j) j.i) refl found
 
 -- where the request refers to none its reference is not an identifier
-refers_nowhere : (j : Judged) (id : List ℕ) → j.referred ≡ None → reference_at (batch_of j) j.i ≡ Some id → ¬ IsId (batch_of j) id
-refers_nowhere j id none here h = position_none (batch_of j) id (sym (ap (option_and_then (position_of (batch_of j))) here) ∙ sym j.refers ∙ none) h.0 h.1
+refers_nowhere : (j : Judged) (id : List ℕ) → referred_by j ≡ None → reference_at (batch_of j) j.i ≡ Some id → ¬ IsId (batch_of j) id
+refers_nowhere j id none here h = position_none (batch_of j) id (sym (ap (option_and_then (position_of (batch_of j))) here) ∙ none) h.0 h.1
 
 -- ---- an unknown reference
 
-unknown_case : (j : Judged) → j.referred ≡ None → (reference : Option (List ℕ)) → reference_at (batch_of j) j.i ≡ reference → Decides (is_some reference) (IsSomeAnd reference (λ id. ¬ IsId (batch_of j) id))
+unknown_case : (j : Judged) → referred_by j ≡ None → (reference : Option (List ℕ)) → reference_at (batch_of j) j.i ≡ reference → Decides (is_some reference) (IsSomeAnd reference (λ id. ¬ IsId (batch_of j) id))
 unknown_case j none None e = Decides-none (λ h. h)
 unknown_case j none (Some id) e = ((λ yes. refers_nowhere j id none e), λ h. refl)
 
-pub unknown_Decides : (j : Judged) → j.referred ≡ None → Decides (is_some (reference_at (batch_of j) j.i)) (StandsAt UnknownReference (batch_of j) j.i)
+pub unknown_Decides : (j : Judged) → referred_by j ≡ None → Decides (is_some (reference_at (batch_of j) j.i)) (StandsAt UnknownReference (batch_of j) j.i)
 unknown_Decides j none = unknown_case j none (reference_at (batch_of j) j.i) refl
 
 pub known : (j : Judged) (p : ℕ) → RefersTo j p → ¬ StandsAt UnknownReference (batch_of j) j.i
@@ -63,7 +63,7 @@ forward_Decides j p to = some_Decides (reference_at (batch_of j) j.i) to.id (λ 
   (λ h. let same : p ≡ h.0 = one_id (batch_of j) (once (batch_of j) j.sound) to.id p h.0 to.there h.2 in le-leb j.i p (omega (arith, h.1))),
 )
 
-pub nowhere_forward : (j : Judged) → j.referred ≡ None → ¬ StandsAt ForwardReference (batch_of j) j.i
+pub nowhere_forward : (j : Judged) → referred_by j ≡ None → ¬ StandsAt ForwardReference (batch_of j) j.i
 nowhere_forward j none h =
     let there : IsThere (reference_at (batch_of j) j.i) (λ id. IsIdFrom (batch_of j) id j.i) = is_there (reference_at (batch_of j) j.i) _ h in
     refers_nowhere j there.value none there.here (there.holds.0, there.holds.2)
@@ -88,7 +88,7 @@ unlisted_Decides j p to lacks misses decides = some_Decides (reference_at (batch
 pub listed_never : (j : Judged) (p : ℕ) (to : RefersTo j p) → Contains (names_at (batch_of j) j.i) to.id → ¬ StandsAt ReferenceNotListed (batch_of j) j.i
 listed_never j p to listed h = (unlisted_at j p to h).1 listed
 
-pub nowhere_unlisted : (j : Judged) → j.referred ≡ None → ¬ StandsAt ReferenceNotListed (batch_of j) j.i
+pub nowhere_unlisted : (j : Judged) → referred_by j ≡ None → ¬ StandsAt ReferenceNotListed (batch_of j) j.i
 nowhere_unlisted j none h =
     let there : IsThere (reference_at (batch_of j) j.i) (IsNotListed (batch_of j) j.i) = is_there (reference_at (batch_of j) j.i) _ h in
     refers_nowhere j there.value none there.here (there.holds.0, there.holds.2)
@@ -130,9 +130,9 @@ further_is j p to listed decides =
     ap (λ o. filter_map (need_of rs) (further_names (names_at rs j.i) o)) to.here ∙ ap (λ v. filter_map (need_of rs) (cond v [] (to.id ∷ []))) same
     ∙ further_case rs to.id (One p) (id_need rs (once rs j.sound) to.id p to.there) listed
 
-none_case : (j : Judged) → j.referred ≡ None → ¬ StandsAt UnknownReference (batch_of j) j.i → (reference : Option (List ℕ)) → reference_at (batch_of j) j.i ≡ reference → further_needs (batch_of j) j.i ≡ []
+none_case : (j : Judged) → referred_by j ≡ None → ¬ StandsAt UnknownReference (batch_of j) j.i → (reference : Option (List ℕ)) → reference_at (batch_of j) j.i ≡ reference → further_needs (batch_of j) j.i ≡ []
 none_case j none is_known None e = ap (λ o. filter_map (need_of (batch_of j)) (further_names (names_at (batch_of j) j.i) o)) e
 none_case j none is_known (Some id) e = absurd (is_known (subst (λ o. IsSomeAnd o (λ x. ¬ IsId (batch_of j) x)) (sym e) (refers_nowhere j id none e)))
 
-pub further_none : (j : Judged) → j.referred ≡ None → ¬ StandsAt UnknownReference (batch_of j) j.i → further_needs (batch_of j) j.i ≡ []
+pub further_none : (j : Judged) → referred_by j ≡ None → ¬ StandsAt UnknownReference (batch_of j) j.i → further_needs (batch_of j) j.i ≡ []
 further_none j none is_known = none_case j none is_known (reference_at (batch_of j) j.i) refl

@@ -1,16 +1,21 @@
 -- The request under judgement.
-use Rattle.std.specs.Prelude.{◌≡◌, ◌<◌, ℕ, Bool, List, Some}
+use Rattle.std.specs.Prelude.{◌≡◌, ◌<◌, ℕ, Bool, List, Option, Some, option_and_then}
 use Rattle.std.specs.Bool.{Decides}
 use Rattle.odb_doc.specs.Records.{Record}
 use Rattle.odb_check.specs.declared.names.Judged.{Judged}
 use Rattle.odb_check.specs.declared.need.Need.{Need}
 use Rattle.odb_check.specs.Needs.{need_of}
-use Rattle.odb_check.specs.Positions.{IsInGroupOf, NamesGroupOf}
+use Rattle.odb_check.specs.Positions.{reference_at, IsInGroupOf, NamesGroupOf}
 use Rattle.odb_check.specs.Requests.{requests}
+use Rattle.odb_check.specs.Units.{position_of}
 
 -- the requests of its batch
 abbrev pub batch_of : Judged → List Record
 batch_of judged = requests judged.tables.now
+
+-- the position that it refers to
+abbrev pub referred_by : Judged → Option ℕ
+referred_by judged = option_and_then (position_of (batch_of judged)) (reference_at (batch_of judged) judged.i)
 
 -- what is answered of a need is so of each name that stands for it
 abbrev pub IsAnswer : List Record → Need → Bool → (List ℕ → Type 0) → Type 0

@@ -1,12 +1,11 @@
-ghost use Rattle.std.specs.Prelude.{◌≡◌, ◌<◌, ◌+◌, ◌⊎◌, ◌∷◌, [], ℕ, List, length, Some, None, IfSome, Contains, option_and_then};
+ghost use Rattle.std.specs.Prelude.{◌≡◌, ◌<◌, ◌+◌, ◌⊎◌, ◌∷◌, [], ℕ, List, length, Some, None, IfSome, Contains};
 ghost use Rattle.std.specs.Bool.{Decides};
 ghost use Rattle.std.proofs.Props.{props};
 ghost use Rattle.odb_check.specs.Marks.{AreMarksOf};
 ghost use Rattle.odb_check.specs.NameFaults.{StandsAt, IsMemberAlone};
 ghost use Rattle.odb_check.specs.Needs.{named_at, further_needs};
-ghost use Rattle.odb_check.specs.Positions.{id_at, group_at, names_at, reference_at, IsIdFrom, IsGroupAfter, IsInGroupOf, NamesGroupOf};
+ghost use Rattle.odb_check.specs.Positions.{id_at, group_at, names_at, IsIdFrom, IsGroupAfter, IsInGroupOf, NamesGroupOf};
 ghost use Rattle.odb_check.specs.Requests.{requests};
-ghost use Rattle.odb_check.specs.Units.{position_of};
 ghost use Rattle.odb_check.specs.Walks.{BreaksFirst, BreaksNone, HasSoundIds};
 ghost use Rattle.odb_check.specs.declared.fault.NameRule.TheVariants as rules;
 
@@ -24,20 +23,16 @@ pub(crate) struct Judged<'w, 'b> {
     pub(crate) named: &'w [Need],
     /// The marks, among which that has the stamp `i + 1`.
     pub(crate) marks: &'w Marks,
-    /// The request that its URL refers to, if the batch has that.
-    pub(crate) referred: Option<u32>,
     ghost within: { i < length (requests tables.now) },
     ghost sound: { HasSoundIds (requests tables.now) },
     ghost known: { ¬ StandsAt rules.UnknownName (requests tables.now) i },
     ghost names: { named.now ≡ named_at (requests tables.now) i },
     ghost marked: { AreMarksOf (requests tables.now) (named_at (requests tables.now) i) (i + 1)
         marks.now.ones.items marks.now.groups.items } by { Prim.hlevel props },
-    ghost refers: { referred
-        ≡ option_and_then (position_of (requests tables.now)) (reference_at (requests tables.now) i) },
 }
 
 impl Judged<'_, '_> {
-    ghost use Rattle.odb_check.specs.Judged.{IsAnswer, MissesGroupOf, batch_of};
+    ghost use Rattle.odb_check.specs.Judged.{IsAnswer, MissesGroupOf, batch_of, referred_by};
 
     /// Whether what is needed is this request or a later one, or a group that begins later.
     fn is_later(&self, need: Need) -> bool
@@ -111,6 +106,13 @@ impl Judged<'_, '_> {
         }
     }
 
+    /// The request that the URL refers to, if the batch has it.
+    fn referred(&self) -> Option<u32>
+        ensures { result ≡ referred_by self.now }
+    {
+        self.tables.referred_to(self.i)
+    }
+
     /// F41: whether `dependsOn` lists a request or a group that does not precede.
     fn names_later(&self) -> bool
         ensures { Decides result (StandsAt rules.ForwardName (batch_of self.now) self.now.i) }
@@ -136,7 +138,7 @@ impl Judged<'_, '_> {
     fn has_unknown_reference(&self) -> bool
         ensures { Decides result (StandsAt rules.UnknownReference (batch_of self.now) self.now.i) }
     {
-        match self.referred {
+        match self.referred() {
             Some(_) => false,
             None => self.tables.reference(self.i).is_some(),
         }
@@ -146,7 +148,7 @@ impl Judged<'_, '_> {
     fn has_forward_reference(&self) -> bool
         ensures { Decides result (StandsAt rules.ForwardReference (batch_of self.now) self.now.i) }
     {
-        match self.referred {
+        match self.referred() {
             Some(position) => self.i <= position,
             None => false,
         }
@@ -157,7 +159,7 @@ impl Judged<'_, '_> {
     fn lacks_reference(&self) -> bool
         ensures { Decides result (StandsAt rules.ReferenceNotListed (batch_of self.now) self.now.i) }
     {
-        match self.referred {
+        match self.referred() {
             Some(position) => !self.lists(position) && self.misses_group_of(position),
             None => false,
         }
@@ -195,7 +197,7 @@ impl Judged<'_, '_> {
         ensures some { IfSome result (λ need. further_needs (batch_of self.now) self.now.i ≡ need ∷ []) }
         ensures none { result ≡ None → further_needs (batch_of self.now) self.now.i ≡ [] }
     {
-        match self.referred {
+        match self.referred() {
             Some(position) => {
                 if self.lists(position) {
                     None

@@ -70,7 +70,6 @@ fn add_request(
         i,
         named: &list[from..],
         marks,
-        referred: tables.referred_to(i),
     };
     if let Some(rule) = judged.broken_rule() {
         let at = i as usize;

@@ -6,7 +6,7 @@ use Rattle.odb_check.proofs.ReferenceLemmas.{known, refers, unknown_Decides}
 use Rattle.odb_check.proofs.names.Judged.has_unknown_reference.Goals as goal
 
 pub returns-in-Some : goal.returns-in-Some
-returns-in-Some c = Decides-none (known c.args.self.now c.in-Some.field-0 (refers c.args.self.now c.in-Some.field-0 c.in-Some.is))
+returns-in-Some c = Decides-none (known c.args.self.now c.in-Some.field-0 (refers c.args.self.now c.in-Some.field-0 (sym c.in-Some.ensures)))
 
 pub returns-in-None : goal.returns-in-None
-returns-in-None c = Decides-at _ _ (c.is_some.ensures ∙ copied_some c.reference.result ∙ ap is_some (sym c.reference.ensures)) (unknown_Decides c.args.self.now c.in-None.is)
+returns-in-None c = Decides-at _ _ (c.is_some.ensures ∙ copied_some c.reference.result ∙ ap is_some (sym c.reference.ensures)) (unknown_Decides c.args.self.now (sym c.in-None.ensures))
