@@ -11,6 +11,7 @@ from dataclasses import dataclass, field
 
 COMMANDS = ("check", "plan", "replay", "canon", "match", "run")
 SOMETHING = "..."
+STREAMS = ("input", "output", "errors")
 
 
 class BadPage(Exception):
@@ -28,7 +29,9 @@ class Run:
     documents: dict
     folders: list
     input: list
+    source: str = None
     to: str = None
+    closed: str = None
     out: list = field(default_factory=list)
     errors: list = field(default_factory=list)
     status: int = None
@@ -168,6 +171,14 @@ class Reader:
     def to(self, value):
         self.last().to = value
 
+    def from_path(self, value):
+        self.last().source = value
+
+    def close(self, value):
+        if value not in STREAMS:
+            raise BadPage(f"{value!r} is none of {', '.join(STREAMS)}")
+        self.last().closed = value
+
     def out(self, value):
         self.last().out.append(plain(value + "\n"))
 
@@ -195,7 +206,9 @@ HANDLERS = {
     "bytes": Reader.bytes,
     "folder": Reader.folder,
     "$": Reader.call,
+    "from": Reader.from_path,
     "to": Reader.to,
+    "closed": Reader.close,
     "out": Reader.out,
     "output": Reader.output,
     "outs": Reader.outs,

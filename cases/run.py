@@ -11,6 +11,7 @@ import subprocess
 import sys
 import tempfile
 from concurrent.futures import ThreadPoolExecutor
+from contextlib import contextmanager
 
 sys.dont_write_bytecode = True
 
@@ -20,6 +21,8 @@ HERE = os.path.dirname(os.path.realpath(__file__))
 PROGRAM = os.path.join(os.path.dirname(HERE), "crates", "odb_batch", "out", "odb_batch")
 SECONDS = 60
 SHOWN = 600
+NOBODY = "|"
+CLOSING = {"input": "<&-", "output": ">&-", "errors": "2>&-"}
 
 
 def read_arguments():
@@ -40,22 +43,47 @@ def write_files(run, folder):
         os.mkdir(os.path.join(folder, name))
 
 
+def command_line(run, binary):
+    """The program to start and its arguments; a shell closes the stream that the case wants closed."""
+    if run.closed is None:
+        return binary, ["odb_batch", *run.arguments]
+    return "/bin/sh", ["sh", "-c", f'exec "$0" "$@" {CLOSING[run.closed]}', binary, *run.arguments]
+
+
+@contextmanager
+def output_of(run):
+    """Where standard output goes: a file, a pipe that nobody reads, or back to the caller."""
+    if run.to is None:
+        yield subprocess.PIPE
+    elif run.to == NOBODY:
+        read, write = os.pipe()
+        os.close(read)
+        yield write
+        os.close(write)
+    else:
+        with open(run.to, "wb") as file:
+            yield file
+
+
+def input_of(run, folder):
+    """The standard input: a path that the case names, or the bytes of its document."""
+    if run.source is None:
+        return {"input": pages.joined(run.input)}
+    return {"stdin": os.open(os.path.join(folder, run.source), os.O_RDONLY)}
+
+
 def call(run, binary, folder):
     """Calls the program in this folder; returns its output, its messages and its status."""
-    output = open(run.to, "wb") if run.to else subprocess.PIPE
+    program, words = command_line(run, binary)
+    given = input_of(run, folder)
     try:
-        done = subprocess.run(
-            ["odb_batch", *run.arguments],
-            executable=binary,
-            cwd=folder,
-            input=pages.joined(run.input),
-            stdout=output,
-            stderr=subprocess.PIPE,
-            timeout=SECONDS,
-        )
+        with output_of(run) as output:
+            done = subprocess.run(
+                words, executable=program, cwd=folder, stdout=output, stderr=subprocess.PIPE, timeout=SECONDS, **given
+            )
     finally:
-        if run.to:
-            output.close()
+        if "stdin" in given:
+            os.close(given["stdin"])
     return done.stdout or b"", done.stderr, done.returncode
 
 
