@@ -4,6 +4,7 @@ A page is a text file of lines, each a keyword and what follows its first space.
 the program, with what it has to print and the status that it has to end with.
 """
 
+import argparse
 import os
 import re
 import shlex
@@ -16,6 +17,15 @@ STREAMS = ("input", "output", "errors")
 
 class BadPage(Exception):
     """A line of a page that cannot be read."""
+
+
+def command_names(word):
+    """The commands that a word of the command line lists."""
+    names = word.split(",")
+    for name in names:
+        if name not in COMMANDS:
+            raise argparse.ArgumentTypeError(f"{name!r} is not a command; these are: {', '.join(COMMANDS)}")
+    return names
 
 
 @dataclass
@@ -32,6 +42,7 @@ class Run:
     source: str = None
     to: str = None
     closed: str = None
+    memory: int = None
     out: list = field(default_factory=list)
     errors: list = field(default_factory=list)
     status: int = None
@@ -179,6 +190,9 @@ class Reader:
             raise BadPage(f"{value!r} is none of {', '.join(STREAMS)}")
         self.last().closed = value
 
+    def limit(self, value):
+        self.last().memory = int(value)
+
     def out(self, value):
         self.last().out.append(plain(value + "\n"))
 
@@ -209,6 +223,7 @@ HANDLERS = {
     "from": Reader.from_path,
     "to": Reader.to,
     "closed": Reader.close,
+    "memory": Reader.limit,
     "out": Reader.out,
     "output": Reader.output,
     "outs": Reader.outs,

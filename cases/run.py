@@ -27,10 +27,11 @@ CLOSING = {"input": "<&-", "output": ">&-", "errors": "2>&-"}
 
 def read_arguments():
     parser = argparse.ArgumentParser(description="Runs the worked cases of this folder.")
-    parser.add_argument("--binary", default=PROGRAM, metavar="PATH", help="the program; else the one built here")
-    parser.add_argument("--commands", default=",".join(pages.COMMANDS), metavar="NAME,..", help="only these commands")
-    parser.add_argument("--only", default="", metavar="WORD", help="only the cases with WORD in page or title")
-    parser.add_argument("--jobs", type=int, default=4, metavar="N", help="how many run at once; 4")
+    option, every = parser.add_argument, list(pages.COMMANDS)
+    option("--binary", default=PROGRAM, metavar="PATH", help="the program; else the one built here")
+    option("--commands", type=pages.command_names, default=every, metavar="NAME,..", help="only these commands")
+    option("--only", default="", metavar="WORD", help="only the cases with WORD in page or title")
+    option("--jobs", type=int, default=4, metavar="N", help="how many run at once; 4")
     return parser.parse_args()
 
 
@@ -44,10 +45,11 @@ def write_files(run, folder):
 
 
 def command_line(run, binary):
-    """The program to start and its arguments; a shell closes the stream that the case wants closed."""
-    if run.closed is None:
+    """The program to start and its arguments; a shell limits the memory and closes a stream first."""
+    if run.closed is None and run.memory is None:
         return binary, ["odb_batch", *run.arguments]
-    return "/bin/sh", ["sh", "-c", f'exec "$0" "$@" {CLOSING[run.closed]}', binary, *run.arguments]
+    limit = f"ulimit -v {run.memory}; " if run.memory else ""
+    return "/bin/sh", ["sh", "-c", f'{limit}exec "$0" "$@" {CLOSING.get(run.closed, "")}', binary, *run.arguments]
 
 
 @contextmanager
@@ -122,12 +124,13 @@ def main():
     binary = os.path.abspath(options.binary)
     if not os.access(binary, os.X_OK):
         sys.exit(f"{binary} is not there: build it first, as bin/odb_batch does")
-    commands = options.commands.split(",")
     chosen = [
         run
         for run in pages.read_folder(HERE)
-        if run.command in commands and options.only in f"{run.page} {run.title}"
+        if run.command in options.commands and options.only in f"{run.page} {run.title}"
     ]
+    if not chosen:
+        sys.exit("no case is chosen")
     failed = 0
     with ThreadPoolExecutor(options.jobs) as pool:
         for run, found in zip(chosen, pool.map(lambda run: tried(run, binary), chosen)):

@@ -145,13 +145,14 @@ def main():
     binary = os.path.abspath(options.binary)
     if not os.access(binary, os.X_OK):
         sys.exit(f"{binary} is not there: build it first, as bin/odb_batch does")
+    chosen = [it for it in documents.trials(options.commands.split(",")) if options.only in it.title]
+    if not chosen:
+        sys.exit("no trial is chosen")
     runs = wrong = 0
     with tempfile.TemporaryDirectory(prefix="hostile-") as folder, ThreadPoolExecutor(options.jobs) as pool:
         program = Program(binary, folder)
         documents.write(folder, os.path.join(ROOT, "examples"))
-        for trial in documents.trials(options.commands.split(",")):
-            if options.only not in trial.title:
-                continue
+        for trial in chosen:
             for rest in (False,) if trial.large else (False, True):
                 more, bad = tried(program, pool, trial, rest, options.seed)
                 runs, wrong = runs + more, wrong + bad
