@@ -18,7 +18,7 @@ BAD_URLS = (
 )  # fmt: skip
 TAILS = ("", "/Pages", "?$top=1", "#x")
 WHOLE_BODIES = ({}, [], 0, False, "", "text!", {"b": 1, "a": [2, {"z": None}]}, 2**64 - 1, -(2**63))
-BODIES = (*WHOLE_BODIES, "@@1.5@@", ["@@1E2@@"], 2**64)
+BODIES = (*WHOLE_BODIES, "@@1.5@@", ["@@1E2@@"], 2**64, [-(2**63) - 1])
 TYPES = {
     None: BODIES,
     "application/json": BODIES,
@@ -39,7 +39,7 @@ VALUES = (
 )  # fmt: skip
 NAMES = (*rules.MEMBERS, "if", "other", "@note", "url@note", "Id", "status", "start", "report")
 SUCCESSES, FAILURES = (200, 201, 204, 299), (304, 300, 399, 400, 404, 409, 500, 599)
-BAD_STATUSES = (199, 600, -1, 0, 65535, 65536, "200", "@@200.0@@", "@@2e2@@", None, 99, 100)
+BAD_STATUSES = (199, 600, -1, 0, 65535, 65536, "200", "@@200.0@@", "@@2e2@@", None, True, 99, 100)
 HEADERS = (None, {}, {"ETag": "7"}, {"Location": "X(1)", "age": "\u2028\""}, {"X": "", "Ä": "ä"})
 
 
@@ -58,6 +58,8 @@ def damaged_text(random, data):
 
 
 def document(random, value):
+    """The document of a value, now and then of another one or damaged."""
+    value = value if random.random() < 0.98 else random.choice(VALUES)
     return damaged_text(random, text_of(random, value).encode())
 
 
