@@ -1,4 +1,4 @@
-"""The documents and the command lines on which memory is refused."""
+"""The documents and the command lines for allocations that fail."""
 
 import json
 import os
@@ -25,7 +25,7 @@ USUAL_RESPONSES = [
 
 @dataclass
 class Trial:
-    """A call of the program, and its status; of a large one only some requests for memory are refused."""
+    """A call of the program, and its status; of a large one only some allocations are tried."""
 
     title: str
     command: str
@@ -36,7 +36,7 @@ class Trial:
 
     @property
     def may_begin(self):
-        """Whether a part of the output may have been written when memory is refused."""
+        """Whether a part of the output may have been written when an allocation fails."""
         return self.command in WRITE_AS_THEY_GO
 
 

@@ -1,11 +1,11 @@
 #!/usr/bin/env python3
-"""Refuses requests for memory of the program, one run for each, and looks at how it ends.
+"""Lets allocations of the program fail, one run for each, and looks at how it ends.
 
-For each command on small documents the first request is refused, then the second, and so on until a
-run meets no refusal. That is done twice: the one request is refused, or all from it on. On a batch of
-1,000 requests one of ten requests is refused, chosen by a seed. A run has to end with status 4,
-`error: memory`, and the beginning of what it prints else; or exactly as if nothing had been refused.
-The last line is `N runs, M wrong`.
+For each command on small documents the first allocation fails, then the second, and so on until a run
+has none that fails. That is done twice: the one allocation fails, or all from that one on. On a batch
+of 1,000 requests one of ten allocations is tried, chosen by a seed. A run has to end with status 4,
+`error: memory`, and the beginning of what it prints otherwise; or exactly as if none had failed. The
+last line is `N runs, M wrong`.
 """
 
 import argparse
@@ -27,25 +27,25 @@ PROGRAM = os.path.join(ROOT, "crates", "odb_batch", "out", "odb_batch")
 MEMORY = (4, b"error: memory\n")
 SECONDS = 60
 SHARE = 10
-SHOWN = 400
+SHOWN_RUNS, SHOWN_BYTES = 3, 400
 
 
 @dataclass
 class Ending:
-    """How a run ended; whether it met a refusal, and how many requests for memory it made."""
+    """How a run ended; whether an allocation failed, and how many it made."""
 
     status: int
     out: bytes
     err: bytes
-    refused: bool
-    requests: int
+    failed: bool
+    allocations: int
 
     def text(self):
         return self.status, self.out, self.err
 
 
 class Program:
-    """The program with the library that refuses memory."""
+    """The program with the library that lets allocations fail."""
 
     def __init__(self, binary, folder):
         self.binary, self.folder = binary, folder
@@ -54,16 +54,16 @@ class Program:
         subprocess.run(["cc", "-shared", "-fPIC", "-O2", "-o", self.library, source], check=True)
 
     def run(self, trial, at=0, rest=False):
-        """Runs a trial in which the request `at` is refused, and the later ones too if `rest`."""
+        """Runs a trial in which the allocation `at` fails, and the later ones too if `rest`."""
         read, write = os.pipe()
-        told = {"LD_PRELOAD": self.library, "REFUSE_AT": str(at), "REFUSE_TELL": str(write)}
+        variables = {"LD_PRELOAD": self.library, "REFUSE_AT": str(at), "REFUSE_TELL": str(write)}
         with os.fdopen(read, "rb") as file:
             try:
                 done = subprocess.run(
                     ["odb_batch", *trial.arguments],
                     executable=self.binary,
                     cwd=self.folder,
-                    env=told | ({"REFUSE_REST": "1"} if rest else {}),
+                    env=variables | ({"REFUSE_REST": "1"} if rest else {}),
                     pass_fds=[write],
                     input=trial.input,
                     capture_output=True,
@@ -76,7 +76,7 @@ class Program:
 
 
 def is_right(trial, got, whole):
-    """Whether a run with a refusal ended as it may, beside the same run without one."""
+    """Whether a run with a failed allocation ended as it may, beside the same run without one."""
     if got.text() == whole.text():
         return True
     begun = whole.out.startswith(got.out) and (trial.may_begin or not got.out)
@@ -84,57 +84,57 @@ def is_right(trial, got, whole):
 
 
 def places(trial, whole, seed):
-    """Which requests are refused: all, or of a large trial one of ten."""
-    every = range(1, whole.requests + 1)
+    """Which allocations are to fail: all, or of a large trial one of ten."""
+    every = range(1, whole.allocations + 1)
     if not trial.large:
         return list(every)
     random = Random(f"{seed} {trial.title}")
     return [at for at in every if random.randrange(SHARE) == 0]
 
 
-def undisturbed_place(program, trial, rest, after):
-    """Goes on from the last place until a run meets no refusal; returns the places that were passed."""
+def further_places(program, trial, rest, after):
+    """Goes on from the last place until no allocation fails; returns the places before that."""
     passed = []
-    while program.run(trial, after + len(passed) + 1, rest).refused:
+    while program.run(trial, after + len(passed) + 1, rest).failed:
         passed.append(after + len(passed) + 1)
     return passed
 
 
 def show(trial, at, rest, got):
     later = " and all later ones" if rest else ""
-    print(f"{trial.title}: request {at}{later} refused: status {got.status}")
-    print(f"  standard output: {got.out[:SHOWN]!r}\n  standard error: {got.err[:SHOWN]!r}")
+    print(f"{trial.title}: allocation {at}{later} failed: status {got.status}")
+    print(f"  standard output: {got.out[:SHOWN_BYTES]!r}\n  standard error: {got.err[:SHOWN_BYTES]!r}")
 
 
 def tried(program, pool, trial, rest, seed):
     """Tries a trial at each of its places; returns how many runs that were and how many ended wrong."""
     whole = program.run(trial)
-    if whole.status != trial.status:
-        print(f"{trial.title}: status {whole.status} with all the memory, not {trial.status}")
+    if whole.status != trial.status or not whole.allocations:
+        print(f"{trial.title}: status {whole.status}, not {trial.status}, after {whole.allocations} allocations")
         return 1, 1
     chosen = places(trial, whole, seed)
     if not trial.large:
-        chosen += undisturbed_place(program, trial, rest, whole.requests)
+        chosen += further_places(program, trial, rest, whole.allocations)
     endings = list(pool.map(lambda at: program.run(trial, at, rest), chosen))
-    wrong = [(at, got) for at, got in zip(chosen, endings) if not (got.refused and is_right(trial, got, whole))]
-    for at, got in wrong:
+    wrong = [(at, got) for at, got in zip(chosen, endings) if not (got.failed and is_right(trial, got, whole))]
+    for at, got in wrong[:SHOWN_RUNS]:
         show(trial, at, rest, got)
     begun = sum(got.status == MEMORY[0] and bool(got.out) for got in endings)
     same = sum(got.text() == whole.text() for got in endings)
     how = "and all later ones" if rest else "alone"
     print(
-        f"{trial.title}: each of {len(chosen)} requests of {whole.requests} refused {how}:"
+        f"{trial.title}: each of {len(chosen)} allocations of {whole.allocations} failed {how}:"
         f" {len(wrong)} wrong, {same} as undisturbed, {begun} with output begun"
     )
     return len(chosen), len(wrong)
 
 
 def read_arguments():
-    parser = argparse.ArgumentParser(description="Refuses requests for memory of the program.")
+    parser = argparse.ArgumentParser(description="Lets allocations of the program fail.")
     option = parser.add_argument
     option("--binary", default=PROGRAM, metavar="PATH", help="the program; else the one built here")
     option("--commands", default="check,plan,canon,replay,match,run", metavar="NAME,..", help="only these commands")
-    option("--seed", type=int, default=1, metavar="S", help="which requests of the large batch are refused; 1")
+    option("--seed", type=int, default=1, metavar="S", help="which allocations of the large trials; 1")
     option("--jobs", type=int, default=4, metavar="N", help="how many runs at once; 4")
     option("--only", default="", metavar="WORD", help="only the trials with WORD in their title")
     return parser.parse_args()

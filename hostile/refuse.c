@@ -1,10 +1,10 @@
-/* Refuses one request for memory of the program that it is loaded into, or each from that one on.
+/* Lets one allocation of the program that it is loaded into fail, or each from that one on.
  *
  * Loaded by LD_PRELOAD. The environment says what to do:
- *   REFUSE_AT    which request is refused, counted from 1; 0 refuses none
- *   REFUSE_REST  if it is there, every later request is refused too
- *   REFUSE_TELL  the number of an open file, to which `!` is written at the first refusal, and the
- *                number of requests when the program exits
+ *   REFUSE_AT    which allocation fails, counted from 1; 0 for none
+ *   REFUSE_REST  if it is set, every later allocation fails too
+ *   REFUSE_TELL  the number of an open file, to which `!` is written when the first one fails, and
+ *                the number of allocations when the program exits
  *
  * glibc's own functions under the names __libc_* do the work, so nothing has to be looked up. */
 
@@ -27,7 +27,7 @@ static unsigned long number(const char *name)
     return text ? strtoul(text, NULL, 10) : 0;
 }
 
-/* Requests before this were those of the loader and of libc; they are counted, and never refused. */
+/* Allocations before this are those of the loader and of libc; they are counted, and never fail. */
 __attribute__((constructor)) static void begin(void)
 {
     refused_at = number("REFUSE_AT");
@@ -50,7 +50,7 @@ __attribute__((destructor)) static void end(void)
     say(digits + at, sizeof digits - at);
 }
 
-/* Counts a request, and returns whether it is refused. */
+/* Counts an allocation, and returns whether it fails. */
 static int is_refused(void)
 {
     seen++;
