@@ -6,3 +6,5 @@ mod ReplayLemmas
 mod LawLemmas
 mod PlanLemmas
 mod CourseLemmas
+mod TextLemmas
+mod MatchLemmas

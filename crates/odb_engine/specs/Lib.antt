@@ -6,3 +6,4 @@ pub mod Engines
 pub mod Commands
 pub mod Replays
 pub mod Laws
+pub mod Matches

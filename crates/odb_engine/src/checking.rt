@@ -10,7 +10,7 @@ use crate::held::Remains;
 use crate::lines::accepted_line;
 use crate::stop::Stop;
 use odb_check::{Plan, Seed};
-use odb_doc::{Input, Output};
+use odb_doc::{Batch, Input, Output};
 use std::alloc::Global;
 use std::io::{Read, Write};
 
@@ -20,7 +20,7 @@ struct Counts;
 impl Command for Counts {
     ghost says = { λ _. commands.Counts };
 
-    fn text(&self, alloc: Global, plan: &Plan<'_>) -> Result<String, Stop> {
+    fn text(&self, alloc: Global, _batch: &Batch<'_>, plan: &Plan<'_>) -> Result<String, Stop> {
         Ok(accepted_line(alloc, plan.len(), plan.group_count())?)
     }
 }
@@ -31,7 +31,7 @@ struct Plans;
 impl Command for Plans {
     ghost says = { λ _. commands.Plans };
 
-    fn text(&self, alloc: Global, plan: &Plan<'_>) -> Result<String, Stop> {
+    fn text(&self, alloc: Global, _batch: &Batch<'_>, plan: &Plan<'_>) -> Result<String, Stop> {
         Ok(plan.text(alloc)?)
     }
 }

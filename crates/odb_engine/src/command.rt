@@ -20,8 +20,9 @@ use std::io::{Read, Write};
 ///
 /// [`answer`] is its engine.
 pub trait Command {
-    ghost use Rattle.std.specs.Prelude.{◌≢◌, ℕ, List, Err};
+    ghost use Rattle.std.specs.Prelude.{◌≡◌, ◌≢◌, ℕ, List, Err};
     ghost use Rattle.odb_doc.specs.Records.{Record};
+    ghost use Rattle.odb_doc.specs.Batches.{records};
     ghost use Rattle.odb_check.specs.Plans.{plan_records};
     ghost use Rattle.odb_engine.specs.declared.ending.Ended.{Ended};
     ghost use Rattle.odb_engine.specs.declared.stop.Stop.TheVariants as stops;
@@ -30,8 +31,9 @@ pub trait Command {
     /// How it ends for the requests of a batch, and what it has written then.
     ghost says: { Self → List Record → Ended → List ℕ → Type 0 };
 
-    /// Returns what is printed of a plan.
-    fn text(&self, alloc: Global, plan: &Plan<'_>) -> Result<String, Stop>
+    /// Returns what is printed of a batch and its plan.
+    fn text(&self, alloc: Global, batch: &Batch<'_>, plan: &Plan<'_>) -> Result<String, Stop>
+        requires { records batch.now ≡ plan_records plan.now }
         ensures found { Found (says self.now (plan_records plan.now)) result }
         ensures read { result ≢ Err stops.Read };
 }
@@ -56,7 +58,7 @@ fn text_of<C: Command>(
         value: check_with(alloc, seed, &batch.value)?,
         remains,
     };
-    command.text(alloc, &plan.value)
+    command.text(alloc, &batch.value, &plan.value)
 }
 
 /// Returns what the command prints of the batch in a document.

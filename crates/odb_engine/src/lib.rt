@@ -10,12 +10,14 @@
 //! that prints a plan, and a public function that passes it to `answer`.
 #![tactic(auto)]
 
+mod canonical;
 mod checking;
 mod command;
 mod ending;
 mod held;
 pub mod laws;
 mod lines;
+mod matching;
 mod pair;
 mod reading;
 mod replaying;
@@ -24,7 +26,9 @@ mod sending;
 mod stop;
 mod trace;
 
+pub use canonical::canon_batch;
 pub use checking::{check_batch, plan_batch};
 pub use ending::{Ended, EngineFault};
 pub use held::Remains;
+pub use matching::match_batch;
 pub use replaying::replay_batch;

@@ -5,12 +5,18 @@ ghost use Rattle.odb_doc.specs.OutcomeFaults as outcomes;
 ghost use Rattle.odb_sched.specs.ExecFaults as execution;
 ghost use Rattle.odb_engine.specs.Replays.{outcomes_refusal, execution_refusal};
 ghost use Rattle.odb_engine.specs.declared.stop.Stop.TheVariants as stops;
+ghost use Rattle.odb_doc.specs.TextFaults as texts;
 ghost use Rattle.odb_engine.specs.Cascade.{document_refusal, names_refusal};
+ghost use Rattle.odb_reply.specs.MatchFaults as matches;
+ghost use Rattle.odb_reply.specs.ResponseFaults as responses;
+ghost use Rattle.odb_engine.specs.Commands.{text_refusal};
+ghost use Rattle.odb_engine.specs.Matches.{match_refusal, responses_refusal};
 ghost use Rattle.odb_engine.specs.Engines.{StopsBy, stop_of};
 
 use crate::reading::ReadFault;
 use odb_check::CheckFault;
-use odb_doc::{DocFault, OutcomeFault, Place};
+use odb_doc::{DocFault, OutcomeFault, Place, TextFault};
+use odb_reply::{MatchFault, ResponseFault};
 use odb_sched::ExecFault;
 use std::alloc::AllocError;
 
@@ -80,6 +86,51 @@ impl From<ExecFault> for Stop {
     fn from(fault: ExecFault) -> Self {
         match fault {
             ExecFault::OutOfMemory => Stop::OutOfMemory,
+            _ => Stop::Refused {
+                code: fault.code(),
+                name: fault.name(),
+                place: fault.place(),
+            },
+        }
+    }
+}
+
+impl From<TextFault> for Stop {
+    ghost from_gives = { λ fault stop. StopsBy (texts.IsNumbered fault) (text_refusal fault) stop };
+
+    fn from(fault: TextFault) -> Self {
+        match fault {
+            TextFault::OutOfMemory => Stop::OutOfMemory,
+            _ => Stop::Refused {
+                code: fault.code(),
+                name: fault.name(),
+                place: fault.place(),
+            },
+        }
+    }
+}
+
+impl From<ResponseFault> for Stop {
+    ghost from_gives = { λ fault stop. StopsBy (responses.IsNumbered fault) (responses_refusal fault) stop };
+
+    fn from(fault: ResponseFault) -> Self {
+        match fault {
+            ResponseFault::OutOfMemory => Stop::OutOfMemory,
+            _ => Stop::Refused {
+                code: fault.code(),
+                name: fault.name(),
+                place: fault.place(),
+            },
+        }
+    }
+}
+
+impl From<MatchFault> for Stop {
+    ghost from_gives = { λ fault stop. StopsBy (matches.IsNumbered fault) (match_refusal fault) stop };
+
+    fn from(fault: MatchFault) -> Self {
+        match fault {
+            MatchFault::OutOfMemory => Stop::OutOfMemory,
             _ => Stop::Refused {
                 code: fault.code(),
                 name: fault.name(),

@@ -1,0 +1,68 @@
+-- The lines of a match while they are made, and its exits.
+use Rattle.std.proofs.Common.{◌≡◌, ℕ, zero, suc, ◌≤◌, List, [], ◌∷◌, ◌++◌, length, drop, Some, slice_get, inl, inr, refl, arith}
+use Rattle.serde_json.specs.Data.{Data}
+use Rattle.odb_doc.specs.Documents.{IsDocument}
+use Rattle.odb_doc.specs.Records.{Record}
+use Rattle.odb_reply.specs.declared.match_fault.MatchFault.{MatchFault}
+use Rattle.odb_reply.specs.declared.response_fault.ResponseFault.{ResponseFault}
+use Rattle.odb_reply.specs.LeastMatchFault.{RefusesMatch}
+use Rattle.odb_reply.specs.MatchFaults as matches
+use Rattle.odb_reply.specs.ResponseDocuments.{Entry, RefusesResponses}
+use Rattle.odb_reply.specs.ResponseFaults as documents
+use Rattle.odb_engine.specs.declared.ending.Ended.TheVariants.{Refused}
+use Rattle.odb_engine.specs.declared.stop.Stop.{Stop}
+use Rattle.odb_engine.specs.Cascade.{line_of}
+use Rattle.odb_engine.specs.Engines.{Refuses, StopsBy}
+use Rattle.odb_engine.specs.Matches.{IsLeastOfResponses, Lists, Matches, Misfits, match_refusal, responses_refusal, status_line, status_lines}
+use Rattle.odb_engine.specs.Matches.IsLeastOfResponses.{OfValue}
+use Rattle.odb_engine.proofs.EngineLemmas.{reports, stopped-by}
+
+-- the lines from a position on
+pub lines_left : List Record → List ℕ → ℕ → List ℕ
+lines_left rs ss i = status_lines (drop i rs) (drop i ss)
+
+pub lines_left-first : (rs : List Record) (ss : List ℕ) → lines_left rs ss 0 ≡ status_lines rs ss
+unfolding lines_left
+lines_left-first rs ss = refl
+
+next : (rs : List Record) (ss : List ℕ) (i : ℕ) (r : Record) (s : ℕ) → slice_get rs i ≡ Some r → slice_get ss i ≡ Some s → status_lines (drop i rs) (drop i ss) ≡ status_line r.id s ++ status_lines (drop (suc i) rs) (drop (suc i) ss)
+next [] ss i r s here there = absurd (cc (here))
+next (x ∷ rs) [] i r s here there = absurd (cc (there))
+next (x ∷ rs) (y ∷ ss) zero r s here there =
+    let same : x ≡ r = cc (here) in
+    let equal : y ≡ s = cc (there) in
+    rw (same, equal) refl
+next (x ∷ rs) (y ∷ ss) (suc i) r s here there = next rs ss i r s here there
+
+pub lines_left-next : (rs : List Record) (ss : List ℕ) (i j : ℕ) (r : Record) (s : ℕ) → j ≡ suc i → slice_get rs i ≡ Some r → slice_get ss i ≡ Some s → lines_left rs ss i ≡ status_line r.id s ++ lines_left rs ss j
+unfolding lines_left
+lines_left-next rs ss i j r s after here there = rw after (next rs ss i r s here there)
+
+no_lines : (rs : List Record) → status_lines rs [] ≡ []
+no_lines [] = refl
+no_lines (x ∷ rs) = refl
+
+none : (rs : List Record) (ss : List ℕ) (i : ℕ) → length rs ≤ i → status_lines (drop i rs) (drop i ss) ≡ []
+none [] ss zero past = refl
+none [] ss (suc i) past = refl
+none (x ∷ rs) ss zero past = absurd (omega arith)
+none (x ∷ rs) [] (suc i) past = no_lines (drop i rs)
+none (x ∷ rs) (y ∷ ss) (suc i) past = none rs ss i (omega arith)
+
+pub lines_left-none : (rs : List Record) (ss : List ℕ) (i : ℕ) → length rs ≤ i → lines_left rs ss i ≡ []
+unfolding lines_left
+lines_left-none rs ss i past = none rs ss i past
+
+-- ---- the exits of a match
+
+-- the response document has a fault
+pub stop-responses : (batch : List Record) (bytes : List ℕ) (fault : ResponseFault) (value : Data) → IsDocument bytes value → RefusesResponses fault value
+    → (stop : Stop) → StopsBy (documents.IsNumbered fault) (responses_refusal fault) stop → Refuses (Matches batch bytes) stop
+stop-responses batch bytes fault value is_document least = stopped-by (λ refusal. Matches batch bytes Refused (line_of refusal)) _ _
+    (λ numbered. inl (reports (IsLeastOfResponses bytes) (responses_refusal fault) (OfValue fault numbered (record { value = value; document = is_document; holds = least }) refl)))
+
+-- the responses do not fit the batch
+pub stop-match : (batch : List Record) (bytes : List ℕ) (entries : List Entry) (fault : MatchFault) → Lists bytes entries → RefusesMatch fault batch entries
+    → (stop : Stop) → StopsBy (matches.IsNumbered fault) (match_refusal fault) stop → Refuses (Matches batch bytes) stop
+stop-match batch bytes entries fault lists least = stopped-by (λ refusal. Matches batch bytes Refused (line_of refusal)) _ _
+    (λ numbered. inr (entries, lists, inl (reports (Misfits batch entries) (match_refusal fault) (record { fault = fault; numbered = numbered; least = least; is = refl }))))

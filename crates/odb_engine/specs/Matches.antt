@@ -1,0 +1,68 @@
+-- What a match writes of a batch and of the response document of a service (OData JSON Format 4.01, section 19.5).
+use Rattle.std.specs.Prelude.{◌≡◌, ◌⊎◌, ℕ, List, [], ◌∷◌, ◌++◌, length, codes}
+use Rattle.std.specs.Fmt.{decimal}
+use Rattle.std.specs.List.{AllZip}
+use Rattle.odb_doc.specs.declared.fault.Place.TheVariants as places
+use Rattle.odb_doc.specs.Records.{Record}
+use Rattle.odb_reply.specs.declared.match_fault.MatchFault.{MatchFault}
+use Rattle.odb_reply.specs.declared.response_fault.ResponseFault.{ResponseFault}
+use Rattle.odb_reply.specs.Fits.{Fits, IsTableOf}
+use Rattle.odb_reply.specs.LeastMatchFault.{RefusesMatch}
+use Rattle.odb_reply.specs.MatchFaults as matches
+use Rattle.odb_reply.specs.ResponseDocuments.{Entry, IsResponseDocument, RefusesResponses, Says, responses_in}
+use Rattle.odb_reply.specs.ResponseFaults as documents
+use Rattle.odb_engine.specs.declared.ending.Ended.{Ended}
+use Rattle.odb_engine.specs.Cascade.{Writes, Prints, Refusal, Reports, RefusesBytes, HasValue}
+use Rattle.odb_engine.specs.Lines.{fit_line, newline}
+
+-- `ID STATUS`
+abbrev pub status_line : List ℕ → ℕ → List ℕ
+status_line id status = id ++ codes " " ++ decimal status ++ newline ∷ []
+
+-- a line for each request, with the status of its response
+abbrev pub status_lines : List Record → List ℕ → List ℕ
+status_lines [] statuses = []
+status_lines (r ∷ rs) [] = []
+status_lines (r ∷ rs) (status ∷ statuses) = status_line r.id status ++ status_lines rs statuses
+
+-- `ok N responses`, and the lines
+abbrev pub match_text : List Record → List ℕ → List ℕ
+match_text batch statuses = fit_line (length batch) ++ status_lines batch statuses
+
+abbrev pub responses_refusal : ResponseFault → Refusal
+responses_refusal fault = record { code = documents.fault_code fault; name = documents.fault_name fault; place = documents.fault_place fault }
+
+abbrev pub match_refusal : MatchFault → Refusal
+match_refusal fault = record { code = matches.fault_code fault; name = matches.fault_name fault; place = matches.fault_place fault }
+
+-- the first fault of a response document: of its bytes, or else of its value
+pub data IsLeastOfResponses (bytes : List ℕ) (refusal : Refusal) : Type 0 where
+  OfBytes : RefusesBytes places.Responses bytes refusal → IsLeastOfResponses bytes refusal
+  OfValue : (fault : ResponseFault) → documents.IsNumbered fault → HasValue bytes (RefusesResponses fault) → refusal ≡ responses_refusal fault → IsLeastOfResponses bytes refusal
+
+-- the bytes are a response document that lists these responses
+abbrev pub Lists : List ℕ → List Entry → Type 0
+Lists bytes entries = HasValue bytes (λ value. IsResponseDocument value × AllZip Says (responses_in value) entries)
+
+-- the responses do not fit the batch, and this is the least fault
+pub record Misfits (batch : List Record) (entries : List Entry) (refusal : Refusal) : Type 0 where
+  pub fault : MatchFault
+  pub numbered : matches.IsNumbered fault
+  pub least : RefusesMatch fault batch entries
+  pub is : refusal ≡ match_refusal fault
+
+-- the responses fit the batch, and their statuses are printed
+pub record PrintsFit (batch : List Record) (entries : List Entry) (ended : Ended) (text : List ℕ) : Type 0 where
+  pub fits : Fits batch entries
+  pub places : List ℕ
+  pub statuses : List ℕ
+  pub table : IsTableOf batch entries places statuses
+  pub prints : Prints (match_text batch statuses) ended text
+
+-- what is written of a batch and of responses
+abbrev pub MatchesEntries : List Record → List Entry → Writes
+MatchesEntries batch entries ended text = Reports (Misfits batch entries) ended text ⊎ PrintsFit batch entries ended text
+
+-- what is written of a batch and the bytes of a response document
+abbrev pub Matches : List Record → List ℕ → Writes
+Matches batch bytes ended text = Reports (IsLeastOfResponses bytes) ended text ⊎ ((entries : List Entry) × Lists bytes entries × MatchesEntries batch entries ended text)

@@ -1,0 +1,56 @@
+ghost use Rattle.std.specs.Prelude.{◌≡◌, ◌++◌, ◌∷◌, [], false, Err, IsTrue, IfOk, IfErr, string_bytes};
+ghost use Rattle.odb_doc.specs.Batches.{records};
+ghost use Rattle.odb_doc.specs.Canonical.{canonical_text};
+ghost use Rattle.odb_engine.specs.Inputs.{IsFresh, ReadsFew, SomeDocument};
+ghost use Rattle.odb_engine.specs.Cascade.{Answers};
+ghost use Rattle.odb_engine.specs.Engines.{Ends};
+ghost use Rattle.odb_engine.specs.Commands as commands;
+
+use crate::command::{Command, answer};
+use crate::ending::{Ended, EngineFault};
+use crate::held::Remains;
+use crate::stop::Stop;
+use odb_check::{Plan, Seed};
+use odb_doc::{Batch, Input, Output};
+use std::alloc::Global;
+use std::io::{Read, Write};
+
+/// Prints the canonical text.
+struct Canonical;
+
+impl Command for Canonical {
+    ghost says = { λ _. commands.Canonical };
+
+    fn text(&self, alloc: Global, batch: &Batch<'_>, _plan: &Plan<'_>) -> Result<String, Stop> {
+        let mut text = batch.canonical(alloc)?;
+        text.push_str("\n")?;
+        Ok(text)
+    }
+}
+
+/// Writes the canonical text of the batch in a document, and a newline; or the line of the least fault.
+///
+/// Two batches mean the same if and only if these texts are equal. The arguments are those of
+/// [`crate::check_batch`]. Takes O(n log n) time for a document of n bytes, and the text is held in
+/// memory.
+///
+/// # Errors
+///
+/// Those of [`crate::check_batch`].
+pub fn canon_batch<R: Read, W: Write>(
+    alloc: Global,
+    input: &mut Input<R>,
+    output: &mut Output<W>,
+    seed: Seed,
+    remains: Remains,
+) -> Result<Ended, EngineFault>
+    requires input { IsFresh input.old }
+    requires output { output.old.failed ≡ false }
+    ensures ends { SomeDocument (R.remaining input.old.reader) (λ bytes. Ends W.contents
+        (Answers commands.Canonical bytes) (IsTrue input.new.failed)
+        output.old output.new result) }
+    ensures memory { result ≡ Err EngineFault.OutOfMemory → output.new ≡ output.old }
+    ensures reads { ReadsFew R.remaining input.old input.new }
+{
+    answer(alloc, input, output, &Canonical, seed, remains)
+}
