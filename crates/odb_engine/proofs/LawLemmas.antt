@@ -2,6 +2,7 @@
 use Rattle.std.proofs.Common.{◌≡◌, ℕ, ◌≤◌, ◌<◌, ◌∙◌, List, length, unwrap_or, inl, inr, refl, sym, subst, ap, arith}
 use Rattle.serde_json.specs.Data.{Data}
 use Rattle.odb_doc.specs.declared.document.TheConstants.{MAX_DOCUMENT_BYTES}
+use Rattle.odb_doc.specs.declared.fault.Place.{Place}
 use Rattle.odb_doc.specs.declared.fault.Place.TheVariants.{Batch}
 use Rattle.odb_doc.specs.declared.fault.DocFault.{DocFault}
 use Rattle.odb_doc.specs.declared.fault.DocFault.TheVariants as faults
@@ -27,7 +28,7 @@ pub record AreFunctional : Type 0 where
   pub no_name : (requests : List Record) (fault : CheckFault) → names.IsNumbered fault → RefusesNames fault requests → ¬ HasGoodNames requests
 
 -- bytes have one value
-one_value : (bytes : List ℕ) (d e : Data) → IsDocument bytes d → IsDocument bytes e → d ≡ e
+pub one_value : (bytes : List ℕ) (d e : Data) → IsDocument bytes d → IsDocument bytes e → d ≡ e
 one_value bytes d e first second = ap (λ o. unwrap_or o d) (sym first.1.1 ∙ second.1.1)
 
 -- ---- bytes that are refused
@@ -57,27 +58,27 @@ no_value : (bytes : List ℕ) (fault : DocFault) (d : Data) → Cause bytes faul
 no_value bytes _ d (Long long) is = omega (arith, long, is.0)
 no_value bytes _ d (NoJson short none) is = none d is
 
-one_refusal : (bytes : List ℕ) (refusal other : Refusal) → RefusesBytes Batch bytes refusal → RefusesBytes Batch bytes other → refusal ≡ other
-one_refusal bytes refusal other one two =
+pub one_refusal : (place : Place) (bytes : List ℕ) (refusal other : Refusal) → RefusesBytes place bytes refusal → RefusesBytes place bytes other → refusal ≡ other
+one_refusal place bytes refusal other one two =
     let same = one_cause bytes one.fault two.fault (cause bytes one.fault one.numbered one.refuses) (cause bytes two.fault two.numbered two.refuses) in
-    one.is ∙ ap (λ (fault : DocFault). record { code = document.fault_code fault; name = document.fault_name fault; place = Batch }) same ∙ sym two.is
+    one.is ∙ ap (λ (fault : DocFault). record { code = document.fault_code fault; name = document.fault_name fault; place = place }) same ∙ sym two.is
 
-refused_no_value : (bytes : List ℕ) (refusal : Refusal) (P : Data → Type 0) → RefusesBytes Batch bytes refusal → HasValue bytes P → ⊥
-refused_no_value bytes refusal P refused has =
+pub refused_no_value : (place : Place) (bytes : List ℕ) (refusal : Refusal) (P : Data → Type 0) → RefusesBytes place bytes refusal → HasValue bytes P → ⊥
+refused_no_value place bytes refusal P refused has =
     no_value bytes refused.fault has.value (cause bytes refused.fault refused.numbered refused.refuses) has.document
 
 -- ---- the cascade
 
 least_one : AreFunctional → (bytes : List ℕ) (s t : Refusal) → IsLeast bytes s → IsLeast bytes t → s ≡ t
-least_one law bytes s t (OfBytes one) (OfBytes two) = one_refusal bytes s t one two
-least_one law bytes s t (OfBytes one) (OfShape g m has d) = absurd (refused_no_value bytes s (IsLeastFault g) one has)
-least_one law bytes s t (OfBytes one) (OfNames g m has d) = absurd (refused_no_value bytes s _ one has)
-least_one law bytes s t (OfShape f n has e) (OfBytes two) = absurd (refused_no_value bytes t (IsLeastFault f) two has)
+least_one law bytes s t (OfBytes one) (OfBytes two) = one_refusal Batch bytes s t one two
+least_one law bytes s t (OfBytes one) (OfShape g m has d) = absurd (refused_no_value Batch bytes s (IsLeastFault g) one has)
+least_one law bytes s t (OfBytes one) (OfNames g m has d) = absurd (refused_no_value Batch bytes s _ one has)
+least_one law bytes s t (OfShape f n has e) (OfBytes two) = absurd (refused_no_value Batch bytes t (IsLeastFault f) two has)
 least_one law bytes s t (OfShape f n has e) (OfShape g m had d) =
     e ∙ ap document_refusal (law.one_shape had.value f g n m (subst (IsLeastFault f) (one_value bytes has.value had.value has.document had.document) has.holds) had.holds) ∙ sym d
 least_one law bytes s t (OfShape f n has e) (OfNames g m had d) =
     absurd (law.no_shape had.value f n (subst (IsLeastFault f) (one_value bytes has.value had.value has.document had.document) has.holds) had.holds.shape)
-least_one law bytes s t (OfNames f n has e) (OfBytes two) = absurd (refused_no_value bytes t _ two has)
+least_one law bytes s t (OfNames f n has e) (OfBytes two) = absurd (refused_no_value Batch bytes t _ two has)
 least_one law bytes s t (OfNames f n has e) (OfShape g m had d) =
     absurd (law.no_shape has.value g m (subst (IsLeastFault g) (one_value bytes had.value has.value had.document has.document) had.holds) has.holds.shape)
 least_one law bytes s t (OfNames f n has e) (OfNames g m had d) =

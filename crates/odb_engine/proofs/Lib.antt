@@ -8,3 +8,5 @@ mod PlanLemmas
 mod CourseLemmas
 mod TextLemmas
 mod MatchLemmas
+mod CanonLawLemmas
+mod MatchLawLemmas

@@ -10,21 +10,27 @@ ghost use Rattle.odb_sched.specs.Choosing.{AllowsOrder};
 ghost use Rattle.odb_sched.specs.declared.order.Order.{Order};
 ghost use Rattle.odb_sched.specs.declared.policy.Policy.{Policy};
 ghost use Rattle.odb_engine.specs.Cascade.{Accepts, Answers};
-ghost use Rattle.odb_engine.specs.Commands.{Counts, Plans};
+ghost use Rattle.odb_engine.specs.Commands.{Canonical, Counts, Plans};
 ghost use Rattle.odb_engine.specs.Laws.{IsOne};
+ghost use Rattle.odb_engine.specs.Matches.{Matches};
 ghost use Rattle.odb_engine.specs.Replays.{ReplaysBatch};
 
 use odb_check::Plan;
 
 /// Two texts that a check may write for the same bytes are equal, and so are the ends; likewise for a
-/// plan. So what these commands write is a function of the bytes.
+/// plan, a canonical text and a match. So what these commands write is a function of the bytes.
 pub fn one_text()
     ensures check { (bytes : List ℕ) → IsOne (Answers Counts bytes) }
     ensures plan { (bytes : List ℕ) → IsOne (Answers Plans bytes) }
+    ensures canon { (bytes : List ℕ) → IsOne (Answers Canonical bytes) }
+    ensures matching { (bytes responses : List ℕ)
+        → IsOne (Answers (λ batch. Matches batch responses) bytes) }
 {
     odb_doc::laws::one_batch();
     odb_doc::laws::one_fault();
     odb_check::laws::one_fault();
+    odb_reply::laws::one_document();
+    odb_reply::laws::one_match();
 }
 
 /// In an order, as that of `First`, `Last` or `Wide`, a plan, a policy and a record of outcomes have one

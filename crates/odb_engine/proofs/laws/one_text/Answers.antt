@@ -1,6 +1,9 @@
 use Rattle.std.proofs.Common.{◌∙◌, sym}
-use Rattle.odb_engine.specs.Commands.{Counts, Plans}
+use Rattle.odb_engine.specs.Commands.{Canonical, Counts, Plans}
+use Rattle.odb_engine.specs.Matches.{Matches}
+use Rattle.odb_engine.proofs.CanonLawLemmas.{canonical_one}
 use Rattle.odb_engine.proofs.LawLemmas.{AreFunctional, answers_one}
+use Rattle.odb_engine.proofs.MatchLawLemmas.{AreOneMatch, matches_one}
 use Rattle.odb_engine.proofs.laws.one_text.Goals as goal
 
 pub returns-clause-check : goal.returns-clause-check
@@ -24,3 +27,33 @@ returns-clause-plan c =
       no_name = c.one_fault-2.ensures.none;
     } in
     λ bytes. answers_one law Plans bytes (λ xs here a b s t x y. (x.0 ∙ sym y.0, x.1 ∙ sym y.1))
+
+pub returns-clause-canon : goal.returns-clause-canon
+returns-clause-canon c =
+    let law : AreFunctional = record {
+      one_shape = c.one_fault.ensures.one;
+      no_shape = c.one_fault.ensures.none;
+      one_batch = c.one_batch.ensures;
+      one_name = c.one_fault-2.ensures.one;
+      no_name = c.one_fault-2.ensures.none;
+    } in
+    λ bytes. answers_one law Canonical bytes (λ xs here. canonical_one xs)
+
+pub returns-clause-matching : goal.returns-clause-matching
+returns-clause-matching c =
+    let law : AreFunctional = record {
+      one_shape = c.one_fault.ensures.one;
+      no_shape = c.one_fault.ensures.none;
+      one_batch = c.one_batch.ensures;
+      one_name = c.one_fault-2.ensures.one;
+      no_name = c.one_fault-2.ensures.none;
+    } in
+    let reply : AreOneMatch = record {
+      one_fault = c.one_document.ensures.one;
+      no_fault = c.one_document.ensures.none;
+      one_list = c.one_document.ensures.entries;
+      one_misfit = c.one_match.ensures.one;
+      no_misfit = c.one_match.ensures.none;
+      one_table = c.one_match.ensures.table;
+    } in
+    λ bytes responses. answers_one law (λ batch. Matches batch responses) bytes (λ xs here. matches_one reply xs responses)
