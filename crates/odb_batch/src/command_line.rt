@@ -27,6 +27,14 @@ const PLAN_NOTES: &str = "Example: odb_batch plan batch.json\n\n\
     Exit status: 0 for a plan, 1 for a fault of the batch, 2 for a wrong command line, \
     3 for a file or an output that fails, 4 for no memory";
 
+const CANON_NOTES: &str = "Example: odb_batch canon batch.json\n\n\
+    Exit status: 0 for a text, 1 for a fault of the batch or a number that is not whole, \
+    2 for a wrong command line, 3 for a file or an output that fails, 4 for no memory";
+
+const MATCH_NOTES: &str = "Example: odb_batch match batch.json responses.json\n\n\
+    Exit status: 0 for responses that fit, 1 for a fault of a document or responses that do not fit, \
+    2 for a wrong command line, 3 for a file or an output that fails, 4 for no memory";
+
 const REPLAY_NOTES: &str =
     "Example: odb_batch replay batch.json outcomes.json --order wide --trace\n\n\
     Exit status: 0 for a response, 1 for a fault of a document or a request without an outcome, \
@@ -60,8 +68,12 @@ pub enum Task<'a> {
     Check { file: Option<&'a str> },
     /// Plan the batch in the file.
     Plan { file: &'a str },
+    /// Print the canonical text of the batch in the file.
+    Canon { file: &'a str },
     /// Replay the batch in a file by the outcomes in another.
     Replay(Replay<'a>),
+    /// Match the responses in a file against the batch in another.
+    Match { file: &'a str, responses: &'a str },
 }
 
 /// Why the command line was rejected.
@@ -163,6 +175,23 @@ fn plan_command<'a>(alloc: Global) -> Result<Command<'a>, AllocError> {
         .arg(document(alloc, "FILE", "The batch document"))
 }
 
+/// Returns the command that prints the canonical text.
+fn canon_command<'a>(alloc: Global) -> Result<Command<'a>, AllocError> {
+    Command::new(alloc, "canon")
+        .about("Print the canonical text of a batch: equal texts mean equal batches")
+        .after_help(CANON_NOTES)
+        .arg(document(alloc, "FILE", "The batch document"))
+}
+
+/// Returns the command that matches.
+fn match_command<'a>(alloc: Global) -> Result<Command<'a>, AllocError> {
+    Command::new(alloc, "match")
+        .about("Match a service's responses against a batch: print the status of each request")
+        .after_help(MATCH_NOTES)
+        .arg(document(alloc, "FILE", "The batch document"))?
+        .arg(document(alloc, "RESPONSES", "The response document of the service"))
+}
+
 /// Adds a command to the program.
 fn with<'a>(
     program: Command<'a>,
@@ -180,7 +209,9 @@ fn command<'a>(alloc: Global) -> Result<Command<'a>, AllocError> {
         .disable_help_subcommand(true);
     let program = with(program, check_command(alloc))?;
     let program = with(program, plan_command(alloc))?;
-    with(program, replay_command(alloc))
+    let program = with(program, canon_command(alloc))?;
+    let program = with(program, replay_command(alloc))?;
+    with(program, match_command(alloc))
 }
 
 /// Returns the replay that its command asks for, or `None` if the width is not valid.
@@ -211,7 +242,14 @@ fn task_of<'a>(words: &ArgMatches<'a>) -> Option<Task<'a>> {
         Some(("plan", plan)) => Some(Task::Plan {
             file: plan.get_str("FILE").unwrap_or(""),
         }),
+        Some(("canon", canon)) => Some(Task::Canon {
+            file: canon.get_str("FILE").unwrap_or(""),
+        }),
         Some(("replay", replay)) => replay_of(replay).map(Task::Replay),
+        Some(("match", matching)) => Some(Task::Match {
+            file: matching.get_str("FILE").unwrap_or(""),
+            responses: matching.get_str("RESPONSES").unwrap_or(""),
+        }),
         Some((_, check)) => Some(Task::Check {
             file: check.get_str("FILE"),
         }),

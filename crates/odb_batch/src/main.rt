@@ -13,7 +13,9 @@ use clap::error::ErrorKind;
 use command_line::{Misuse, Replay, Task};
 use odb_check::Seed;
 use odb_doc::{Input, Output};
-use odb_engine::{Ended, EngineFault, Remains, check_batch, plan_batch, replay_batch};
+use odb_engine::{
+    Ended, EngineFault, Remains, canon_batch, check_batch, match_batch, plan_batch, replay_batch,
+};
 use std::process::ExitCode;
 use std::random::RandomSource;
 use std::rt::Runtime;
@@ -115,6 +117,39 @@ fn plan<R: Runtime + AllocGlobal>(rt: &R, seed: Seed, path: &str) -> Status {
     }
 }
 
+fn canon<R: Runtime + AllocGlobal>(rt: &R, seed: Seed, path: &str) -> Status {
+    let mut output = Output::new(io::writer(rt));
+    match open(rt, path) {
+        Ok(mut input) => finish(
+            rt,
+            canon_batch(rt.alloc(), &mut input, &mut output, seed, REMAINS),
+        ),
+        Err(status) => status,
+    }
+}
+
+/// Matches the responses in a file against the batch in another.
+fn fit<R: Runtime + AllocGlobal>(rt: &R, seed: Seed, file: &str, responses: &str) -> Status {
+    let mut batch = match open(rt, file) {
+        Ok(input) => input,
+        Err(status) => return status,
+    };
+    let mut responses = match open(rt, responses) {
+        Ok(input) => input,
+        Err(status) => return status,
+    };
+    let mut output = Output::new(io::writer(rt));
+    let ended = match_batch(
+        rt.alloc(),
+        &mut batch,
+        &mut responses,
+        &mut output,
+        seed,
+        REMAINS,
+    );
+    finish(rt, ended)
+}
+
 fn replay<R: Runtime + AllocGlobal>(rt: &R, seed: Seed, replay: Replay<'_>) -> Status {
     let mut batch = match open(rt, replay.file) {
         Ok(input) => input,
@@ -143,7 +178,9 @@ fn run<R: Runtime + AllocGlobal>(rt: &R, seed: Seed, words: &[String]) -> Status
     match Task::read(rt.alloc(), words) {
         Ok(Task::Check { file }) => check(rt, seed, file),
         Ok(Task::Plan { file }) => plan(rt, seed, file),
+        Ok(Task::Canon { file }) => canon(rt, seed, file),
         Ok(Task::Replay(task)) => replay(rt, seed, task),
+        Ok(Task::Match { file, responses }) => fit(rt, seed, file, responses),
         Err(Misuse::Arguments(error)) => explain(rt, &error),
         Err(Misuse::Width) => {
             failed(

@@ -4,7 +4,7 @@ use std::alloc::{AllocError, Global};
 use std::test::Fail;
 
 /// Arguments, and what is read from them.
-const READINGS: [(&str, &str); 60] = [
+const READINGS: [(&str, &str); 69] = [
     ("", "check -"),
     (" check", "check -"),
     (" check F", "check F"),
@@ -14,6 +14,13 @@ const READINGS: [(&str, &str); 60] = [
     (" plan F", "plan F"),
     (" plan F G", "rejected"),
     (" plan F --order last", "rejected"),
+    (" canon", "rejected"),
+    (" canon F", "canon F"),
+    (" canon F G", "rejected"),
+    (" match", "rejected"),
+    (" match F", "rejected"),
+    (" match F G", "match F G"),
+    (" match F G --stop", "rejected"),
     (" replay", "rejected"),
     (" replay F", "rejected"),
     (" replay F G", "replay F G First Continue 10000 false"),
@@ -99,7 +106,9 @@ const READINGS: [(&str, &str); 60] = [
     (" --help", "help"),
     (" check -h", "help"),
     (" plan --help", "help"),
+    (" canon --help", "help"),
     (" replay --help", "help"),
+    (" match -h", "help"),
     (" replay F -h", "help"),
     (" -V", "version"),
     (" --version", "version"),
@@ -119,6 +128,8 @@ fn described(alloc: Global, task: Result<Task<'_>, Misuse>) -> Result<String, Al
     match task {
         Ok(Task::Check { file }) => format!(in alloc; "check {}", file.unwrap_or("-")),
         Ok(Task::Plan { file }) => format!(in alloc; "plan {file}"),
+        Ok(Task::Canon { file }) => format!(in alloc; "canon {file}"),
+        Ok(Task::Match { file, responses }) => format!(in alloc; "match {file} {responses}"),
         Ok(Task::Replay(replay)) => described_replay(alloc, &replay),
         Err(Misuse::Width) => String::from_str(alloc, "width"),
         Err(Misuse::Arguments(error)) => String::from_str(alloc, kind_of(error.kind())),
