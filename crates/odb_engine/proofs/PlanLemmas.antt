@@ -29,7 +29,7 @@ use Rattle.odb_reply.specs.OnePerId.{HasOnePerId}
 use Rattle.odb_reply.specs.Responses.{response, responses_from, response_value, response_text}
 use Rattle.odb_engine.specs.declared.ending.Ended.{Ended}
 use Rattle.odb_engine.specs.Lines.{newline}
-use Rattle.odb_engine.specs.Replays.{ReplaysPlan, IsResult, LacksOutcome, trace_part, result_text}
+use Rattle.odb_engine.specs.Replays.{ReplaysPlan, IsResult, LacksOutcome, response_line, trace_part, result_text}
 use Rattle.odb_engine.specs.Traces.{report_line, step_line, undo_line}
 
 -- the state of a run of this plan
@@ -54,7 +54,7 @@ after_all-plan plan state (event.Start i ∷ events) = after_all-plan plan _ eve
 after_all-plan plan state (event.Report i outcome ∷ events) = after_all-plan plan _ events
 
 -- events leave the plan as it is
-plan-kept : (state : State) (events : List Event) → (after_all state events).plan ≡ state.plan
+pub plan-kept : (state : State) (events : List Event) → (after_all state events).plan ≡ state.plan
 plan-kept state [] = refl
 plan-kept state (event.Start i ∷ events) = plan-kept _ events
 plan-kept state (event.Report i outcome ∷ events) = plan-kept _ events
@@ -118,7 +118,7 @@ module _ (plan : Plan) (state : State) (same : plan_records plan ≡ plan_record
 
   pub result_text-plan : (traced : Bool) (steps : List Step) → result_text traced (with_plan plan state) steps ≡ result_text traced state steps
   result_text-plan traced steps =
-      ap (λ text. text ++ response_text (with_plan plan state) ++ newline ∷ []) (trace_part-plan traced steps) ∙ ap (λ text. trace_part traced state steps ++ text ++ newline ∷ []) response_text-plan
+      ap (λ text. text ++ response_line (with_plan plan state)) (trace_part-plan traced steps) ∙ ap (λ text. trace_part traced state steps ++ (text ++ newline ∷ [])) response_text-plan
 
 -- ---- replays
 

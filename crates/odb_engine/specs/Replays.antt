@@ -31,9 +31,13 @@ use Rattle.odb_engine.specs.Inputs.{SomeDocument}
 abbrev pub trace_part : Bool → State → List Step → List ℕ
 trace_part traced state steps = if traced then trace_text state steps else []
 
+-- the response as a line
+abbrev pub response_line : State → List ℕ
+response_line state = response_text state ++ newline ∷ []
+
 -- the response as a line, after the trace where one is wanted
 abbrev pub result_text : Bool → State → List Step → List ℕ
-result_text traced state steps = trace_part traced state steps ++ response_text state ++ newline ∷ []
+result_text traced state steps = trace_part traced state steps ++ response_line state
 
 -- what is offered by these recorded outcomes
 abbrev pub offers_of : Plan → List Recorded → Offer

@@ -60,6 +60,20 @@ fn send_response<W: Write>(
     }
 }
 
+/// Writes the response to a run whose bodies hold whole numbers alone, as a line.
+fn send_line<W: Write>(
+    alloc: Global,
+    output: &mut Output<W>,
+    done: &Done<'_>,
+) -> Result<(), EngineFault>
+    requires works { output.old.failed ≡ false }
+    requires whole { HasWholeBodies done.now }
+    ensures { Sends W.contents (replays.response_line done.now) output.old output.new result }
+{
+    send_response(alloc, output, done)?;
+    send_text(output, "\n")
+}
+
 /// Writes the response to a finished execution as a line, after its trace where one is wanted.
 fn send_result<W: Write>(
     alloc: Global,
@@ -75,8 +89,7 @@ fn send_result<W: Write>(
         output.old output.new result }
 {
     send_trace(alloc, output, trace, traced)?;
-    send_response(alloc, output, &trace.done)?;
-    send_text(output, "\n")
+    send_line(alloc, output, &trace.done)
 }
 
 /// Writes the result of a finished execution, and returns how the engine has ended.
