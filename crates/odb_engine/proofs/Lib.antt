@@ -3,6 +3,7 @@ mod TraceLemmas
 mod EngineLemmas
 mod SendLemmas
 mod ReplayLemmas
+mod RunLemmas
 mod LawLemmas
 mod PlanLemmas
 mod CourseLemmas

@@ -5,5 +5,6 @@ pub mod Cascade
 pub mod Engines
 pub mod Commands
 pub mod Replays
+pub mod Runs
 pub mod Laws
 pub mod Matches

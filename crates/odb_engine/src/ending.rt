@@ -29,8 +29,8 @@ pub enum EngineFault {
     /// The output failed. It has received a prefix of what the engine writes.
     #[error("the output failed")]
     Write,
-    /// An allocation failed. Nothing was written; by [`crate::replay_batch`] nothing or a prefix of
-    /// what it writes.
+    /// An allocation failed. Nothing was written; by [`crate::replay_batch`] and [`crate::run_batch`]
+    /// nothing or a prefix of what they write.
     #[error("out of memory")]
     OutOfMemory,
 }

@@ -1,10 +1,10 @@
 //! The commands as a library: one engine for each, over readers and a writer.
 //!
 //! An engine reads its documents, writes its result or the line of the least fault, and returns how
-//! it ended: [`check_batch`], [`plan_batch`], [`replay_batch`]. Its contract states what the writer has
-//! gained, whatever the readers and the writer do: the whole text, or after a fault nothing or a prefix
-//! of it. [`laws`] says that a text is determined. Opening files, buffering small writes and turning an
-//! end into an exit status are left to the caller.
+//! it ended: [`check_batch`], [`plan_batch`], [`replay_batch`], [`run_batch`]. Its contract states what
+//! the writer has gained, whatever the readers and the writer do: the whole text, or after a fault
+//! nothing or a prefix of it. [`laws`] says that a text is determined. Opening files, buffering small
+//! writes and turning an end into an exit status are left to the caller.
 //!
 //! A further command over one document is a relation in specs/Commands.antt, an `impl` of `Command`
 //! that prints a plan, and a public function that passes it to `answer`.
@@ -14,12 +14,14 @@ mod canonical;
 mod checking;
 mod command;
 mod ending;
+mod events;
 mod held;
 pub mod laws;
 mod lines;
 mod matching;
 mod pair;
 mod reading;
+mod recorded_run;
 mod replaying;
 mod running;
 mod sending;
@@ -31,4 +33,5 @@ pub use checking::{check_batch, plan_batch};
 pub use ending::{Ended, EngineFault};
 pub use held::Remains;
 pub use matching::match_batch;
+pub use recorded_run::run_batch;
 pub use replaying::replay_batch;

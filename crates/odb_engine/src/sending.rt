@@ -108,3 +108,17 @@ pub fn send<W: Write>(
 {
     send_result(alloc, output, trace, traced).and(Ok(Ended::Done))
 }
+
+/// Writes the response to a finished run as a line, and returns how the engine has ended.
+pub fn send_done<W: Write>(
+    alloc: Global,
+    output: &mut Output<W>,
+    done: &Done<'_>,
+) -> Result<Ended, EngineFault>
+    requires works { output.old.failed ≡ false }
+    requires whole { HasWholeBodies done.now }
+    ensures { Ends W.contents (Prints (replays.response_line done.now)) ⊥
+        output.old output.new result }
+{
+    send_line(alloc, output, done).and(Ok(Ended::Done))
+}

@@ -1,23 +1,27 @@
 ghost use Rattle.std.specs.Prelude.{◌≡◌};
+ghost use Rattle.odb_doc.specs.EventFaults as events;
 ghost use Rattle.odb_doc.specs.FaultTable as document;
-ghost use Rattle.odb_check.specs.FaultTable as names;
 ghost use Rattle.odb_doc.specs.OutcomeFaults as outcomes;
-ghost use Rattle.odb_sched.specs.ExecFaults as execution;
-ghost use Rattle.odb_engine.specs.Replays.{outcomes_refusal, execution_refusal};
-ghost use Rattle.odb_engine.specs.declared.stop.Stop.TheVariants as stops;
 ghost use Rattle.odb_doc.specs.TextFaults as texts;
-ghost use Rattle.odb_engine.specs.Cascade.{document_refusal, names_refusal};
+ghost use Rattle.odb_check.specs.FaultTable as names;
+ghost use Rattle.odb_sched.specs.ExecFaults as execution;
+ghost use Rattle.odb_sched.specs.Refusals as refusals;
+ghost use Rattle.odb_sched.specs.ResolveFaults as ids;
 ghost use Rattle.odb_reply.specs.MatchFaults as matches;
 ghost use Rattle.odb_reply.specs.ResponseFaults as responses;
+ghost use Rattle.odb_engine.specs.declared.stop.Stop.TheVariants as stops;
+ghost use Rattle.odb_engine.specs.Cascade.{document_refusal, names_refusal};
 ghost use Rattle.odb_engine.specs.Commands.{text_refusal};
-ghost use Rattle.odb_engine.specs.Matches.{match_refusal, responses_refusal};
 ghost use Rattle.odb_engine.specs.Engines.{StopsBy, stop_of};
+ghost use Rattle.odb_engine.specs.Matches.{match_refusal, responses_refusal};
+ghost use Rattle.odb_engine.specs.Replays.{outcomes_refusal, execution_refusal};
+ghost use Rattle.odb_engine.specs.Runs as runs;
 
 use crate::reading::ReadFault;
 use odb_check::CheckFault;
-use odb_doc::{DocFault, OutcomeFault, Place, TextFault};
+use odb_doc::{DocFault, EventFault, OutcomeFault, Place, TextFault};
 use odb_reply::{MatchFault, ResponseFault};
-use odb_sched::ExecFault;
+use odb_sched::{ExecFault, ResolveFault, RunRefusal};
 use std::alloc::AllocError;
 
 /// Why an engine has no result.
@@ -65,6 +69,21 @@ impl From<CheckFault> for Stop {
     }
 }
 
+impl From<TextFault> for Stop {
+    ghost from_gives = { λ fault stop. StopsBy (texts.IsNumbered fault) (text_refusal fault) stop };
+
+    fn from(fault: TextFault) -> Self {
+        match fault {
+            TextFault::OutOfMemory => Stop::OutOfMemory,
+            _ => Stop::Refused {
+                code: fault.code(),
+                name: fault.name(),
+                place: fault.place(),
+            },
+        }
+    }
+}
+
 impl From<OutcomeFault> for Stop {
     ghost from_gives = { λ fault stop. StopsBy (outcomes.IsNumbered fault) (outcomes_refusal fault) stop };
 
@@ -95,16 +114,46 @@ impl From<ExecFault> for Stop {
     }
 }
 
-impl From<TextFault> for Stop {
-    ghost from_gives = { λ fault stop. StopsBy (texts.IsNumbered fault) (text_refusal fault) stop };
+impl From<EventFault> for Stop {
+    ghost from_gives = { λ fault stop. StopsBy (events.IsNumbered fault) (runs.events_refusal fault) stop };
 
-    fn from(fault: TextFault) -> Self {
+    fn from(fault: EventFault) -> Self {
         match fault {
-            TextFault::OutOfMemory => Stop::OutOfMemory,
+            EventFault::OutOfMemory => Stop::OutOfMemory,
             _ => Stop::Refused {
                 code: fault.code(),
                 name: fault.name(),
                 place: fault.place(),
+            },
+        }
+    }
+}
+
+impl From<ResolveFault> for Stop {
+    ghost from_gives = { λ fault stop. StopsBy (ids.IsNumbered fault) (runs.resolve_refusal fault) stop };
+
+    fn from(fault: ResolveFault) -> Self {
+        match fault {
+            ResolveFault::OutOfMemory => Stop::OutOfMemory,
+            _ => Stop::Refused {
+                code: fault.code(),
+                name: fault.name(),
+                place: fault.place(),
+            },
+        }
+    }
+}
+
+impl From<RunRefusal> for Stop {
+    ghost from_gives = { λ refusal stop. StopsBy (refusals.IsNumbered refusal) (runs.run_refusal refusal) stop };
+
+    fn from(refusal: RunRefusal) -> Self {
+        match refusal {
+            RunRefusal::OutOfMemory => Stop::OutOfMemory,
+            _ => Stop::Refused {
+                code: refusal.code(),
+                name: refusal.name(),
+                place: refusal.place(),
             },
         }
     }

@@ -1,0 +1,92 @@
+-- What recorded events write of a batch: the response if every event may come and the run is finished.
+use Rattle.std.specs.Prelude.{◌≡◌, ◌⊎◌, ℕ, List, Option, true, false, codes}
+use Rattle.std.specs.List.{AllZip}
+use Rattle.odb_doc.specs.declared.fault.Place.TheVariants as places
+use Rattle.odb_doc.specs.declared.event.NamedEvent.{NamedEvent}
+use Rattle.odb_doc.specs.declared.event_fault.EventFault.{EventFault}
+use Rattle.odb_doc.specs.EventFaults as documents
+use Rattle.odb_doc.specs.Events.{AreEventsOf}
+use Rattle.odb_doc.specs.LeastEventFault.{IsEventsDocument, RefusesEvents}
+use Rattle.odb_doc.specs.Records.{Record}
+use Rattle.odb_check.specs.declared.plan.Plan.{Plan}
+use Rattle.odb_check.specs.Plans.{plan_records}
+use Rattle.odb_sched.specs.declared.event.Event.{Event}
+use Rattle.odb_sched.specs.declared.policy.Policy.{Policy}
+use Rattle.odb_sched.specs.declared.refusal.RunRefusal.{RunRefusal}
+use Rattle.odb_sched.specs.declared.resolving.ResolveFault.{ResolveFault}
+use Rattle.odb_sched.specs.declared.resolving.ResolveFault.TheVariants.{UnknownEvent}
+use Rattle.odb_sched.specs.Laws.{StartsLast}
+use Rattle.odb_sched.specs.Refusals as events
+use Rattle.odb_sched.specs.ResolveFaults as ids
+use Rattle.odb_sched.specs.Resolving.{IsResolved, IsFirstUnknown}
+use Rattle.odb_sched.specs.Runs.{IsRun, StopsAt, state_after}
+use Rattle.odb_sched.specs.State.{State, at_first}
+use Rattle.odb_sched.specs.Steps.{is_finished}
+use Rattle.odb_reply.specs.OnePerId.{HasOnePerId}
+use Rattle.odb_reply.specs.Responses.{response_value}
+use Rattle.odb_engine.specs.declared.ending.Ended.{Ended}
+use Rattle.odb_engine.specs.declared.ending.Ended.TheVariants.{Done}
+use Rattle.odb_engine.specs.Cascade.{Writes, Refusal, Reports, RefusesBytes, HasValue}
+use Rattle.odb_engine.specs.Inputs.{SomeDocument}
+use Rattle.odb_engine.specs.Replays.{response_line}
+
+abbrev pub events_refusal : EventFault → Refusal
+events_refusal fault = record { code = documents.fault_code fault; name = documents.fault_name fault; place = documents.fault_place fault }
+
+abbrev pub resolve_refusal : ResolveFault → Refusal
+resolve_refusal fault = record { code = ids.fault_code fault; name = ids.fault_name fault; place = ids.fault_place fault }
+
+abbrev pub run_refusal : RunRefusal → Refusal
+run_refusal cause = record { code = events.run_code cause; name = events.run_name cause; place = events.run_place cause }
+
+-- F66
+abbrev pub unfinished : Refusal
+unfinished = record { code = codes "F66"; name = codes "Unfinished"; place = places.Events }
+
+-- the least fault of an events document: of its bytes, or else of its value
+pub data IsLeastOfEvents (bytes : List ℕ) (refusal : Refusal) : Type 0 where
+  OfBytes : RefusesBytes places.Events bytes refusal → IsLeastOfEvents bytes refusal
+  OfValue : (fault : EventFault) → documents.IsNumbered fault → HasValue bytes (RefusesEvents fault) → refusal ≡ events_refusal fault → IsLeastOfEvents bytes refusal
+
+-- the bytes are a document of these events
+abbrev pub AreEventsIn : List ℕ → List NamedEvent → Type 0
+AreEventsIn bytes named = HasValue bytes (λ value. IsEventsDocument value × AreEventsOf value named)
+
+-- the events by the positions of the requests that they name
+abbrev pub AreResolved : Plan → List NamedEvent → List Event → Type 0
+AreResolved plan named events = AllZip (IsResolved (plan_records plan)) named events
+
+-- the state after these events
+abbrev pub end_of : Policy → Plan → List Event → State
+end_of policy plan events = state_after plan policy.mode policy.width events
+
+-- The least fault of recorded events on a plan: the first that names no request; or else the first that may not come,
+-- with its first cause; or else that the run is not finished after all of them.
+pub data IsLeastOfRun (policy : Policy) (plan : Plan) (named : List NamedEvent) (refusal : Refusal) : Type 0 where
+  OfIds : (at : ℕ) → IsFirstUnknown (plan_records plan) named at → refusal ≡ resolve_refusal (UnknownEvent at) → IsLeastOfRun policy plan named refusal
+  OfEvent : (events : List Event) (cause : RunRefusal) → AreResolved plan named events → StopsAt (at_first plan policy.mode policy.width) events cause → refusal ≡ run_refusal cause → IsLeastOfRun policy plan named refusal
+  OfEnd : (events : List Event) → AreResolved plan named events → IsRun plan policy.mode policy.width events → is_finished (end_of policy plan events) ≡ false → refusal ≡ unfinished → IsLeastOfRun policy plan named refusal
+
+-- The response to a finished run of the plan, under the policy, by just these events. In it no request starts before all
+-- that it names has ended with 2xx, and the response has exactly one element per id.
+pub record IsResult (policy : Policy) (plan : Plan) (named : List NamedEvent) (ended : Ended) (text : List ℕ) : Type 0 where
+  pub ends : ended ≡ Done
+  pub events : List Event
+  pub resolved : AreResolved plan named events
+  pub run : IsRun plan policy.mode policy.width events
+  pub finished : is_finished (end_of policy plan events) ≡ true
+  pub result : text ≡ response_line (end_of policy plan events)
+  pub dependencies_first : StartsLast (plan_records plan) events
+  pub one_per_id : HasOnePerId (plan_records plan) (response_value (end_of policy plan events))
+
+-- what is written of a plan by recorded events
+abbrev pub RunsPlan : Policy → Plan → List NamedEvent → Writes
+RunsPlan policy plan named ended text = Reports (IsLeastOfRun policy plan named) ended text ⊎ IsResult policy plan named ended text
+
+-- what is written of a plan and the bytes of an events document
+abbrev pub RunsBy : Policy → Plan → List ℕ → Writes
+RunsBy policy plan bytes ended text = Reports (IsLeastOfEvents bytes) ended text ⊎ ((named : List NamedEvent) × AreEventsIn bytes named × RunsPlan policy plan named ended text)
+
+-- what is written of the requests of a batch: what a plan of them and some events document give
+abbrev pub Runs : Policy → Option (List ℕ) → List Record → Writes
+Runs policy left batch ended text = (plan : Plan) × (plan_records plan ≡ batch) × SomeDocument left (λ bytes. RunsBy policy plan bytes ended text)
