@@ -4,6 +4,8 @@ mod EngineLemmas
 mod SendLemmas
 mod ReplayLemmas
 mod RunLemmas
+mod RunLawLemmas
+mod RunPlanLemmas
 mod LawLemmas
 mod PlanLemmas
 mod CourseLemmas

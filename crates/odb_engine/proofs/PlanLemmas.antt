@@ -38,7 +38,7 @@ with_plan plan state = record { plan = plan; shape = state.shape; mode = state.m
 
 -- ---- courses
 
-IsRunFrom-plan : (plan : Plan) (state : State) (events : List Event) → IsRunFrom state events → IsRunFrom (with_plan plan state) events
+pub IsRunFrom-plan : (plan : Plan) (state : State) (events : List Event) → IsRunFrom state events → IsRunFrom (with_plan plan state) events
 IsRunFrom-plan plan state [] run = tt
 IsRunFrom-plan plan state (event.Start i ∷ events) (within, may, rest) = (within, may, IsRunFrom-plan plan _ events rest)
 IsRunFrom-plan plan state (event.Report i outcome ∷ events) (within, may, rest) = (within, may, IsRunFrom-plan plan _ events rest)
@@ -48,7 +48,7 @@ AreChosen-plan allows offers plan state [] chosen = tt
 AreChosen-plan allows offers plan state (event.Start i ∷ events) (allowed, offered, rest) = (allowed, offered, AreChosen-plan allows offers plan _ events rest)
 AreChosen-plan allows offers plan state (event.Report i outcome ∷ events) (allowed, offered, rest) = (allowed, offered, AreChosen-plan allows offers plan _ events rest)
 
-after_all-plan : (plan : Plan) (state : State) (events : List Event) → after_all (with_plan plan state) events ≡ with_plan plan (after_all state events)
+pub after_all-plan : (plan : Plan) (state : State) (events : List Event) → after_all (with_plan plan state) events ≡ with_plan plan (after_all state events)
 after_all-plan plan state [] = refl
 after_all-plan plan state (event.Start i ∷ events) = after_all-plan plan _ events
 after_all-plan plan state (event.Report i outcome ∷ events) = after_all-plan plan _ events
@@ -77,7 +77,7 @@ shape-same : (plan other : Plan) → plan_records plan ≡ plan_records other �
 unfolding shape
 shape-same plan other same = ap shape_of same
 
-at_first-plan : (plan other : Plan) (mode : Mode) (width : ℕ) → plan_records plan ≡ plan_records other → with_plan plan (at_first other mode width) ≡ at_first plan mode width
+pub at_first-plan : (plan other : Plan) (mode : Mode) (width : ℕ) → plan_records plan ≡ plan_records other → with_plan plan (at_first other mode width) ≡ at_first plan mode width
 at_first-plan plan other mode width same =
     ap (λ (s : Shape). record { plan = plan; shape = s; mode = mode; width = width; phases = replicate (length s.units) Unstarted }) (sym (shape-same plan other same))
 

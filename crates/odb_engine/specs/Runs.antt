@@ -83,6 +83,10 @@ pub record IsResult (policy : Policy) (plan : Plan) (named : List NamedEvent) (e
 abbrev pub RunsPlan : Policy → Plan → List NamedEvent → Writes
 RunsPlan policy plan named ended text = Reports (IsLeastOfRun policy plan named) ended text ⊎ IsResult policy plan named ended text
 
+-- the same of requests: what a plan of them gives
+abbrev pub RunsBatch : Policy → List NamedEvent → List Record → Writes
+RunsBatch policy named batch ended text = (plan : Plan) × (plan_records plan ≡ batch) × RunsPlan policy plan named ended text
+
 -- what is written of a plan and the bytes of an events document
 abbrev pub RunsBy : Policy → Plan → List ℕ → Writes
 RunsBy policy plan bytes ended text = Reports (IsLeastOfEvents bytes) ended text ⊎ ((named : List NamedEvent) × AreEventsIn bytes named × RunsPlan policy plan named ended text)

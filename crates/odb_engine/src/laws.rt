@@ -4,6 +4,7 @@
 //! of the engines use.
 
 ghost use Rattle.std.specs.Prelude.{◌≡◌, ℕ, Bool, List};
+ghost use Rattle.odb_doc.specs.declared.event.NamedEvent.{NamedEvent};
 ghost use Rattle.odb_doc.specs.Outcomes.{Recorded};
 ghost use Rattle.odb_check.specs.Plans.{plan_records};
 ghost use Rattle.odb_sched.specs.Choosing.{AllowsOrder};
@@ -14,6 +15,7 @@ ghost use Rattle.odb_engine.specs.Commands.{Canonical, Counts, Plans};
 ghost use Rattle.odb_engine.specs.Laws.{IsOne};
 ghost use Rattle.odb_engine.specs.Matches.{Matches};
 ghost use Rattle.odb_engine.specs.Replays.{ReplaysBatch};
+ghost use Rattle.odb_engine.specs.Runs.{RunsBatch};
 
 use odb_check::Plan;
 
@@ -47,4 +49,19 @@ pub fn one_replay(plan: &Plan<'_>)
     odb_doc::laws::one_fault();
     odb_check::laws::one_fault();
     odb_sched::laws::every_order(plan);
+}
+
+/// Two texts that a run by recorded events may write of the same requests by the same events are equal,
+/// and so are the ends, whatever else their plans hold; likewise for a document of these requests.
+pub fn one_run(plan: &Plan<'_>)
+    ensures requests { (policy : Policy) (events : List NamedEvent)
+        → IsOne (RunsBatch policy events (plan_records plan.now)) }
+    ensures document { (policy : Policy) (events : List NamedEvent) (bytes : List ℕ)
+        → Accepts bytes (λ batch. batch ≡ plan_records plan.now)
+        → IsOne (Answers (RunsBatch policy events) bytes) }
+{
+    odb_doc::laws::one_batch();
+    odb_doc::laws::one_fault();
+    odb_check::laws::one_fault();
+    let _count = plan.len();
 }

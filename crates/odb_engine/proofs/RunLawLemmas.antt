@@ -1,0 +1,177 @@
+-- What recorded events may write of the same requests: one text.
+use Rattle.std.proofs.Common.{◌≡◌, ◌⊎◌, ◌∙◌, ℕ, zero, suc, ◌<◌, true, false, List, [], ◌∷◌, ◌++◌, take, length, slice_get, unwrap_or, All, IsSomeAnd, Some, inl, inr, refl, sym, ap, subst, string_bytes, arith}
+use Rattle.std.specs.List.{AllZip}
+use Rattle.std.proofs.lemmas.Bool.{cases_order, both_ways}
+use Rattle.std.proofs.lemmas.List.Elements.{All-head, All-tail}
+use Rattle.odb_doc.specs.declared.event.NamedEvent.{NamedEvent}
+use Rattle.odb_doc.specs.declared.event.NamedEvent.TheVariants as named
+use Rattle.odb_doc.specs.Records.{Record}
+use Rattle.odb_check.specs.declared.fault.NameRule.TheVariants as rules
+use Rattle.odb_check.specs.declared.plan.Plan.{Plan}
+use Rattle.odb_check.specs.LeastNameFault.{HasGoodNames}
+use Rattle.odb_check.specs.Plans.{plan_records}
+use Rattle.odb_check.specs.Positions.{id_at, IsIdBefore}
+use Rattle.odb_sched.specs.declared.event.Event.{Event}
+use Rattle.odb_sched.specs.declared.event.Event.TheVariants as event
+use Rattle.odb_sched.specs.declared.policy.Policy.{Policy}
+use Rattle.odb_sched.specs.declared.refusal.RunRefusal.{RunRefusal}
+use Rattle.odb_sched.specs.declared.refusal.RunRefusal.TheVariants as refusal
+use Rattle.odb_sched.specs.declared.resolving.ResolveFault.TheVariants.{UnknownEvent}
+use Rattle.odb_sched.specs.Resolving.{IsFirstUnknown, IsKnown, IsResolved}
+use Rattle.odb_sched.specs.Runs.{IsRunFrom, RefusesEvent, StopsAt, after_all}
+use Rattle.odb_sched.specs.State.{State, after, at_first}
+use Rattle.odb_sched.specs.Steps.{is_finished, may_come}
+use Rattle.odb_engine.specs.declared.ending.Ended.{Ended}
+use Rattle.odb_engine.specs.Cascade.{Refusal, line_of}
+use Rattle.odb_engine.specs.Laws.{IsOne}
+use Rattle.odb_engine.specs.Replays.{response_line}
+use Rattle.odb_engine.specs.Runs.{AreResolved, IsLeastOfRun, IsResult, RunsPlan, end_of, resolve_refusal, run_refusal}
+use Rattle.odb_engine.specs.Runs.IsLeastOfRun.{OfIds, OfEvent, OfEnd}
+
+-- ---- events by positions
+
+-- an identifier is that of one position
+one-position : (batch : List Record) → HasGoodNames batch → (i j : ℕ) (id : List ℕ) → id_at batch i ≡ Some id → id_at batch j ≡ Some id → i ≡ j
+one-position batch good i j id here there = at (cases_order i j)
+  where
+    twice : (k l : ℕ) → l < k → id_at batch k ≡ Some id → id_at batch l ≡ Some id → ⊥
+    twice k l less a b = good rules.IdTwice k (subst (λ found. IsSomeAnd found (λ name. IsIdBefore batch name k)) (sym a) (l, less, b))
+
+    at : (i ≡ j) ⊎ ((i < j) ⊎ (j < i)) → i ≡ j
+    at (inl same) = same
+    at (inr (inl less)) = absurd (twice j i less there here)
+    at (inr (inr less)) = absurd (twice i j less here there)
+
+one-event : (batch : List Record) → HasGoodNames batch → (n : NamedEvent) (e f : Event) → IsResolved batch n e → IsResolved batch n f → e ≡ f
+one-event batch good (named.Start id) (event.Start i) (event.Start j) a b = ap (λ k. event.Start k) (one-position batch good i j (string_bytes id) a b)
+one-event batch good (named.Start id) (event.Start i) (event.Report j q) a b = absurd b
+one-event batch good (named.Start id) (event.Report i p) f a b = absurd a
+one-event batch good (named.Report id o) (event.Start i) f a b = absurd a
+one-event batch good (named.Report id o) (event.Report i p) (event.Start j) a b = absurd b
+one-event batch good (named.Report id o) (event.Report i p) (event.Report j q) (a, s) (b, t) =
+    ap (λ k. event.Report k p) (one-position batch good i j (string_bytes id) a b) ∙ ap (λ x. event.Report j x) (s ∙ sym t)
+
+one-list : (batch : List Record) → HasGoodNames batch → (ns : List NamedEvent) (es fs : List Event) → AllZip (IsResolved batch) ns es → AllZip (IsResolved batch) ns fs → es ≡ fs
+one-list batch good [] [] [] a b = refl
+one-list batch good [] [] (f ∷ fs) a b = absurd b
+one-list batch good [] (e ∷ es) fs a b = absurd a
+one-list batch good (n ∷ ns) [] fs a b = absurd a
+one-list batch good (n ∷ ns) (e ∷ es) [] a b = absurd b
+one-list batch good (n ∷ ns) (e ∷ es) (f ∷ fs) (a, xs) (b, ys) =
+    ap (λ x. x ∷ es) (one-event batch good n e f a b) ∙ ap (λ xs. f ∷ xs) (one-list batch good ns es fs xs ys)
+
+-- ---- events that name no request
+
+known-one : (batch : List Record) (n : NamedEvent) (e : Event) → IsResolved batch n e → IsKnown batch n
+known-one batch (named.Start id) (event.Start i) is = (i, is)
+known-one batch (named.Start id) (event.Report i o) is = absurd is
+known-one batch (named.Report id o) (event.Start i) is = absurd is
+known-one batch (named.Report id o) (event.Report i p) is = (i, is.0)
+
+not-unknown : (batch : List Record) (ns : List NamedEvent) (es : List Event) (at : ℕ) → AllZip (IsResolved batch) ns es → IsSomeAnd (slice_get ns at) (λ n. ¬ IsKnown batch n) → ⊥
+not-unknown batch [] es zero all un = un
+not-unknown batch [] es (suc at) all un = un
+not-unknown batch (n ∷ ns) [] at all un = absurd all
+not-unknown batch (n ∷ ns) (e ∷ es) zero all un = un (known-one batch n e all.0)
+not-unknown batch (n ∷ ns) (e ∷ es) (suc at) all un = not-unknown batch ns es at all.1 un
+
+known-before : (batch : List Record) (ns : List NamedEvent) (a b : ℕ) → a < b → All (IsKnown batch) (take b ns) → IsSomeAnd (slice_get ns a) (λ n. ¬ IsKnown batch n) → ⊥
+known-before batch [] zero b less all un = un
+known-before batch [] (suc a) b less all un = un
+known-before batch (n ∷ ns) a zero less all un = omega (arith, less)
+known-before batch (n ∷ ns) zero (suc b) less all un = un (All-head (IsKnown batch) n (take b ns) all)
+known-before batch (n ∷ ns) (suc a) (suc b) less all un = known-before batch ns a b (omega (arith, less)) (All-tail (IsKnown batch) n (take b ns) all) un
+
+one-unknown : (batch : List Record) (ns : List NamedEvent) (a b : ℕ) → IsFirstUnknown batch ns a → IsFirstUnknown batch ns b → a ≡ b
+one-unknown batch ns a b x y = at (cases_order a b)
+  where
+    at : (a ≡ b) ⊎ ((a < b) ⊎ (b < a)) → a ≡ b
+    at (inl same) = same
+    at (inr (inl less)) = absurd (known-before batch ns a b less y.before x.unknown)
+    at (inr (inr less)) = absurd (known-before batch ns b a less x.before y.unknown)
+
+-- ---- events that may not come
+
+abbrev first_or : Event → List Event → Event
+first_or d [] = d
+first_or d (e ∷ es) = e
+
+abbrev rest_of : List Event → List Event
+rest_of [] = []
+rest_of (e ∷ es) = es
+
+-- the events before one that may not come, and that event
+same-stop : (state : State) (xs ys : List Event) (e f : Event) (later others : List Event) → xs ++ e ∷ later ≡ ys ++ f ∷ others → IsRunFrom state xs → IsRunFrom state ys
+    → may_come (after_all state xs) e ≡ false → may_come (after_all state ys) f ≡ false → (xs ≡ ys) × (e ≡ f)
+same-stop state [] [] e f later others same run walk barred closed = (refl, ap (first_or e) same)
+same-stop state [] (y ∷ ys) e f later others same run walk barred closed =
+    absurd (both_ways _ barred (ap (λ x. may_come state x) (ap (first_or e) same) ∙ walk.1))
+same-stop state (x ∷ xs) [] e f later others same run walk barred closed =
+    absurd (both_ways _ closed (ap (λ y. may_come state y) (sym (ap (first_or f) same)) ∙ run.1))
+same-stop state (x ∷ xs) (y ∷ ys) e f later others same run walk barred closed =
+    let head = ap (first_or x) same in
+    let (front, last) = same-stop (after state x) xs ys e f later others (ap rest_of same) run.2 (subst (λ z. IsRunFrom (after state z) ys) (sym head) walk.2)
+        barred (subst (λ z. may_come (after_all (after state z) ys) f ≡ false) (sym head) closed) in
+    (ap (λ z. z ∷ xs) head ∙ ap (λ zs. y ∷ zs) front, last)
+
+one-cause : (state : State) (at : ℕ) (e : Event) (a b : RunRefusal) → RefusesEvent state at e a → RefusesEvent state at e b → a ≡ b
+one-cause state at (event.Start i) (refusal.Start p c) (refusal.Start q d) x y = ap (λ k. refusal.Start k c) (x.0 ∙ sym y.0) ∙ ap (λ found. refusal.Start q (unwrap_or found c)) (sym x.1 ∙ y.1)
+one-cause state at (event.Start i) (refusal.Start p c) (refusal.Report q d) x y = absurd y
+one-cause state at (event.Start i) (refusal.Start p c) refusal.OutOfMemory x y = absurd y
+one-cause state at (event.Start i) (refusal.Report p c) b x y = absurd x
+one-cause state at (event.Start i) refusal.OutOfMemory b x y = absurd x
+one-cause state at (event.Report i o) (refusal.Start p c) b x y = absurd x
+one-cause state at (event.Report i o) refusal.OutOfMemory b x y = absurd x
+one-cause state at (event.Report i o) (refusal.Report p c) (refusal.Start q d) x y = absurd y
+one-cause state at (event.Report i o) (refusal.Report p c) refusal.OutOfMemory x y = absurd y
+one-cause state at (event.Report i o) (refusal.Report p c) (refusal.Report q d) x y = ap (λ k. refusal.Report k c) (x.0 ∙ sym y.0) ∙ ap (λ found. refusal.Report q (unwrap_or found c)) (sym x.1 ∙ y.1)
+
+one-stop : (state : State) (events : List Event) (a b : RunRefusal) → StopsAt state events a → StopsAt state events b → a ≡ b
+one-stop state events a b x y =
+    let (front, last) = same-stop state x.before y.before x.event y.event x.later y.later (sym x.whole ∙ y.whole) x.run y.run x.barred y.barred in
+    one-cause (after_all state y.before) (length y.before) y.event a b
+    (subst (λ e. RefusesEvent (after_all state y.before) (length y.before) e a) last (subst (λ (xs : List Event). RefusesEvent (after_all state xs) (length xs) x.event a) front x.refused)) y.refused
+
+-- an event of a run may come
+may-come : (state : State) (xs : List Event) (e : Event) (later : List Event) → IsRunFrom state (xs ++ e ∷ later) → may_come (after_all state xs) e ≡ true
+may-come state [] e later run = run.1
+may-come state (x ∷ xs) e later run = may-come (after state x) xs e later run.2
+
+not-stopped : (state : State) (events : List Event) (cause : RunRefusal) → StopsAt state events cause → IsRunFrom state events → ⊥
+not-stopped state events cause x run = both_ways _ x.barred (may-come state x.before x.event x.later (subst (IsRunFrom state) x.whole run))
+
+-- ---- what is written of a plan
+
+module _ (policy : Policy) (plan : Plan) (good : HasGoodNames (plan_records plan)) (ns : List NamedEvent) where
+  abbrev first : State
+  first = at_first plan policy.mode policy.width
+
+  same-events : (es fs : List Event) → AreResolved plan ns es → AreResolved plan ns fs → es ≡ fs
+  same-events es fs a b = one-list (plan_records plan) good ns es fs a b
+
+  one-least : (a b : Refusal) → IsLeastOfRun policy plan ns a → IsLeastOfRun policy plan ns b → a ≡ b
+  one-least a b (OfIds i x same) (OfIds j y equal) = same ∙ ap (λ k. resolve_refusal (UnknownEvent k)) (one-unknown (plan_records plan) ns i j x y) ∙ sym equal
+  one-least a b (OfIds i x same) (OfEvent fs d r y equal) = absurd (not-unknown (plan_records plan) ns fs i r x.unknown)
+  one-least a b (OfIds i x same) (OfEnd fs r run barred equal) = absurd (not-unknown (plan_records plan) ns fs i r x.unknown)
+  one-least a b (OfEvent es c q x same) (OfIds j y equal) = absurd (not-unknown (plan_records plan) ns es j q y.unknown)
+  one-least a b (OfEvent es c q x same) (OfEvent fs d r y equal) =
+      same ∙ ap (λ k. run_refusal k) (one-stop first fs c d (subst (λ (l : List Event). StopsAt first l c) (same-events es fs q r) x) y) ∙ sym equal
+  one-least a b (OfEvent es c q x same) (OfEnd fs r run barred equal) =
+      absurd (not-stopped first fs c (subst (λ (l : List Event). StopsAt first l c) (same-events es fs q r) x) run)
+  one-least a b (OfEnd es q run barred same) (OfIds j y equal) = absurd (not-unknown (plan_records plan) ns es j q y.unknown)
+  one-least a b (OfEnd es q run barred same) (OfEvent fs d r y equal) =
+      absurd (not-stopped first es d (subst (λ (l : List Event). StopsAt first l d) (same-events fs es r q) y) run)
+  one-least a b (OfEnd es q run barred same) (OfEnd fs r walk closed equal) = same ∙ sym equal
+
+  not-least : (a : Refusal) (ended : Ended) (text : List ℕ) → IsLeastOfRun policy plan ns a → IsResult policy plan ns ended text → ⊥
+  not-least a ended text (OfIds i x same) y = not-unknown (plan_records plan) ns y.events i y.resolved x.unknown
+  not-least a ended text (OfEvent es c q x same) y = not-stopped first y.events c (subst (λ (l : List Event). StopsAt first l c) (same-events es y.events q y.resolved) x) y.run
+  not-least a ended text (OfEnd es q run barred same) y =
+      both_ways _ barred (ap (λ (l : List Event). is_finished (end_of policy plan l)) (same-events es y.events q y.resolved) ∙ y.finished)
+
+  pub one-run : IsOne (RunsPlan policy plan ns)
+  one-run a b s t (inl x) (inl y) = (x.ends ∙ sym y.ends, x.line ∙ ap line_of (one-least x.refusal y.refusal x.is y.is) ∙ sym y.line)
+  one-run a b s t (inl x) (inr y) = absurd (not-least x.refusal b t x.is y)
+  one-run a b s t (inr x) (inl y) = absurd (not-least y.refusal a s y.is x)
+  one-run a b s t (inr x) (inr y) =
+      (x.ends ∙ sym y.ends, x.result ∙ ap (λ (l : List Event). response_line (end_of policy plan l)) (same-events x.events y.events x.resolved y.resolved) ∙ sym y.result)
