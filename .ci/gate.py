@@ -1,8 +1,9 @@
 """Runs what has to pass before a change lands, and reports the processor time of each part.
 
 The parts are `rt ci` (the proofs, the tests, the must-fail edits), the questions that the edits say
-they ask, the commands of README.md against the output that it shows, and the short form of the
-benchmark, which compares answers and judges no time. The exit status is 0 where all of them pass.
+they ask, the commands of README.md against the output that it shows, the worked cases, random
+documents against plain rules, allocations that fail, and the short form of the benchmark, which
+compares answers and judges no time. The exit status is 0 where all of them pass.
 """
 
 import os
@@ -116,6 +117,9 @@ def main():
     for title, quiet, words in [
         ("the questions of the edits", False, [".ci/edits.py"]),
         ("README.md", False, [".ci/readme.py", "README.md"]),
+        ("worked cases", False, ["cases/run.py"]),
+        ("random documents", False, ["cases/fuzz.py", "--mistakes"]),
+        ("allocations that fail", False, ["hostile/memory.py"]),
         ("bench/bench.py --short", True, ["bench/bench.py", "--short"]),
     ]:
         print(f"{title}:", flush=True)

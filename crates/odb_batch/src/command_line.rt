@@ -40,6 +40,10 @@ const REPLAY_NOTES: &str =
     Exit status: 0 for a response, 1 for a fault of a document or a request without an outcome, \
     2 for a wrong command line, 3 for a file or an output that fails, 4 for no memory";
 
+const RUN_NOTES: &str = "Example: odb_batch run batch.json events.json --stop\n\n\
+    Exit status: 0 for a response, 1 for a fault of a document, an event that may not come or an \
+    unfinished run, 2 for a wrong command line, 3 for a file or an output that fails, 4 for no memory";
+
 const ORDERS: [&str; 3] = ["first", "last", "wide"];
 
 /// Returns the order of this name, which is one of `ORDERS`, or the default.
@@ -65,15 +69,30 @@ pub struct Replay<'a> {
 #[derive(Clone, Copy, Debug)]
 pub enum Task<'a> {
     /// Check the batch in the file, or the one on standard input where none is named.
-    Check { file: Option<&'a str> },
+    Check {
+        file: Option<&'a str>,
+    },
     /// Plan the batch in the file.
-    Plan { file: &'a str },
+    Plan {
+        file: &'a str,
+    },
     /// Print the canonical text of the batch in the file.
-    Canon { file: &'a str },
+    Canon {
+        file: &'a str,
+    },
     /// Replay the batch in a file by the outcomes in another.
     Replay(Replay<'a>),
     /// Match the responses in a file against the batch in another.
-    Match { file: &'a str, responses: &'a str },
+    Match {
+        file: &'a str,
+        responses: &'a str,
+    },
+    /// Run the batch in a file by the events in another.
+    Run {
+        file: &'a str,
+        events: &'a str,
+        policy: Policy,
+    },
 }
 
 /// Why the command line was rejected.
@@ -116,32 +135,47 @@ fn replay_command<'a>(alloc: Global) -> Result<Command<'a>, AllocError> {
     with_replay_options(alloc, replay)
 }
 
-/// Adds the options of a replay.
+/// Adds the options of a replay: those of a run, and the order and the trace.
 fn with_replay_options<'a>(alloc: Global, replay: Command<'a>) -> Result<Command<'a>, AllocError> {
-    replay
-        .arg(
-            Arg::new(alloc, "order")
-                .long("order")
-                .value_name("ORDER")
-                .value_parser(ORDERS.as_slice())
-                .help(ORDER_HELP),
-        )?
-        .arg(flag(
-            alloc,
-            "stop",
-            "Start nothing more after a status from 400 to 599",
-        ))?
-        .arg(
-            Arg::new(alloc, "width")
-                .long("width")
-                .value_name("N")
-                .help(WIDTH_HELP),
-        )?
-        .arg(flag(
-            alloc,
-            "trace",
-            "Print the steps, and what has to be undone, before the response",
-        ))
+    let ordered = replay.arg(
+        Arg::new(alloc, "order")
+            .long("order")
+            .value_name("ORDER")
+            .value_parser(ORDERS.as_slice())
+            .help(ORDER_HELP),
+    )?;
+    with_policy(alloc, ordered)?.arg(flag(
+        alloc,
+        "trace",
+        "Print the steps, and what has to be undone, before the response",
+    ))
+}
+
+/// Adds the options that every run has.
+fn with_policy<'a>(alloc: Global, run: Command<'a>) -> Result<Command<'a>, AllocError> {
+    run.arg(flag(
+        alloc,
+        "stop",
+        "Start nothing more after a status from 400 to 599",
+    ))?
+    .arg(
+        Arg::new(alloc, "width")
+            .long("width")
+            .value_name("N")
+            .help(WIDTH_HELP),
+    )
+}
+
+/// Returns the command that runs recorded events.
+fn run_command<'a>(alloc: Global) -> Result<Command<'a>, AllocError> {
+    let run = Command::new(alloc, "run")
+        .about(
+            "Run a batch by recorded events: print its response, or the first event that may not come",
+        )
+        .after_help(RUN_NOTES)
+        .arg(document(alloc, "FILE", "The batch document"))?
+        .arg(document(alloc, "EVENTS", "The document of recorded events"))?;
+    with_policy(alloc, run)
 }
 
 /// Returns the argument for a document that has to be named.
@@ -211,26 +245,31 @@ fn command<'a>(alloc: Global) -> Result<Command<'a>, AllocError> {
     let program = with(program, plan_command(alloc))?;
     let program = with(program, canon_command(alloc))?;
     let program = with(program, replay_command(alloc))?;
-    with(program, match_command(alloc))
+    let program = with(program, match_command(alloc))?;
+    with(program, run_command(alloc))
 }
 
-/// Returns the replay that its command asks for, or `None` if the width is not valid.
-fn replay_of<'a>(words: &ArgMatches<'a>) -> Option<Replay<'a>> {
+/// Returns the policy that the options of a run ask for, or `None` if the width is not valid.
+fn policy_of(words: &ArgMatches<'_>) -> Option<Policy> {
     let mode = if words.get_flag("stop") {
         Mode::Stop
     } else {
         Mode::Continue
     };
-    let policy = match words.get_str("width") {
-        None => Policy::free(mode),
-        Some(text) => Policy::new(mode, width_of(text)?)?,
-    };
+    match words.get_str("width") {
+        None => Some(Policy::free(mode)),
+        Some(text) => Policy::new(mode, width_of(text)?),
+    }
+}
+
+/// Returns the replay that its command asks for, or `None` if the width is not valid.
+fn replay_of<'a>(words: &ArgMatches<'a>) -> Option<Replay<'a>> {
     Some(Replay {
         // `clap` rejects a command line without these two.
         file: words.get_str("FILE").unwrap_or(""),
         outcomes: words.get_str("OUTCOMES").unwrap_or(""),
         order: order_of(words.get_str("order")),
-        policy,
+        policy: policy_of(words)?,
         traced: words.get_flag("trace"),
     })
 }
@@ -249,6 +288,11 @@ fn task_of<'a>(words: &ArgMatches<'a>) -> Option<Task<'a>> {
         Some(("match", matching)) => Some(Task::Match {
             file: matching.get_str("FILE").unwrap_or(""),
             responses: matching.get_str("RESPONSES").unwrap_or(""),
+        }),
+        Some(("run", run)) => Some(Task::Run {
+            file: run.get_str("FILE").unwrap_or(""),
+            events: run.get_str("EVENTS").unwrap_or(""),
+            policy: policy_of(run)?,
         }),
         Some((_, check)) => Some(Task::Check {
             file: check.get_str("FILE"),

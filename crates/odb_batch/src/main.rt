@@ -15,7 +15,9 @@ use odb_check::Seed;
 use odb_doc::{Input, Output};
 use odb_engine::{
     Ended, EngineFault, Remains, canon_batch, check_batch, match_batch, plan_batch, replay_batch,
+    run_batch,
 };
+use odb_sched::Policy;
 use std::process::ExitCode;
 use std::random::RandomSource;
 use std::rt::Runtime;
@@ -174,6 +176,35 @@ fn replay<R: Runtime + AllocGlobal>(rt: &R, seed: Seed, replay: Replay<'_>) -> S
     finish(rt, ended)
 }
 
+/// Runs the batch in a file by the events in another.
+fn run_events<R: Runtime + AllocGlobal>(
+    rt: &R,
+    seed: Seed,
+    file: &str,
+    events: &str,
+    policy: Policy,
+) -> Status {
+    let mut batch = match open(rt, file) {
+        Ok(input) => input,
+        Err(status) => return status,
+    };
+    let mut events = match open(rt, events) {
+        Ok(input) => input,
+        Err(status) => return status,
+    };
+    let mut output = Output::new(io::writer(rt));
+    let ended = run_batch(
+        rt.alloc(),
+        &mut batch,
+        &mut events,
+        &mut output,
+        policy,
+        seed,
+        REMAINS,
+    );
+    finish(rt, ended)
+}
+
 fn run<R: Runtime + AllocGlobal>(rt: &R, seed: Seed, words: &[String]) -> Status {
     match Task::read(rt.alloc(), words) {
         Ok(Task::Check { file }) => check(rt, seed, file),
@@ -181,6 +212,13 @@ fn run<R: Runtime + AllocGlobal>(rt: &R, seed: Seed, words: &[String]) -> Status
         Ok(Task::Canon { file }) => canon(rt, seed, file),
         Ok(Task::Replay(task)) => replay(rt, seed, task),
         Ok(Task::Match { file, responses }) => fit(rt, seed, file, responses),
+        Ok(
+            Task::Run {
+                file,
+                events,
+                policy,
+            },
+        ) => run_events(rt, seed, file, events, policy),
         Err(Misuse::Arguments(error)) => explain(rt, &error),
         Err(Misuse::Width) => {
             failed(

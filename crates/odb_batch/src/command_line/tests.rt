@@ -1,10 +1,11 @@
 use super::{Misuse, Replay, Task};
 use clap::error::ErrorKind;
+use odb_sched::Policy;
 use std::alloc::{AllocError, Global};
 use std::test::Fail;
 
 /// Arguments, and what is read from them.
-const READINGS: [(&str, &str); 69] = [
+const READINGS: [(&str, &str); 80] = [
     ("", "check -"),
     (" check", "check -"),
     (" check F", "check F"),
@@ -99,6 +100,17 @@ const READINGS: [(&str, &str); 69] = [
     (" replay F G --width 2 --width 2", "rejected"),
     (" replay F G --order last --order last", "rejected"),
     (" replay F G --other", "rejected"),
+    (" run F", "rejected"),
+    (" run F G", "run F G Continue 10000"),
+    (" run F G --stop", "run F G Stop 10000"),
+    (" run F G --width 3", "run F G Continue 3"),
+    (" run --width=1 F G --stop", "run F G Stop 1"),
+    (" run F G --width 0", "width"),
+    (" run F G --width 10001", "width"),
+    (" run F G --stop --stop", "rejected"),
+    (" run F G --order last", "rejected"),
+    (" run F G --trace", "rejected"),
+    (" run -h", "help"),
     (" other", "rejected"),
     (" --stop", "rejected"),
     (" help", "rejected"),
@@ -130,10 +142,28 @@ fn described(alloc: Global, task: Result<Task<'_>, Misuse>) -> Result<String, Al
         Ok(Task::Plan { file }) => format!(in alloc; "plan {file}"),
         Ok(Task::Canon { file }) => format!(in alloc; "canon {file}"),
         Ok(Task::Match { file, responses }) => format!(in alloc; "match {file} {responses}"),
+        Ok(
+            Task::Run {
+                file,
+                events,
+                policy,
+            },
+        ) => described_run(alloc, file, events, policy),
         Ok(Task::Replay(replay)) => described_replay(alloc, &replay),
         Err(Misuse::Width) => String::from_str(alloc, "width"),
         Err(Misuse::Arguments(error)) => String::from_str(alloc, kind_of(error.kind())),
     }
+}
+
+fn described_run(
+    alloc: Global,
+    file: &str,
+    events: &str,
+    policy: Policy,
+) -> Result<String, AllocError> {
+    let mode = policy.mode;
+    let width = policy.width;
+    format!(in alloc; "run {file} {events} {mode:?} {width}")
 }
 
 fn described_replay(alloc: Global, replay: &Replay<'_>) -> Result<String, AllocError> {
