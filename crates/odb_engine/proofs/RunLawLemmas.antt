@@ -111,7 +111,7 @@ same-stop state (x ∷ xs) [] e f later others same run walk barred closed =
 same-stop state (x ∷ xs) (y ∷ ys) e f later others same run walk barred closed =
     let head = ap (first_or x) same in
     let (front, last) = same-stop (after state x) xs ys e f later others (ap rest_of same) run.2 (subst (λ z. IsRunFrom (after state z) ys) (sym head) walk.2)
-        barred (subst (λ z. may_come (after_all (after state z) ys) f ≡ false) (sym head) closed) in
+    barred (subst (λ z. may_come (after_all (after state z) ys) f ≡ false) (sym head) closed) in
     (ap (λ z. z ∷ xs) head ∙ ap (λ zs. y ∷ zs) front, last)
 
 one-cause : (state : State) (at : ℕ) (e : Event) (a b : RunRefusal) → RefusesEvent state at e a → RefusesEvent state at e b → a ≡ b
