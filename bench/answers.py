@@ -27,21 +27,44 @@ def plan_text(requests):
     return "".join(lines)
 
 
+def folded(headers):
+    """The headers with their names in lower case."""
+    return {name.lower(): value for name, value in headers.items()}
+
+
+def canonical(requests):
+    """What `canon` prints, as a value."""
+    written = []
+    for request in requests:
+        request = {**request, "method": request["method"].lower()}
+        if "headers" in request:
+            request["headers"] = folded(request["headers"])
+        written.append(request)
+    return {"requests": written}
+
+
+def match_text(requests, outcomes):
+    """The lines of `match`."""
+    status_of = {outcome["id"]: outcome["status"] for outcome in outcomes}
+    lines = [f"{request['id']} {status_of[request['id']]}\n" for request in requests]
+    return f"ok {len(requests)} responses\n" + "".join(lines)
+
+
 def responses(requests, outcomes):
-    """The responses of `replay`, as a value: one for each request, in their order."""
+    """The responses of `replay` and `run`, as a value: one for each request, in their order."""
     outcome_of = {outcome["id"]: outcome for outcome in outcomes}
     answered = []
     for request in requests:
         response = dict(outcome_of[request["id"]])
         if "headers" in response:
-            response["headers"] = {name.lower(): value for name, value in response["headers"].items()}
+            response["headers"] = folded(response["headers"])
         if "atomicityGroup" in request:
             response["atomicityGroup"] = request["atomicityGroup"]
         answered.append(response)
     return {"responses": answered}
 
 
-def is_response(text, wanted):
+def is_line_of(text, wanted):
     """Whether this is one line of JSON with the wanted value."""
     if not text.endswith("\n") or text.count("\n") != 1:
         return False

@@ -14,6 +14,7 @@ from dataclasses import dataclass
 import answers
 from measure import BenchFault, staying_on, stir_memory
 from turns import Job, run_job, summary, times_as_long
+from workloads import Content, events_of
 
 NAMES = 100_000
 SHORT_NAMES = 4_000
@@ -91,30 +92,73 @@ def write(folder, name, kind, document):
     return path
 
 
+def of_each(lists, made):
+    """What is made of the names of each kind."""
+    return {kind: made(kind, names) for kind, names in lists.items()}
+
+
+def name_flood(folder, lists):
+    """A request that names them all."""
+    arguments = of_each(
+        lists, lambda kind, names: (write(folder, "names", kind, {"requests": [{**get("one"), "dependsOn": names}]}),)
+    )
+    wanted = dict.fromkeys(KINDS, "fault F40 UnknownName /requests/0\n")
+    return Flood(f"{len(lists['random']):,} names in one `dependsOn`", "check", arguments, wanted, 1)
+
+
+def outcome_flood(folder, lists):
+    """One request, and an outcome for each of them."""
+    batch = write(folder, "one", "batch", {"requests": [get("one")]})
+
+    def outcomes(kind, names):
+        recorded = [{"id": name, "status": 200} for name in [*names, "one"]]
+        return batch, write(folder, "outcomes", kind, {"outcomes": recorded})
+
+    wanted = dict.fromkeys(KINDS, response_text([get("one")], [200]))
+    return Flood(f"{len(lists['random']):,} outcomes", "replay", of_each(lists, outcomes), wanted, 0)
+
+
+def lookup_floods(folder, lists):
+    """A batch of them as ids and groups, which many names refer to, and what a run of it gave."""
+    size = min(10_000, len(lists["random"]) * 2 // 3)
+    batches = of_each(lists, lambda kind, names: lookup_requests(names, size))
+    contents = of_each(batches, lambda kind, batch: Content(batch, [{"id": it["id"], "status": 200} for it in batch]))
+
+    def documents(name, made):
+        return of_each(contents, lambda kind, content: write(folder, name, kind, made(content)))
+
+    batch = documents("ids", lambda it: {"requests": it.requests})
+    served = documents("responses", lambda it: answers.responses(it.requests, it.outcomes))
+    events = documents("events", lambda it: {"events": events_of(it)})
+    alone = {kind: (batch[kind],) for kind in KINDS}
+    title = f"ids and groups, looked up {sum(len(it.get('dependsOn', [])) for it in batches['random']):,} times"
+
+    def flood(title, command, arguments, wanted):
+        return Flood(title, command, arguments, of_each(contents, lambda kind, it: wanted(it.requests, it.outcomes)), 0)
+
+    return [
+        flood(title, "check", alone, lambda requests, _: answers.check_line(requests)),
+        flood(title, "plan", alone, lambda requests, _: answers.plan_text(requests)),
+        flood("the same batch, and its responses", "match", paired(batch, served), answers.match_text),
+        flood(
+            "the same batch, and the events of its run",
+            "run",
+            paired(batch, events),
+            lambda requests, outcomes: response_text(requests, [it["status"] for it in outcomes]),
+        ),
+    ]
+
+
+def paired(firsts, seconds):
+    """The two documents of each kind."""
+    return {kind: (firsts[kind], seconds[kind]) for kind in KINDS}
+
+
 def floods(folder, short):
     """Makes the documents; gives the commands on them."""
     count = SHORT_NAMES if short else NAMES
     lists = {"random": random_names(count), "flooded": colliding_names(folder, count)}
-    one = [get("one")]
-    single = write(folder, "one", "batch", {"requests": one})
-    names, outcomes, lookups, batches = {}, {}, {}, {}
-    for kind, found in lists.items():
-        names[kind] = (write(folder, "names", kind, {"requests": [{**one[0], "dependsOn": found}]}),)
-        recorded = [{"id": name, "status": 200} for name in [*found, "one"]]
-        outcomes[kind] = (single, write(folder, "outcomes", kind, {"outcomes": recorded}))
-        batches[kind] = lookup_requests(found, min(10_000, count * 2 // 3))
-        lookups[kind] = (write(folder, "ids", kind, {"requests": batches[kind]}),)
-    unknown = dict.fromkeys(KINDS, "fault F40 UnknownName /requests/0\n")
-    counts = {kind: answers.check_line(batch) for kind, batch in batches.items()}
-    plans = {kind: answers.plan_text(batch) for kind, batch in batches.items()}
-    replayed = dict.fromkeys(KINDS, response_text(one, [200]))
-    looked_up = sum(len(it.get("dependsOn", [])) for it in batches["random"])
-    return [
-        Flood(f"{count:,} names in one `dependsOn`", "check", names, unknown, 1),
-        Flood(f"{count:,} outcomes", "replay", outcomes, replayed, 0),
-        Flood(f"ids and groups, looked up {looked_up:,} times", "check", lookups, counts, 0),
-        Flood(f"ids and groups, looked up {looked_up:,} times", "plan", lookups, plans, 0),
-    ]
+    return [name_flood(folder, lists), outcome_flood(folder, lists), *lookup_floods(folder, lists)]
 
 
 def job_of(program, flood, kind):

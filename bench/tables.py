@@ -2,7 +2,7 @@
 
 import os
 
-from turns import COMMANDS, READ_BATCH, READ_OUTCOMES, Measure, times_as_long
+from turns import COMMANDS, READ_BATCH, SECONDS, Measure, times_as_long
 from workloads import PARTS
 
 LEGEND = """\
@@ -14,10 +14,11 @@ from what the one before it left in the processor's caches.
 
 *reading* is the floor: what the program takes to start once and read the same documents into values. It is
 measured by `check` of documents which it refuses once it has read them whole into a value: with F04
-(NoRequests), since they have no member `requests`. For `check` and `plan` the floor is `check` of the batch
-with its member `requests` renamed to `messages`. For `replay` it is that, plus `check` of the outcomes, minus
-one start; so also for memory, as a replay holds the values of both documents. *checks* is another floor, of
-`replay` alone, and holds more: `check` of the batch as it is, plus `check` of the outcomes, minus one start.
+(NoRequests), since they have no member `requests`. For `check`, `plan` and `canon` the floor is `check` of the
+batch with its member `requests` renamed to `messages`. For `replay`, `match` and `run` it is that, plus `check`
+of the second document, minus one start; so also for memory, as these commands hold the values of both documents.
+*checks* is another floor, which holds more: `check` of the batch as it is, and for `replay`, `match` and `run`
+plus `check` of the second document, minus one start.
 Every command leaves what it has read to the system at its end. One start is `check` of a batch without
 requests. The columns with `/` say how many times the floor's a command's processor time and memory
 are, for the time as the median of what that was in each turn."""
@@ -65,10 +66,11 @@ def megabytes(count):
 
 def case_table(cases):
     """Which workloads there are: their requests, and the bytes of their documents."""
-    heads = ["workload", "what it is", "requests", "batch bytes", "outcomes bytes"]
+    heads = ["workload", "what it is", "requests"]
+    heads += [f"{kind} bytes" for kind in ("batch", "outcomes", "responses", "events")]
     rows = [
         [case.name, case.words, f"{case.requests:,}"]
-        + [f"{os.path.getsize(path):,}" for path in (case.batch, case.outcomes)]
+        + [f"{os.path.getsize(path):,}" for path in (case.batch, case.outcomes, case.responses, case.events)]
         for case in cases
         if case.is_whole()
     ]
@@ -89,18 +91,16 @@ def both(first, second, start):
 
 
 def floors(measures, name, part, command):
-    """The floors of a command on a workload: reading, and for `replay` the checks."""
-    unread = measures[name, part, READ_BATCH]
-    if command != "replay":
-        return unread, None
-    start, outcomes = measures["start", 1, "check"], measures[name, part, READ_OUTCOMES]
-    return both(unread, outcomes, start), both(measures[name, part, "check"], outcomes, start)
+    """The floors of a command on a workload: reading, and the checks of its documents."""
+    unread, checked = measures[name, part, READ_BATCH], measures[name, part, "check"]
+    if command not in SECONDS:
+        return unread, checked
+    start, second = measures["start", 1, "check"], measures[name, part, SECONDS[command]]
+    return both(unread, second, start), both(checked, second, start)
 
 
 def ratios(measured, floor):
     """How many times the floor this is, in processor time and in memory."""
-    if floor is None:
-        return ["", ""]
     return [f"{times_as_long(measured, floor):.2f}", f"{measured.memory / floor.memory:.2f}"]
 
 

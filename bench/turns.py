@@ -7,9 +7,11 @@ from dataclasses import dataclass
 import answers
 from measure import BenchFault, run, staying_on, stir_memory
 
-COMMANDS = ("check", "plan", "replay")
+COMMANDS = ("check", "plan", "canon", "replay", "match", "run")
 READ_BATCH = "read batch"
-READ_OUTCOMES = "read outcomes"
+
+# The commands over two documents, with the reading of the second.
+SECONDS = {"replay": "read outcomes", "match": "read responses", "run": "read events"}
 ONLY_READ = "fault F04 NoRequests batch\n"
 
 
@@ -32,13 +34,11 @@ def start_job(program, tiny):
 
 def case_jobs(program, case):
     """The jobs of a case: each command, and the readings."""
-    words = {
-        "check": ("check", case.batch),
-        "plan": ("plan", case.batch),
-        "replay": ("replay", case.batch, case.outcomes),
-        READ_BATCH: ("check", case.unread),
-        READ_OUTCOMES: ("check", case.outcomes),
-    }
+    second = {"replay": case.outcomes, "match": case.responses, "run": case.events}
+    words = {command: (command, case.batch) for command in COMMANDS}
+    words |= {command: (command, case.batch, path) for command, path in second.items()}
+    words |= {SECONDS[command]: ("check", path) for command, path in second.items()}
+    words[READ_BATCH] = ("check", case.unread)
     return [
         Job(case.name, case.part, command, (program, *given), 0 if command in COMMANDS else 1)
         for command, given in words.items()
@@ -64,8 +64,12 @@ def is_right(job, content, text):
         return text == answers.check_line(content.requests)
     if job.command == "plan":
         return text == answers.plan_text(content.requests)
-    if job.command == "replay":
-        return answers.is_response(text, answers.responses(content.requests, content.outcomes))
+    if job.command == "canon":
+        return answers.is_line_of(text, answers.canonical(content.requests))
+    if job.command == "match":
+        return text == answers.match_text(content.requests, content.outcomes)
+    if job.command in ("replay", "run"):
+        return answers.is_line_of(text, answers.responses(content.requests, content.outcomes))
     return text == ONLY_READ
 
 

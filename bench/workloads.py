@@ -5,6 +5,7 @@ import os
 from dataclasses import dataclass
 from typing import Callable
 
+import answers
 import shapes
 from measure import BenchFault
 
@@ -48,7 +49,7 @@ NAMES = (*SHAPES, USUAL)
 @dataclass(frozen=True)
 class Case:
     """The documents of a workload at one size: paths of the batch, of the same batch under another
-    member than `requests`, and of the outcomes."""
+    member than `requests`, and of the outcomes, the responses and the events."""
 
     name: str
     part: int
@@ -57,6 +58,8 @@ class Case:
     batch: str
     unread: str
     outcomes: str
+    responses: str
+    events: str
 
     def is_whole(self):
         """Whether this is the workload at its whole size."""
@@ -85,14 +88,29 @@ def compact(member, elements):
     return json.dumps({member: elements}, separators=(",", ":"))
 
 
-def write_case(folder, name, part, words, texts, count):
-    """Writes the two documents of a case, and the batch under another member."""
+def events_of(content):
+    """The events of a run that finishes each request before it starts the next."""
+    outcome_of, events = {outcome["id"]: outcome for outcome in content.outcomes}, []
+    for request in content.requests:
+        outcome = dict(outcome_of[request["id"]])
+        events += [{"start": request["id"]}, {"report": outcome.pop("id"), **outcome}]
+    return events
+
+
+def write_case(folder, name, part, words, texts, content):
+    """Writes the documents of a case, and the batch under another member."""
     batch, outcomes = texts
-    paths = [os.path.join(folder, f"{name}_{part}_{kind}.json") for kind in ("batch", "unread", "outcomes")]
-    unread = batch.replace('"requests"', f'"{UNREAD_MEMBER}"', 1)
-    for path, text in zip(paths, (batch, unread, outcomes)):
-        write_document(path, text)
-    return Case(name, part, words, count, *paths)
+    documents = {
+        "batch": batch,
+        "unread": batch.replace('"requests"', f'"{UNREAD_MEMBER}"', 1),
+        "outcomes": outcomes,
+        "responses": compact("responses", answers.responses(content.requests, content.outcomes)["responses"]),
+        "events": compact("events", events_of(content)),
+    }
+    paths = {kind: os.path.join(folder, f"{name}_{part}_{kind}.json") for kind in documents}
+    for kind, text in documents.items():
+        write_document(paths[kind], text)
+    return Case(name, part, words, len(content.requests), **paths)
 
 
 def shape_cases(folder, name, short):
@@ -101,9 +119,8 @@ def shape_cases(folder, name, short):
     size = shape.size // SHORT_DIVISOR if short else shape.size
     for part in PARTS if shape.grows else PARTS[-1:]:
         requests, outcomes = shape.make(size // part)
-        texts = compact("requests", requests), compact("outcomes", outcomes)
-        case = write_case(folder, name, part, shape.words, texts, len(requests))
-        yield case, Content(requests, outcomes)
+        texts, content = (compact("requests", requests), compact("outcomes", outcomes)), Content(requests, outcomes)
+        yield write_case(folder, name, part, shape.words, texts, content), content
 
 
 def usual_case(folder, root):
@@ -113,7 +130,7 @@ def usual_case(folder, root):
         with open(os.path.join(root, "examples", name), encoding="utf-8") as file:
             texts.append(file.read())
     content = Content(json.loads(texts[0])["requests"], json.loads(texts[1])["outcomes"])
-    return write_case(folder, USUAL, 1, USUAL_WORDS, texts, len(content.requests)), content
+    return write_case(folder, USUAL, 1, USUAL_WORDS, texts, content), content
 
 
 def cases(folder, root, names, short):
