@@ -119,6 +119,7 @@ def main():
         ("README.md", False, [".ci/readme.py", "README.md"]),
         ("worked cases", False, ["cases/run.py"]),
         ("random documents", False, ["cases/fuzz.py", "--mistakes"]),
+        ("commands against each other", False, ["cases/agree.py"]),
         ("allocations that fail", False, ["hostile/memory.py"]),
         ("bench/bench.py --short", True, ["bench/bench.py", "--short"]),
     ]:
