@@ -8,10 +8,11 @@ mod failures;
 mod large;
 mod replays;
 mod reports;
+mod runs;
 
 use odb_check::Seed;
 use odb_doc::{Input, Output};
-use odb_engine::{Ended, EngineFault, Remains, replay_batch};
+use odb_engine::{Ended, EngineFault, Remains, replay_batch, run_batch};
 use odb_sched::{Order, Policy};
 use std::alloc::Global;
 use std::io::{Read, Write};
@@ -94,6 +95,27 @@ fn is_replayed(
         order,
         policy,
         traced,
+    );
+    found == Ok(ended) && output.into_inner().as_slice() == text.as_bytes()
+}
+
+/// Whether a run of this batch by these events ends so and has written this.
+fn is_run(
+    alloc: Global,
+    (batch, events): (&str, &str),
+    policy: Policy,
+    ended: Ended,
+    text: &str,
+) -> bool {
+    let mut output = Output::new(Vec::new(alloc));
+    let found = run_batch(
+        alloc,
+        &mut Input::new(batch.as_bytes()),
+        &mut Input::new(events.as_bytes()),
+        &mut output,
+        policy,
+        Seed::new(7),
+        Remains::Dropped,
     );
     found == Ok(ended) && output.into_inner().as_slice() == text.as_bytes()
 }
