@@ -9,6 +9,7 @@ mod large;
 mod replays;
 mod reports;
 mod runs;
+mod texts;
 
 use odb_check::Seed;
 use odb_doc::{Input, Output};
