@@ -105,7 +105,7 @@ fn at_position(event: NamedEvent, i: u32) -> Event
 ///
 /// # Errors
 ///
-/// F65 of the first event whose id is no id of the plan; `OutOfMemory` if memory was refused.
+/// F65 of the first event that names no request of the plan; `OutOfMemory` if memory was refused.
 pub fn resolve(alloc: Global, plan: &Plan<'_>, events: Events) -> Result<Vec<Event>, ResolveFault>
     ensures known { OnOk result (All (IsKnown (plan_records plan.now)) (entries events)) }
     ensures events { IfOk result (λ found. AllZip (IsResolved (plan_records plan.now))
