@@ -1,4 +1,4 @@
-ghost use Rattle.std.specs.Prelude.{◌≡◌, ℕ, List, Option, MatchOption, IfOk, IfErr, OnOk, option_map};
+ghost use Rattle.std.specs.Prelude.{◌≡◌, ℕ, List, Option, MatchOption, IfOk, IfErr, OnOk, OnErr, option_map};
 ghost use Rattle.serde_json.specs.View.{view};
 ghost use Rattle.odb_names.specs.declared.method.Method.{Method};
 ghost use Rattle.odb_doc.specs.LeastFault.{BreaksNoneBefore, IsLeastRequestRule};
@@ -35,15 +35,19 @@ fn method_of(element: &Value) -> Option<Method>
     Method::read(text_at(element, "method")?)
 }
 
-/// The group at `atomicityGroup`, if any, or an error where it is not an identifier.
-fn group_of(element: &Value) -> Option<Option<&str>>
-    ensures { MatchOption result
-        ((group : Option (List ℕ)) → ¬ HasGroup (view element.now) group)
-        (λ group. HasGroup (view element.now) (option_map (λ text. text.now) group)) }
+/// The group at `atomicityGroup`, if any, or F16.
+fn group_of(element: &Value) -> Result<Option<&str>, RequestRule>
+    ensures has { IfOk result (λ group. HasGroup (view element.now)
+        (option_map (λ text. text.now) group)) }
+    ensures rule { IfErr result (λ rule. rule ≡ rules.BadGroup) }
+    ensures none { OnErr result ((group : Option (List ℕ)) → ¬ HasGroup (view element.now) group) }
 {
-    match given(element, "atomicityGroup") {
-        None => Some(None),
-        Some(value) => Some(Some(value.as_str().filter(|id| is_request_id(id))?)),
+    match given(element, "atomicityGroup").map(|value| value.as_str()) {
+        None => Ok(None),
+        Some(text) => match text.filter(|id| is_request_id(id)) {
+            Some(id) => Ok(Some(id)),
+            None => Err(RequestRule::BadGroup),
+        },
     }
 }
 
@@ -70,7 +74,7 @@ impl<'a> RequestLine<'a> {
             id: id_of(element).ok_or(RequestRule::BadId)?,
             method: method_of(element).ok_or(RequestRule::BadMethod)?,
             url: text_at(element, "url").ok_or(RequestRule::BadUrl)?,
-            group: group_of(element).ok_or(RequestRule::BadGroup)?,
+            group: group_of(element)?,
         })
     }
 }
