@@ -10,8 +10,8 @@ use Rattle.odb_doc.specs.declared.fault.DocFault.TheVariants as faults
 use Rattle.odb_doc.specs.Faults.{document_number, request_number}
 use Rattle.odb_doc.specs.FaultTable.{IsNumbered}
 use Rattle.odb_doc.specs.LeastFault.{BreaksRequestAt, IsWellShaped, IsLeastFault}
+use Rattle.odb_doc.specs.OneLeast.{one_least, one_first}
 use Rattle.odb_doc.specs.Shapes.{BreaksDocument, elements}
-use Rattle.odb_doc.proofs.LeastLemmas.{one_least, one_first}
 
 -- ---- rules with one number are equal
 

@@ -1,4 +1,4 @@
--- The first broken rule of a list: while the list is read, and that it is one.
+-- The first broken rule of a list, while the list is read.
 use Rattle.std.proofs.Common.{◌≡◌, ◌∙◌, inl, inr, ◌<◌, ◌≤◌, ℕ, List, [], ◌∷◌, ◌++◌, length, take, slice_get, Option, Some, IsSomeAnd, ap, sym, subst, arith}
 use Rattle.std.proofs.lemmas.Bool.{cases_order}
 use Rattle.std.proofs.lemmas.List.{length-append, take-append-le, get_or_append_left}
@@ -64,23 +64,3 @@ module _ {R X : Type 0} (number : R → ℕ) (Breaks : R → List X → X → Ty
     };
     before = λ other i less broken. sound other i (BreaksAt-front other xs x rest i less broken);
   }
-
--- ---- the first broken rule is one
-
-pub one_least : {R : Type 0} (number : R → ℕ) (Breaks : R → Type 0) → ((a b : R) → number a ≡ number b → a ≡ b) → (rule other : R) → IsLeast number Breaks rule → IsLeast number Breaks other
-    → rule ≡ other
-one_least number Breaks apart rule other one two =
-    elim (cases_order (number rule) (number other)) [
-      | inl same ↦ apart rule other same
-      | inr (inl less) ↦ absurd (two.least rule less one.broken)
-      | inr (inr more) ↦ absurd (one.least other more two.broken)
-    ]
-
-pub one_first : {R : Type 0} (number : R → ℕ) (Breaks : R → ℕ → Type 0) → ((a b : R) → number a ≡ number b → a ≡ b) → (at other_at : ℕ) (rule other : R)
-    → IsFirst number Breaks at rule → IsFirst number Breaks other_at other → (at ≡ other_at) × (rule ≡ other)
-one_first number Breaks apart at other_at rule other one two =
-    elim (cases_order at other_at) [
-      | inl same ↦ (same, one_least number (λ r. Breaks r other_at) apart rule other (subst (λ (i : ℕ). IsLeast number (λ r. Breaks r i) rule) same one.here) two.here)
-      | inr (inl less) ↦ absurd (two.before rule at less one.here.broken)
-      | inr (inr more) ↦ absurd (one.before other other_at more two.here.broken)
-    ]

@@ -25,5 +25,5 @@ mod SetLemmas
 mod TextLemmas
 mod WatchLemmas
 mod RepeatLemmas
-pub mod EventLemmas
-pub mod EventListLemmas
+mod EventLemmas
+mod EventListLemmas

@@ -9,6 +9,7 @@ pub mod Bodies
 pub mod Shapes
 pub mod BrokenRules
 pub mod LeastRules
+pub mod OneLeast
 pub mod LeastFault
 pub mod Names
 pub mod References

@@ -4,13 +4,14 @@
 //! The laws are clauses of functions that change nothing. They speak of the words that the clauses of
 //! [`crate::Batch::read`] use, for callers that compare two readings of one value.
 
-ghost use Rattle.std.specs.Prelude.{◌≡◌, ◌↔◌, ℕ, List};
+ghost use Rattle.std.specs.Prelude.{◌≡◌, ◌↔◌, ℕ, List, [], fold};
 ghost use Rattle.serde_json.specs.Data.{Data};
 ghost use Rattle.odb_doc.specs.declared.fault.DocFault.{DocFault};
 ghost use Rattle.odb_doc.specs.Canonical.{HasWholeBodies, canonical_text};
 ghost use Rattle.odb_doc.specs.CanonicalLaws.{IsDocumentOf};
 ghost use Rattle.odb_doc.specs.FaultTable.{IsNumbered};
 ghost use Rattle.odb_doc.specs.LeastFault.{IsLeastFault, IsWellShaped};
+ghost use Rattle.odb_doc.specs.Names.{distinct, with_name};
 ghost use Rattle.odb_doc.specs.Records.{Record, IsBatchOf};
 
 /// A value has one least fault of shape at most, and none where it is well shaped (OData JSON Format
@@ -20,6 +21,11 @@ pub fn one_fault()
         → IsLeastFault fault value → IsLeastFault other value → fault ≡ other }
     ensures none { (value : Data) (fault : DocFault) → IsNumbered fault
         → IsLeastFault fault value → ¬ IsWellShaped value }
+{}
+
+/// Names that are appended one by one, each unless the list has it, are the names without repeats.
+pub fn distinct_names()
+    ensures { (names : List (List ℕ)) → fold with_name [] names ≡ distinct names }
 {}
 
 /// A value is one batch at most: each element determines all of its request, the reference and the

@@ -1,0 +1,25 @@
+-- The rule that is reported is one: proved of all rules with numbers of their own, for the laws of this crate and of those
+-- above, since no clause can speak of all rules.
+use Rattle.std.proofs.Common.{◌≡◌, inl, inr, ℕ, subst}
+use Rattle.std.proofs.lemmas.Bool.{cases_order}
+use Rattle.odb_doc.specs.LeastRules.{IsLeast, IsFirst}
+
+-- two least rules of one value are equal
+pub one_least : {R : Type 0} (number : R → ℕ) (Breaks : R → Type 0) → ((a b : R) → number a ≡ number b → a ≡ b) → (rule other : R) → IsLeast number Breaks rule → IsLeast number Breaks other
+    → rule ≡ other
+one_least number Breaks apart rule other one two =
+    elim (cases_order (number rule) (number other)) [
+      | inl same ↦ apart rule other same
+      | inr (inl less) ↦ absurd (two.least rule less one.broken)
+      | inr (inr more) ↦ absurd (one.least other more two.broken)
+    ]
+
+-- two first rules of one list are equal, and at one position
+pub one_first : {R : Type 0} (number : R → ℕ) (Breaks : R → ℕ → Type 0) → ((a b : R) → number a ≡ number b → a ≡ b) → (at other_at : ℕ) (rule other : R)
+    → IsFirst number Breaks at rule → IsFirst number Breaks other_at other → (at ≡ other_at) × (rule ≡ other)
+one_first number Breaks apart at other_at rule other one two =
+    elim (cases_order at other_at) [
+      | inl same ↦ (same, one_least number (λ r. Breaks r other_at) apart rule other (subst (λ (i : ℕ). IsLeast number (λ r. Breaks r i) rule) same one.here) two.here)
+      | inr (inl less) ↦ absurd (two.before rule at less one.here.broken)
+      | inr (inr more) ↦ absurd (one.before other other_at more two.here.broken)
+    ]
