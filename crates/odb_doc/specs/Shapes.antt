@@ -8,7 +8,6 @@ use Rattle.odb_names.specs.Identifiers.{IsRequestId}
 use Rattle.odb_names.specs.Methods.{Names, takes_body}
 use Rattle.odb_names.specs.Segments.{IsNestedBatch}
 use Rattle.odb_names.specs.declared.method.Method.{Method}
-use Rattle.odb_doc.specs.declared.batch.TheConstants.{MAX_REQUESTS}
 use Rattle.odb_doc.specs.declared.fault.DocumentRule.{DocumentRule}
 use Rattle.odb_doc.specs.declared.fault.DocumentRule.TheVariants as document
 use Rattle.odb_doc.specs.declared.fault.RequestRule.{RequestRule}
@@ -33,7 +32,7 @@ BreaksDocument document.NotJson d = ⊥
 BreaksDocument document.NotObject d = IsNone (as_object d)
 BreaksDocument document.NoRequests d = IsSome (as_object d) × IsNone (requests_in d)
 BreaksDocument document.UnknownMember d = HasUnknown Document d
-BreaksDocument document.TooMany d = MAX_REQUESTS < length (elements d)
+BreaksDocument document.TooMany d = 10000 < length (elements d)
 
 -- the member `id` is this identifier
 pub record HasId (d : Data) (id : List ℕ) : Type 0 where

@@ -37,7 +37,7 @@ fn requests_of(document: &Value) -> Option<&[Value]>
 fn elements_of(document: &Value) -> Result<&[Value], DocumentRule>
     ensures whole { OnOk result (IsBatchObject (view document.now)) }
     ensures elements { IfOk result (λ found. elements (view document.now) ≡ map view found.now) }
-    ensures len { IfOk result (λ found. length found.now ≤ MAX_REQUESTS) }
+    ensures len { IfOk result (λ found. length found.now ≤ 10000) }
     ensures least { IfErr result (IsLeastDocumentRule (view document.now)) }
 {
     if !document.is_object() {

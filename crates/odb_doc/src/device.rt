@@ -1,6 +1,5 @@
 ghost use Rattle.std.specs.Prelude.{◌≡◌, ℕ, ◌+◌, ◌<◌, ◌≤◌, ◌↔◌, false, length, IsTrue, IsErr, IfOk};
 ghost use Rattle.std.specs.Io.KnownBytes.{ReadConsumes, WriteAppends};
-ghost use Rattle.odb_doc.specs.declared.device.TheConstants.{MAX_READS};
 
 use std::io::{Read, Write};
 use std::marker::Model;
@@ -70,7 +69,7 @@ impl<R: Read> Input<R> {
     /// Any error of the reader is a fault, an interrupted read among them.
     pub fn take(&mut self, buffer: &mut [u8]) -> Result<usize, DeviceFault>
         requires works { self.old.failed ≡ false }
-        requires room { self.old.reads < MAX_READS }
+        requires room { self.old.reads < 16777217 }
         ensures fault { IsErr result ↔ IsTrue self.new.failed }
         ensures reads { self.new.reads ≡ self.old.reads + 1 }
         ensures count { IfOk result (λ n. n ≤ length buffer.new) }

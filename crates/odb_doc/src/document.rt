@@ -1,6 +1,5 @@
 ghost use Rattle.std.specs.Prelude.{◌≤◌, IfOk, IfErr};
 ghost use Rattle.serde_json.specs.Data.{depth};
-ghost use Rattle.serde_json.specs.Read.{max_depth};
 ghost use Rattle.serde_json.specs.View.{view};
 ghost use Rattle.odb_doc.specs.Documents.{IsDocument, RefusesDocument};
 
@@ -19,7 +18,7 @@ pub const MAX_DOCUMENT_BYTES: usize = 16_777_216;
 /// another cause than memory; `OutOfMemory` where memory was refused.
 pub fn parse(alloc: Global, bytes: &[u8]) -> Result<Value, DocFault>
     ensures ok { IfOk result (λ value. IsDocument bytes.now (view value)) }
-    ensures nests { IfOk result (λ value. depth (view value) ≤ max_depth) }
+    ensures nests { IfOk result (λ value. depth (view value) ≤ 127) }
     ensures err { IfErr result (λ fault. RefusesDocument fault bytes.now) }
 {
     if bytes.len() > MAX_DOCUMENT_BYTES {

@@ -6,6 +6,8 @@
 
 ghost use Rattle.std.specs.Prelude.{◌≡◌, ◌↔◌, ℕ, List, [], fold};
 ghost use Rattle.serde_json.specs.Data.{Data};
+ghost use Rattle.odb_doc.specs.declared.device.TheConstants.{MAX_READS};
+ghost use Rattle.odb_doc.specs.declared.document.TheConstants.{MAX_DOCUMENT_BYTES};
 ghost use Rattle.odb_doc.specs.declared.fault.DocFault.{DocFault};
 ghost use Rattle.odb_doc.specs.Canonical.{HasWholeBodies, canonical_text};
 ghost use Rattle.odb_doc.specs.CanonicalLaws.{IsDocumentOf};
@@ -21,6 +23,12 @@ pub fn one_fault()
         → IsLeastFault fault value → IsLeastFault other value → fault ≡ other }
     ensures none { (value : Data) (fault : DocFault) → IsNumbered fault
         → IsLeastFault fault value → ¬ IsWellShaped value }
+{}
+
+/// The limits by which callers read and refuse documents are those of the definitions.
+pub fn limits()
+    ensures bytes { MAX_DOCUMENT_BYTES ≡ 16777216 }
+    ensures reads { MAX_READS ≡ 16777217 }
 {}
 
 /// Names that are appended one by one, each unless the list has it, are the names without repeats.
