@@ -1,7 +1,7 @@
 -- The first and the last segment of a URL (RFC 3986, sections 3.3 to 3.5), and a URL that names a batch
 -- (OData JSON Format 4.01, section 19; OData ABNF 4.01, rule `odataRelativeUri`).
 use Rattle.std.specs.Prelude.{◌≡◌, ◌≢◌, ◌⊎◌, ◌==◌, ◌||◌, ℕ, Bool, not, List, [], ◌∷◌, ◌++◌, codes, All}
-use Rattle.percent_encoding.specs.Percent.{percent_decode}
+use Rattle.percent_encoding.specs.Percent.{percent_decode, percent_sign}
 use Rattle.odb_names.specs.Runs.{SplitsRun}
 
 -- `/`
@@ -19,6 +19,10 @@ is_in_segment byte = not ((byte == slash) || (byte == 63) || (byte == 35))
 -- no `/`
 abbrev pub HasNoSlash : List ℕ → Type 0
 HasNoSlash text = All (λ byte. byte ≢ slash) text
+
+-- no `%`: decoding leaves such a text as it is
+abbrev pub HasNoEscape : List ℕ → Type 0
+HasNoEscape text = All (λ byte. byte ≢ percent_sign) text
 
 -- nothing, or a text that ends with `/`
 abbrev pub EndsSegment : List ℕ → Type 0

@@ -1,6 +1,6 @@
-ghost use Rattle.std.specs.Prelude.{◌≡◌, IfOk, bytes_eq};
+ghost use Rattle.std.specs.Prelude.{◌≡◌, ℕ, List, IfOk, OnErr, bytes_eq};
 ghost use Rattle.std.specs.List.{list_any};
-ghost use Rattle.odb_names.specs.Fronts.{IsFrontOf, form, is_reserved};
+ghost use Rattle.odb_names.specs.Fronts.{IsFrontOf, form, is_reserved, reference};
 
 use crate::run::{Class, split_run};
 use percent_encoding::ascii_str;
@@ -46,7 +46,8 @@ fn is_reserved(name: &[u8]) -> bool
 impl Front {
     /// The front that a segment is, once it is percent-decoded.
     pub(crate) fn of_segment(alloc: Global, segment: &[u8]) -> Result<Front, AllocError>
-        ensures { IfOk result (λ front. IsFrontOf segment.now (form front)) }
+        ensures front { IfOk result (λ front. IsFrontOf segment.now (form front)) }
+        ensures memory { OnErr result ((id : List ℕ) × IsFrontOf segment.now (reference id)) }
     {
         let [b'$', after @ ..] = segment else {
             return Ok(Front::Plain);

@@ -1,6 +1,6 @@
-ghost use Rattle.std.specs.Prelude.{◌≡◌, ◌+◌, ◌<◌, ◌↔◌, length, drop, slice_index, IsTrue, IfOk, IfSome, IfNone};
-ghost use Rattle.odb_names.specs.Fronts.{FrontForm, HasFront, form};
-ghost use Rattle.odb_names.specs.Segments.{HasNoSlash, IsFirstSegment, IsLastSegment, IsNestedBatch, slash};
+ghost use Rattle.std.specs.Prelude.{◌≡◌, ◌+◌, ◌<◌, ◌↔◌, ℕ, List, length, drop, slice_index, IsTrue, IsOk, IfOk, IfSome, IfNone};
+ghost use Rattle.odb_names.specs.Fronts.{FrontForm, HasFront, form, reference};
+ghost use Rattle.odb_names.specs.Segments.{HasNoEscape, HasNoSlash, IsFirstSegment, IsLastSegment, IsNestedBatch, slash};
 
 use crate::run::{Class, split_run};
 use crate::segment::Front;
@@ -38,13 +38,14 @@ fn last_segment(url: &[u8]) -> &[u8]
 /// What a URL says to a batch by its first segment (OData JSON Format 4.01, section 19.1).
 ///
 /// The first segment of `url` ends before the first `/`, `?` or `#`, and is percent-decoded once;
-/// a `%` without two hexadecimal digits stands for itself. `alloc` is asked for the decoded segment,
-/// where it has an escape, and for the identifier of a reference; where it refuses one of them, the
-/// answer is `AllocError`.
+/// a `%` without two hexadecimal digits stands for itself. Allocates the decoded segment if it has a
+/// `%`, and the identifier of a reference; no other URL runs out of memory.
 pub fn front(alloc: Global, url: &str) -> Result<Front, AllocError>
     ensures front { IfOk result (λ found. HasFront url.now (form found)) }
     ensures only { IfOk result (λ found. (other : FrontForm) → HasFront url.now other
         → other ≡ form found) }
+    ensures memory { (segment : List ℕ) → IsFirstSegment url.now segment → HasNoEscape segment
+        → ((id : List ℕ) → ¬ HasFront url.now (reference id)) → IsOk result }
 {
     let segment = percent_decode(first_segment(url.as_bytes())).into_cow(alloc)?;
     Front::of_segment(alloc, segment.as_slice())
@@ -54,11 +55,12 @@ pub fn front(alloc: Global, url: &str) -> Result<Front, AllocError>
 /// `odataRelativeUri`).
 ///
 /// That is so where the last segment of `url`, percent-decoded once, is `$batch`. It is what stands
-/// after the last `/` of the path, and the path ends before the first `?` or `#`. `alloc` is asked
-/// for the decoded segment, where it has an escape; where it refuses that, the answer is
-/// `AllocError`.
+/// after the last `/` of the path, and the path ends before the first `?` or `#`. Allocates the
+/// decoded segment if it has a `%`; no other URL runs out of memory.
 pub fn is_nested_batch(alloc: Global, url: &str) -> Result<bool, AllocError>
-    ensures { IfOk result (λ nested. IsTrue nested ↔ IsNestedBatch url.now) }
+    ensures nested { IfOk result (λ nested. IsTrue nested ↔ IsNestedBatch url.now) }
+    ensures memory { (segment : List ℕ) → IsLastSegment url.now segment → HasNoEscape segment
+        → IsOk result }
 {
     let segment = percent_decode(last_segment(url.as_bytes())).into_cow(alloc)?;
     Ok(segment.as_slice() == b"$batch".as_slice())
