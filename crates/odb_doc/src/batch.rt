@@ -1,6 +1,7 @@
-ghost use Rattle.std.specs.Prelude.{◌≡◌, ◌≤◌, ◌<◌, List, length, map, vec_len, option_map, slice_get, Some, IsSome, IfSome, ◌↔◌, IfOk, IfErr, OnOk};
+ghost use Rattle.std.specs.Prelude.{◌≡◌, ◌≤◌, ◌<◌, List, length, map, vec_len, option_map, slice_get, Some, IsSome, IfSome, ◌↔◌, IfOk, IfErr, OnOk, OnErr};
 ghost use Rattle.std.specs.List.{AllZip};
 ghost use Rattle.serde_json.specs.View.{view};
+ghost use Rattle.odb_doc.specs.declared.fault.DocFault.TheVariants as faults;
 ghost use Rattle.odb_doc.specs.LeastFault.{IsWellShaped, IsLeastFault, IsBatchObject, IsLeastDocumentRule, BreaksRequestAt, IsFirstFault, fault_at};
 ghost use Rattle.odb_doc.specs.LeastRules.{AreSound};
 ghost use Rattle.odb_doc.specs.Shapes.{elements, requests_in};
@@ -72,6 +73,7 @@ fn requests_from<'a>(alloc: Global, elements: &'a [Value]) -> Result<Vec<Request
         (map record_of found.items)) }
     ensures len { IfOk result (λ found. length found.items ≡ length elements.now) }
     ensures first { IfErr result (IsFirstFault (map view elements.now)) }
+    ensures some { OnErr result (0 < length elements.now) }
 {
     let mut requests = Vec::with_capacity(alloc, elements.len())?;
     for (at, element) in elements.iter().enumerate() {
@@ -98,12 +100,14 @@ impl<'a> Batch<'a> {
     /// # Errors
     ///
     /// A fault of the document, F03 to F06, the least by number, where there is one; else, at the
-    /// first request that has a fault, the least of F10 to F23 by number. `OutOfMemory` where
-    /// memory was refused, in place of any of them.
+    /// first request that has a fault, the least of F10 to F23 by number. `OutOfMemory` if an
+    /// allocation fails, in place of F10 to F23 or of a batch that has a request.
     pub fn read(alloc: Global, document: &'a Value) -> Result<Batch<'a>, DocFault>
         ensures good { OnOk result (IsWellShaped (view document.now)) }
         ensures records { IfOk result (λ batch. IsBatchOf (view document.now) (records batch)) }
         ensures least { IfErr result (λ fault. IsLeastFault fault (view document.now)) }
+        ensures memory { IfErr result (λ fault. fault ≡ faults.OutOfMemory
+            → IsBatchObject (view document.now) × (0 < length (elements (view document.now)))) }
     {
         let elements = elements_of(document)?;
         let requests = requests_from(alloc, elements)?;

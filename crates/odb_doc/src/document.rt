@@ -1,7 +1,8 @@
-ghost use Rattle.std.specs.Prelude.{◌≤◌, IfOk, IfErr};
+ghost use Rattle.std.specs.Prelude.{◌≡◌, ◌≤◌, ◌<◌, length, IfOk, IfErr};
 ghost use Rattle.serde_json.specs.Data.{depth};
 ghost use Rattle.serde_json.specs.View.{view};
-ghost use Rattle.odb_doc.specs.Documents.{IsDocument, RefusesDocument};
+ghost use Rattle.odb_doc.specs.declared.fault.DocFault.TheVariants as faults;
+ghost use Rattle.odb_doc.specs.Documents.{IsDocument, RefusesDocument, most_bytes};
 
 use crate::fault::{DocFault, DocumentRule};
 use serde_json::Value;
@@ -14,12 +15,15 @@ pub const MAX_DOCUMENT_BYTES: usize = 16_777_216;
 ///
 /// # Errors
 ///
-/// F01 where there are more than 16,777,216 bytes; else F02 where `serde_json` refuses them for
-/// another cause than memory; `OutOfMemory` where memory was refused.
+/// F01 if and only if there are more than 16,777,216 bytes; else F02 if `serde_json` refuses them for
+/// another cause than memory. `OutOfMemory` if an allocation fails, which neither reading no bytes
+/// nor reporting F01 needs.
 pub fn parse(alloc: Global, bytes: &[u8]) -> Result<Value, DocFault>
     ensures ok { IfOk result (λ value. IsDocument bytes.now (view value)) }
     ensures nests { IfOk result (λ value. depth (view value) ≤ 127) }
     ensures err { IfErr result (λ fault. RefusesDocument fault bytes.now) }
+    ensures memory { IfErr result (λ fault. fault ≡ faults.OutOfMemory
+        → (0 < length bytes.now) × (length bytes.now ≤ most_bytes)) }
 {
     if bytes.len() > MAX_DOCUMENT_BYTES {
         return Err(DocFault::Document(DocumentRule::TooLong));

@@ -1,7 +1,8 @@
-ghost use Rattle.std.specs.Prelude.{◌≡◌, ◌<◌, length, slice_get, Some, map, IfSome, IfNone, OnSome, IfOk, IfErr, OnOk, All};
+ghost use Rattle.std.specs.Prelude.{◌≡◌, ◌<◌, length, slice_get, Some, map, IfSome, IfNone, OnSome, IfOk, IfErr, OnOk, OnErr, All};
 ghost use Rattle.std.specs.List.{AllZip};
 ghost use Rattle.std.proofs.Props.{props};
 ghost use Rattle.serde_json.specs.View.{view};
+ghost use Rattle.odb_doc.specs.declared.event_fault.EventFault.TheVariants as faults;
 ghost use Rattle.odb_doc.specs.Events.{AreEventsOf, IsEventsObject, IsSoundEvent, Says, elements};
 ghost use Rattle.odb_doc.specs.LeastEventFault.{AreEvents, IsEventsDocument, RefusesElements, RefusesEvents, fault_at};
 
@@ -36,6 +37,7 @@ fn events_from(alloc: Global, elements: &mut Vec<Value>) -> Result<Vec<NamedEven
     ensures says { IfOk result (λ found. AllZip Says (map view elements.old.items) found.items) }
     ensures fit { IfOk result (λ found. All IsSoundEvent found.items) }
     ensures first { IfErr result (λ fault. RefusesElements fault (map view elements.old.items)) }
+    ensures some { OnErr result (0 < length elements.old.items) }
 {
     let mut entries = Vec::with_capacity(alloc, elements.len())?;
     for element in elements {
@@ -73,11 +75,14 @@ impl Events {
     /// # Errors
     ///
     /// `Document`, which is F64 of the whole, if the document is not such an object; else F63 or F64 of
-    /// the first element that has one. `OutOfMemory` if memory was refused, in place of any of them.
+    /// the first element that has one. `OutOfMemory` if an allocation fails, in place of the fault of
+    /// an element or of events.
     pub fn read(alloc: Global, document: Value) -> Result<Events, EventFault>
         ensures good { OnOk result (IsEventsDocument (view document)) }
         ensures events { IfOk result (λ events. AreEventsOf (view document) (entries events)) }
         ensures least { IfErr result (λ fault. RefusesEvents fault (view document)) }
+        ensures memory { IfErr result (λ fault. fault ≡ faults.OutOfMemory
+            → IsEventsObject (view document) × (0 < length (elements (view document)))) }
     {
         let (events, _emptied) = Events::split(alloc, document)?;
         Ok(events)
@@ -92,6 +97,8 @@ impl Events {
         ensures good { OnOk result (IsEventsDocument (view document)) }
         ensures events { IfOk result (λ parts. AreEventsOf (view document) (entries parts.0)) }
         ensures least { IfErr result (λ fault. RefusesEvents fault (view document)) }
+        ensures memory { IfErr result (λ fault. fault ≡ faults.OutOfMemory
+            → IsEventsObject (view document) × (0 < length (elements (view document)))) }
     {
         let Some(mut elements) = elements_of(document) else {
             return Err(EventFault::Document);

@@ -1,10 +1,11 @@
-ghost use Rattle.std.specs.Prelude.{◌≡◌, ◌++◌, ◌∷◌, ◌↔◌, ◌<◌, ℕ, List, length, slice_get, Some, [], false, not, map, option_map, string_bytes, bytes_eq, IsTrue, IfSome, IfNone, OnSome, MatchOption, IfOk, IfErr, OnOk, All};
+ghost use Rattle.std.specs.Prelude.{◌≡◌, ◌++◌, ◌∷◌, ◌↔◌, ◌<◌, ℕ, List, length, slice_get, Some, [], false, not, map, option_map, string_bytes, bytes_eq, IsTrue, IfSome, IfNone, OnSome, MatchOption, IfOk, IfErr, OnOk, OnErr, All};
 ghost use Rattle.std.specs.List.{AllZip, IsDistinct, list_any};
 ghost use Rattle.std.specs.Map.{keys_of};
 ghost use Rattle.std.proofs.Props.{props};
 ghost use Rattle.serde_json.specs.Data.{Data, unsigned};
 ghost use Rattle.serde_json.specs.View.{view, number_view};
 ghost use Rattle.odb_doc.specs.declared.outcome_fault.OutcomeRule.{OutcomeRule};
+ghost use Rattle.odb_doc.specs.declared.outcome_fault.OutcomeFault.TheVariants as faults;
 ghost use Rattle.odb_doc.specs.BrokenRules.{OnRule};
 ghost use Rattle.odb_doc.specs.LeastOutcomeFault.{AreOutcomes, BreaksOutcome, IsLeastBroken, IsOutcomesDocument, RefusesElements, RefusesOutcomes, fault_at};
 ghost use Rattle.odb_doc.specs.Outcomes.{AreOutcomesOf, IsOutcomesObject, IsStatus, IsSoundOutcome, Says, elements, ids, recorded};
@@ -136,6 +137,7 @@ fn outcomes_from(
         (keys_of (map recorded found.items))) }
     ensures fit { IfOk result (λ found. All IsSoundOutcome (map recorded found.items)) }
     ensures first { IfErr result (λ fault. RefusesElements fault (map view elements.old.items)) }
+    ensures some { OnErr result (0 < length elements.old.items) }
 {
     let mut seen = SeenIds::before(alloc, elements.as_slice())?;
     let mut entries = Vec::with_capacity(alloc, elements.len())?;
@@ -175,13 +177,15 @@ impl Outcomes {
     ///
     /// # Errors
     ///
-    /// `Document`, which is F60 of the whole, where the document is not such an object; else, at the first
-    /// element that has a fault, the least of F60 to F63 by number. `OutOfMemory` where memory was
-    /// refused, in place of any of them.
+    /// `Document`, which is F60 of the whole, if the document is not such an object; else, at the first
+    /// element that has a fault, the least of F60 to F63 by number. `OutOfMemory` if an allocation fails,
+    /// in place of the fault of an element or of outcomes.
     pub fn read(alloc: Global, document: Value) -> Result<Outcomes, OutcomeFault>
         ensures good { OnOk result (IsOutcomesDocument (view document)) }
         ensures outcomes { IfOk result (λ outcomes. AreOutcomesOf (view document) (entries outcomes)) }
         ensures least { IfErr result (λ fault. RefusesOutcomes fault (view document)) }
+        ensures memory { IfErr result (λ fault. fault ≡ faults.OutOfMemory
+            → IsOutcomesObject (view document) × (0 < length (elements (view document)))) }
     {
         let (outcomes, _emptied) = Outcomes::split(alloc, document)?;
         Ok(outcomes)
@@ -196,6 +200,8 @@ impl Outcomes {
         ensures good { OnOk result (IsOutcomesDocument (view document)) }
         ensures outcomes { IfOk result (λ parts. AreOutcomesOf (view document) (entries parts.0)) }
         ensures least { IfErr result (λ fault. RefusesOutcomes fault (view document)) }
+        ensures memory { IfErr result (λ fault. fault ≡ faults.OutOfMemory
+            → IsOutcomesObject (view document) × (0 < length (elements (view document)))) }
     {
         let Some(mut elements) = elements_of(document) else {
             return Err(OutcomeFault::Document);

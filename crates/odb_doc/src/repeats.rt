@@ -1,4 +1,4 @@
-ghost use Rattle.std.specs.Prelude.{◌≡◌, false, bytes_eq, IfOk, OnOk};
+ghost use Rattle.std.specs.Prelude.{◌≡◌, ◌<◌, false, bytes_eq, length, IfOk, OnOk, OnErr};
 ghost use Rattle.std.specs.Cmp.Lexicographic.{slice_cmp};
 ghost use Rattle.std.specs.List.{IsDistinct};
 ghost use Rattle.std.specs.Ordering.{is_lt, nat_cmp};
@@ -38,7 +38,9 @@ fn may_repeat_among_many(alloc: Global, texts: &[&str]) -> Result<bool, AllocErr
 /// Whether a text repeats, in O(n log n) whatever the texts are. It may report a repeat where there
 /// is none.
 pub(crate) fn may_repeat(alloc: Global, texts: &[&str]) -> Result<bool, AllocError>
-    ensures { IfOk result (λ repeats. repeats ≡ false → IsDistinct bytes_eq (texts_in texts.now)) }
+    ensures apart { IfOk result (λ repeats. repeats ≡ false
+        → IsDistinct bytes_eq (texts_in texts.now)) }
+    ensures some { OnErr result (0 < length texts.now) }
 {
     if texts.len() <= FEW {
         Ok(repeats_among_few(texts))

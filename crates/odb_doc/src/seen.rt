@@ -1,4 +1,4 @@
-ghost use Rattle.std.specs.Prelude.{◌≡◌, ◌++◌, ◌∷◌, ℕ, List, [], map, false, not, bytes_eq, string_bytes, IfOk, OnOk};
+ghost use Rattle.std.specs.Prelude.{◌≡◌, ◌<◌, ◌++◌, ◌∷◌, ℕ, List, [], length, map, false, not, bytes_eq, string_bytes, IfOk, OnOk, OnErr};
 ghost use Rattle.std.specs.List.{IsDistinct, list_any};
 ghost use Rattle.serde_json.specs.View.{view};
 ghost use Rattle.odb_doc.specs.Names.{texts_in};
@@ -18,7 +18,8 @@ pub(crate) struct SeenIds {
 
 /// The ids of the elements that have one.
 fn ids_of<'a>(alloc: Global, elements: &'a [Value]) -> Result<Vec<&'a str>, AllocError>
-    ensures { IfOk result (λ found. texts_in found.items ≡ ids (map view elements.now)) }
+    ensures ids { IfOk result (λ found. texts_in found.items ≡ ids (map view elements.now)) }
+    ensures some { OnErr result (0 < length elements.now) }
 {
     let mut found = Vec::with_capacity(alloc, elements.len())?;
     for element in elements {
@@ -32,8 +33,9 @@ fn ids_of<'a>(alloc: Global, elements: &'a [Value]) -> Result<Vec<&'a str>, Allo
 /// Whether the id of an element repeats, in O(n log n) whatever the ids are. It may report a repeat
 /// where there is none.
 fn may_ids_repeat(alloc: Global, elements: &[Value]) -> Result<bool, AllocError>
-    ensures { IfOk result (λ repeats. repeats ≡ false
+    ensures apart { IfOk result (λ repeats. repeats ≡ false
         → IsDistinct bytes_eq (ids (map view elements.now))) }
+    ensures some { OnErr result (0 < length elements.now) }
 {
     let ids = ids_of(alloc, elements)?;
     may_repeat(alloc, ids.as_slice())
@@ -44,7 +46,8 @@ impl SeenIds {
 
     /// No ids, before the elements are read.
     pub(crate) fn before(alloc: Global, elements: &[Value]) -> Result<Self, AllocError>
-        ensures { IfOk result (λ seen. IsWatched seen [] (ids (map view elements.now))) }
+        ensures watched { IfOk result (λ seen. IsWatched seen [] (ids (map view elements.now))) }
+        ensures some { OnErr result (0 < length elements.now) }
     {
         let ids = if may_ids_repeat(alloc, elements)? {
             Some(BTreeSet::new(alloc))

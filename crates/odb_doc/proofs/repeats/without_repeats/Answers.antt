@@ -6,5 +6,5 @@ use Rattle.odb_doc.proofs.repeats.without_repeats.Goals as goal
 
 pub returns : goal.returns
 returns c =
-    let apart : IsDistinct bytes_eq (texts_in c.args.texts.items) = rw c.as_slice.ensures.value at (c.in_ok-may_repeat.ensures c.if-branch.false) in
+    let apart : IsDistinct bytes_eq (texts_in c.args.texts.items) = rw c.as_slice.ensures.value at (c.in_ok-may_repeat.ensures.apart c.if-branch.false) in
     sym (distinct_same (texts_in c.args.texts.items) apart)
