@@ -26,7 +26,8 @@ use Rattle.odb_doc.specs.declared.fault.DocumentRule.TheVariants as document
 use Rattle.odb_doc.specs.declared.fault.RequestRule.{RequestRule}
 use Rattle.odb_doc.specs.declared.fault.RequestRule.TheVariants as rules
 use Rattle.odb_doc.specs.declared.member.Object.TheVariants.{Request}
-use Rattle.odb_doc.specs.Bodies.{asked_kind, IsOfKind}
+use Rattle.odb_doc.specs.Bodies.{content_type}
+use Rattle.odb_doc.specs.MediaTypes.{AllowsBody}
 use Rattle.odb_doc.specs.Canonical.{names_value, header_members, headers_value, with_some, request_value, canonical_value}
 use Rattle.odb_doc.specs.Headers.{Header, folded, text_members, listed_in, header_names, HasHeaders}
 use Rattle.odb_doc.specs.LeastFault.{IsBatchObject, IsRequestObject, IsWellShaped, BreaksRequestAt}
@@ -221,7 +222,7 @@ value-object texts e r sound says rules.BadBody = λ broken.
       has = says.headers;
       body = broken.body;
       given = says.body ∙ sym own.body ∙ broken.given;
-      unfit = subst (λ (hs : List Header). ¬ IsOfKind (asked_kind hs) broken.body) headers broken.unfit;
+      bad = subst (λ (hs : List Header). ¬ AllowsBody (content_type hs) broken.body) headers broken.bad;
     })
 value-object texts e r sound says rules.NestedBatch = λ broken. sound rules.NestedBatch (subst (λ (o : Option (List ℕ)). IsSomeAnd o IsNestedBatch) ((value-says e r says).url ∙ sym says.url) broken)
 value-object texts e r sound says rules.BadReference = λ broken. sound rules.BadReference (subst (λ (o : Option (List ℕ)). IsSomeAnd o (λ url. HasFront url bad)) ((value-says e r says).url ∙ sym says.url) broken)

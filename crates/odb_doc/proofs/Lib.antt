@@ -1,5 +1,4 @@
 mod BatchLemmas
-mod BlankLemmas
 mod CanonicalLemmas
 mod CanonicalReads
 mod CanonicalShapes
@@ -23,6 +22,7 @@ mod RequestLemmas
 mod RuleLemmas
 mod SetLemmas
 mod TextLemmas
+mod TypeLemmas
 mod WatchLemmas
 mod RepeatLemmas
 mod EventLemmas

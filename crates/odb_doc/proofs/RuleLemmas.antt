@@ -16,9 +16,10 @@ use Rattle.odb_names.specs.Methods.{method_name, takes_body}
 use Rattle.odb_names.specs.declared.method.Method.{Method}
 use Rattle.odb_names.specs.declared.method.Method.TheVariants.{Delete, Get, Patch, Post, Put}
 use Rattle.odb_doc.specs.declared.fault.RequestRule.TheVariants as request
-use Rattle.odb_doc.specs.Bodies.{body_of, asked_kind, IsOfKind}
+use Rattle.odb_doc.specs.Bodies.{body_of, content_type}
 use Rattle.odb_doc.specs.Headers.{Header, HoldsHeaders, HasHeaders, IsHeaders, folded, folded_names, listed_in, listed_headers}
 use Rattle.odb_doc.specs.LeastFault.{BreaksNoneBefore, IsRequestObject}
+use Rattle.odb_doc.specs.MediaTypes.{AllowsBody}
 use Rattle.odb_doc.specs.Shapes.{HasMethod, BreaksRequest}
 use Rattle.odb_doc.proofs.ListedLemmas.{names_in-text_members_in}
 use Rattle.odb_doc.proofs.OneHeaders.{one_headers}
@@ -111,8 +112,8 @@ body_allowed d method has takes breaks =
     let same = takes_body-method_name method ∙ ap (λ text. get_or text 0 0 == 112) names ∙ sym (takes_body-method_name breaks.method) in
     both_ways (takes_body method) (same ∙ breaks.none) takes
 
-pub body_fits : (d : Data) (headers : List Header) (body : Data) → HasHeaders d headers → body_of d ≡ Some body → IsOfKind (asked_kind headers) body → ¬ BreaksRequest request.BadBody d
-body_fits d headers body has is fits unfit =
-    let same_headers : headers ≡ unfit.headers = one_headers d unfit.headers headers unfit.has has in
-    let same_body : body ≡ unfit.body = cc (is, unfit.given) in
-    unfit.unfit (subst (λ (hs : List Header). IsOfKind (asked_kind hs) unfit.body) same_headers (subst (λ (b : Data). IsOfKind (asked_kind headers) b) same_body fits))
+pub body_fits : (d : Data) (headers : List Header) (body : Data) → HasHeaders d headers → body_of d ≡ Some body → AllowsBody (content_type headers) body → ¬ BreaksRequest request.BadBody d
+body_fits d headers body has is fits breaks =
+    let same_headers : headers ≡ breaks.headers = one_headers d breaks.headers headers breaks.has has in
+    let same_body : body ≡ breaks.body = cc (is, breaks.given) in
+    breaks.bad (subst (λ (hs : List Header). AllowsBody (content_type hs) breaks.body) same_headers (subst (λ (b : Data). AllowsBody (content_type headers) b) same_body fits))

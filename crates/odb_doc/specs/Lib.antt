@@ -5,6 +5,7 @@ pub mod FaultTable
 pub mod Members
 pub mod Headers
 pub mod MediaTypes
+pub mod BodyKinds
 pub mod Bodies
 pub mod Shapes
 pub mod BrokenRules

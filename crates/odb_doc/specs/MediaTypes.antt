@@ -1,44 +1,54 @@
--- The kind of body that a media type asks for (OData JSON Format 4.01, section 19.1, `body`; RFC 9110,
--- section 8.3.1; RFC 6839, section 3.1).
-use Rattle.std.specs.Prelude.{◌==◌, ◌||◌, ◌-◌, ℕ, Bool, List, [], length, take, drop, codes, nat_eq, bytes_eq, if◌then◌else◌}
-use Rattle.std.specs.List.{before_first, prefix_len, suffix_len, starts_with, ends_with}
+-- The media type in a `content-type`, and the bodies that it allows (OData JSON Format 4.01, section 19.1, `body`; RFC
+-- 9110, section 8.3.1; RFC 6839, section 3.1).
+use Rattle.std.specs.Prelude.{◌≡◌, ◌⊎◌, ◌==◌, ◌||◌, ℕ, Bool, not, false, List, [], ◌∷◌, ◌++◌, codes, IsSome, IsSomeAnd}
+use Rattle.std.specs.List.{AllPass}
 use Rattle.std.specs.Str.{str_to_ascii_lowercase}
-use Rattle.odb_doc.specs.declared.media_type.BodyKind.{BodyKind}
-use Rattle.odb_doc.specs.declared.media_type.BodyKind.TheVariants.{Any, Text, Base64Url}
+use Rattle.serde_json.specs.Data.{Data}
+use Rattle.serde_json.specs.Find.{as_str}
+use Rattle.odb_names.specs.Base64Url.{IsBase64Url}
+use Rattle.odb_names.specs.Runs.{SplitsRun}
 
--- `;`
-abbrev pub is_semicolon : ℕ → Bool
-is_semicolon byte = byte == 59
+-- no `;`, with which the parameters begin
+abbrev pub is_in_type : ℕ → Bool
+is_in_type byte = not (byte == 59)
 
 -- a space or a tab
 abbrev pub is_blank : ℕ → Bool
 is_blank byte = (byte == 32) || (byte == 9)
 
--- without the spaces and tabs at its front
-abbrev pub without_front_blanks : List ℕ → List ℕ
-without_front_blanks text = drop (prefix_len is_blank text) text
+-- the text is blanks, then the name, then blanks, and the name has none at its ends
+pub record IsTrimmed (text name : List ℕ) : Type 0 where
+  pub before : List ℕ
+  pub after : List ℕ
+  pub whole : text ≡ before ++ (name ++ after)
+  pub leading : AllPass is_blank before
+  pub trailing : AllPass is_blank after
+  pub starts : (first : ℕ) (more : List ℕ) → name ≡ first ∷ more → is_blank first ≡ false
+  pub ends : (more : List ℕ) (last : ℕ) → name ≡ more ++ last ∷ [] → is_blank last ≡ false
 
--- without the spaces and tabs at its end
-abbrev pub without_end_blanks : List ℕ → List ℕ
-without_end_blanks text = take (length text - suffix_len is_blank text) text
-
--- without both
-abbrev pub trimmed : List ℕ → List ℕ
-trimmed text = without_end_blanks (without_front_blanks text)
-
--- the media type of a `content-type`, without its parameters, in lower case
-abbrev pub media_type : List ℕ → List ℕ
-media_type value = str_to_ascii_lowercase (trimmed (before_first is_semicolon value))
+-- the value has this media type, which ends before the first `;`
+pub record HasType (value name : List ℕ) : Type 0 where
+  pub text : List ℕ
+  pub parameters : List ℕ
+  pub splits : SplitsRun is_in_type value text parameters
+  pub trimmed : IsTrimmed text name
 
 -- no media type, `application/json`, or one with the suffix `+json`
-abbrev pub is_json : List ℕ → Bool
-is_json name = bytes_eq name [] || bytes_eq name (codes "application/json") || ends_with nat_eq name (codes "+json")
+abbrev pub IsJson : List ℕ → Type 0
+IsJson name = (name ≡ []) ⊎ (name ≡ codes "application/json") ⊎ ((prefix : List ℕ) × (name ≡ prefix ++ codes "+json"))
 
 -- a type of `text`
-abbrev pub is_text : List ℕ → Bool
-is_text name = starts_with nat_eq name (codes "text/")
+abbrev pub IsText : List ℕ → Type 0
+IsText name = (subtype : List ℕ) × (name ≡ codes "text/" ++ subtype)
 
--- The kind that a media type asks for: any value for JSON, also for JSON below `text`, a string for
--- other text, and base64url for all else.
-abbrev pub kind_of_body : List ℕ → BodyKind
-kind_of_body name = if is_json name then Any else if is_text name then Text else Base64Url
+-- The bodies that a media type in lower case allows: any value for JSON, also for JSON below `text`, a string for other
+-- text, and base64url for all else.
+pub record TypeAllows (name : List ℕ) (body : Data) : Type 0 where
+  pub text : ¬ IsJson name → IsText name → IsSome (as_str body)
+  pub other : ¬ IsJson name → ¬ IsText name → IsSomeAnd (as_str body) IsBase64Url
+
+-- the body is one that the media type in the value allows, in any case of its letters
+pub record AllowsBody (value : List ℕ) (body : Data) : Type 0 where
+  pub name : List ℕ
+  pub has : HasType value name
+  pub allows : TypeAllows (str_to_ascii_lowercase name) body

@@ -13,7 +13,7 @@ use Rattle.odb_doc.specs.declared.fault.DocumentRule.TheVariants as document
 use Rattle.odb_doc.specs.declared.fault.RequestRule.{RequestRule}
 use Rattle.odb_doc.specs.declared.fault.RequestRule.TheVariants as request
 use Rattle.odb_doc.specs.declared.member.Object.TheVariants.{Document, Request}
-use Rattle.odb_doc.specs.Bodies.{body_of, HasUnfitBody}
+use Rattle.odb_doc.specs.Bodies.{body_of, HasBadBody}
 use Rattle.odb_doc.specs.Headers.{listed_headers, header_names}
 use Rattle.odb_doc.specs.Members.{list_of, text_at, given, HasUnknown}
 
@@ -90,6 +90,6 @@ BreaksRequest request.BadDependsOn d = IsSome (as_object d) × IsNone (listed_na
 BreaksRequest request.BadHeaders d = IsSome (as_object d) × IsNone (listed_headers d)
 BreaksRequest request.HeaderTwice d = ¬ IsDistinct bytes_eq (header_names d)
 BreaksRequest request.BodyNotAllowed d = HasBodyNotAllowed d
-BreaksRequest request.BadBody d = HasUnfitBody d
+BreaksRequest request.BadBody d = HasBadBody d
 BreaksRequest request.NestedBatch d = IsSomeAnd (url_of d) IsNestedBatch
 BreaksRequest request.BadReference d = IsSomeAnd (url_of d) (λ url. HasFront url bad)

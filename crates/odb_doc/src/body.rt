@@ -1,10 +1,12 @@
 ghost use Rattle.std.specs.Prelude.{◌≡◌, ◌↔◌, IsTrue, OnOk, IfOk, IfErr, option_map};
 ghost use Rattle.serde_json.specs.View.{view};
-ghost use Rattle.odb_doc.specs.Bodies.{body_of, content_type, asked_kind, IsOfKind};
+ghost use Rattle.odb_doc.specs.Bodies.{body_of, content_type};
+ghost use Rattle.odb_doc.specs.BodyKinds.{IsOfKind};
 ghost use Rattle.odb_doc.specs.Headers.{HasHeaders, headers_in};
 ghost use Rattle.odb_doc.specs.declared.fault.RequestRule.TheVariants as rules;
 ghost use Rattle.odb_doc.specs.BrokenRules.{OnRule};
 ghost use Rattle.odb_doc.specs.LeastFault.{BreaksNoneBefore, IsLeastRequestRule};
+ghost use Rattle.odb_doc.specs.MediaTypes.{AllowsBody};
 ghost use Rattle.odb_doc.specs.Shapes.{HasMethod};
 
 use crate::broken::Broken;
@@ -37,15 +39,16 @@ fn content_type(headers: &BTreeMap<String, String>) -> &str
     }
 }
 
-/// Whether the body is of the kind that the headers ask for.
+/// Whether the body is one that the media type of the headers allows.
 fn is_fit(
     alloc: Global,
     headers: &BTreeMap<String, String>,
     body: &Value,
 ) -> Result<bool, AllocError>
-    ensures { IfOk result (λ fit. IsTrue fit ↔ IsOfKind (asked_kind (headers_in headers.now))
+    ensures { IfOk result (λ fit. IsTrue fit ↔ AllowsBody (content_type (headers_in headers.now))
         (view body.now)) }
 {
+    odb_names::laws::one_reading();
     let kind = BodyKind::of(alloc, content_type(headers))?;
     Ok(is_of_kind(kind, body))
 }

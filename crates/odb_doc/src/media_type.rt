@@ -1,6 +1,8 @@
-ghost use Rattle.std.specs.Prelude.{◌≡◌, ℕ, ◌-◌, ◌<◌, ◌≤◌, true, false, length, slice_index, IfOk};
-ghost use Rattle.std.specs.List.{before_first};
-ghost use Rattle.odb_doc.specs.MediaTypes.{is_semicolon, is_blank, without_front_blanks, without_end_blanks, trimmed, media_type};
+ghost use Rattle.std.specs.Prelude.{◌≡◌, ◌≤◌, ◌<◌, ◌-◌, ℕ, true, false, List, length, slice_index, IfOk};
+ghost use Rattle.std.specs.Str.{str_to_ascii_lowercase};
+ghost use Rattle.odb_names.specs.Runs.{SplitsRun};
+ghost use Rattle.odb_doc.specs.MediaTypes.{HasType, IsTrimmed, is_blank, is_in_type};
+ghost use Rattle.odb_doc.specs.BodyKinds.{AsksFor, HasKind, IsEndOf};
 
 use std::alloc::{AllocError, Global};
 
@@ -21,28 +23,24 @@ fn is_blank(byte: u8) -> bool
     matches!(byte, b' ' | b'\t')
 }
 
-/// The place of the first `;`, or the length.
-fn parameters_at(value: &[u8]) -> usize
-    ensures bound { result ≤ length value.now }
-    ensures before { (k : ℕ) → k < result → is_semicolon (slice_index value.now k) ≡ false }
-    ensures found { result < length value.now → is_semicolon (slice_index value.now result) ≡ true }
+/// The text before the first `;`, where the parameters begin.
+fn without_parameters(value: &[u8]) -> &[u8]
+    ensures { (rest : List ℕ) × SplitsRun is_in_type value.now result.now rest }
 {
     let place = value.iter().position(|byte| *byte == b';');
-    place.unwrap_or(value.len())
+    value.split_at(place.unwrap_or(value.len())).0
 }
 
-/// How many spaces and tabs the text begins with.
-fn front_blanks(text: &[u8]) -> usize
-    ensures bound { result ≤ length text.now }
-    ensures before { (k : ℕ) → k < result → is_blank (slice_index text.now k) ≡ true }
-    ensures stops { result < length text.now → is_blank (slice_index text.now result) ≡ false }
+/// The text after the spaces and tabs that it begins with.
+fn without_leading_blanks(text: &[u8]) -> &[u8]
+    ensures { (before : List ℕ) × SplitsRun is_blank text.now before result.now }
 {
     let place = text.iter().position(|byte| !is_blank(*byte));
-    place.unwrap_or(text.len())
+    text.split_at(place.unwrap_or(text.len())).1
 }
 
 /// Where the spaces and tabs begin that the text ends with.
-fn end_blanks_at(text: &[u8]) -> usize
+fn trailing_blanks_at(text: &[u8]) -> usize
     ensures bound { result ≤ length text.now }
     ensures after { (k : ℕ) → result ≤ k → k < length text.now
         → is_blank (slice_index text.now k) ≡ true }
@@ -54,35 +52,24 @@ fn end_blanks_at(text: &[u8]) -> usize
     }
 }
 
-/// What stands before the parameters of a media type.
-fn without_parameters(value: &[u8]) -> &[u8]
-    ensures { result.now ≡ before_first is_semicolon value.now }
+/// The text before the spaces and tabs that it ends with.
+fn without_trailing_blanks(text: &[u8]) -> &[u8]
+    ensures { IsEndOf text.now result.now }
 {
-    value.split_at(parameters_at(value)).0
-}
-
-fn without_front_blanks(text: &[u8]) -> &[u8]
-    ensures { result.now ≡ without_front_blanks text.now }
-{
-    text.split_at(front_blanks(text)).1
-}
-
-fn without_end_blanks(text: &[u8]) -> &[u8]
-    ensures { result.now ≡ without_end_blanks text.now }
-{
-    text.split_at(end_blanks_at(text)).0
+    text.split_at(trailing_blanks_at(text)).0
 }
 
 /// The text without the spaces and tabs at its ends.
 fn trimmed(text: &[u8]) -> &[u8]
-    ensures { result.now ≡ trimmed text.now }
+    ensures { IsTrimmed text.now result.now }
 {
-    without_end_blanks(without_front_blanks(text))
+    without_trailing_blanks(without_leading_blanks(text))
 }
 
 /// The media type of a `content-type`, in lower case.
 fn media_type(alloc: Global, value: &str) -> Result<Vec<u8>, AllocError>
-    ensures { IfOk result (λ name. name.items ≡ media_type value.now) }
+    ensures { IfOk result (λ found. (name : List ℕ) × HasType value.now name
+        × (found.items ≡ str_to_ascii_lowercase name)) }
 {
     let mut name = Vec::from_slice(alloc, trimmed(without_parameters(value.as_bytes())))?;
     name.make_ascii_lowercase();
@@ -90,11 +77,9 @@ fn media_type(alloc: Global, value: &str) -> Result<Vec<u8>, AllocError>
 }
 
 impl BodyKind {
-    ghost use Rattle.odb_doc.specs.MediaTypes.{kind_of_body};
-
     /// The kind that the media type asks for, which is in lower case.
     fn asked_by(name: &[u8]) -> BodyKind
-        ensures { result ≡ kind_of_body name.now }
+        ensures { AsksFor name.now result }
     {
         if name.is_empty() || name == b"application/json".as_slice() || name.ends_with(b"+json") {
             BodyKind::Any
@@ -107,7 +92,7 @@ impl BodyKind {
 
     /// The kind that a `content-type` asks for. One that is empty asks for any JSON value.
     pub(crate) fn of(alloc: Global, content_type: &str) -> Result<BodyKind, AllocError>
-        ensures { IfOk result (λ kind. kind ≡ kind_of_body (media_type content_type.now)) }
+        ensures { IfOk result (HasKind content_type.now) }
     {
         let name = media_type(alloc, content_type)?;
         Ok(BodyKind::asked_by(name.as_slice()))

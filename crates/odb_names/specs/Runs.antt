@@ -1,4 +1,4 @@
--- Runs: a URL is cut where the first character stands that ends a part (RFC 3986, section 3).
+-- Runs: a text is cut before its first character that fails a test, as a URL where a part of it ends (RFC 3986, section 3).
 use Rattle.std.specs.Prelude.{◌≡◌, ℕ, Bool, false, List, ◌∷◌, ◌++◌}
 use Rattle.std.specs.List.{AllPass}
 

@@ -1,0 +1,35 @@
+-- The kinds of bodies that the code tells apart: for private clauses, nothing to believe.
+use Rattle.std.specs.Prelude.{◌≡◌, ℕ, false, List, [], ◌∷◌, ◌++◌, IsSome, IsSomeAnd}
+use Rattle.std.specs.List.{AllPass}
+use Rattle.std.specs.Str.{str_to_ascii_lowercase}
+use Rattle.serde_json.specs.Data.{Data}
+use Rattle.serde_json.specs.Find.{as_str}
+use Rattle.odb_names.specs.Base64Url.{IsBase64Url}
+use Rattle.odb_doc.specs.declared.media_type.BodyKind.{BodyKind}
+use Rattle.odb_doc.specs.declared.media_type.BodyKind.TheVariants.{Any, Text, Base64Url}
+use Rattle.odb_doc.specs.MediaTypes.{is_blank, HasType, IsJson, IsText}
+
+-- the name, and then blanks, and the name does not end with one
+pub record IsEndOf (text name : List ℕ) : Type 0 where
+  pub after : List ℕ
+  pub whole : text ≡ name ++ after
+  pub trailing : AllPass is_blank after
+  pub ends : (more : List ℕ) (last : ℕ) → name ≡ more ++ last ∷ [] → is_blank last ≡ false
+
+-- the kind that a media type in lower case asks for
+abbrev pub AsksFor : List ℕ → BodyKind → Type 0
+AsksFor name Any = IsJson name
+AsksFor name Text = IsText name × ¬ IsJson name
+AsksFor name Base64Url = ¬ IsText name × ¬ IsJson name
+
+-- the kind that the media type in the value asks for
+pub record HasKind (value : List ℕ) (kind : BodyKind) : Type 0 where
+  pub name : List ℕ
+  pub has : HasType value name
+  pub asks : AsksFor (str_to_ascii_lowercase name) kind
+
+-- the value is of the kind
+abbrev pub IsOfKind : BodyKind → Data → Type 0
+IsOfKind Any d = Unit {0}
+IsOfKind Text d = IsSome (as_str d)
+IsOfKind Base64Url d = IsSomeAnd (as_str d) IsBase64Url
