@@ -1,8 +1,11 @@
-pub mod Lists
-pub mod Places
+-- What public clauses cite, and has to be believed.
 pub mod ByKey
-pub mod Starts
-pub mod Split
-pub mod Standings
-pub mod Queue
 pub mod Extremes
+pub mod Lists
+pub mod Standings
+-- What invariants and private clauses cite: nothing to believe.
+pub mod Places
+pub mod Queue
+pub mod Split
+pub mod Starts
+pub mod Watermarks

@@ -1,4 +1,4 @@
--- What a worklist is made of.
+-- What a worklist is made of: for its invariant, nothing to believe.
 use Rattle.std.specs.Prelude.{◌≡◌, ◌≢◌, ℕ, ◌<◌, ◌≤◌, List, length, count_by, slice_index, slice_index_or}
 use Rattle.odb_dense.specs.declared.worklist.Standing.{Standing}
 use Rattle.odb_dense.specs.declared.worklist.Standing.TheVariants.{Sound, Waiting}

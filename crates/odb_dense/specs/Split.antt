@@ -1,4 +1,4 @@
--- What lists by key are made of.
+-- What lists by key are made of: for their invariant, nothing to believe.
 use Rattle.std.specs.Prelude.{ℕ, ◌<◌, ◌≤◌, ◌+◌, ◌-◌, List, length, map, take, drop, slice_index}
 use Rattle.std.specs.List.{range_with_len}
 use Rattle.odb_dense.specs.declared.rows.Rows.TheInside.{Inside}

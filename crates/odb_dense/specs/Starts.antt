@@ -1,4 +1,4 @@
--- Where the row of each key starts in a flat list.
+-- Where the row of each key starts in a flat list: for private clauses, nothing to believe.
 use Rattle.std.specs.Prelude.{◌≡◌, ℕ, ◌<◌, ◌+◌, ◌==◌, nat_lt, List, length, count_by, slice_index}
 use Rattle.odb_dense.specs.ByKey.{of_key}
 

@@ -6,11 +6,11 @@ use crate::positions::Positions;
 use std::alloc::{AllocError, Global};
 use std::marker::Model;
 
-/// A set of the numbers below a bound of which the least and the greatest can be asked for.
+/// A set of the numbers below a bound, which returns its least and its greatest number.
 ///
-/// No number of the set is below `low`, and none is at `high` or above. They move towards each
-/// other only where an end is asked for, so that a walk through the set from one end takes a step
-/// for each number that it passes.
+/// `low` and `high` are watermarks: no number of the set is below `low`, and none is at `high` or
+/// above. They move towards each other only when an end is asked for, so a walk through the set from
+/// one end takes a step for each number that it passes.
 #[derive(Drop)]
 pub struct OrderedPositions {
     set: Positions,
@@ -23,7 +23,7 @@ impl Model for OrderedPositions {
 
     ghost Value = { List Bool };
 
-    ghost use Rattle.odb_dense.specs.Extremes.{members, IsBetween};
+    ghost use Rattle.odb_dense.specs.Watermarks.{members, IsBetween};
 
     ghost view = { members };
 
@@ -64,7 +64,7 @@ impl OrderedPositions {
     ///
     /// # Errors
     ///
-    /// Where memory for the bound is not to be had.
+    /// If memory for `bound` numbers cannot be allocated.
     pub fn new(alloc: Global, bound: u32) -> Result<OrderedPositions, AllocError>
         ensures { IfOk result (λ s. s ≡ replicate bound false) }
     {
@@ -75,7 +75,7 @@ impl OrderedPositions {
         })
     }
 
-    /// The numbers of the set, each once, in an order that is open.
+    /// Returns the numbers of the set, each once, in no particular order.
     pub fn as_slice(&self) -> &[u32]
         ensures len { length result.now ≡ count_by (λ b. b) self.now }
         ensures listed { ListsOnce (length self.now) (λ i. slice_index_or self.now i false)
@@ -84,29 +84,21 @@ impl OrderedPositions {
         self.set.as_slice()
     }
 
-    /// How many numbers are in the set.
+    /// Returns how many numbers are in the set.
     pub fn len(&self) -> usize
         ensures { result ≡ count_by (λ b. b) self.now }
     {
         self.set.len()
     }
 
-    /// Whether no number is in the set.
+    /// Returns whether the set is empty.
     pub fn is_empty(&self) -> bool
         ensures { result ≡ (count_by (λ b. b) self.now == 0) }
     {
         self.set.is_empty()
     }
 
-    /// Whether a number below the bound is in the set.
-    pub fn contains(&self, i: u32) -> bool
-        requires { i < length self.now }
-        ensures { result ≡ slice_index_or self.now i false }
-    {
-        self.set.contains(i)
-    }
-
-    /// Puts a number below the bound into the set, if it is not in it.
+    /// Adds a number below the bound to the set, if it is not in it.
     pub fn insert(&mut self, i: u32)
         requires { i < length self.old }
         ensures { self.new ≡ slice_set self.old i true }
@@ -116,7 +108,7 @@ impl OrderedPositions {
         self.high = self.high.max(i + 1);
     }
 
-    /// Takes a number below the bound out of the set, if it is in it.
+    /// Removes a number below the bound from the set, if it is in it.
     pub fn remove(&mut self, i: u32)
         requires { i < length self.old }
         ensures { self.new ≡ slice_set self.old i false }
@@ -124,8 +116,8 @@ impl OrderedPositions {
         self.set.remove(i);
     }
 
-    /// The least number of the set, or `None` where it is empty. A call takes a step for each
-    /// number that it passes.
+    /// Returns the least number of the set, or `None` if it is empty. It takes a step for each number
+    /// that it passes.
     pub fn least(&mut self) -> Option<u32>
         ensures same { self.new ≡ self.old }
         ensures none { result ≡ None → (i : ℕ) → slice_index_or self.old i false ≡ false }
@@ -139,7 +131,7 @@ impl OrderedPositions {
         Some(least)
     }
 
-    /// The greatest number of the set, or `None` where it is empty. A call takes a step for each
+    /// Returns the greatest number of the set, or `None` if it is empty. It takes a step for each
     /// number that it passes.
     pub fn greatest(&mut self) -> Option<u32>
         ensures same { self.new ≡ self.old }

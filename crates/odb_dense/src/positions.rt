@@ -4,12 +4,10 @@ ghost use Rattle.odb_dense.specs.Lists.{ListsOnce};
 use std::alloc::{AllocError, Global};
 use std::marker::Model;
 
-/// A set of the numbers below a bound.
-///
-/// The numbers of the set stand at the front of a list, and for each number below the bound there
-/// is its place in that list.
+/// A set of the numbers below a bound, as a sparse set (Briggs and Torczon): a list that begins with
+/// the numbers of the set, and for each number below the bound its place in that list.
 #[derive(Drop)]
-pub struct Positions {
+pub(crate) struct Positions {
     items: Vec<u32>,
     places: Vec<Option<u32>>,
     count: usize,
@@ -43,8 +41,8 @@ impl Positions {
     ///
     /// # Errors
     ///
-    /// Where memory for the bound is not to be had.
-    pub fn new(alloc: Global, bound: u32) -> Result<Positions, AllocError>
+    /// If memory for `bound` numbers cannot be allocated.
+    pub(crate) fn new(alloc: Global, bound: u32) -> Result<Positions, AllocError>
         ensures { IfOk result (λ s. s ≡ replicate bound false) }
     {
         Ok(Positions {
@@ -54,15 +52,15 @@ impl Positions {
         })
     }
 
-    /// The bound: the numbers of the set are below it.
-    pub fn bound(&self) -> u32
+    /// Returns the bound that the numbers of the set are below.
+    pub(crate) fn bound(&self) -> u32
         ensures { result ≡ length self.now }
     {
         self.places.len() as u32
     }
 
-    /// The numbers of the set, each once, in an order that is open.
-    pub fn as_slice(&self) -> &[u32]
+    /// Returns the numbers of the set, each once, in no particular order.
+    pub(crate) fn as_slice(&self) -> &[u32]
         ensures len { length result.now ≡ count_by (λ b. b) self.now }
         ensures listed { ListsOnce (length self.now) (λ i. slice_index_or self.now i false)
             result.now }
@@ -70,30 +68,30 @@ impl Positions {
         &self.items[..self.count]
     }
 
-    /// How many numbers are in the set.
-    pub fn len(&self) -> usize
+    /// Returns how many numbers are in the set.
+    pub(crate) fn len(&self) -> usize
         ensures { result ≡ count_by (λ b. b) self.now }
     {
         self.as_slice().len()
     }
 
-    /// Whether no number is in the set.
-    pub fn is_empty(&self) -> bool
+    /// Returns whether the set is empty.
+    pub(crate) fn is_empty(&self) -> bool
         ensures { result ≡ (count_by (λ b. b) self.now == 0) }
     {
         self.count == 0
     }
 
-    /// Whether a number below the bound is in the set.
-    pub fn contains(&self, i: u32) -> bool
+    /// Returns whether a number below the bound is in the set.
+    pub(crate) fn contains(&self, i: u32) -> bool
         requires { i < length self.now }
         ensures { result ≡ slice_index_or self.now i false }
     {
         self.places[i as usize].is_some()
     }
 
-    /// Puts a number below the bound into the set, if it is not in it.
-    pub fn insert(&mut self, i: u32)
+    /// Adds a number below the bound to the set, if it is not in it.
+    pub(crate) fn insert(&mut self, i: u32)
         requires { i < length self.old }
         ensures { self.new ≡ slice_set self.old i true }
     {
@@ -104,9 +102,9 @@ impl Positions {
         }
     }
 
-    /// Takes a number below the bound out of the set, if it is in it. The last of the list takes
-    /// its place.
-    pub fn remove(&mut self, i: u32)
+    /// Removes a number below the bound from the set, if it is in it. The last of the list takes its
+    /// place.
+    pub(crate) fn remove(&mut self, i: u32)
         requires { i < length self.old }
         ensures { self.new ≡ slice_set self.old i false }
     {

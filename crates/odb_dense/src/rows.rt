@@ -5,9 +5,8 @@ ghost use Rattle.odb_dense.specs.Starts.{AreStarts, AreRowsOf};
 use std::alloc::{AllocError, Global};
 use std::marker::Model;
 
-/// Lists of numbers, one for each key below a bound, in one flat list.
-///
-/// The row of a key goes from its start to that of the next key.
+/// Lists of numbers, one for each key below a bound, in one flat list (compressed sparse rows): the
+/// row of a key goes from its start to that of the next key.
 #[derive(Drop)]
 pub struct Rows {
     starts: Vec<usize>,
@@ -61,13 +60,13 @@ fn flat_of(alloc: Global, pairs: &[(u32, u32)], starts: &[usize]) -> Result<Vec<
 }
 
 impl Rows {
-    /// The second parts of pairs, by their first, each list in the order of the pairs.
+    /// Returns the second parts of pairs by their first parts, each list in the order of the pairs.
     ///
     /// The first parts are below `keys`, the number of lists.
     ///
     /// # Errors
     ///
-    /// Where memory for the keys and the pairs is not to be had.
+    /// If memory for the keys and the pairs cannot be allocated.
     pub fn of(alloc: Global, keys: usize, pairs: &[(u32, u32)]) -> Result<Rows, AllocError>
         requires { HaveKeys keys pairs.now }
         ensures len { IfOk result (λ rows. length rows ≡ keys) }
@@ -79,7 +78,7 @@ impl Rows {
         Ok(Rows { starts, flat })
     }
 
-    /// The numbers of a key, which is below the number of lists.
+    /// Returns the numbers of a key, which is below the number of lists.
     pub fn row(&self, key: u32) -> &[u32]
         requires { key < length self.now }
         ensures { result.now ≡ slice_index_or self.now key [] }

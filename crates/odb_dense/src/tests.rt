@@ -4,7 +4,8 @@ mod extremes;
 
 ghost use Rattle.std.specs.Prelude.{◌≡◌, length};
 
-use crate::{Positions, Rows, Worklist};
+use crate::positions::Positions;
+use crate::{Rows, Worklist};
 use std::alloc::{AllocError, Global};
 use std::process::Abort;
 use std::test::Fail;
@@ -157,7 +158,7 @@ fn has_what_was_put_in_and_not_taken_out(rt: HostRuntime) -> Result<(), Fail> {
 }
 
 #[test]
-fn tells_its_bound(rt: HostRuntime) -> Result<(), Fail> {
+fn has_its_bound(rt: HostRuntime) -> Result<(), Fail> {
     for bound in [0, 1, BOUND] {
         let set = Positions::new(rt.alloc(), bound)?;
         assert_eq!(rt; set.bound(), bound);
@@ -198,32 +199,26 @@ fn has_empty_lists_where_there_are_no_pairs(rt: HostRuntime) -> Result<(), Fail>
     Ok(())
 }
 
-/// A step of a worklist: what is put on it, what is taken from it, and what is then marked and
-/// passed.
+/// A step of a worklist: what is put on it, what is taken from it, and what is then passed.
 #[derive(Clone, Copy)]
 enum Turn {
     Put(u32),
     Take(Option<u32>),
-    Marked(u32, bool),
     Passed(u32, bool),
 }
 
 const TURNS: &[Turn] = &[
     Turn::Take(None),
-    Turn::Marked(3, false),
     Turn::Put(3),
-    Turn::Put(1),
     Turn::Put(3),
-    Turn::Marked(3, true),
     Turn::Passed(3, false),
     Turn::Take(Some(3)),
-    Turn::Marked(3, true),
     Turn::Passed(3, true),
-    Turn::Marked(1, true),
+    Turn::Put(1),
     Turn::Passed(1, false),
     Turn::Put(3),
-    Turn::Put(5),
     Turn::Take(Some(1)),
+    Turn::Put(5),
     Turn::Take(Some(5)),
     Turn::Take(None),
     Turn::Put(1),
@@ -231,7 +226,6 @@ const TURNS: &[Turn] = &[
     Turn::Put(0),
     Turn::Take(Some(0)),
     Turn::Take(None),
-    Turn::Marked(4, false),
     Turn::Passed(4, false),
 ];
 
@@ -247,10 +241,6 @@ fn take_turn(rt: &impl Abort, list: &mut Worklist, turn: Turn)
             list.put(u);
         }
         Turn::Take(wanted) => assert!(rt; list.take() == wanted),
-        Turn::Marked(u, wanted) => {
-            assert!(rt; u < BOUND);
-            assert!(rt; list.is_marked(u) == wanted);
-        }
         Turn::Passed(u, wanted) => {
             assert!(rt; u < BOUND);
             assert!(rt; list.is_passed(u) == wanted);
@@ -259,7 +249,7 @@ fn take_turn(rt: &impl Abort, list: &mut Worklist, turn: Turn)
 }
 
 #[test]
-fn gives_each_number_once_in_order(rt: HostRuntime) -> Result<(), Fail> {
+fn gives_each_number_once(rt: HostRuntime) -> Result<(), Fail> {
     let mut list = Worklist::new(rt.alloc(), BOUND)?;
     for turn in TURNS {
         take_turn(&rt, &mut list, *turn);

@@ -5,7 +5,7 @@ ghost use Rattle.odb_dense.specs.Standings as standings;
 use std::alloc::{AllocError, Global};
 use std::marker::Model;
 
-/// Where a number stands: not on the list yet, on it, or taken from it.
+/// The state of a number: not on the list yet, on it, or taken from it.
 #[derive(Clone, Copy, Debug, PartialEq, Eq)]
 pub enum Standing {
     /// It was never put on the list.
@@ -16,8 +16,8 @@ pub enum Standing {
     Passed,
 }
 
-/// A list of numbers below a bound, each of which is put on it once and taken from it once, in the
-/// order in which they were put on it.
+/// A worklist of numbers below a bound: each is put on it once at most, and taken from it once at
+/// most. Which of those that wait is taken next is not promised.
 #[derive(Drop)]
 pub struct Worklist {
     standings: Vec<Standing>,
@@ -39,7 +39,7 @@ impl Model for Worklist {
     ghost invariant = { IsQueued };
 }
 
-/// Where the numbers below a bound stand at first: none was ever on the list.
+/// The states of the numbers below a bound at first: none was ever on the list.
 fn all_sound(alloc: Global, bound: u32) -> Result<Vec<Standing>, AllocError>
     ensures { IfOk result (λ standings. standings.items ≡ replicate bound Sound) }
 {
@@ -51,11 +51,11 @@ fn all_sound(alloc: Global, bound: u32) -> Result<Vec<Standing>, AllocError>
 }
 
 impl Worklist {
-    /// The empty list, on which no number below a bound was yet.
+    /// Returns an empty list, on which no number below `bound` was yet.
     ///
     /// # Errors
     ///
-    /// Where memory for the bound is not to be had.
+    /// If memory for `bound` numbers cannot be allocated.
     pub fn new(alloc: Global, bound: u32) -> Result<Worklist, AllocError>
         ensures { IfOk result (λ w. w ≡ replicate bound Sound) }
     {
@@ -67,15 +67,7 @@ impl Worklist {
         })
     }
 
-    /// Whether a number below the bound is on the list or was taken from it.
-    pub fn is_marked(&self, u: u32) -> bool
-        requires { u < length self.now }
-        ensures { result ≡ standings.is_marked (slice_index_or self.now u Sound) }
-    {
-        !matches!(self.standings[u as usize], Standing::Sound)
-    }
-
-    /// Whether a number below the bound was taken from the list.
+    /// Returns whether a number below the bound was taken from the list.
     pub fn is_passed(&self, u: u32) -> bool
         requires { u < length self.now }
         ensures { result ≡ standings.is_passed (slice_index_or self.now u Sound) }
@@ -83,7 +75,7 @@ impl Worklist {
         matches!(self.standings[u as usize], Standing::Passed)
     }
 
-    /// Puts a number below the bound at the end of the list, if it was never on it.
+    /// Puts a number below the bound on the list, if it was never on it.
     pub fn put(&mut self, u: u32)
         requires { u < length self.old }
         ensures { self.new ≡ standings.marked self.old u }
@@ -95,7 +87,7 @@ impl Worklist {
         }
     }
 
-    /// Takes the first number from the list; `None` where it is empty.
+    /// Takes a number from the list, or returns `None` if it is empty.
     pub fn take(&mut self) -> Option<u32>
         ensures { standings.Takes self.old result self.new }
     {

@@ -247,8 +247,7 @@ fn has_1_and_4(set: &OrderedPositions) -> bool
 {
     let mut right = set.len() == 2 && !set.is_empty();
     for i in 0..BOUND {
-        let is_in = i == 1 || i == 4;
-        right &= set.contains(i) == is_in && set.as_slice().contains(&i) == is_in;
+        right &= set.as_slice().contains(&i) == (i == 1 || i == 4);
     }
     right
 }
