@@ -30,7 +30,8 @@ use Rattle.odb_doc.specs.Bodies.{content_type}
 use Rattle.odb_doc.specs.MediaTypes.{AllowsBody}
 use Rattle.odb_doc.specs.Canonical.{names_value, header_members, headers_value, with_some, request_value, canonical_value}
 use Rattle.odb_doc.specs.Headers.{Header, folded, text_members, listed_in, header_names, HasHeaders}
-use Rattle.odb_doc.specs.LeastFault.{IsBatchObject, IsRequestObject, IsWellShaped, BreaksRequestAt}
+use Rattle.odb_doc.specs.LeastFault.{IsBatchObject, IsWellShaped, BreaksRequestAt}
+use Rattle.odb_doc.specs.BrokenRules.{IsRequestObject}
 use Rattle.odb_doc.specs.LeastRules.{AreSound}
 use Rattle.odb_doc.specs.Members.{given, members_of, names_in, is_unknown}
 use Rattle.odb_doc.specs.Names.{distinct}

@@ -11,8 +11,8 @@ use Rattle.odb_doc.specs.declared.outcome.Shape.{Shape}
 use Rattle.odb_doc.specs.Bodies.{body_of}
 use Rattle.odb_doc.specs.EventFaults.{rule_number}
 use Rattle.odb_doc.specs.Events.{IsEventBy, IsReport, IsReportedStatus, IsStart}
-use Rattle.odb_doc.specs.EventShapes.{IsReportOf}
-use Rattle.odb_doc.specs.LeastEventFault.{BreaksEvent, HasBrokenNumber, IsLeastBroken}
+use Rattle.odb_doc.specs.EventShapes.{IsReportOf, IsLeastBroken}
+use Rattle.odb_doc.specs.LeastEventFault.{BreaksEvent, HasBrokenNumber}
 use Rattle.odb_doc.specs.Members.{HasFurther, text_at}
 use Rattle.odb_doc.specs.WholeNumbers.{IsWhole}
 use Rattle.odb_doc.proofs.OutcomeLemmas.{some_not_whole, all_whole}

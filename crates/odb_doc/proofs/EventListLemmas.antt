@@ -10,7 +10,8 @@ use Rattle.odb_doc.specs.declared.event_fault.EventRule.{EventRule}
 use Rattle.odb_doc.specs.BrokenRules.{OnRule}
 use Rattle.odb_doc.specs.EventFaults.{rule_number}
 use Rattle.odb_doc.specs.Events.{Says, IsSoundEvent}
-use Rattle.odb_doc.specs.LeastEventFault.{BreaksEvent, AreEvents, IsLeastBroken, RefusesElements, fault_at}
+use Rattle.odb_doc.specs.LeastEventFault.{BreaksEvent, AreEvents}
+use Rattle.odb_doc.specs.EventShapes.{IsLeastBroken, RefusesElements, fault_at}
 use Rattle.odb_doc.proofs.LeastLemmas.{sound_none, sound_push, first_from}
 use Rattle.odb_doc.proofs.RequestLemmas.{AllZip-push}
 

@@ -11,7 +11,8 @@ use Rattle.odb_doc.specs.declared.outcome_fault.OutcomeRule.{OutcomeRule}
 use Rattle.odb_doc.specs.declared.broken.Broken.{Broken}
 use Rattle.odb_doc.specs.declared.broken.Broken.TheVariants as broken
 use Rattle.odb_doc.specs.BrokenRules.{OnRule}
-use Rattle.odb_doc.specs.LeastOutcomeFault.{BreaksOutcome, AreOutcomes, IsLeastBroken, RefusesElements, fault_at}
+use Rattle.odb_doc.specs.LeastOutcomeFault.{BreaksOutcome, AreOutcomes}
+use Rattle.odb_doc.specs.OutcomeShapes.{IsLeastBroken, RefusesElements, fault_at}
 use Rattle.odb_doc.specs.OutcomeFaults.{rule_number}
 use Rattle.odb_doc.proofs.LeastLemmas.{sound_none, sound_push, first_from}
 use Rattle.odb_doc.specs.Outcomes.{Recorded, Says, IsSoundOutcome, ids}

@@ -6,10 +6,10 @@ use Rattle.serde_json.specs.Data.{Data}
 use Rattle.odb_doc.specs.declared.broken.Broken.{Broken}
 use Rattle.odb_doc.specs.declared.broken.Broken.TheVariants as broken
 use Rattle.odb_doc.specs.declared.fault.RequestRule.{RequestRule}
-use Rattle.odb_doc.specs.BrokenRules.{OnRule}
+use Rattle.odb_doc.specs.BrokenRules.{OnRule, IsRequestObject, IsLeastRequestRule, IsFirstFault, fault_at}
 use Rattle.odb_doc.specs.Faults.{request_number}
 use Rattle.odb_doc.specs.LeastRules.{AreSound}
-use Rattle.odb_doc.specs.LeastFault.{IsRequestObject, IsLeastRequestRule, BreaksRequestAt, IsFirstBroken, IsFirstFault, fault_at}
+use Rattle.odb_doc.specs.LeastFault.{BreaksRequestAt, IsFirstBroken}
 use Rattle.odb_doc.specs.Records.{Record, Says}
 use Rattle.odb_doc.specs.Shapes.{BreaksRequest}
 use Rattle.odb_doc.proofs.LeastLemmas.{sound_none, sound_push, first_from}

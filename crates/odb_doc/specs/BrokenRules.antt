@@ -1,8 +1,40 @@
--- Why something could not be read from an element.
+-- Why something could not be read from an element, and of requests, which rules have been tested: for private clauses, nothing to believe.
+use Rattle.std.specs.Prelude.{◌<◌, ℕ, List}
+use Rattle.serde_json.specs.Data.{Data}
 use Rattle.odb_doc.specs.declared.broken.Broken.{Broken}
 use Rattle.odb_doc.specs.declared.broken.Broken.TheVariants.{Rule, OutOfMemory}
+use Rattle.odb_doc.specs.declared.fault.RequestRule.{RequestRule}
+use Rattle.odb_doc.specs.declared.fault.DocFault.{DocFault}
+use Rattle.odb_doc.specs.declared.fault.DocFault.TheVariants as faults
+use Rattle.odb_doc.specs.Faults.{request_number}
+use Rattle.odb_doc.specs.LeastFault.{IsFirstBroken}
+use Rattle.odb_doc.specs.LeastRules.{IsLeast}
+use Rattle.odb_doc.specs.Shapes.{BreaksRequest}
 
 -- the rule is such a one. Out of memory says nothing.
 abbrev pub OnRule : {R : Type 0} → (R → Type 0) → Broken R → Type 0
 OnRule fits (Rule rule) = fits rule
 OnRule fits OutOfMemory = Unit {0}
+
+-- no rule of the request with a number below that of this one is broken
+abbrev pub BreaksNoneBefore : RequestRule → Data → Type 0
+BreaksNoneBefore rule d = (other : RequestRule) → request_number other < request_number rule → ¬ BreaksRequest other d
+
+-- no rule of the request is broken
+abbrev pub IsRequestObject : Data → Type 0
+IsRequestObject d = (rule : RequestRule) → ¬ BreaksRequest rule d
+
+-- the rule is broken by the request, and none with a smaller number is
+abbrev pub IsLeastRequestRule : Data → RequestRule → Type 0
+IsLeastRequestRule d rule = IsLeast request_number (λ other. BreaksRequest other d) rule
+
+-- the fault of the request at the position
+abbrev pub fault_at : ℕ → Broken RequestRule → DocFault
+fault_at at (Rule rule) = faults.Request at rule
+fault_at at OutOfMemory = faults.OutOfMemory
+
+-- the fault is that of the first element that has one. Out of memory says nothing.
+abbrev pub IsFirstFault : List Data → DocFault → Type 0
+IsFirstFault ds (faults.Document rule) = ⊥
+IsFirstFault ds (faults.Request at rule) = IsFirstBroken ds at rule
+IsFirstFault ds faults.OutOfMemory = Unit {0}

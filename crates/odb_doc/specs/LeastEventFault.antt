@@ -3,8 +3,6 @@
 use Rattle.std.specs.Prelude.{ℕ, List, IsNone, IsSomeAnd, codes}
 use Rattle.serde_json.specs.Data.{Data}
 use Rattle.serde_json.specs.Find.{get}
-use Rattle.odb_doc.specs.declared.broken.Broken.{Broken}
-use Rattle.odb_doc.specs.declared.broken.Broken.TheVariants as broken
 use Rattle.odb_doc.specs.declared.event_fault.EventRule.{EventRule}
 use Rattle.odb_doc.specs.declared.event_fault.EventRule.TheVariants as rules
 use Rattle.odb_doc.specs.declared.event_fault.EventFault.{EventFault}
@@ -12,7 +10,7 @@ use Rattle.odb_doc.specs.declared.event_fault.EventFault.TheVariants as faults
 use Rattle.odb_doc.specs.Bodies.{body_of}
 use Rattle.odb_doc.specs.EventFaults.{rule_number}
 use Rattle.odb_doc.specs.Events.{IsEvent, IsEventsObject, IsReport, elements}
-use Rattle.odb_doc.specs.LeastRules.{IsLeast, BreaksAt, AreSound, IsFirst}
+use Rattle.odb_doc.specs.LeastRules.{BreaksAt, AreSound, IsFirst}
 use Rattle.odb_doc.specs.WholeNumbers.{IsWhole}
 
 -- a report whose body holds a number that is not whole
@@ -25,15 +23,6 @@ pub record HasBrokenNumber (d : Data) : Type 0 where
 abbrev pub BreaksEvent : EventRule → Data → Type 0
 BreaksEvent rules.NotWhole d = HasBrokenNumber d
 BreaksEvent rules.BadEvents d = ¬ IsEvent d
-
--- the rule is broken by the element, and none with a smaller number is
-abbrev pub IsLeastBroken : Data → EventRule → Type 0
-IsLeastBroken d rule = IsLeast rule_number (λ other. BreaksEvent other d) rule
-
--- the fault of the element at the position
-abbrev pub fault_at : ℕ → Broken EventRule → EventFault
-fault_at at (broken.Rule rule) = faults.Event at rule
-fault_at at broken.OutOfMemory = faults.OutOfMemory
 
 -- the rule is broken by the event at the position
 abbrev pub BreaksEventAt : List Data → EventRule → ℕ → Type 0
@@ -50,12 +39,6 @@ AreEvents ds = AreSound (BreaksEventAt ds)
 -- a document of events without a fault
 abbrev pub IsEventsDocument : Data → Type 0
 IsEventsDocument d = IsEventsObject d × AreEvents (elements d)
-
--- the fault is that of the first element that has one. Out of memory says nothing.
-abbrev pub RefusesElements : EventFault → List Data → Type 0
-RefusesElements faults.Document ds = ⊥
-RefusesElements (faults.Event at rule) ds = IsLeastEventRule ds at rule
-RefusesElements faults.OutOfMemory ds = Unit {0}
 
 -- the fault is the least of the document. Out of memory says nothing.
 abbrev pub RefusesEvents : EventFault → Data → Type 0

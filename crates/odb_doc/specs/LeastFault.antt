@@ -1,8 +1,6 @@
 -- Which fault of a batch document is reported: the least by phase, position and number.
-use Rattle.std.specs.Prelude.{◌<◌, ℕ, List}
+use Rattle.std.specs.Prelude.{ℕ, List}
 use Rattle.serde_json.specs.Data.{Data}
-use Rattle.odb_doc.specs.declared.broken.Broken.{Broken}
-use Rattle.odb_doc.specs.declared.broken.Broken.TheVariants as broken
 use Rattle.odb_doc.specs.declared.fault.DocumentRule.{DocumentRule}
 use Rattle.odb_doc.specs.declared.fault.RequestRule.{RequestRule}
 use Rattle.odb_doc.specs.declared.fault.DocFault.{DocFault}
@@ -14,14 +12,6 @@ use Rattle.odb_doc.specs.Shapes.{BreaksDocument, BreaksRequest, elements}
 -- no rule of the document is broken
 abbrev pub IsBatchObject : Data → Type 0
 IsBatchObject d = (rule : DocumentRule) → ¬ BreaksDocument rule d
-
--- no rule of the request is broken
-abbrev pub IsRequestObject : Data → Type 0
-IsRequestObject d = (rule : RequestRule) → ¬ BreaksRequest rule d
-
--- no rule of the request with a number below that of this one is broken
-abbrev pub BreaksNoneBefore : RequestRule → Data → Type 0
-BreaksNoneBefore rule d = (other : RequestRule) → request_number other < request_number rule → ¬ BreaksRequest other d
 
 -- the rule is broken by the request at the position
 abbrev pub BreaksRequestAt : List Data → RequestRule → ℕ → Type 0
@@ -35,9 +25,6 @@ IsWellShaped d = IsBatchObject d × AreSound (BreaksRequestAt (elements d))
 abbrev pub IsLeastDocumentRule : Data → DocumentRule → Type 0
 IsLeastDocumentRule d rule = IsLeast document_number (λ other. BreaksDocument other d) rule
 
-abbrev pub IsLeastRequestRule : Data → RequestRule → Type 0
-IsLeastRequestRule d rule = IsLeast request_number (λ other. BreaksRequest other d) rule
-
 -- the rule is broken at the position, none with a smaller number is, and none at all before
 abbrev pub IsFirstBroken : List Data → ℕ → RequestRule → Type 0
 IsFirstBroken ds at rule = IsFirst request_number (BreaksRequestAt ds) at rule
@@ -47,14 +34,3 @@ abbrev pub IsLeastFault : DocFault → Data → Type 0
 IsLeastFault (faults.Document rule) d = IsLeastDocumentRule d rule
 IsLeastFault (faults.Request at rule) d = IsBatchObject d × IsFirstBroken (elements d) at rule
 IsLeastFault faults.OutOfMemory d = Unit {0}
-
--- the fault of the request at the position
-abbrev pub fault_at : ℕ → Broken RequestRule → DocFault
-fault_at at (broken.Rule rule) = faults.Request at rule
-fault_at at broken.OutOfMemory = faults.OutOfMemory
-
--- the fault is that of the first element that has one. Out of memory says nothing.
-abbrev pub IsFirstFault : List Data → DocFault → Type 0
-IsFirstFault ds (faults.Document rule) = ⊥
-IsFirstFault ds (faults.Request at rule) = IsFirstBroken ds at rule
-IsFirstFault ds faults.OutOfMemory = Unit {0}

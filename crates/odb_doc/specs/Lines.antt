@@ -1,4 +1,4 @@
--- The members of a request that are one text each.
+-- The members of a request that are one text each: for private clauses, nothing to believe.
 use Rattle.std.specs.Prelude.{◌≡◌, Some, option_map}
 use Rattle.serde_json.specs.Data.{Data}
 use Rattle.odb_doc.specs.declared.line.RequestLine.{RequestLine}

@@ -1,5 +1,5 @@
 -- Lists of names in which no name stands twice.
-use Rattle.std.specs.Prelude.{◌≡◌, ℕ, List, [], ◌∷◌, ◌++◌, map, filter, bytes_eq, not, if◌then◌else◌}
+use Rattle.std.specs.Prelude.{ℕ, List, [], ◌∷◌, ◌++◌, map, filter, bytes_eq, not, if◌then◌else◌}
 use Rattle.std.specs.Borrow.{Bor}
 use Rattle.std.specs.List.{list_any}
 
@@ -19,7 +19,3 @@ distinct (name ∷ names) = name ∷ without name (distinct names)
 -- the names, and this one at the end unless it stands already
 abbrev pub with_name : List (List ℕ) → List ℕ → List (List ℕ)
 with_name names name = if list_any (bytes_eq name) names then names else names ++ name ∷ []
-
--- the same texts, whatever their order and however often each stands
-abbrev pub AreSameTexts : List (List ℕ) → List (List ℕ) → Type 0
-AreSameTexts xs ys = (q : List ℕ) → list_any (bytes_eq q) xs ≡ list_any (bytes_eq q) ys

@@ -1,16 +1,24 @@
--- What is moved out of an element of `outcomes`, or out of a report of `events`, while it is read.
+-- What is moved out of an element of `outcomes`, or out of a report of `events`, while it is read: for private clauses, nothing to believe.
 use Rattle.std.specs.Prelude.{◌≡◌, ℕ, List, Some, map, option_map, codes, string_bytes, String}
 use Rattle.std.specs.declared.alloc.Global.{Global}
 use Rattle.serde_json.specs.Data.{Data}
 use Rattle.serde_json.specs.Find.{get}
 use Rattle.serde_json.specs.View.{view, number_view}
+use Rattle.odb_doc.specs.declared.broken.Broken.{Broken}
+use Rattle.odb_doc.specs.declared.broken.Broken.TheVariants as broken
 use Rattle.odb_doc.specs.declared.member.Object.{Object}
 use Rattle.odb_doc.specs.declared.member.Object.TheVariants as objects
 use Rattle.odb_doc.specs.declared.outcome.Parts.{Parts}
 use Rattle.odb_doc.specs.declared.outcome.Shape.{Shape}
+use Rattle.odb_doc.specs.declared.outcome_fault.OutcomeRule.{OutcomeRule}
+use Rattle.odb_doc.specs.declared.outcome_fault.OutcomeFault.{OutcomeFault}
+use Rattle.odb_doc.specs.declared.outcome_fault.OutcomeFault.TheVariants as faults
 use Rattle.odb_doc.specs.Bodies.{body_of}
 use Rattle.odb_doc.specs.Headers.{HasHeaders, headers_in}
+use Rattle.odb_doc.specs.LeastOutcomeFault.{BreaksOutcome, IsLeastOutcomeRule}
+use Rattle.odb_doc.specs.LeastRules.{IsLeast}
 use Rattle.odb_doc.specs.Members.{HasFurther, text_at}
+use Rattle.odb_doc.specs.OutcomeFaults.{rule_number}
 use Rattle.odb_doc.specs.Outcomes.{HasOutcome, status_of}
 
 abbrev pub texts : List (String Global) → List (List ℕ)
@@ -35,3 +43,18 @@ pub record HasShape (kind : Object) (name : List ℕ) (d : Data) (shape : Shape)
 -- the element has the shape of an outcome, and says this
 abbrev pub IsShapeOf : Data → Shape → Type 0
 IsShapeOf d shape = HasShape objects.Outcome (codes "id") d shape
+
+-- the rule is broken by an element after others with these ids, and none with a smaller number is
+abbrev pub IsLeastBroken : List (List ℕ) → Data → OutcomeRule → Type 0
+IsLeastBroken before d rule = IsLeast rule_number (λ other. BreaksOutcome other before d) rule
+
+-- the fault of the element at the position
+abbrev pub fault_at : ℕ → Broken OutcomeRule → OutcomeFault
+fault_at at (broken.Rule rule) = faults.Outcome at rule
+fault_at at broken.OutOfMemory = faults.OutOfMemory
+
+-- the fault is that of the first element that has one. Out of memory says nothing.
+abbrev pub RefusesElements : OutcomeFault → List Data → Type 0
+RefusesElements faults.Document ds = ⊥
+RefusesElements (faults.Outcome at rule) ds = IsLeastOutcomeRule ds at rule
+RefusesElements faults.OutOfMemory ds = Unit {0}

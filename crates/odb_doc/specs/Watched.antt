@@ -1,11 +1,14 @@
--- Ids that are watched for a repeat.
-use Rattle.std.specs.Prelude.{ℕ, List, ◌++◌, Option, Some, None, String, bytes_eq}
+-- Texts that are watched for a repeat: for private clauses, nothing to believe.
+use Rattle.std.specs.Prelude.{◌≡◌, ℕ, List, ◌++◌, Option, Some, None, String, bytes_eq}
 use Rattle.std.specs.declared.alloc.Global.{Global}
 use Rattle.std.specs.BTreeSet.{BTreeSet}
-use Rattle.std.specs.List.{IsDistinct}
+use Rattle.std.specs.List.{IsDistinct, list_any}
 use Rattle.odb_doc.specs.declared.seen.SeenIds.{SeenIds}
-use Rattle.odb_doc.specs.Names.{AreSameTexts}
 use Rattle.odb_doc.specs.OutcomeShapes.{texts}
+
+-- the same texts, whatever their order and however often each stands
+abbrev pub AreSameTexts : List (List ℕ) → List (List ℕ) → Type 0
+AreSameTexts xs ys = (q : List ℕ) → list_any (bytes_eq q) xs ≡ list_any (bytes_eq q) ys
 
 -- the set has the ids so far; without a set these and those to come are distinct
 abbrev pub Watches : Option (BTreeSet (String Global)) → List (List ℕ) → List (List ℕ) → Type 0

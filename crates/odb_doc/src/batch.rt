@@ -2,7 +2,8 @@ ghost use Rattle.std.specs.Prelude.{◌≡◌, ◌≤◌, ◌<◌, List, length,
 ghost use Rattle.std.specs.List.{AllZip};
 ghost use Rattle.serde_json.specs.View.{view};
 ghost use Rattle.odb_doc.specs.declared.fault.DocFault.TheVariants as faults;
-ghost use Rattle.odb_doc.specs.LeastFault.{IsWellShaped, IsLeastFault, IsBatchObject, IsLeastDocumentRule, BreaksRequestAt, IsFirstFault, fault_at};
+ghost use Rattle.odb_doc.specs.LeastFault.{IsWellShaped, IsLeastFault, IsBatchObject, IsLeastDocumentRule, BreaksRequestAt};
+ghost use Rattle.odb_doc.specs.BrokenRules.{IsFirstFault, fault_at};
 ghost use Rattle.odb_doc.specs.LeastRules.{AreSound};
 ghost use Rattle.odb_doc.specs.Shapes.{elements, requests_in};
 ghost use Rattle.odb_doc.specs.Records.{Says, IsSoundRecord, IsBatchOf, record_of};

@@ -4,8 +4,7 @@ ghost use Rattle.odb_doc.specs.Bodies.{body_of, content_type};
 ghost use Rattle.odb_doc.specs.BodyKinds.{IsOfKind};
 ghost use Rattle.odb_doc.specs.Headers.{HasHeaders, headers_in};
 ghost use Rattle.odb_doc.specs.declared.fault.RequestRule.TheVariants as rules;
-ghost use Rattle.odb_doc.specs.BrokenRules.{OnRule};
-ghost use Rattle.odb_doc.specs.LeastFault.{BreaksNoneBefore, IsLeastRequestRule};
+ghost use Rattle.odb_doc.specs.BrokenRules.{OnRule, BreaksNoneBefore, IsLeastRequestRule};
 ghost use Rattle.odb_doc.specs.MediaTypes.{AllowsBody};
 ghost use Rattle.odb_doc.specs.Shapes.{HasMethod};
 

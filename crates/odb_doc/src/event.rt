@@ -5,9 +5,9 @@ ghost use Rattle.serde_json.specs.View.{view, number_view};
 ghost use Rattle.odb_doc.specs.declared.event.NamedEvent.TheVariants.{Report};
 ghost use Rattle.odb_doc.specs.declared.event_fault.EventRule.{EventRule};
 ghost use Rattle.odb_doc.specs.BrokenRules.{OnRule};
-ghost use Rattle.odb_doc.specs.EventShapes.{IsReportOf};
+ghost use Rattle.odb_doc.specs.EventShapes.{IsReportOf, IsLeastBroken};
 ghost use Rattle.odb_doc.specs.Events.{IsReportedStatus, IsSoundEvent, IsStart, Says};
-ghost use Rattle.odb_doc.specs.LeastEventFault.{BreaksEvent, IsLeastBroken};
+ghost use Rattle.odb_doc.specs.LeastEventFault.{BreaksEvent};
 ghost use Rattle.odb_doc.specs.Members as members;
 ghost use Rattle.odb_doc.specs.WholeNumbers.{IsWhole};
 

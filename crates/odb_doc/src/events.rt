@@ -4,7 +4,8 @@ ghost use Rattle.std.proofs.Props.{props};
 ghost use Rattle.serde_json.specs.View.{view};
 ghost use Rattle.odb_doc.specs.declared.event_fault.EventFault.TheVariants as faults;
 ghost use Rattle.odb_doc.specs.Events.{AreEventsOf, IsEventsObject, IsSoundEvent, Says, elements};
-ghost use Rattle.odb_doc.specs.LeastEventFault.{AreEvents, IsEventsDocument, RefusesElements, RefusesEvents, fault_at};
+ghost use Rattle.odb_doc.specs.LeastEventFault.{AreEvents, IsEventsDocument, RefusesEvents};
+ghost use Rattle.odb_doc.specs.EventShapes.{RefusesElements, fault_at};
 
 use crate::broken::Broken;
 use crate::event::{NamedEvent, read_event};

@@ -1,7 +1,7 @@
 ghost use Rattle.std.specs.Prelude.{◌≡◌, ℕ, List, Option, MatchOption, IfOk, IfErr, OnOk, OnErr, option_map};
 ghost use Rattle.serde_json.specs.View.{view};
 ghost use Rattle.odb_names.specs.declared.method.Method.{Method};
-ghost use Rattle.odb_doc.specs.LeastFault.{BreaksNoneBefore, IsLeastRequestRule};
+ghost use Rattle.odb_doc.specs.BrokenRules.{BreaksNoneBefore, IsLeastRequestRule};
 ghost use Rattle.odb_doc.specs.declared.fault.RequestRule.TheVariants as rules;
 ghost use Rattle.odb_doc.specs.Shapes.{HasId, HasMethod, HasGroup};
 

@@ -7,10 +7,10 @@ ghost use Rattle.serde_json.specs.View.{view, number_view};
 ghost use Rattle.odb_doc.specs.declared.outcome_fault.OutcomeRule.{OutcomeRule};
 ghost use Rattle.odb_doc.specs.declared.outcome_fault.OutcomeFault.TheVariants as faults;
 ghost use Rattle.odb_doc.specs.BrokenRules.{OnRule};
-ghost use Rattle.odb_doc.specs.LeastOutcomeFault.{AreOutcomes, BreaksOutcome, IsLeastBroken, IsOutcomesDocument, RefusesElements, RefusesOutcomes, fault_at};
+ghost use Rattle.odb_doc.specs.LeastOutcomeFault.{AreOutcomes, BreaksOutcome, IsOutcomesDocument, RefusesOutcomes};
+ghost use Rattle.odb_doc.specs.OutcomeShapes.{IsLeastBroken, RefusesElements, fault_at, IsShapeOf};
 ghost use Rattle.odb_doc.specs.Outcomes.{AreOutcomesOf, IsOutcomesObject, IsStatus, IsSoundOutcome, Says, elements, ids, recorded};
 ghost use Rattle.odb_doc.specs.Watched.{IsWatched};
-ghost use Rattle.odb_doc.specs.OutcomeShapes.{IsShapeOf};
 ghost use Rattle.odb_doc.specs.WholeNumbers.{IsWhole};
 
 use crate::broken::Broken;

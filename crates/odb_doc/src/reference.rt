@@ -3,8 +3,7 @@ ghost use Rattle.serde_json.specs.Data.{Data};
 ghost use Rattle.odb_names.specs.Fronts.{HasFront, bad};
 ghost use Rattle.odb_names.specs.Segments.{IsNestedBatch};
 ghost use Rattle.odb_doc.specs.declared.fault.RequestRule.TheVariants as rules;
-ghost use Rattle.odb_doc.specs.BrokenRules.{OnRule};
-ghost use Rattle.odb_doc.specs.LeastFault.{BreaksNoneBefore, IsLeastRequestRule, IsRequestObject};
+ghost use Rattle.odb_doc.specs.BrokenRules.{OnRule, BreaksNoneBefore, IsLeastRequestRule, IsRequestObject};
 ghost use Rattle.odb_doc.specs.References.{RefersTo};
 ghost use Rattle.odb_doc.specs.Shapes.{url_of};
 

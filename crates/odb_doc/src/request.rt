@@ -4,8 +4,7 @@ ghost use Rattle.std.specs.Option.{ForSome};
 ghost use Rattle.std.proofs.Props.{props};
 ghost use Rattle.serde_json.specs.View.{view};
 ghost use Rattle.odb_names.specs.Identifiers.{IsRequestId};
-ghost use Rattle.odb_doc.specs.BrokenRules.{OnRule};
-ghost use Rattle.odb_doc.specs.LeastFault.{IsRequestObject, IsLeastRequestRule};
+ghost use Rattle.odb_doc.specs.BrokenRules.{OnRule, IsRequestObject, IsLeastRequestRule};
 ghost use Rattle.odb_doc.specs.Names.{texts_in};
 
 use crate::body::body_of;

@@ -1,4 +1,4 @@
--- The classes of characters of which runs are cut, each by its test.
+-- The classes of characters of which runs are cut, each by its test: for private clauses, nothing to believe.
 use Rattle.std.specs.Prelude.{ℕ, Bool}
 use Rattle.odb_names.specs.declared.run.Class.{Class}
 use Rattle.odb_names.specs.declared.run.Class.TheVariants.{Unreserved, Base64Url, Path, Segment}

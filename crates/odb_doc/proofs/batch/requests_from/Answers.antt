@@ -1,7 +1,7 @@
 use Rattle.std.proofs.Common.{◌<◌, ◌≤◌, length, map, rules, arith}
 use Rattle.std.proofs.lemmas.List.{length-map, map-append}
 use Rattle.serde_json.specs.View.{view}
-use Rattle.odb_doc.specs.LeastFault.{IsFirstFault, fault_at}
+use Rattle.odb_doc.specs.BrokenRules.{IsFirstFault, fault_at}
 use Rattle.odb_doc.specs.Records.{record_of}
 use Rattle.odb_doc.proofs.RequestLemmas.{IsReadUpTo-none, IsReadUpTo-more, IsReadUpTo-sound, IsReadUpTo-says, IsFirstFault-from, get_or-view}
 use Rattle.odb_doc.proofs.batch.requests_from.Goals as goal

@@ -4,7 +4,7 @@ use Rattle.std.proofs.lemmas.List.{map-append}
 use Rattle.std.proofs.lemmas.Option.{MatchOption-at_some}
 use Rattle.serde_json.specs.View.{view}
 use Rattle.serde_json.specs.declared.value.Value.{Value}
-use Rattle.odb_doc.specs.LeastEventFault.{RefusesElements, fault_at}
+use Rattle.odb_doc.specs.EventShapes.{RefusesElements, fault_at}
 use Rattle.odb_doc.proofs.EventListLemmas.{AreRead-none, AreRead-more, RefusesElements-from}
 use Rattle.odb_doc.proofs.events.events_from.Goals as goal
 

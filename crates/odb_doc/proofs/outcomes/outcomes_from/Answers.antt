@@ -5,7 +5,7 @@ use Rattle.std.proofs.lemmas.List.{length-map, map-append}
 use Rattle.std.proofs.lemmas.Option.{MatchOption-at_some}
 use Rattle.serde_json.specs.View.{view}
 use Rattle.serde_json.specs.declared.value.Value.{Value}
-use Rattle.odb_doc.specs.LeastOutcomeFault.{RefusesElements, fault_at}
+use Rattle.odb_doc.specs.OutcomeShapes.{RefusesElements, fault_at}
 use Rattle.odb_doc.specs.Outcomes.{ids, recorded}
 use Rattle.odb_doc.specs.Watched.{IsWatched}
 use Rattle.odb_doc.proofs.OutcomeListLemmas.{AreRead-none, AreRead-more, RefusesElements-from, keys_of-push}
