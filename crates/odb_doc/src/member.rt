@@ -1,8 +1,9 @@
-ghost use Rattle.std.specs.Prelude.{◌≡◌, ◌↔◌, IsTrue, option_map, string_bytes};
+ghost use Rattle.std.specs.Prelude.{◌≡◌, ◌↔◌, ◌∷◌, [], codes, IsTrue, option_map, string_bytes};
 ghost use Rattle.std.specs.List.{list_any};
 ghost use Rattle.std.specs.BTreeMap.{keys};
 ghost use Rattle.serde_json.specs.Find.{get, as_str, as_number, as_array, as_object};
 ghost use Rattle.serde_json.specs.View.{view, number_view, items_view, members_view};
+ghost use Rattle.odb_doc.specs.declared.member.Object.TheVariants as objects;
 ghost use Rattle.odb_doc.specs.Members as spec;
 
 use serde_json::{Map, Number, Value};
@@ -20,6 +21,23 @@ pub(crate) enum Object {
     Report,
 }
 
+fn is_of_request(name: &str) -> bool
+    ensures { result ≡ spec.is_one_of (spec.members_of objects.Request) name.now }
+{
+    matches!(
+        name,
+        "id" | "method" | "url" | "atomicityGroup" | "dependsOn" | "if" | "headers" | "body"
+    )
+}
+
+/// Whether the name is one of those that an outcome and a report both have.
+fn is_of_answer(name: &str) -> bool
+    ensures { result ≡ spec.is_one_of (codes "status" ∷ codes "headers" ∷ codes "body" ∷ [])
+        name.now }
+{
+    matches!(name, "status" | "headers" | "body")
+}
+
 impl Object {
     /// Whether the object may have a member of this name.
     fn may_have(self, name: &str) -> bool
@@ -27,15 +45,12 @@ impl Object {
     {
         match self {
             Object::Document => name == "requests",
-            Object::Request => matches!(
-                name,
-                "id" | "method" | "url" | "atomicityGroup" | "dependsOn" | "if" | "headers" | "body"
-            ),
+            Object::Request => is_of_request(name),
             Object::Outcomes => name == "outcomes",
-            Object::Outcome => matches!(name, "id" | "status" | "headers" | "body"),
+            Object::Outcome => name == "id" || is_of_answer(name),
             Object::Events => name == "events",
             Object::Start => name == "start",
-            Object::Report => matches!(name, "report" | "status" | "headers" | "body"),
+            Object::Report => name == "report" || is_of_answer(name),
         }
     }
 
