@@ -1,4 +1,4 @@
--- How often a number stands in a list, and how many elements of a list pass a test.
+-- How often a number is in a list, and how many elements of a list pass a test.
 use Rattle.std.proofs.Common.{◌≡◌, ◌≢◌, ℕ, ◌<◌, ◌≤◌, ◌+◌, ◌*◌, ◌∙◌, ap, ◌-◌, arith, Bool, true, false, cond, List, length, get_or, take, drop, set, count_by, All}
 use Rattle.std.proofs.lemmas.Bool.{cond-true, cond-false}
 use Rattle.std.proofs.lemmas.List.{get_or-take, get_or-drop, length-take-le, length-drop, length-set}

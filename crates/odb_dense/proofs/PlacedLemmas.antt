@@ -25,7 +25,7 @@ read_members [] i = refl
 read_members (place ∷ places) zero = refl
 read_members (place ∷ places) (suc i) = read_members places i
 
--- what stands in the list has a place, so what has none doesn't stand there
+-- what is in the list has a place, so what has none is not there
 not_listed : (items : List ℕ) (places : List (Option ℕ)) (count i : ℕ) → ArePlaced items places count → get_or places i None ≡ None → All (λ x. (x == i) ≡ false) (take count items)
 not_listed items places count i kept free k d within =
     let long : length (take count items) ≡ min count (length items) = length-take count items in
@@ -34,7 +34,7 @@ not_listed items places count i kept free k d within =
     let read : get_or (take count items) k d ≡ get_or items k 0 = get_or-take count items k d less ∙ get_or_default items k d 0 below in
     ne_eqb _ i (λ e. none-some k (sym free ∙ subst (λ x. get_or places x None ≡ Some k) (sym read ∙ e) (kept.placed k less)))
 
--- what has a place stands in the list there, and nowhere else
+-- what has a place is in the list there, and nowhere else
 listed_at : (items : List ℕ) (places : List (Option ℕ)) (count i place : ℕ) → ArePlaced items places count → get_or places i None ≡ Some place → count_by (λ x. x == i) (take count items) ≡ 1
 listed_at items places count i place kept at =
     let (less, here) = kept.listed i place at in
@@ -126,7 +126,7 @@ read_free places i place within read free = sym (get_or_read places i place with
 pub read_place : (places : List (Option ℕ)) (value : List Bool) (i : ℕ) (entry : Option ℕ) (place : ℕ) → map is_some places ≡ value → i < length value → entry ≡ get_or places i entry → entry ≡ Some place → get_or places i None ≡ Some place
 read_place places value i entry place view within read is = sym (get_or_read places i entry (in_bound places value i view within) read None) ∙ is
 
--- nothing is to be done, where the number is in or out already
+-- nothing is to be done if the number is in or out already
 pub members_same : (places : List (Option ℕ)) (value : List Bool) (i : ℕ) (place : Option ℕ) (b : Bool) → map is_some places ≡ value → i < length value → place ≡ get_or places i place → is_some place ≡ b → value ≡ set value i b
 members_same places value i place b view within read is =
     let here : place ≡ get_or places i None = get_or_read places i place (in_bound places value i view within) read None in
@@ -191,7 +191,7 @@ placed_less items places count i place last kept within at read =
       | inr other ↦ ap is_some (get_or-set_other places last i (Some place) None other ∙ at)
     ]
 
-    -- where the last one is not the one that goes, it stands elsewhere
+    -- if the last one is not the one that goes, it is elsewhere
     apart_last : get_or places last None ≡ Some (count - 1) → place < count - 1 → last ≢ i
     apart_last there less same = let e : count - 1 ≡ place = same_Some (count - 1) place (sym there ∙ (ap (λ x. get_or places x None) same ∙ at)) in absurd (omega arith)
 

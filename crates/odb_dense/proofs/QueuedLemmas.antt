@@ -107,7 +107,7 @@ queued_less standings queue head tail u kept some read =
         let next : k ≢ head = λ e. other (sym same ∙ (ap (λ m. get_or queue m 0) e ∙ sym is)) in
         (k, omega arith, below, same)
 
--- where the head is at the tail, nothing waits
+-- if the head is at the tail, nothing waits
 pub none_waits : (standings : List Standing) (queue : List ℕ) (head tail : ℕ) → AreQueued standings queue head tail → head ≡ tail → (u : ℕ) → get_or standings u Sound ≢ Waiting
 none_waits standings queue head tail kept done u at = let (k, from, below, is) = kept.waits u at in absurd (omega arith)
 

@@ -37,7 +37,7 @@ counted_more starts ps keys n count room within below counted read k less = elim
         let was : count ≡ at_key k (take n ps) = read ∙ (ap (λ m. get_or starts (m + 1) 0) same ∙ counted k less) in
         ap (λ m. get_or (set starts ((get_or ps n (0, 0)).0 + 1) (count + 1)) (m + 1) 0) (sym same) ∙ (written ∙ (ap (λ m. m + 1) was ∙ sym (at_key_yes k n ps within same)))
 
--- the next of a key goes where there is room, within the key's row
+-- the next of a key goes to a place with room, within the key's row
 pub place_within : (ps : List (ℕ × ℕ)) (starts : List ℕ) (n : ℕ) → AreStarts ps starts → n < length ps → (get_or ps n (0, 0)).0 + 1 < length starts → get_or starts (get_or ps n (0, 0)).0 0 + at_key (get_or ps n (0, 0)).0 (take n ps) < below_key ((get_or ps n (0, 0)).0 + 1) ps
 place_within ps starts n are within below =
     let key = (get_or ps n (0, 0)).0 in

@@ -6,7 +6,7 @@ use Rattle.odb_dense.specs.declared.positions.Positions.TheInside.{Inside}
 abbrev pub members : Inside → List Bool
 members s = map is_some s.places.items
 
--- the front of the list has the numbers that have a place, each at its place
+-- the list begins with the numbers that have a place, each at its place
 pub record ArePlaced (items : List ℕ) (places : List (Option ℕ)) (count : ℕ) : Type 0 where
   pub few : length places ≤ 4294967295
   pub room : length items ≡ length places

@@ -5,11 +5,11 @@ use Rattle.odb_dense.specs.declared.worklist.Standing.TheVariants.{Sound, Waitin
 use Rattle.odb_dense.specs.declared.worklist.Worklist.TheInside.{Inside}
 use Rattle.odb_dense.specs.Standings.{is_marked}
 
--- where each number stands
+-- the state of each number
 abbrev pub standings_of : Inside → List Standing
 standings_of w = w.standings.items
 
--- what waits stands between the head and the tail, each once
+-- those that wait are between the head and the tail, each once
 pub record AreQueued (standings : List Standing) (queue : List ℕ) (head tail : ℕ) : Type 0 where
   pub room : length queue ≡ length standings
   pub order : head ≤ tail

@@ -1,4 +1,4 @@
--- Where numbers stand that are put on a list and taken from it.
+-- The states of numbers that are put on a list and taken from it.
 use Rattle.std.specs.Prelude.{◌≡◌, ◌≢◌, ℕ, ◌<◌, Bool, true, false, List, Option, Some, None, length, slice_index_or, slice_set, if◌then◌else◌}
 use Rattle.odb_dense.specs.declared.worklist.Standing.{Standing}
 use Rattle.odb_dense.specs.declared.worklist.Standing.TheVariants.{Sound, Waiting, Passed}

@@ -14,6 +14,6 @@ below_key k ps = count_by (λ (p : ℕ × ℕ). nat_lt p.0 k) ps
 abbrev pub AreStarts : List (ℕ × ℕ) → List ℕ → Type 0
 AreStarts ps starts = (k : ℕ) → k < length starts → slice_index starts k ≡ below_key k ps
 
--- what each key has stands from its start on
+-- the row of each key is from its start on
 abbrev pub AreRowsOf : List (ℕ × ℕ) → List ℕ → List ℕ → Type 0
 AreRowsOf ps starts flat = (k j : ℕ) → k + 1 < length starts → j < length (of_key k ps) → slice_index flat (slice_index starts k + j) ≡ slice_index (of_key k ps) j

@@ -23,7 +23,7 @@ one_method texts d method other one two =
     let name : one.name ≡ two.name = cc (one.text, two.text) in
     texts.method two.name method other (subst (λ (text : List ℕ). Names text method) name one.names) two.names
 
--- a member that counts as absent is no string
+-- a member that is treated as absent is not a string
 no_text : (o : Option Data) → given o ≡ None → option_and_then as_str o ≡ None
 no_text None is = refl
 no_text (Some null) is = refl

@@ -1,4 +1,4 @@
--- No name stands twice among the distinct names.
+-- No name is twice among the distinct names.
 use Rattle.std.proofs.Common.{◌≡◌, ◌∙◌, Bool, true, false, cond, not, Option, None, Some, option_map, ℕ, List, [], ◌∷◌, filter, bytes_eq, refl, subst}
 use Rattle.std.specs.List.{AllByRecursion, IsDistinct}
 use Rattle.std.proofs.lemmas.Cmp.{nat_list_eq_equiv}

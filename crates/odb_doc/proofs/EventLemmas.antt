@@ -13,7 +13,7 @@ use Rattle.odb_doc.specs.EventFaults.{rule_number}
 use Rattle.odb_doc.specs.Events.{IsEventBy, IsReport, IsReportedStatus, IsStart}
 use Rattle.odb_doc.specs.EventShapes.{IsReportOf, IsLeastBroken}
 use Rattle.odb_doc.specs.LeastEventFault.{BreaksEvent, HasBrokenNumber}
-use Rattle.odb_doc.specs.Members.{HasFurther, text_at}
+use Rattle.odb_doc.specs.Members.{HasOther, text_at}
 use Rattle.odb_doc.specs.WholeNumbers.{IsWhole}
 use Rattle.odb_doc.proofs.OutcomeLemmas.{some_not_whole, all_whole}
 
@@ -33,7 +33,7 @@ not_some None is = λ some. absurd (cc (some))
 not_some (Some x) is = absurd (cc (is))
 
 -- a start is what has a string at `start` and nothing else
-pub start-from : (d : Data) (found : Option (String Global)) → ¬ HasFurther objects.Start d → text_at (codes "start") d ≡ option_map string_bytes found
+pub start-from : (d : Data) (found : Option (String Global)) → ¬ HasOther objects.Start d → text_at (codes "start") d ≡ option_map string_bytes found
     → MatchOption found (¬ IsStart d) (λ id. IsStart d × (text_at (codes "start") d ≡ Some (string_bytes id)))
 start-from d None one is = λ start. not_some (text_at (codes "start") d) is start.id
 start-from d (Some id) one is = (record { one = one; id = rw is refl }, is)

@@ -15,7 +15,7 @@ use Rattle.odb_doc.specs.EventShapes.{IsLeastBroken, RefusesElements, fault_at}
 use Rattle.odb_doc.proofs.LeastLemmas.{sound_none, sound_push, first_from}
 use Rattle.odb_doc.proofs.RequestLemmas.{AllZip-push}
 
--- what an event breaks, whatever stands before it
+-- what an event breaks, whatever is before it
 abbrev Breaks : EventRule → List Data → Data → Type 0
 Breaks rule before d = BreaksEvent rule d
 
@@ -43,7 +43,7 @@ AreRead-more ds events d event read sound says fit = record {
   fit = All-push IsSoundEvent events event read.fit fit;
 }
 
--- the fault of an element is the first where those before it have none
+-- the fault of an element is the first if those before it have none
 pub RefusesElements-from : (ds : List Data) (events : List NamedEvent) (d : Data) (rest : List Data) (at : ℕ) (why : Broken EventRule) → AreRead ds events
     → at ≡ length events → OnRule (IsLeastBroken d) why → RefusesElements (fault_at at why) (ds ++ d ∷ rest)
 RefusesElements-from ds events d rest at (broken.Rule rule) read place fails =

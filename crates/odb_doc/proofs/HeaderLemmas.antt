@@ -77,7 +77,7 @@ apart_step : (a b more : Bool) → b ≡ a → a ≡ false → (b || more) ≡ t
 apart_step a true more same apart any = absurd (both_ways a apart (sym same))
 apart_step a false more same apart any = any
 
--- names of which one stands before itself are not distinct
+-- names of which one comes before itself are not distinct
 head_apart : (name other : List ℕ) (names rest : List (List ℕ)) → AllByRecursion (λ y. bytes_eq other y ≡ false) (names ++ name ∷ rest) → bytes_eq other name ≡ false
 head_apart name other [] rest all = all.0
 head_apart name other (x ∷ names) rest all = head_apart name other names rest all.1

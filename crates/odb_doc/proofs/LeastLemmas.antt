@@ -54,7 +54,7 @@ module _ {R X : Type 0} (number : R → ℕ) (Breaks : R → List X → X → Ty
         ]
       ]
 
-  -- the first broken rule of an element is that of the list where the elements before it break none
+  -- the first broken rule of an element is that of the list if the elements before it break none
   pub first_from : (xs : List X) (x : X) (rest : List X) (rule : R) → AreSound (BreaksAt Breaks xs) → IsLeast number (λ other. Breaks other xs x) rule
       → IsFirst number (BreaksAt Breaks (xs ++ x ∷ rest)) (length xs) rule
   first_from xs x rest rule sound first = record {

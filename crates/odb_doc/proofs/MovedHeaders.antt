@@ -86,7 +86,7 @@ pub IsHeaders-other : (es : List Entry) (name : String Global) (v : Value) (rest
 IsHeaders-other es name v rest is headers =
     no_some (text_members (members_view (es ++ (name, v) ∷ rest))) (text_members-append es ((name, v) ∷ rest) ∙ none_behind name v rest (text_members (members_view es)) is) headers.texts
 
--- a name that stands already among those before it
+-- a name that is among those before it
 pub IsHeaders-twice : (es : List Entry) (name : String Global) (v : Value) (rest : List Entry) (headers : List Header) → HoldsHeaders (Some (object (members_view es))) headers
     → list_any (bytes_eq (str_to_ascii_lowercase (string_bytes name))) (keys_of headers) ≡ true → ¬ IsHeaders (Some (object (members_view (es ++ (name, v) ∷ rest))))
 IsHeaders-twice es name v rest headers before any whole =

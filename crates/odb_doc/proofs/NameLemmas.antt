@@ -1,4 +1,4 @@
--- Names put at the end one by one, unless they stand already, are the distinct names.
+-- Names appended one by one, each unless the list has it, are the distinct names.
 use Rattle.std.proofs.Common.{◌≡◌, ◌∙◌, ◌||◌, ◌&&◌, ◌+◌, ◌<◌, ℕ, Bool, true, false, cond, not, Option, None, Some, option_map, List, [], ◌∷◌, ◌++◌, length, drop, get_or, fold, filter, bytes_eq, if◌then◌else◌, refl, ap, sym, append_assoc, append-nil, Bor}
 use Rattle.std.specs.List.{list_any}
 use Rattle.std.proofs.lemmas.List.{map-append, at_drop_more}
@@ -48,7 +48,7 @@ stays_out : (names : List (List ℕ)) (name : List ℕ) → list_any (bytes_eq n
 unfolding is_new
 stays_out names name among other = stays_out_by (bytes_eq other name) names name other (bytes_eq-Decides other name).0 among
 
--- a name is new to the names and this one where it is neither
+-- a name is new to the names and this one if it is neither
 not-or : (a b : Bool) → not (a || (b || false)) ≡ (not b && not a)
 not-or true true = refl
 not-or true false = refl
@@ -60,7 +60,7 @@ unfolding is_new
 is_new-push names name other =
     rw (list_any-append (bytes_eq other) names (name ∷ [])) (not-or (list_any (bytes_eq other) names) (bytes_eq other name))
 
--- one name, by whether it stands already
+-- one name, by whether the list has it
 fold-with_name_step : (among : Bool) (names added : List (List ℕ)) (name : List ℕ) → list_any (bytes_eq name) names ≡ among
     → ((ns : List (List ℕ)) → fold with_name ns added ≡ ns ++ filter (is_new ns) (distinct added))
     → fold with_name (if among then names else names ++ name ∷ []) added
@@ -144,7 +144,7 @@ pub list_any-comm : (name : List ℕ) (keys : List (Bor (List ℕ))) → list_an
 list_any-comm name [] = refl
 list_any-comm name (key ∷ keys) = rw (bytes_eq-comm key.now name, list_any-comm name keys) refl
 
--- the text is put at the end where the list does not have it
+-- the text is appended if the list does not have it
 pub texts_in-contains : (keys : List (Bor (List ℕ))) (text : Bor (List ℕ)) (among : Bool) → among ≡ list_any (λ key. bytes_eq key.now text.now) keys
     → texts_in (if among then keys else keys ++ text ∷ []) ≡ with_name (texts_in keys) text.now
 texts_in-contains keys text among is = rw (is, list_any-comm text.now keys) (texts_in-insert keys text)

@@ -52,7 +52,7 @@ same_first x y xs ys ordered ordered' x_among y_among =
       ]
     ]
 
--- what stands behind the first of one list stands behind the first of the other
+-- what comes after the first of one list comes after the first of the other
 same_rest : (x y : Header) (xs ys : List Header) (h : Header) → x ≡ y → IsStrictlySortedBy (slice_cmp nat_cmp) (keys_of (x ∷ xs)) → Contains xs h → Contains (y ∷ ys) h → Contains ys h
 same_rest x y xs ys h is ordered later among =
     elim (Contains-cons_cases y ys h among) [

@@ -60,7 +60,7 @@ AreRead-more ds entries d entry read sound says fit new =
       fit = All-push IsSoundOutcome entries entry read.fit fit;
     }
 
--- the fault of an element is the first where those before it have none
+-- the fault of an element is the first if those before it have none
 pub RefusesElements-from : (ds : List Data) (entries : List Recorded) (d : Data) (rest : List Data) (at : ℕ) (why : Broken OutcomeRule) → AreRead ds entries
     → at ≡ length entries → OnRule (IsLeastBroken (keys_of entries) d) why → RefusesElements (fault_at at why) (ds ++ d ∷ rest)
 RefusesElements-from ds entries d rest at (broken.Rule rule) read place fails =

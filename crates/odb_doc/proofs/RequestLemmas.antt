@@ -48,7 +48,7 @@ IsReadUpTo-sound ds rs n end read = rw (take_all n ds end) at read.sound
 pub IsReadUpTo-says : (ds : List Data) (rs : List Record) (n : ℕ) → length ds ≤ n → IsReadUpTo ds rs n → AllZip Says ds rs
 IsReadUpTo-says ds rs n end read = rw (take_all n ds end) at read.says
 
--- the fault of an element is the first where those before it have none
+-- the fault of an element is the first if those before it have none
 pub IsFirstFault-from : (ds : List Data) (rs : List Record) (n : ℕ) (d : Data) (why : Broken RequestRule) → n < length ds → get_or ds n d ≡ d
     → IsReadUpTo ds rs n → OnRule (IsLeastRequestRule d) why → IsFirstFault ds (fault_at n why)
 IsFirstFault-from ds rs n d (broken.Rule rule) within is before fails =

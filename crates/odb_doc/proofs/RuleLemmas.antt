@@ -97,7 +97,7 @@ IsHeaders-from o headers has = record { texts = texts_some (listed_in o) has.lis
 
 -- ---- the body
 
--- the first letter of a method's name tells whether it takes a body: that is `p`
+-- a method takes a body if and only if its name begins with `p`
 takes_body-method_name : (method : Method) → takes_body method ≡ (get_or (method_name method) 0 0 == 112)
 takes_body-method_name Delete = refl
 takes_body-method_name Get = refl

@@ -78,7 +78,7 @@ same_name {text} {name} {name'} one other =
 
 -- ---- what the code cuts
 
--- the text up to where its last blanks begin
+-- the text before the blanks that it ends with
 pub IsEndOf-at : (text : List ℕ) (end : ℕ) → end ≤ length text → ((k : ℕ) → end ≤ k → k < length text → is_blank (get_or text k 0) ≡ true)
     → (0 < end → is_blank (get_or text (end - 1) 0) ≡ false) → IsEndOf text (take end text)
 IsEndOf-at text end bound after stops = record {

@@ -7,11 +7,11 @@ use Rattle.odb_doc.specs.Headers.{Header, HasHeaders}
 use Rattle.odb_doc.specs.MediaTypes.{AllowsBody}
 use Rattle.odb_doc.specs.Members.{given}
 
--- the value at `body`, none where it is null
+-- the value at `body`, none if it is null
 abbrev pub body_of : Data → Option Data
 body_of d = given (get (codes "body") d)
 
--- the value of `content-type`, where no header counts as an empty one
+-- the value of `content-type`, or the empty text if there is none
 abbrev pub content_type : List Header → List ℕ
 content_type headers = unwrap_or (lookup (bytes_eq (codes "content-type")) headers) []
 

@@ -1,4 +1,4 @@
--- The kinds of bodies that the code tells apart: for private clauses, nothing to believe.
+-- The kinds of bodies that the code distinguishes: for private clauses, nothing to believe.
 use Rattle.std.specs.Prelude.{◌≡◌, ℕ, false, List, [], ◌∷◌, ◌++◌, IsSome, IsSomeAnd}
 use Rattle.std.specs.List.{AllPass}
 use Rattle.std.specs.Str.{str_to_ascii_lowercase}

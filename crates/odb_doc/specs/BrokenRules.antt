@@ -11,7 +11,7 @@ use Rattle.odb_doc.specs.LeastFault.{IsFirstBroken}
 use Rattle.odb_doc.specs.LeastRules.{IsLeast}
 use Rattle.odb_doc.specs.Shapes.{BreaksRequest}
 
--- the rule is such a one. Out of memory says nothing.
+-- the rule has the property. Out of memory may come with any.
 abbrev pub OnRule : {R : Type 0} → (R → Type 0) → Broken R → Type 0
 OnRule fits (Rule rule) = fits rule
 OnRule fits OutOfMemory = Unit {0}
@@ -33,7 +33,7 @@ abbrev pub fault_at : ℕ → Broken RequestRule → DocFault
 fault_at at (Rule rule) = faults.Request at rule
 fault_at at OutOfMemory = faults.OutOfMemory
 
--- the fault is that of the first element that has one. Out of memory says nothing.
+-- the fault is that of the first element that has one. Out of memory may come in place of any.
 abbrev pub IsFirstFault : List Data → DocFault → Type 0
 IsFirstFault ds (faults.Document rule) = ⊥
 IsFirstFault ds (faults.Request at rule) = IsFirstBroken ds at rule

@@ -1,4 +1,4 @@
--- The canonical value of a batch and its text: members in byte order, those that say nothing left out (OData JSON
+-- The canonical value of a batch and its text: members in byte order, without those that mean nothing (OData JSON
 -- Format 4.01, section 19.1).
 use Rattle.std.specs.Prelude.{ℕ, List, [], ◌∷◌, map, Option, Some, None, option_map, option_and_then, slice_get, length, codes}
 use Rattle.serde_json.specs.Data.{Data, string, array, object, Members, no_members, member, put}
@@ -24,7 +24,7 @@ abbrev pub headers_value : List Header → Option Data
 headers_value [] = None
 headers_value (header ∷ headers) = Some (object (header_members (header ∷ headers)))
 
--- with this member, where there is a value for it
+-- with this member, if there is a value for it
 abbrev pub with_some : List ℕ → Option Data → Members → Members
 with_some name None members = members
 with_some name (Some d) members = put name d members
@@ -46,7 +46,7 @@ request_value r = object (request_members r)
 abbrev pub canonical_value : List Record → Data
 canonical_value rs = object (put (codes "requests") (array (items_of (map request_value rs))) no_members)
 
--- its text, where each number in it is whole
+-- its text, if each number in it is whole
 unfoldable pub canonical_text : List Record → List ℕ
 canonical_text rs = compact_text (canonical_value rs)
 

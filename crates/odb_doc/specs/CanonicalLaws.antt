@@ -1,4 +1,4 @@
--- What a text says that is the document of a batch (OData JSON Format 4.01, section 19.1).
+-- What it means that a text is the document of a batch (OData JSON Format 4.01, section 19.1).
 use Rattle.std.specs.Prelude.{◌≡◌, ℕ, List, Some}
 use Rattle.serde_json.specs.Data.{Data}
 use Rattle.serde_json.specs.Read.{read}

@@ -18,7 +18,7 @@ IsJson bytes d = IsUtf8 bytes × (read bytes ≡ Some d)
 abbrev pub IsDocument : List ℕ → Data → Type 0
 IsDocument bytes d = (length bytes ≤ most_bytes) × IsJson bytes d
 
--- Why the bytes are no document. Out of memory says nothing of them.
+-- Why the bytes are not a document. Out of memory may come in place of any reason.
 abbrev pub RefusesDocument : DocFault → List ℕ → Type 0
 RefusesDocument (faults.Document rules.TooLong) bytes = most_bytes < length bytes
 RefusesDocument (faults.Document rules.NotJson) bytes = (length bytes ≤ most_bytes) × ((d : Data) → ¬ IsJson bytes d)

@@ -14,7 +14,7 @@ use Rattle.odb_doc.specs.LeastEventFault.{BreaksEvent, IsLeastEventRule}
 use Rattle.odb_doc.specs.LeastRules.{IsLeast}
 use Rattle.odb_doc.specs.OutcomeShapes.{HasShape}
 
--- the element is no start, has the shape of a report, and says this
+-- the element is not a start, has the shape of a report, and these values
 pub record IsReportOf (d : Data) (shape : Shape) : Type 0 where
   pub reports : get (codes "start") d ≡ None
   pub says : HasShape objects.Report (codes "report") d shape
@@ -28,7 +28,7 @@ abbrev pub fault_at : ℕ → Broken EventRule → EventFault
 fault_at at (broken.Rule rule) = faults.Event at rule
 fault_at at broken.OutOfMemory = faults.OutOfMemory
 
--- the fault is that of the first element that has one. Out of memory says nothing.
+-- the fault is that of the first element that has one. Out of memory may come in place of any.
 abbrev pub RefusesElements : EventFault → List Data → Type 0
 RefusesElements faults.Document ds = ⊥
 RefusesElements (faults.Event at rule) ds = IsLeastEventRule ds at rule

@@ -1,4 +1,4 @@
--- Recorded events: what the elements of `events` are, and what they say. An event starts a request or reports how it
+-- Recorded events: what the elements of `events` are, and what they mean. An event starts a request or reports how it
 -- ended (OData JSON Format 4.01, section 19.5); the document of many is this product's own.
 use Rattle.std.specs.Prelude.{◌≡◌, ◌≤◌, List, [], Option, Some, None, IsSome, IsSomeAnd, IfSome, option_and_then, option_map, unwrap_or, codes, string_bytes}
 use Rattle.std.specs.List.{AllZip}
@@ -10,7 +10,7 @@ use Rattle.odb_doc.specs.declared.event.NamedEvent.TheVariants.{Start, Report}
 use Rattle.odb_doc.specs.declared.member.Object.TheVariants as objects
 use Rattle.odb_doc.specs.Bodies.{body_of}
 use Rattle.odb_doc.specs.Headers.{HasHeaders, headers_in}
-use Rattle.odb_doc.specs.Members.{list_of, text_at, HasFurther}
+use Rattle.odb_doc.specs.Members.{list_of, text_at, HasOther}
 use Rattle.odb_doc.specs.Outcomes.{HasOutcome, status_of}
 use Rattle.odb_doc.specs.WholeNumbers.{IsWhole}
 
@@ -24,7 +24,7 @@ elements d = unwrap_or (option_map list_of (events_in d)) []
 
 -- an object whose one member is `events`, an array
 pub record IsEventsObject (d : Data) : Type 0 where
-  pub one : ¬ HasFurther objects.Events d
+  pub one : ¬ HasOther objects.Events d
   pub array : IsSome (events_in d)
 
 -- a status that a report may have: a whole number of 16 bits
@@ -40,7 +40,7 @@ pub record IsReport (d : Data) : Type 0 where
 
 -- an object whose one member is `start`, a string
 pub record IsStart (d : Data) : Type 0 where
-  pub one : ¬ HasFurther objects.Start d
+  pub one : ¬ HasOther objects.Start d
   pub id : IsSome (text_at (codes "start") d)
 
 -- an element with a member `start` is a start, and any other a report
@@ -51,13 +51,13 @@ IsEventBy None d = IsReport d
 abbrev pub IsEvent : Data → Type 0
 IsEvent d = IsEventBy (get (codes "start") d) d
 
--- the element says this event
+-- the element reads as this event
 abbrev pub Says : Data → NamedEvent → Type 0
 Says d (Start id) = text_at (codes "start") d ≡ Some (string_bytes id)
 Says d (Report id outcome) =
     (text_at (codes "report") d ≡ Some (string_bytes id)) × (status_of d ≡ Some (unsigned outcome.status)) × HasHeaders d (headers_in outcome.headers) × (body_of d ≡ option_map view outcome.body)
 
--- the elements of the document say these events, one by one
+-- the elements of the document read as these events, one by one
 abbrev pub AreEventsOf : Data → List NamedEvent → Type 0
 AreEventsOf d events = AllZip Says (elements d) events
 
@@ -66,6 +66,6 @@ abbrev pub event_body : NamedEvent → Option Data
 event_body (Start id) = None
 event_body (Report id outcome) = option_map view outcome.body
 
--- what is so of each event that was read: the body of a report holds whole numbers alone
+-- what holds of each event that was read: the body of a report holds whole numbers alone
 pub record IsSoundEvent (event : NamedEvent) : Type 0 where
   pub whole : IfSome (event_body event) IsWhole

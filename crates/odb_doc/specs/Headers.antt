@@ -32,7 +32,7 @@ abbrev pub text_members_in : Option Data → Option (List Header)
 text_members_in None = Some []
 text_members_in (Some d) = option_and_then text_members (as_object d)
 
--- the members of the value at `headers`, which counts as absent where it is null
+-- the members of the value at `headers`, which is treated as absent if it is null
 abbrev pub listed_in : Option Data → Option (List Header)
 listed_in o = text_members_in (given o)
 

@@ -40,7 +40,7 @@ AreEvents ds = AreSound (BreaksEventAt ds)
 abbrev pub IsEventsDocument : Data → Type 0
 IsEventsDocument d = IsEventsObject d × AreEvents (elements d)
 
--- the fault is the least of the document. Out of memory says nothing.
+-- the fault is the least of the document. Out of memory may come in place of any, but see the clauses `memory`.
 abbrev pub RefusesEvents : EventFault → Data → Type 0
 RefusesEvents faults.Document d = ¬ IsEventsObject d
 RefusesEvents (faults.Event at rule) d = IsEventsObject d × IsLeastEventRule (elements d) at rule

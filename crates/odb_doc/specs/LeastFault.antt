@@ -29,7 +29,7 @@ IsLeastDocumentRule d rule = IsLeast document_number (λ other. BreaksDocument o
 abbrev pub IsFirstBroken : List Data → ℕ → RequestRule → Type 0
 IsFirstBroken ds at rule = IsFirst request_number (BreaksRequestAt ds) at rule
 
--- the fault is the least of shape. Out of memory says nothing.
+-- the fault is the least of shape. Out of memory may come in place of any, but see the clauses `memory`.
 abbrev pub IsLeastFault : DocFault → Data → Type 0
 IsLeastFault (faults.Document rule) d = IsLeastDocumentRule d rule
 IsLeastFault (faults.Request at rule) d = IsBatchObject d × IsFirstBroken (elements d) at rule

@@ -35,7 +35,7 @@ AreOutcomes ds = AreSound (BreaksOutcomeAt ds)
 abbrev pub IsOutcomesDocument : Data → Type 0
 IsOutcomesDocument d = IsOutcomesObject d × AreOutcomes (elements d)
 
--- the fault is the least of the document. Out of memory says nothing.
+-- the fault is the least of the document. Out of memory may come in place of any, but see the clauses `memory`.
 abbrev pub RefusesOutcomes : OutcomeFault → Data → Type 0
 RefusesOutcomes faults.Document d = ¬ IsOutcomesObject d
 RefusesOutcomes (faults.Outcome at rule) d = IsOutcomesObject d × IsLeastOutcomeRule (elements d) at rule

@@ -23,7 +23,7 @@ names_in _ = []
 abbrev pub text_at : List ℕ → Data → Option (List ℕ)
 text_at name d = option_and_then as_str (get name d)
 
--- the value at a member, where null counts as absent
+-- the value at a member, where null is treated as absent
 abbrev pub given : Option Data → Option Data
 given None = None
 given (Some null) = None
@@ -40,7 +40,7 @@ members_of Events = codes "events" ∷ []
 members_of Start = codes "start" ∷ []
 members_of Report = codes "report" ∷ codes "status" ∷ codes "headers" ∷ codes "body" ∷ []
 
--- the name holds `@`
+-- the name contains `@`
 abbrev pub is_annotation : List ℕ → Bool
 is_annotation name = list_any (λ byte. byte == 64) name
 
@@ -56,9 +56,9 @@ abbrev pub HasUnknown : Object → Data → Type 0
 HasUnknown owner d = list_any (is_unknown (members_of owner)) (names_in d) ≡ true
 
 -- the name is not one of these
-abbrev pub is_further : List (List ℕ) → List ℕ → Bool
-is_further known name = not (is_one_of known name)
+abbrev pub is_other : List (List ℕ) → List ℕ → Bool
+is_other known name = not (is_one_of known name)
 
 -- some member, also an annotation, is none that the object may have
-abbrev pub HasFurther : Object → Data → Type 0
-HasFurther owner d = list_any (is_further (members_of owner)) (names_in d) ≡ true
+abbrev pub HasOther : Object → Data → Type 0
+HasOther owner d = list_any (is_other (members_of owner)) (names_in d) ≡ true

@@ -1,4 +1,4 @@
--- Lists of names in which no name stands twice.
+-- Lists of names without repeats.
 use Rattle.std.specs.Prelude.{ℕ, List, [], ◌∷◌, ◌++◌, map, filter, bytes_eq, not, if◌then◌else◌}
 use Rattle.std.specs.Borrow.{Bor}
 use Rattle.std.specs.List.{list_any}
@@ -16,6 +16,6 @@ abbrev pub distinct : List (List ℕ) → List (List ℕ)
 distinct [] = []
 distinct (name ∷ names) = name ∷ without name (distinct names)
 
--- the names, and this one at the end unless it stands already
+-- the names, and this one at the end unless the list has it
 abbrev pub with_name : List (List ℕ) → List ℕ → List (List ℕ)
 with_name names name = if list_any (bytes_eq name) names then names else names ++ name ∷ []

@@ -17,7 +17,7 @@ use Rattle.odb_doc.specs.Bodies.{body_of}
 use Rattle.odb_doc.specs.Headers.{HasHeaders, headers_in}
 use Rattle.odb_doc.specs.LeastOutcomeFault.{BreaksOutcome, IsLeastOutcomeRule}
 use Rattle.odb_doc.specs.LeastRules.{IsLeast}
-use Rattle.odb_doc.specs.Members.{HasFurther, text_at}
+use Rattle.odb_doc.specs.Members.{HasOther, text_at}
 use Rattle.odb_doc.specs.OutcomeFaults.{rule_number}
 use Rattle.odb_doc.specs.Outcomes.{HasOutcome, status_of}
 
@@ -26,13 +26,13 @@ texts strings = map string_bytes strings
 
 -- the values at the four members, which alone are there
 pub record ArePartsOf (kind : Object) (name : List ℕ) (d : Data) (parts : Parts) : Type 0 where
-  pub known : ¬ HasFurther kind d
+  pub known : ¬ HasOther kind d
   pub id : option_map view parts.id ≡ get name d
   pub status : option_map view parts.status ≡ get (codes "status") d
   pub headers : option_map view parts.headers ≡ get (codes "headers") d
   pub body : option_map view parts.body ≡ get (codes "body") d
 
--- the element has the shape of an outcome with a string at this member, and says this
+-- the element has the shape of an outcome with a string at this member, and these values
 pub record HasShape (kind : Object) (name : List ℕ) (d : Data) (shape : Shape) : Type 0 where
   pub object : HasOutcome kind name d
   pub id : text_at name d ≡ Some (string_bytes shape.id)
@@ -40,7 +40,7 @@ pub record HasShape (kind : Object) (name : List ℕ) (d : Data) (shape : Shape)
   pub headers : HasHeaders d (headers_in shape.headers)
   pub body : body_of d ≡ option_map view shape.body
 
--- the element has the shape of an outcome, and says this
+-- the element has the shape of an outcome, and these values
 abbrev pub IsShapeOf : Data → Shape → Type 0
 IsShapeOf d shape = HasShape objects.Outcome (codes "id") d shape
 
@@ -53,7 +53,7 @@ abbrev pub fault_at : ℕ → Broken OutcomeRule → OutcomeFault
 fault_at at (broken.Rule rule) = faults.Outcome at rule
 fault_at at broken.OutOfMemory = faults.OutOfMemory
 
--- the fault is that of the first element that has one. Out of memory says nothing.
+-- the fault is that of the first element that has one. Out of memory may come in place of any.
 abbrev pub RefusesElements : OutcomeFault → List Data → Type 0
 RefusesElements faults.Document ds = ⊥
 RefusesElements (faults.Outcome at rule) ds = IsLeastOutcomeRule ds at rule

@@ -1,4 +1,4 @@
--- Recorded outcomes: what the elements of `outcomes` are, and what they say. An outcome is what a service
+-- Recorded outcomes: what the elements of `outcomes` are, and what they mean. An outcome is what a service
 -- answered to a request (OData JSON Format 4.01, section 19.5); the document of many is this product's own.
 use Rattle.std.specs.Prelude.{◌≡◌, ◌≤◌, ℕ, List, [], Option, Some, IsSome, IfSome, option_and_then, option_map, unwrap_or, codes, string_bytes, String}
 use Rattle.std.specs.declared.alloc.Global.{Global}
@@ -11,7 +11,7 @@ use Rattle.odb_doc.specs.declared.member.Object.TheVariants as objects
 use Rattle.odb_doc.specs.declared.outcome.Outcome.{Outcome}
 use Rattle.odb_doc.specs.Bodies.{body_of}
 use Rattle.odb_doc.specs.Headers.{HasHeaders, IsHeaders, headers_in}
-use Rattle.odb_doc.specs.Members.{list_of, text_at, HasFurther}
+use Rattle.odb_doc.specs.Members.{list_of, text_at, HasOther}
 use Rattle.odb_doc.specs.WholeNumbers.{IsWhole}
 
 -- the array at `outcomes`
@@ -24,7 +24,7 @@ elements d = unwrap_or (option_map list_of (outcomes_in d)) []
 
 -- an object whose one member is `outcomes`, an array
 pub record IsOutcomesObject (d : Data) : Type 0 where
-  pub one : ¬ HasFurther objects.Outcomes d
+  pub one : ¬ HasOther objects.Outcomes d
   pub array : IsSome (outcomes_in d)
 
 -- the string at `id`
@@ -38,7 +38,7 @@ status_of d = option_and_then as_number (get (codes "status") d)
 -- an object with a string at this member and a number `status`, maybe `headers` and a `body`, and no member that its
 -- kind does not have
 pub record HasOutcome (kind : Object) (name : List ℕ) (d : Data) : Type 0 where
-  pub known : ¬ HasFurther kind d
+  pub known : ¬ HasOther kind d
   pub id : IsSome (text_at name d)
   pub status : IsSome (status_of d)
   pub headers : IsHeaders (get (codes "headers") d)
@@ -64,18 +64,18 @@ Recorded = List ℕ × Outcome
 abbrev pub recorded : String Global × Outcome → Recorded
 recorded entry = (string_bytes entry.0, entry.1)
 
--- the element says this id and this outcome
+-- the element reads as this id and this outcome
 pub record Says (d : Data) (entry : Recorded) : Type 0 where
   pub id : id_of d ≡ Some entry.0
   pub status : status_of d ≡ Some (unsigned entry.1.status)
   pub headers : HasHeaders d (headers_in entry.1.headers)
   pub body : body_of d ≡ option_map view entry.1.body
 
--- the elements of the document say these outcomes, one by one
+-- the elements of the document read as these outcomes, one by one
 abbrev pub AreOutcomesOf : Data → List Recorded → Type 0
 AreOutcomesOf d entries = AllZip Says (elements d) entries
 
--- what is so of each outcome that was read: its status is from 200 to 599, and its body holds whole numbers alone
+-- what holds of each outcome that was read: its status is from 200 to 599, and its body holds whole numbers alone
 pub record IsSoundOutcome (entry : Recorded) : Type 0 where
   pub low : 200 ≤ entry.1.status
   pub high : entry.1.status ≤ 599

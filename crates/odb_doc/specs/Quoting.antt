@@ -1,4 +1,4 @@
--- Which bytes stand in a JSON string as they are (RFC 8259, section 7): for private clauses, nothing to believe.
+-- Which bytes a JSON string contains as they are (RFC 8259, section 7): for private clauses, nothing to believe.
 use Rattle.std.specs.Prelude.{◌==◌, ◌&&◌, ℕ, Bool, not, nat_le}
 
 -- neither a control character, nor `"`, nor `\`

@@ -1,4 +1,4 @@
--- What the requests of a document without a fault of shape say (OData JSON Format 4.01, section 19.1).
+-- What the requests of a document without a fault of shape are (OData JSON Format 4.01, section 19.1).
 use Rattle.std.specs.Prelude.{◌≡◌, ℕ, List, Option, Some, option_map, IfSome, bytes_eq, string_bytes}
 use Rattle.std.specs.List.{AllZip, IsDistinct}
 use Rattle.serde_json.specs.Data.{Data}
@@ -35,7 +35,7 @@ record_of r = record {
   body = option_map (λ body. view body.now) r.body;
 }
 
--- the element says this request
+-- the element reads as this request
 pub record Says (d : Data) (r : Record) : Type 0 where
   pub id : HasId d r.id
   pub method : HasMethod d r.method
@@ -46,13 +46,13 @@ pub record Says (d : Data) (r : Record) : Type 0 where
   pub headers : HasHeaders d r.headers
   pub body : body_of d ≡ r.body
 
--- what is so of each request of a batch: its identifier and its group have the form of identifiers, and
--- no name in `dependsOn` stands twice
+-- what holds of each request of a batch: its identifier and its group have the form of identifiers, and
+-- no name is in `dependsOn` twice
 pub record IsSoundRecord (r : Record) : Type 0 where
   pub id : IsRequestId r.id
   pub group : IfSome r.group IsRequestId
   pub names : IsDistinct bytes_eq r.names
 
--- the elements of the document say these requests, one by one
+-- the elements of the document read as these requests, one by one
 abbrev pub IsBatchOf : Data → List Record → Type 0
 IsBatchOf d rs = AllZip Says (elements d) rs

@@ -1,4 +1,4 @@
--- The shape of a batch document: where each fault stands (OData JSON Format 4.01, section 19.1).
+-- The shape of a batch document: where each fault applies (OData JSON Format 4.01, section 19.1).
 use Rattle.std.specs.Prelude.{◌≡◌, ◌<◌, ℕ, false, List, [], ◌∷◌, length, Option, Some, None, IsSome, IsNone, IsSomeAnd, option_and_then, option_map, unwrap_or, bytes_eq, codes}
 use Rattle.std.specs.List.{IsDistinct}
 use Rattle.serde_json.specs.Data.{Data, null, array, Items, no_items, item}
@@ -25,7 +25,7 @@ requests_in d = option_and_then as_array (get (codes "requests") d)
 abbrev pub elements : Data → List Data
 elements d = unwrap_or (option_map list_of (requests_in d)) []
 
--- Where a rule of the document is broken. A value has been read, so the document is neither too long nor no JSON.
+-- Where a rule of the document is broken. A value has been read, so the document is not too long, and is JSON.
 abbrev pub BreaksDocument : DocumentRule → Data → Type 0
 BreaksDocument document.TooLong d = ⊥
 BreaksDocument document.NotJson d = ⊥
@@ -49,7 +49,7 @@ pub record HasMethod (d : Data) (method : Method) : Type 0 where
 abbrev pub url_of : Data → Option (List ℕ)
 url_of d = text_at (codes "url") d
 
--- the member `atomicityGroup` is this identifier, or none where it is absent or null
+-- the member `atomicityGroup` is this identifier, or none if it is absent or null
 abbrev pub HasGroup : Data → Option (List ℕ) → Type 0
 HasGroup d None = given (get (codes "atomicityGroup") d) ≡ None
 HasGroup d (Some group) = (text_at (codes "atomicityGroup") d ≡ Some group) × IsRequestId group
@@ -59,7 +59,7 @@ abbrev pub texts_of : Items → Option (List (List ℕ))
 texts_of no_items = Some []
 texts_of (item d ds) = option_and_then (λ text. option_map (λ texts. text ∷ texts) (texts_of ds)) (as_str d)
 
--- the strings of an array, none where it is absent or null
+-- the strings of an array, none if it is absent or null
 abbrev pub texts_or_none : Option Data → Option (List (List ℕ))
 texts_or_none None = Some []
 texts_or_none (Some null) = Some []
@@ -77,7 +77,7 @@ pub record HasBodyNotAllowed (d : Data) : Type 0 where
   pub none : takes_body method ≡ false
   pub body : IsSome (body_of d)
 
--- Where a rule of a request is broken. Of an element that is no object nothing else is asked.
+-- Where a rule of a request is broken. An element that is not an object breaks no other.
 abbrev pub BreaksRequest : RequestRule → Data → Type 0
 BreaksRequest request.NotRequestObject d = IsNone (as_object d)
 BreaksRequest request.IfMember d = IsSome (get (codes "if") d)

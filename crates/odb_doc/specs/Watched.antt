@@ -6,7 +6,7 @@ use Rattle.std.specs.List.{IsDistinct, list_any}
 use Rattle.odb_doc.specs.declared.seen.SeenIds.{SeenIds}
 use Rattle.odb_doc.specs.OutcomeShapes.{texts}
 
--- the same texts, whatever their order and however often each stands
+-- the same texts, whatever their order and however often each is listed
 abbrev pub AreSameTexts : List (List ℕ) → List (List ℕ) → Type 0
 AreSameTexts xs ys = (q : List ℕ) → list_any (bytes_eq q) xs ≡ list_any (bytes_eq q) ys
 

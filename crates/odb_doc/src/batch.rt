@@ -15,7 +15,7 @@ use crate::request::Request;
 use serde_json::Value;
 use std::alloc::Global;
 
-/// How many requests a batch may have.
+/// The limit of F06.
 const MAX_REQUESTS: usize = 10_000;
 
 /// The requests of a batch document without a fault of shape, in the order of the document.
@@ -25,7 +25,7 @@ pub struct Batch<'a> {
     ghost small: { vec_len requests ≤ 10000 },
 }
 
-/// The array at `requests`.
+/// Returns the array at `requests`.
 fn requests_of(document: &Value) -> Option<&[Value]>
     ensures array { IsSome result ↔ IsSome (requests_in (view document.now)) }
     ensures elements { IfSome result (λ found. elements (view document.now) ≡ map view found.now) }
@@ -35,7 +35,7 @@ fn requests_of(document: &Value) -> Option<&[Value]>
     Some(document.get("requests")?.as_array()?.as_slice())
 }
 
-/// The elements of `requests`, where the document as a whole breaks no rule.
+/// Returns the elements of `requests`, or the first rule that the document as a whole breaks.
 fn elements_of(document: &Value) -> Result<&[Value], DocumentRule>
     ensures whole { OnOk result (IsBatchObject (view document.now)) }
     ensures elements { IfOk result (λ found. elements (view document.now) ≡ map view found.now) }
@@ -57,7 +57,7 @@ fn elements_of(document: &Value) -> Result<&[Value], DocumentRule>
     Ok(elements)
 }
 
-/// The fault of the request at a position.
+/// Returns the fault of the request at a position.
 fn fault_at(at: usize, broken: Broken<RequestRule>) -> DocFault
     ensures { result ≡ fault_at at broken }
 {
@@ -67,7 +67,7 @@ fn fault_at(at: usize, broken: Broken<RequestRule>) -> DocFault
     }
 }
 
-/// The requests of the elements, or the first fault among them.
+/// Returns the requests of the elements, or the first fault among them.
 fn requests_from<'a>(alloc: Global, elements: &'a [Value]) -> Result<Vec<Request<'a>>, DocFault>
     ensures sound { OnOk result (AreSound (BreaksRequestAt (map view elements.now))) }
     ensures says { IfOk result (λ found. AllZip Says (map view elements.now)
@@ -91,16 +91,16 @@ impl<'a> Batch<'a> {
 
     /// Reads a batch from its document (OData JSON Format 4.01, section 19.1).
     ///
-    /// `document` is the value that [`crate::parse`] made. Texts and bodies are borrowed from it;
-    /// `alloc` is asked for the list of requests and, for each, its names, its headers and the
-    /// identifier in its URL.
+    /// `document` is the value that [`crate::parse`] made. Texts and bodies are borrowed from it.
+    /// Allocates the list of requests and, for each, its names, its headers and the identifier in its
+    /// URL.
     ///
     /// It takes O(n log n) for a document of n bytes, whatever its names are: repeats are found by
     /// order and not by hash, so no choice of names makes it slow.
     ///
     /// # Errors
     ///
-    /// A fault of the document, F03 to F06, the least by number, where there is one; else, at the
+    /// The least fault of the document as a whole, F03 to F06, if there is one; else, at the
     /// first request that has a fault, the least of F10 to F23 by number. `OutOfMemory` if an
     /// allocation fails, in place of F10 to F23 or of a batch that has a request.
     pub fn read(alloc: Global, document: &'a Value) -> Result<Batch<'a>, DocFault>
@@ -115,7 +115,7 @@ impl<'a> Batch<'a> {
         Ok(Batch { requests })
     }
 
-    /// How many requests there are: 10,000 at most.
+    /// Returns how many requests there are: 10,000 at most.
     pub fn len(&self) -> u32
         ensures count { result ≡ length (records self.now) }
         ensures small { result ≤ 10000 }
@@ -123,7 +123,7 @@ impl<'a> Batch<'a> {
         self.requests.len() as u32
     }
 
-    /// The request at a position, counted from 0.
+    /// Returns the request at a position, counted from 0.
     pub fn request(&self, i: u32) -> &Request<'a>
         requires { i < length (records self.now) }
         ensures value { slice_get (records self.now) i ≡ Some (record_of result.now) }

@@ -17,7 +17,7 @@ use serde_json::Value;
 use std::alloc::{AllocError, Global};
 use std::collections::BTreeMap;
 
-/// Whether the value is of the kind.
+/// Returns whether the value is of the kind.
 fn is_of_kind(kind: BodyKind, body: &Value) -> bool
     ensures { IsTrue result ↔ IsOfKind kind (view body.now) }
 {
@@ -28,7 +28,7 @@ fn is_of_kind(kind: BodyKind, body: &Value) -> bool
     }
 }
 
-/// The value of the header `content-type`, where no header counts as an empty one.
+/// Returns the value of the header `content-type`, or the empty text if there is none.
 fn content_type(headers: &BTreeMap<String, String>) -> &str
     ensures { result.now ≡ content_type (headers_in headers.now) }
 {
@@ -38,8 +38,8 @@ fn content_type(headers: &BTreeMap<String, String>) -> &str
     }
 }
 
-/// Whether the body is one that the media type of the headers allows.
-fn is_fit(
+/// Returns whether the media type in the headers allows the body.
+fn is_allowed(
     alloc: Global,
     headers: &BTreeMap<String, String>,
     body: &Value,
@@ -52,7 +52,7 @@ fn is_fit(
     Ok(is_of_kind(kind, body))
 }
 
-/// The body of a request, if any, or the first of the rules F20 and F21 that it breaks.
+/// Returns the body of a request, if any, or the first of the rules F20 and F21 that it breaks.
 pub(crate) fn body_of<'a>(
     alloc: Global,
     element: &'a Value,
@@ -73,7 +73,7 @@ pub(crate) fn body_of<'a>(
     if !method.takes_body() {
         return Err(Broken::Rule(RequestRule::BodyNotAllowed));
     }
-    if !is_fit(alloc, headers, body)? {
+    if !is_allowed(alloc, headers, body)? {
         return Err(Broken::Rule(RequestRule::BadBody));
     }
     Ok(Some(body))

@@ -9,7 +9,7 @@ use std::alloc::{AllocError, AllocFailed};
 pub(crate) enum Broken<R> {
     /// The element breaks this rule.
     Rule(R),
-    /// Memory was refused. That says nothing of the element.
+    /// An allocation failed. The element may break a rule or none.
     OutOfMemory,
 }
 

@@ -58,8 +58,8 @@ impl Batch<'_> {
     /// in byte order (OData JSON Format 4.01, section 19.1).
     ///
     /// Batches with the same requests have the same text, whatever their documents look like: what
-    /// counts as absent is left out, methods and the names of headers are in lower case, and each
-    /// name of `dependsOn` stands once. No newline ends it.
+    /// is treated as absent is left out, methods and the names of headers are in lower case, and each
+    /// name of `dependsOn` appears once. No newline ends it.
     ///
     /// Allocates the text, and the text of one body, or of one string with escapes, at a time. It takes
     /// O(n) for a text of n bytes.

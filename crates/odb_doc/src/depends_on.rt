@@ -11,7 +11,7 @@ use crate::repeats::without_repeats;
 use serde_json::Value;
 use std::alloc::{AllocError, Global};
 
-/// The strings of an array, or `None` where an element is not a string.
+/// Returns the strings of an array, or `None` if an element is not a string.
 fn all_texts<'a>(alloc: Global, elements: &'a [Value]) -> Result<Option<Vec<&'a str>>, AllocError>
     ensures { IfOk result (λ found. option_map (λ list. texts_in list.items) found
         ≡ texts_of (items_view elements.now)) }
@@ -26,7 +26,7 @@ fn all_texts<'a>(alloc: Global, elements: &'a [Value]) -> Result<Option<Vec<&'a 
     Ok(Some(texts))
 }
 
-/// The strings in `dependsOn`, or `None` where it is not an array of strings.
+/// Returns the strings in `dependsOn`, or `None` if it is not an array of strings.
 fn listed_names<'a>(alloc: Global, element: &'a Value) -> Result<Option<Vec<&'a str>>, AllocError>
     ensures { IfOk result (λ found. option_map (λ list. texts_in list.items) found
         ≡ listed_names (view element.now)) }
@@ -38,8 +38,8 @@ fn listed_names<'a>(alloc: Global, element: &'a Value) -> Result<Option<Vec<&'a 
     }
 }
 
-/// The names in `dependsOn` without repeats, each at its first place, or F17 where it is not an array
-/// of strings.
+/// Returns the names in `dependsOn` without repeats, each at its first place, or F17 if it is not an
+/// array of strings.
 pub(crate) fn names_of<'a>(
     alloc: Global,
     element: &'a Value,

@@ -5,10 +5,10 @@ use std::io::{Read, Write};
 use std::marker::Model;
 use thiserror::Error;
 
-/// How often an input may be read: once for each byte of the longest document, and one byte more.
+/// How often an input may be read: once for each byte of the longest document, and once more.
 pub const MAX_READS: u32 = 16_777_217;
 
-/// A device failed. Which one did, it remembers itself.
+/// A read or write failed. The [`Input`] or [`Output`] remembers it: see `failed`.
 #[derive(Clone, Copy, Debug, PartialEq, Eq, Error)]
 #[error("the device failed")]
 pub struct DeviceFault;
@@ -30,7 +30,7 @@ impl<R> Model for Input<R> {
 }
 
 impl<R: Read> Input<R> {
-    /// An input over the reader, which was not read yet.
+    /// Makes an input over a reader that was not read yet.
     pub fn new(reader: R) -> Self
         ensures { result ≡ record { reader = reader; failed = false; reads = 0 } }
     {
@@ -41,7 +41,7 @@ impl<R: Read> Input<R> {
         }
     }
 
-    /// The reader, as the reads so far have left it.
+    /// Returns the reader, as the reads so far have left it.
     pub fn into_inner(self) -> R
         ensures { result ≡ self.reader }
     {
@@ -49,22 +49,22 @@ impl<R: Read> Input<R> {
         reader
     }
 
-    /// Whether a read failed.
+    /// Returns whether a read failed.
     pub fn failed(&self) -> bool
         ensures { result ≡ self.now.failed }
     {
         self.failed
     }
 
-    /// How often `take` was called.
+    /// Returns how often `take` was called.
     pub fn reads(&self) -> u32
         ensures { result ≡ self.now.reads }
     {
         self.reads
     }
 
-    /// Reads once into the buffer, and returns how many bytes came. None come at the end, or where
-    /// the buffer has no room.
+    /// Reads once into the buffer, and returns how many bytes were read: 0 at the end, or if the buffer
+    /// is empty.
     ///
     /// Any error of the reader is a fault, an interrupted read among them.
     pub fn take(&mut self, buffer: &mut [u8]) -> Result<usize, DeviceFault>
@@ -103,7 +103,7 @@ impl<W> Model for Output<W> {
 }
 
 impl<W: Write> Output<W> {
-    /// An output over the writer.
+    /// Makes an output over the writer.
     pub fn new(writer: W) -> Self
         ensures { result ≡ record { writer = writer; failed = false } }
     {
@@ -113,7 +113,7 @@ impl<W: Write> Output<W> {
         }
     }
 
-    /// The writer, as the writes so far have left it.
+    /// Returns the writer, as the writes so far have left it.
     pub fn into_inner(self) -> W
         ensures { result ≡ self.writer }
     {
@@ -121,17 +121,17 @@ impl<W: Write> Output<W> {
         writer
     }
 
-    /// Whether a write failed.
+    /// Returns whether a write failed.
     pub fn failed(&self) -> bool
         ensures { result ≡ self.now.failed }
     {
         self.failed
     }
 
-    /// Writes once, and returns how many of the bytes were taken, from their front.
+    /// Writes once, and returns how many of the bytes were written, from the first on.
     ///
-    /// Any error of the writer is a fault, an interrupted write among them, and so is a write that
-    /// takes none of some bytes.
+    /// Any error of the writer is a fault, an interrupted write among them, and so is a write of some
+    /// bytes that writes none.
     pub fn put(&mut self, bytes: &[u8]) -> Result<usize, DeviceFault>
         requires { self.old.failed ≡ false }
         ensures fault { IsErr result ↔ IsTrue self.new.failed }

@@ -8,16 +8,15 @@ use crate::fault::{DocFault, DocumentRule};
 use serde_json::Value;
 use std::alloc::Global;
 
-/// How many bytes a document may have.
+/// The limit of F01, in bytes.
 pub const MAX_DOCUMENT_BYTES: usize = 16_777_216;
 
-/// The JSON value of a document. It nests at most 127 deep.
+/// Returns the JSON value of a document. It nests at most 127 deep.
 ///
 /// # Errors
 ///
-/// F01 if and only if there are more than 16,777,216 bytes; else F02 if `serde_json` refuses them for
-/// another cause than memory. `OutOfMemory` if an allocation fails, which neither reading no bytes
-/// nor reporting F01 needs.
+/// F01 if and only if the document is larger than 16,777,216 bytes; else F02 if it is not JSON.
+/// `OutOfMemory` if an allocation fails: not for F01, and not for an empty document.
 pub fn parse(alloc: Global, bytes: &[u8]) -> Result<Value, DocFault>
     ensures ok { IfOk result (λ value. IsDocument bytes.now (view value)) }
     ensures nests { IfOk result (λ value. depth (view value) ≤ 127) }

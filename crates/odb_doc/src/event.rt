@@ -24,11 +24,11 @@ use std::alloc::Global;
 pub enum NamedEvent {
     /// The request was handed to its service.
     Start(String),
-    /// The service answered so. The status is any number of 16 bits.
+    /// The service answered with this outcome. The status is any number of 16 bits.
     Report(String, Outcome),
 }
 
-/// The status, or `None` where it is no whole number of 16 bits.
+/// Returns the status, or `None` if it is not a whole number of 16 bits.
 fn status_of(status: Number) -> Option<u16>
     ensures { MatchOption result (¬ IsReportedStatus (number_view status))
         (λ code. IsReportedStatus (number_view status) × (number_view status ≡ unsigned code)) }
@@ -41,19 +41,19 @@ fn status_of(status: Number) -> Option<u16>
     }
 }
 
-/// The id of a start, moved out of it, or `None` where the element is none.
+/// Moves the id out of a start, or returns `None` if the element is not a start.
 fn start_of(element: &mut Value) -> Option<String>
     ensures { MatchOption result (¬ IsStart (view element.old))
         (λ id. IsStart (view element.old)
         × (members.text_at (codes "start") (view element.old) ≡ Some (string_bytes id))) }
 {
-    if Object::Start.has_further(element) {
+    if Object::Start.has_other(element) {
         return None;
     }
     text_of(moved(element.as_object_mut()?, "start")?)
 }
 
-/// The status of a report of this shape, or the rule that the report breaks.
+/// Returns the status of a report of this shape, or the rule that the report breaks.
 fn status_in(shape: &Shape) -> Result<u16, EventRule>
     ensures status { IfOk result (λ code. number_view shape.now.status ≡ unsigned code) }
     ensures whole { OnOk result (IfSome (option_map view shape.now.body) IsWhole) }
@@ -72,7 +72,7 @@ fn status_in(shape: &Shape) -> Result<u16, EventRule>
     }
 }
 
-/// What an element without a `start` says, moved out of it, or the rule that it breaks.
+/// Reads an element without a `start`, moving its values out, or returns the rule that it breaks.
 fn read_report(alloc: Global, element: &mut Value) -> Result<NamedEvent, Broken<EventRule>>
     requires { get (codes "start") (view element.old) ≡ None }
     ensures sound { OnOk result ((rule : EventRule) → ¬ BreaksEvent rule (view element.old)) }
@@ -89,7 +89,7 @@ fn read_report(alloc: Global, element: &mut Value) -> Result<NamedEvent, Broken<
     }
 }
 
-/// The report of this shape.
+/// Returns the report of this shape.
 fn reported(shape: Shape, status: u16) -> NamedEvent
     ensures { result ≡ Report shape.id (record {
       status = status;
@@ -107,14 +107,14 @@ fn reported(shape: Shape, status: u16) -> NamedEvent
     )
 }
 
-/// Whether the element has a member `start`.
+/// Returns whether the element has a member `start`.
 fn has_start(element: &Value) -> bool
     ensures { result ≡ is_some (get (codes "start") (view element.now)) }
 {
     element.get("start").is_some()
 }
 
-/// What an element says, moved out of it, or the rule that it breaks.
+/// Reads an element, moving its values out, or returns the rule that it breaks.
 pub(crate) fn read_event(
     alloc: Global,
     element: &mut Value,

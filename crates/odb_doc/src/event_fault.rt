@@ -27,7 +27,7 @@ pub enum EventFault {
     /// The event at this position, counted from 0, breaks this rule.
     #[error("event {at}: {rule}")]
     Event { at: usize, rule: EventRule },
-    /// Memory was refused. That says nothing of the document.
+    /// An allocation failed. The document may have a fault or none.
     #[error("out of memory")]
     OutOfMemory,
 }

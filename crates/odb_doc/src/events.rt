@@ -22,7 +22,7 @@ pub struct Events {
     ghost sound: { All IsSoundEvent entries.items } by { Prim.hlevel props },
 }
 
-/// The fault of the element at a position.
+/// Returns the fault of the element at a position.
 fn fault_at(at: usize, broken: Broken<EventRule>) -> EventFault
     ensures { result ≡ fault_at at broken }
 {
@@ -32,7 +32,7 @@ fn fault_at(at: usize, broken: Broken<EventRule>) -> EventFault
     }
 }
 
-/// The events that the elements say, moved out of them, or the first fault among them.
+/// Reads the elements, moving their values out, or returns the first fault among them.
 fn events_from(alloc: Global, elements: &mut Vec<Value>) -> Result<Vec<NamedEvent>, EventFault>
     ensures sound { OnOk result (AreEvents (map view elements.old.items)) }
     ensures says { IfOk result (λ found. AllZip Says (map view elements.old.items) found.items) }
@@ -50,13 +50,13 @@ fn events_from(alloc: Global, elements: &mut Vec<Value>) -> Result<Vec<NamedEven
     Ok(entries)
 }
 
-/// The array that is the one member of the document, moved out of it.
+/// Moves out the array that is the one member of the document.
 fn elements_of(document: Value) -> Option<Vec<Value>>
     ensures none { IfNone result (¬ IsEventsObject (view document)) }
     ensures object { OnSome result (IsEventsObject (view document)) }
     ensures elements { IfSome result (λ found. elements (view document) ≡ map view found.items) }
 {
-    if Object::Events.has_further(&document) {
+    if Object::Events.has_other(&document) {
         return None;
     }
     array_of(member_of(document, "events")?)
@@ -69,8 +69,8 @@ impl Events {
     /// `{"start":"a"}`, and of reports, `{"report":"a","status":200,"headers":{..},"body":..}`.
     ///
     /// `document` is the value that [`crate::parse`] made. Its ids, headers and bodies are moved out of
-    /// it; `alloc` is asked for the list of events and for the maps of their headers. The ids need not
-    /// be identifiers of requests, and a status may be any whole number from 0 to 65535. It takes time
+    /// it. Allocates the list of events and the maps of their headers. The ids need not be
+    /// identifiers of requests, and a status may be any whole number from 0 to 65535. It takes time
     /// linear in the document.
     ///
     /// # Errors

@@ -30,14 +30,14 @@ pub enum Place {
 /// A rule that a document as a whole breaks (OData JSON Format 4.01, section 19.1).
 #[derive(Clone, Copy, Debug, PartialEq, Eq)]
 pub enum DocumentRule {
-    /// F01: the document has more than 16,777,216 bytes.
+    /// F01: the document is larger than 16,777,216 bytes.
     TooLong,
     /// F02: the bytes are not valid JSON: not UTF-8, malformed, nested deeper than 127, or containing
     /// a number out of range.
     NotJson,
     /// F03: the document is not an object.
     NotObject,
-    /// F04: the object has no `requests`, or it is not an array.
+    /// F04: `requests` is missing or not an array.
     NoRequests,
     /// F05: a member other than `requests` has a name without `@`.
     UnknownMember,
@@ -54,24 +54,24 @@ pub enum RequestRule {
     IfMember,
     /// F12: a member that requests do not have has a name without `@`.
     UnknownRequestMember,
-    /// F13: `id` is absent, or is not a string that is an identifier.
+    /// F13: `id` is missing or not an identifier.
     BadId,
-    /// F14: `method` is absent, or is not a string that names a method in any ASCII case.
+    /// F14: `method` is missing or not the name of a method, in any ASCII case.
     BadMethod,
-    /// F15: `url` is absent, or is not a string.
+    /// F15: `url` is missing or not a string.
     BadUrl,
-    /// F16: `atomicityGroup` is there, is not null, and is not a string that is an identifier.
+    /// F16: `atomicityGroup` has a value other than null that is not an identifier.
     BadGroup,
-    /// F17: `dependsOn` is there, is not null, and is not an array of strings.
+    /// F17: `dependsOn` has a value other than null that is not an array of strings.
     BadDependsOn,
-    /// F18: `headers` is there, is not null, and is not an object whose values are all strings.
+    /// F18: `headers` has a value other than null that is not an object of strings.
     BadHeaders,
-    /// F19: `headers` is an object with two names that are equal once they are folded in ASCII.
+    /// F19: two names in `headers` differ in ASCII case alone.
     HeaderTwice,
-    /// F20: the method is `delete` or `get`, and `body` is there and is not null.
+    /// F20: a `delete` or a `get` has a `body` other than null.
     BodyNotAllowed,
-    /// F21: the headers can be read, `body` is there and is not null, and is not of the kind that
-    /// the media type at `content-type` asks for.
+    /// F21: the headers pass F18 and F19, and their `content-type` does not allow the `body`, which is
+    /// not null.
     BadBody,
     /// F22: the last segment of the path of `url`, percent-decoded, is `$batch`.
     NestedBatch,
@@ -89,7 +89,7 @@ pub enum DocFault {
     /// The request at this position, counted from 0, breaks this rule.
     #[error("request {at}: {rule}")]
     Request { at: usize, rule: RequestRule },
-    /// Memory was refused. That says nothing of the document.
+    /// An allocation failed. The document may have a fault or none.
     #[error("out of memory")]
     OutOfMemory,
 }
@@ -101,7 +101,7 @@ pub enum TextFault {
     /// number that is not whole.
     #[error("request {at}: the body holds a number that is not whole")]
     NotWhole { at: usize },
-    /// Memory was refused. That says nothing of the bodies.
+    /// An allocation failed. Each body holds whole numbers alone.
     #[error("out of memory")]
     OutOfMemory,
 }
@@ -118,7 +118,7 @@ impl DocumentRule {
             DocumentRule::TooLong => (
                 "F01",
                 "TooLong",
-                "the document has more than 16,777,216 bytes",
+                "the document is larger than 16,777,216 bytes",
             ),
             DocumentRule::NotJson => ("F02", "NotJson", "the document is not JSON"),
             DocumentRule::NotObject => ("F03", "NotObject", "the document is not an object"),

@@ -18,7 +18,7 @@ use serde_json::{Map, Value};
 use std::alloc::{AllocError, Global};
 use std::collections::BTreeMap;
 
-/// The text in lower case.
+/// Returns the text in lower case.
 fn lowercase(text: String) -> String
     ensures { string_bytes result ≡ str_to_ascii_lowercase (string_bytes text) }
 {
@@ -68,8 +68,8 @@ fn put_copy(
     put(headers, name, value)
 }
 
-/// The headers of an object by their names in lower case, or `None` where a value is not a string or
-/// two of these names are equal.
+/// Returns the headers of an object by their names in lower case, or `None` if a value is not a string
+/// or two of these names are equal.
 fn copied_headers(
     alloc: Global,
     members: &Map<String, Value>,
@@ -91,7 +91,7 @@ fn copied_headers(
     Ok(Some(headers))
 }
 
-/// Whether all values are strings.
+/// Returns whether all values are strings.
 fn are_texts(members: &Map<String, Value>) -> bool
     ensures { IsTrue result ↔ IsSome (text_members (members_view members.now.entries)) }
 {
@@ -103,8 +103,8 @@ fn are_texts(members: &Map<String, Value>) -> bool
     true
 }
 
-/// The headers of a request by their names in lower case, or the first of the rules F18 and F19 that
-/// it breaks.
+/// Returns the headers of a request by their names in lower case, or the first of the rules F18 and
+/// F19 that it breaks.
 pub(crate) fn headers_of(
     alloc: Global,
     element: &Value,
@@ -148,8 +148,8 @@ fn moved_headers(
     Ok(Some(headers))
 }
 
-/// The headers in a member, moved out of it, by their names in lower case. A member that is absent or
-/// null has none. Returns `None` where it is not an object of strings, or two of these names are equal.
+/// Moves the headers out of a member, by their names in lower case. A member that is absent or null
+/// has none. Returns `None` if it is not an object of strings, or two of these names are equal.
 pub(crate) fn headers_from(
     alloc: Global,
     member: Option<Value>,

@@ -1,5 +1,5 @@
 //! What a value determines: its least fault, and the batch that it is; and what the canonical text of
-//! a batch says.
+//! a batch determines.
 //!
 //! The laws are clauses of functions that change nothing. They speak of the words that the clauses of
 //! [`crate::Batch::read`] use, for callers that compare two readings of one value.
@@ -16,7 +16,7 @@ ghost use Rattle.odb_doc.specs.LeastFault.{IsLeastFault, IsWellShaped};
 ghost use Rattle.odb_doc.specs.Names.{distinct, with_name};
 ghost use Rattle.odb_doc.specs.Records.{Record, IsBatchOf};
 
-/// A value has one least fault of shape at most, and none where it is well shaped (OData JSON Format
+/// A value has one least fault of shape at most, and none if it is well shaped (OData JSON Format
 /// 4.01, section 19.1).
 pub fn one_fault()
     ensures one { (value : Data) (fault other : DocFault) → IsNumbered fault → IsNumbered other

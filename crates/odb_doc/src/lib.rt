@@ -1,13 +1,14 @@
 //! OData JSON batch documents: from bytes to the requests of a batch.
 //!
 //! A batch comes as a JSON document (OData JSON Format 4.01, section 19.1). [`parse`] makes a value
-//! of its bytes, and [`Batch::read`] makes the batch of that value, or tells the least fault of its
-//! shape. Whether the names that requests give each other fit together is decided by the crates
-//! above. [`Batch::canonical`] returns the one text of all documents that make the same batch.
+//! of its bytes, and [`Batch::read`] makes the batch of that value, or returns the least fault of its
+//! shape. The crates above decide whether the names in the requests fit together.
+//! [`Batch::canonical`] returns the one text of all documents that make the same batch.
 //! [`Outcomes::read`] makes recorded outcomes of the value of a document of their own, and
-//! [`Outcomes::split`] hands back what is left of it besides: an [`Outcome`] is what a request ended
-//! with. [`is_whole`] says which values may be written.
-//! [`Input`] and [`Output`] are a reader and a writer that remember whether they failed.
+//! [`Outcomes::split`] returns what remains of it too; an [`Outcome`] is what a service answered.
+//! [`Events::read`] and [`Events::split`] do so for recorded events. [`is_whole`] returns whether a
+//! value can be written. [`Input`] and [`Output`] are a reader and a writer that remember whether they
+//! failed.
 #![tactic(auto)]
 
 mod batch;

@@ -19,7 +19,7 @@ pub(crate) struct RequestLine<'a> {
     pub(crate) group: Option<&'a str>,
 }
 
-/// The identifier at `id`.
+/// Returns the identifier at `id`.
 fn id_of(element: &Value) -> Option<&str>
     ensures { MatchOption result ((id : List ℕ) → ¬ HasId (view element.now) id)
         (λ id. HasId (view element.now) id.now) }
@@ -27,7 +27,7 @@ fn id_of(element: &Value) -> Option<&str>
     text_at(element, "id").filter(|id| is_request_id(id))
 }
 
-/// The method that `method` names.
+/// Returns the method that `method` names.
 fn method_of(element: &Value) -> Option<Method>
     ensures { MatchOption result ((method : Method) → ¬ HasMethod (view element.now) method)
         (HasMethod (view element.now)) }
@@ -35,7 +35,7 @@ fn method_of(element: &Value) -> Option<Method>
     Method::read(text_at(element, "method")?)
 }
 
-/// The group at `atomicityGroup`, if any, or F16.
+/// Returns the group at `atomicityGroup`, if any, or F16.
 fn group_of(element: &Value) -> Result<Option<&str>, RequestRule>
     ensures has { IfOk result (λ group. HasGroup (view element.now)
         (option_map (λ text. text.now) group)) }

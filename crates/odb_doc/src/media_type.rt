@@ -23,7 +23,7 @@ fn is_blank(byte: u8) -> bool
     matches!(byte, b' ' | b'\t')
 }
 
-/// The text before the first `;`, where the parameters begin.
+/// Returns the text before the first `;`, with which the parameters begin.
 fn without_parameters(value: &[u8]) -> &[u8]
     ensures { (rest : List ℕ) × SplitsRun is_in_type value.now result.now rest }
 {
@@ -31,7 +31,7 @@ fn without_parameters(value: &[u8]) -> &[u8]
     value.split_at(place.unwrap_or(value.len())).0
 }
 
-/// The text after the spaces and tabs that it begins with.
+/// Returns the text after the spaces and tabs that it begins with.
 fn without_leading_blanks(text: &[u8]) -> &[u8]
     ensures { (before : List ℕ) × SplitsRun is_blank text.now before result.now }
 {
@@ -39,7 +39,7 @@ fn without_leading_blanks(text: &[u8]) -> &[u8]
     text.split_at(place.unwrap_or(text.len())).1
 }
 
-/// Where the spaces and tabs begin that the text ends with.
+/// Returns where the spaces and tabs begin that the text ends with.
 fn trailing_blanks_at(text: &[u8]) -> usize
     ensures bound { result ≤ length text.now }
     ensures after { (k : ℕ) → result ≤ k → k < length text.now
@@ -52,21 +52,21 @@ fn trailing_blanks_at(text: &[u8]) -> usize
     }
 }
 
-/// The text before the spaces and tabs that it ends with.
+/// Returns the text before the spaces and tabs that it ends with.
 fn without_trailing_blanks(text: &[u8]) -> &[u8]
     ensures { IsEndOf text.now result.now }
 {
     text.split_at(trailing_blanks_at(text)).0
 }
 
-/// The text without the spaces and tabs at its ends.
+/// Returns the text without the spaces and tabs at its ends.
 fn trimmed(text: &[u8]) -> &[u8]
     ensures { IsTrimmed text.now result.now }
 {
     without_trailing_blanks(without_leading_blanks(text))
 }
 
-/// The media type of a `content-type`, in lower case.
+/// Returns the media type of a `content-type`, in lower case.
 fn media_type(alloc: Global, value: &str) -> Result<Vec<u8>, AllocError>
     ensures { IfOk result (λ found. (name : List ℕ) × HasType value.now name
         × (found.items ≡ str_to_ascii_lowercase name)) }
@@ -77,7 +77,7 @@ fn media_type(alloc: Global, value: &str) -> Result<Vec<u8>, AllocError>
 }
 
 impl BodyKind {
-    /// The kind that the media type asks for, which is in lower case.
+    /// Returns the kind that the media type asks for, which is in lower case.
     fn asked_by(name: &[u8]) -> BodyKind
         ensures { AsksFor name.now result }
     {
@@ -90,7 +90,7 @@ impl BodyKind {
         }
     }
 
-    /// The kind that a `content-type` asks for. One that is empty asks for any JSON value.
+    /// Returns the kind that a `content-type` asks for. An empty one asks for any JSON value.
     pub(crate) fn of(alloc: Global, content_type: &str) -> Result<BodyKind, AllocError>
         ensures { IfOk result (HasKind content_type.now) }
     {

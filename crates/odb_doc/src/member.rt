@@ -8,8 +8,7 @@ ghost use Rattle.odb_doc.specs.Members as spec;
 
 use serde_json::{Map, Number, Value};
 
-/// The objects of a batch document and of documents of outcomes and of events, each with members of
-/// its own.
+/// The objects in documents of batches, outcomes and events, each with members of its own.
 #[derive(Clone, Copy)]
 pub(crate) enum Object {
     Document,
@@ -30,7 +29,7 @@ fn is_of_request(name: &str) -> bool
     )
 }
 
-/// Whether the name is one of those that an outcome and a report both have.
+/// Returns whether the name is one that both outcomes and reports may have.
 fn is_of_answer(name: &str) -> bool
     ensures { result ≡ spec.is_one_of (codes "status" ∷ codes "headers" ∷ codes "body" ∷ [])
         name.now }
@@ -39,7 +38,7 @@ fn is_of_answer(name: &str) -> bool
 }
 
 impl Object {
-    /// Whether the object may have a member of this name.
+    /// Returns whether the object may have a member of this name.
     fn may_have(self, name: &str) -> bool
         ensures { result ≡ spec.is_one_of (spec.members_of self) name.now }
     {
@@ -68,7 +67,7 @@ impl Object {
         members.keys().any(|name| self.is_unknown(name.as_str()))
     }
 
-    /// Whether some member of the value is neither an annotation nor one that the object may have.
+    /// Returns whether a member of the value is neither an annotation nor one that the object may have.
     pub(crate) fn has_unknown(self, value: &Value) -> bool
         ensures { IsTrue result ↔ spec.HasUnknown self (view value.now) }
     {
@@ -78,46 +77,46 @@ impl Object {
         }
     }
 
-    fn has_further_among(self, members: &Map<String, Value>) -> bool
-        ensures { result ≡ list_any (λ name. spec.is_further (spec.members_of self)
+    fn has_other_among(self, members: &Map<String, Value>) -> bool
+        ensures { result ≡ list_any (λ name. spec.is_other (spec.members_of self)
             (string_bytes name)) (keys members.now) }
     {
         members.keys().any(|name| !self.may_have(name.as_str()))
     }
 
-    /// Whether some member of the value, also an annotation, is none that the object may have.
-    pub(crate) fn has_further(self, value: &Value) -> bool
-        ensures { IsTrue result ↔ spec.HasFurther self (view value.now) }
+    /// Returns whether a member of the value, even an annotation, is not one that the object may have.
+    pub(crate) fn has_other(self, value: &Value) -> bool
+        ensures { IsTrue result ↔ spec.HasOther self (view value.now) }
     {
         match value.as_object() {
-            Some(members) => self.has_further_among(members),
+            Some(members) => self.has_other_among(members),
             None => false,
         }
     }
 }
 
-/// Whether the name holds `@`, as that of an annotation does.
+/// Returns whether the name contains `@`, as that of an annotation does.
 fn is_annotation(name: &str) -> bool
     ensures { result ≡ spec.is_annotation name.now }
 {
     name.as_bytes().iter().any(|byte| *byte == b'@')
 }
 
-/// The string at a member.
+/// Returns the string at a member.
 pub(crate) fn text_at<'a>(value: &'a Value, name: &str) -> Option<&'a str>
     ensures { option_map (λ text. text.now) result ≡ spec.text_at name.now (view value.now) }
 {
     value.get(name).and_then(Value::as_str)
 }
 
-/// The value at a member, where null counts as absent.
+/// Returns the value at a member. Null is treated as absent.
 pub(crate) fn given<'a>(value: &'a Value, name: &str) -> Option<&'a Value>
     ensures { option_map (λ v. view v.now) result ≡ spec.given (get name.now (view value.now)) }
 {
     value.get(name).filter(|member| !member.is_null())
 }
 
-/// The string that the value is, moved out of it.
+/// Moves out the string that the value is.
 pub(crate) fn text_of(value: Value) -> Option<String>
     ensures { option_map string_bytes result ≡ as_str (view value) }
 {
@@ -127,14 +126,14 @@ pub(crate) fn text_of(value: Value) -> Option<String>
     }
 }
 
-/// The number that the value is.
+/// Returns the number that the value is.
 pub(crate) fn number_of(value: &Value) -> Option<Number>
     ensures { option_map number_view result ≡ as_number (view value.now) }
 {
     value.as_number().copied()
 }
 
-/// The members that the value has as an object, moved out of it.
+/// Moves out the members of an object.
 pub(crate) fn members_of(value: Value) -> Option<Map<String, Value>>
     ensures { option_map (λ members. members_view members.entries) result ≡ as_object (view value) }
 {
@@ -144,7 +143,7 @@ pub(crate) fn members_of(value: Value) -> Option<Map<String, Value>>
     }
 }
 
-/// The elements that the value has as an array, moved out of it.
+/// Moves out the elements of an array.
 pub(crate) fn array_of(value: Value) -> Option<Vec<Value>>
     ensures { option_map (λ elements. items_view elements.items) result ≡ as_array (view value) }
 {
@@ -154,7 +153,7 @@ pub(crate) fn array_of(value: Value) -> Option<Vec<Value>>
     }
 }
 
-/// The value at a member, moved out of the object that has it.
+/// Moves the value at a member out of an object.
 pub(crate) fn member_of(value: Value, name: &str) -> Option<Value>
     ensures { option_map view result ≡ get name.now (view value) }
 {
@@ -162,7 +161,7 @@ pub(crate) fn member_of(value: Value, name: &str) -> Option<Value>
     members.remove(name)
 }
 
-/// The value, where null counts as absent.
+/// Returns the value. Null is treated as absent.
 pub(crate) fn unless_null(value: Option<Value>) -> Option<Value>
     ensures { option_map view result ≡ spec.given (option_map view value) }
 {

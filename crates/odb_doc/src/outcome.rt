@@ -15,9 +15,9 @@ use std::collections::BTreeMap;
 pub struct Outcome {
     /// The HTTP status. A run takes those from 200 to 599.
     pub status: u16,
-    /// The headers of the answer by their names, which are in lower case where a document gave them.
+    /// The headers of the answer by their names, which are in lower case if they were read.
     pub headers: BTreeMap<String, String>,
-    /// The body of the answer, where it has one.
+    /// The body of the answer, if it has one.
     pub body: Option<Value>,
 }
 
@@ -30,7 +30,7 @@ pub(crate) struct Parts {
     pub(crate) body: Option<Value>,
 }
 
-/// What an object of the shape of an outcome says.
+/// The values in an object of the shape of an outcome.
 #[derive(Drop)]
 pub(crate) struct Shape {
     pub(crate) id: String,
@@ -39,7 +39,7 @@ pub(crate) struct Shape {
     pub(crate) body: Option<Value>,
 }
 
-/// The value at a member, moved out of its object, where null stays in its place.
+/// Moves the value at a member out of its object, and leaves null in its place.
 pub(crate) fn moved(members: &mut Map<String, Value>, name: &str) -> Option<Value>
     ensures value { result ≡ get_by_text members.old name.now }
     ensures others { (other : List ℕ) → bytes_eq name.now other ≡ false
@@ -49,8 +49,8 @@ pub(crate) fn moved(members: &mut Map<String, Value>, name: &str) -> Option<Valu
     Some(value.take())
 }
 
-/// The members that an outcome may have, moved out of the object, or `None` where it has another. Its
-/// id stands at `name`.
+/// Moves the members of an outcome out of the object, or returns `None` if it has another one. Its id
+/// is at `name`.
 fn parts_of(kind: Object, name: &str, element: &mut Value) -> Option<Parts>
     requires status { bytes_eq name.now (codes "status") ≡ false }
     requires headers { bytes_eq name.now (codes "headers") ≡ false }
@@ -58,7 +58,7 @@ fn parts_of(kind: Object, name: &str, element: &mut Value) -> Option<Parts>
     ensures { MatchOption result (¬ HasOutcome kind name.now (view element.old))
         (ArePartsOf kind name.now (view element.old)) }
 {
-    if kind.has_further(element) {
+    if kind.has_other(element) {
         return None;
     }
     let members = element.as_object_mut()?;
@@ -74,8 +74,8 @@ fn parts_of(kind: Object, name: &str, element: &mut Value) -> Option<Parts>
     })
 }
 
-/// What the element says, moved out of it, or `None` where it has not the shape of an outcome with its
-/// id at `name`.
+/// Moves the values out of the element, or returns `None` if it does not have the shape of an outcome
+/// with its id at `name`.
 pub(crate) fn shape_of(
     alloc: Global,
     kind: Object,

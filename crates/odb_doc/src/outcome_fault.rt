@@ -9,14 +9,13 @@ use thiserror::Error;
 /// A rule that one recorded outcome breaks.
 #[derive(Clone, Copy, Debug, PartialEq, Eq)]
 pub enum OutcomeRule {
-    /// F60: the element is not an object; it has a member other than `id`, `status`, `headers` and
-    /// `body`; `id` is absent or not a string; `status` is absent or not a number; `headers` is there, is
-    /// not null and is not an object of strings; or two names of headers are equal once they are
-    /// folded in ASCII.
+    /// F60: the element does not have the form of an outcome: an object with a string `id`, a number
+    /// `status`, maybe `headers` (strings under names that differ in more than their case), maybe a
+    /// `body`, and no other member.
     BadOutcomes,
     /// F61: an earlier outcome has the same `id`.
     OutcomeTwice,
-    /// F62: `status` is a number, but not a whole one from 200 to 599.
+    /// F62: the number at `status` is below 200 or above 599, or not whole.
     BadStatus,
     /// F63: `body` holds a number that is not whole.
     NotWhole,
@@ -25,13 +24,13 @@ pub enum OutcomeRule {
 /// Why a document is not a valid list of recorded outcomes.
 #[derive(Clone, Copy, Debug, PartialEq, Eq, Error)]
 pub enum OutcomeFault {
-    /// F60: the document is not an object whose one member is `outcomes`, an array.
-    #[error("the document is not an object whose one member is `outcomes`, an array")]
+    /// F60: the document has another member than `outcomes`, or no array there.
+    #[error("the document is not an object with an array `outcomes` alone")]
     Document,
     /// The outcome at this position, counted from 0, breaks this rule.
     #[error("outcome {at}: {rule}")]
     Outcome { at: usize, rule: OutcomeRule },
-    /// Memory was refused. That says nothing of the document.
+    /// An allocation failed. The document may have a fault or none.
     #[error("out of memory")]
     OutOfMemory,
 }

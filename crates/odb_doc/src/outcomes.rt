@@ -38,7 +38,7 @@ pub struct Emptied {
     pub(crate) elements: Vec<Value>,
 }
 
-/// The status, or `None` where it is no whole number from 200 to 599.
+/// Returns the status, or `None` if it is not a whole number from 200 to 599.
 fn status_of(status: Number) -> Option<u16>
     ensures { MatchOption result (¬ IsStatus (number_view status))
         (λ code. IsStatus (number_view status) × (number_view status ≡ unsigned code)) }
@@ -51,7 +51,7 @@ fn status_of(status: Number) -> Option<u16>
     }
 }
 
-/// The status of an outcome of this shape, or the first of the rules F61 to F63 that it breaks.
+/// Returns the status of an outcome of this shape, or the first of the rules F61 to F63 that it breaks.
 fn status_in(seen: &mut SeenIds, shape: &Shape) -> Result<u16, Broken<OutcomeRule>>
     ensures sound { OnOk result ((d : Data) (before rest : List (List ℕ)) → IsShapeOf d shape.now
         → IsWatched seen.old before (string_bytes shape.now.id ∷ rest)
@@ -115,7 +115,7 @@ fn read_outcome(
     Ok((shape.id, outcome))
 }
 
-/// The fault of the element at a position.
+/// Returns the fault of the element at a position.
 fn fault_at(at: usize, broken: Broken<OutcomeRule>) -> OutcomeFault
     ensures { result ≡ fault_at at broken }
 {
@@ -125,7 +125,7 @@ fn fault_at(at: usize, broken: Broken<OutcomeRule>) -> OutcomeFault
     }
 }
 
-/// The ids and outcomes of the elements, moved out of them, or the first fault among them.
+/// Reads the elements, moving their values out, or returns the first fault among them.
 fn outcomes_from(
     alloc: Global,
     elements: &mut Vec<Value>,
@@ -150,13 +150,13 @@ fn outcomes_from(
     Ok(entries)
 }
 
-/// The array that is the one member of the document, moved out of it.
+/// Moves out the array that is the one member of the document.
 fn elements_of(document: Value) -> Option<Vec<Value>>
     ensures none { IfNone result (¬ IsOutcomesObject (view document)) }
     ensures object { OnSome result (IsOutcomesObject (view document)) }
     ensures elements { IfSome result (λ found. elements (view document) ≡ map view found.items) }
 {
-    if Object::Outcomes.has_further(&document) {
+    if Object::Outcomes.has_other(&document) {
         return None;
     }
     array_of(member_of(document, "outcomes")?)
@@ -169,8 +169,8 @@ impl Outcomes {
     /// with an `id`, a `status`, maybe `headers` and a `body`.
     ///
     /// `document` is the value that [`crate::parse`] made. Its ids, headers and bodies are moved out of
-    /// it; `alloc` is asked for the list of outcomes, for lists of their ids and for the maps of their
-    /// headers. The ids need not be identifiers of requests.
+    /// it. Allocates the list of outcomes, lists of their ids and the maps of their headers. The ids need
+    /// not be identifiers of requests.
     ///
     /// It takes O(n log n) for a document of n bytes, whatever its ids are: repeats are found by order
     /// and not by hash, so no choice of ids makes it slow.
@@ -210,7 +210,7 @@ impl Outcomes {
         Ok((Outcomes { entries }, Emptied { elements }))
     }
 
-    /// How many outcomes there are.
+    /// Returns how many outcomes there are.
     pub fn len(&self) -> usize
         ensures count { result ≡ length (entries self.now) }
         ensures apart { IsDistinct bytes_eq (keys_of (entries self.now)) }
@@ -219,7 +219,7 @@ impl Outcomes {
         self.entries.len()
     }
 
-    /// The id and the outcome at a position, counted from 0.
+    /// Returns the id and the outcome at a position, counted from 0.
     pub fn entry(&self, k: usize) -> (&str, &Outcome)
         requires { k < length (entries self.now) }
         ensures value { slice_get (entries self.now) k ≡ Some (result.0.now, result.1.now) }
@@ -229,7 +229,7 @@ impl Outcomes {
         (entry.0.as_str(), &entry.1)
     }
 
-    /// The ids and the outcomes, in the order of the document. It takes no memory.
+    /// Returns the ids and the outcomes, in the order of the document. It takes no memory.
     pub fn into_vec(self) -> Vec<(String, Outcome)>
         ensures value { map recorded result.items ≡ entries self }
         ensures apart { IsDistinct bytes_eq (keys_of (entries self)) }

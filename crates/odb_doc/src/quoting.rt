@@ -7,7 +7,7 @@ ghost use Rattle.odb_doc.specs.Quoting.{is_plain};
 use serde_json::Value;
 use std::alloc::{AllocError, Global};
 
-/// Returns whether the byte stands in a JSON string as it is: neither a control character, nor `"`,
+/// Returns whether a JSON string contains the byte as it is: neither a control character, nor `"`,
 /// nor `\`.
 fn is_plain(byte: u8) -> bool
     ensures { result ≡ is_plain byte }
@@ -29,7 +29,7 @@ fn quoted(alloc: Global, text: &str) -> Result<String, AllocError>
     Value::try_from_str(alloc, text)?.to_string(alloc)
 }
 
-/// Appends a piece in quotes, where nothing in it has to be escaped.
+/// Appends a piece in quotes, if nothing in it has to be escaped.
 fn push_plain(text: &mut String, piece: &str) -> Result<(), AllocError>
     requires { AllPass is_plain piece.now }
     ensures { OnOk result (string_bytes text.new

@@ -12,7 +12,7 @@ use crate::fault::RequestRule;
 use odb_names::{Front, front, is_nested_batch};
 use std::alloc::Global;
 
-/// The identifier that the URL of a request refers to, if any, or the first of the rules F22 and F23
+/// Returns the identifier that the URL of a request refers to, if any, or the first of the rules F22 and F23
 /// that it breaks.
 pub(crate) fn reference_of(alloc: Global, url: &str) -> Result<Option<String>, Broken<RequestRule>>
     ensures plain { OnOk result (¬ IsNestedBatch url.now) }

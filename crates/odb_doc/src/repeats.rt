@@ -11,7 +11,7 @@ use std::collections::BTreeSet;
 /// Up to how many texts are compared one by one. For so few that is quicker than a sort.
 const FEW: usize = 8;
 
-/// Whether a text repeats. Each is compared with those before it.
+/// Returns whether a text repeats. Each is compared with those before it.
 fn repeats_among_few(texts: &[&str]) -> bool
     ensures { result ≡ false → IsDistinct bytes_eq (texts_in texts.now) }
 {
@@ -23,7 +23,7 @@ fn repeats_among_few(texts: &[&str]) -> bool
     false
 }
 
-/// Whether a text repeats, by a sort. It may report a repeat where there is none.
+/// Returns whether a text repeats, by a sort. It may report a repeat if there is none.
 fn may_repeat_among_many(alloc: Global, texts: &[&str]) -> Result<bool, AllocError>
     ensures { IfOk result (λ repeats. repeats ≡ false → IsDistinct bytes_eq (texts_in texts.now)) }
 {
@@ -36,8 +36,8 @@ fn may_repeat_among_many(alloc: Global, texts: &[&str]) -> Result<bool, AllocErr
     ))
 }
 
-/// Whether a text repeats, in O(n log n) whatever the texts are. It may report a repeat where there
-/// is none.
+/// Returns whether a text repeats, in O(n log n) whatever the texts are. It may report a repeat if
+/// there is none.
 pub(crate) fn may_repeat(alloc: Global, texts: &[&str]) -> Result<bool, AllocError>
     ensures apart { IfOk result (λ repeats. repeats ≡ false
         → IsDistinct bytes_eq (texts_in texts.now)) }
@@ -67,7 +67,7 @@ fn keep<'a>(
     Ok(())
 }
 
-/// The texts without repeats, each at its first place, by a set.
+/// Returns the texts without repeats, each at its first place, by a set.
 fn first_places<'a>(alloc: Global, texts: &[&'a str]) -> Result<Vec<&'a str>, AllocError>
     ensures { IfOk result (λ kept. texts_in kept.items ≡ distinct (texts_in texts.now)) }
 {
@@ -79,8 +79,8 @@ fn first_places<'a>(alloc: Global, texts: &[&'a str]) -> Result<Vec<&'a str>, Al
     Ok(kept)
 }
 
-/// The texts without repeats, each at its first place, in O(n log n) whatever the texts are. A set
-/// is made only where a text may repeat.
+/// Returns the texts without repeats, each at its first place, in O(n log n) whatever the texts are. A
+/// set is made only if a text may repeat.
 pub(crate) fn without_repeats<'a>(
     alloc: Global,
     texts: Vec<&'a str>,

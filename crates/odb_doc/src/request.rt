@@ -31,15 +31,15 @@ pub struct Request<'a> {
     pub method: Method,
     /// The URL as the document has it, also the empty text.
     pub url: &'a str,
-    /// The atomicity group that the request is in, if any. `null` counts as none.
+    /// The atomicity group that the request is in, if any. `null` is treated as absent.
     pub group: Option<&'a str>,
     /// The identifiers and groups in `dependsOn`, each at its first place.
     pub names: Vec<&'a str>,
-    /// The identifier of the request whose answer the URL begins at, if it refers to one.
+    /// The identifier of the request to whose response the URL is relative, if it refers to one.
     pub reference: Option<String>,
     /// The values of the headers by their names, which are in lower case.
     pub headers: BTreeMap<String, String>,
-    /// The body, if any. `null` counts as none.
+    /// The body, if any. `null` is treated as absent.
     pub body: Option<&'a Value>,
     ghost id_form: { IsRequestId id.now },
     ghost group_form: { ForSome group (λ text. IsRequestId text.now) },

@@ -10,13 +10,13 @@ use serde_json::Value;
 use std::alloc::{AllocError, Global};
 use std::collections::BTreeSet;
 
-/// The ids of the outcomes read so far. They are kept only where one may repeat.
+/// The ids of the outcomes read so far. They are kept only if one may repeat.
 #[derive(Drop)]
 pub(crate) struct SeenIds {
     ids: Option<BTreeSet<String>>,
 }
 
-/// The ids of the elements that have one.
+/// Returns the ids of the elements that have one.
 fn ids_of<'a>(alloc: Global, elements: &'a [Value]) -> Result<Vec<&'a str>, AllocError>
     ensures ids { IfOk result (λ found. texts_in found.items ≡ ids (map view elements.now)) }
     ensures some { OnErr result (0 < length elements.now) }
@@ -30,8 +30,8 @@ fn ids_of<'a>(alloc: Global, elements: &'a [Value]) -> Result<Vec<&'a str>, Allo
     Ok(found)
 }
 
-/// Whether the id of an element repeats, in O(n log n) whatever the ids are. It may report a repeat
-/// where there is none.
+/// Returns whether the id of an element repeats, in O(n log n) whatever the ids are. It may report a
+/// repeat if there is none.
 fn may_ids_repeat(alloc: Global, elements: &[Value]) -> Result<bool, AllocError>
     ensures apart { IfOk result (λ repeats. repeats ≡ false
         → IsDistinct bytes_eq (ids (map view elements.now))) }

@@ -5,7 +5,7 @@ ghost use Rattle.odb_doc.specs.WholeNumbers.{IsWhole};
 
 use serde_json::{Map, Value};
 
-/// Whether each number in the value is whole: digits without a fraction and an exponent, from
+/// Returns whether each number in the value is whole: digits without a fraction and an exponent, from
 /// -9223372036854775808 to 18446744073709551615, which alone the reader holds without loss.
 ///
 /// It goes as deep as the value nests: no deeper than 127 in one that was read.
@@ -45,7 +45,7 @@ fn are_members_whole(members: &Map<String, Value>) -> bool
     true
 }
 
-/// Whether the body, if any, holds whole numbers alone.
+/// Returns whether the body, if any, holds whole numbers alone.
 pub(crate) fn has_whole_body(body: &Option<Value>) -> bool
     ensures { IsTrue result ↔ IfSome (option_map view body.now) IsWhole }
 {

@@ -1,4 +1,4 @@
--- The form of base64url (RFC 4648, section 5), in which bodies of other media types stand (OData JSON
+-- The form of base64url (RFC 4648, section 5), which bodies of other media types have (OData JSON
 -- Format 4.01, section 19.1).
 use Rattle.std.specs.Prelude.{◌≡◌, ◌≢◌, ◌≤◌, ◌%◌, ◌==◌, ◌||◌, ℕ, Bool, List, ◌++◌, length, All}
 use Rattle.std.specs.Char.{is_ascii_alphanumeric}

@@ -1,4 +1,4 @@
--- The front of a URL: what its first segment says to a batch (OData JSON Format 4.01, section 19.1, `url`).
+-- The front of a URL: what its first segment means in a batch (OData JSON Format 4.01, section 19.1, `url`).
 use Rattle.std.specs.Prelude.{◌≡◌, ◌≢◌, ◌⊎◌, ℕ, Bool, List, [], ◌∷◌, IsTrue, codes, string_bytes, bytes_eq}
 use Rattle.std.specs.List.{list_any}
 use Rattle.percent_encoding.specs.Percent.{percent_decode}
@@ -8,7 +8,7 @@ use Rattle.odb_names.specs.Identifiers.{is_unreserved}
 use Rattle.odb_names.specs.Runs.{SplitsRun}
 use Rattle.odb_names.specs.Segments.{IsFirstSegment}
 
--- what a front says
+-- what a front means
 pub data FrontForm : Type 0 where
   plain : FrontForm
   reserved : FrontForm
@@ -26,7 +26,7 @@ form fronts.Bad = bad
 abbrev pub dollar : ℕ
 dollar = 36
 
--- The names behind a `$` that OData has a meaning for. By the rules `odataRelativeUri` and
+-- The names after a `$` that OData reserves. By the rules `odataRelativeUri` and
 -- `resourcePath` of the OData ABNF 4.01 a URL begins with `$batch`, `$entity`, `$metadata`, `$all` or
 -- `$crossjoin(`; `$root` begins an expression (rule `rootExpr`), and `$id` is an option of `$entity`
 -- (rule `entityOptions`). That none of them is a reference, though a request may have such an

@@ -28,12 +28,12 @@ HasNoEscape text = All (λ byte. byte ≢ percent_sign) text
 abbrev pub EndsSegment : List ℕ → Type 0
 EndsSegment before = (before ≡ []) ⊎ ((more : List ℕ) × (before ≡ more ++ slash ∷ []))
 
--- the first segment is what stands before the first `/`, `?` or `#`
+-- the first segment is the part before the first `/`, `?` or `#`
 pub record IsFirstSegment (url segment : List ℕ) : Type 0 where
   pub rest : List ℕ
   pub splits : SplitsRun is_in_segment url segment rest
 
--- the last segment is what stands after the last `/` of the path, which ends before the first `?` or `#`
+-- the last segment is the part after the last `/` of the path, which ends before the first `?` or `#`
 pub record IsLastSegment (url segment : List ℕ) : Type 0 where
   pub before : List ℕ
   pub rest : List ℕ

@@ -3,14 +3,14 @@ ghost use Rattle.odb_names.specs.Base64Url.{IsBase64Url, IsPadding};
 
 use crate::run::{Class, split_run};
 
-/// Whether the bytes are none, one or two `=`.
+/// Returns whether the bytes are none, one or two `=`.
 fn is_padding(bytes: &[u8]) -> bool
     ensures { IsTrue result ↔ IsPadding bytes.now }
 {
     matches!(bytes, b"" | b"=" | b"==")
 }
 
-/// Whether the text has the form of base64url (RFC 4648, section 5).
+/// Returns whether the text has the form of base64url (RFC 4648, section 5).
 ///
 /// That is ASCII letters, digits, `-` and `_`, whose count is not 1 modulo 4, and then at most two
 /// `=`. The padding need not fit that count, and nothing is decoded.

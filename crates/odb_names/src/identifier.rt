@@ -8,10 +8,10 @@ pub(crate) fn is_unreserved(byte: u8) -> bool
     byte.is_ascii_alphanumeric() || matches!(byte, b'-' | b'.' | b'_' | b'~')
 }
 
-/// Whether the text may be the `id` or the `atomicityGroup` of a request.
+/// Returns whether the text may be the `id` or the `atomicityGroup` of a request.
 ///
-/// That is the rule `request-id` of the OData ABNF 4.01: one or more ASCII letters, digits, `-`,
-/// `.`, `_` and `~`. The case of a letter counts.
+/// By the OData ABNF 4.01 (`request-id`) it must be one or more ASCII letters, digits, `-`, `.`, `_` and
+/// `~`. Case counts.
 pub fn is_request_id(text: &str) -> bool
     ensures { IsTrue result ↔ IsRequestId text.now }
 {

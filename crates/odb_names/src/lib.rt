@@ -1,9 +1,9 @@
-//! The texts of an OData JSON batch that stand for themselves: identifiers, methods, base64url
-//! texts and URLs.
+//! The texts in an OData JSON batch that have a syntax of their own: identifiers, methods, base64url
+//! and URLs.
 //!
-//! Each answer is the predicate or the relation that `specs/` states, and each definition there
-//! names its section of OData JSON Format 4.01 or its rule of the OData ABNF 4.01. What a batch
-//! makes of these texts is decided by the crates above.
+//! Each call decides a predicate or a relation of `specs/`, which names the section of OData JSON
+//! Format 4.01, the rule of the OData ABNF 4.01 or the RFC that it is from. The crates above decide
+//! what a batch makes of these texts.
 #![tactic(auto)]
 
 mod base64url;

@@ -21,7 +21,7 @@ impl Method {
         Method::Put,
     ];
 
-    /// The method of this name, in any ASCII case, or `None` where the text names no method.
+    /// Returns the method of this name, in any ASCII case, or `None` if the text names no method.
     pub fn read(text: &str) -> Option<Method>
         ensures named { MatchOption result ((method : Method) → ¬ Names text.now method)
             (Names text.now) }
@@ -34,7 +34,7 @@ impl Method {
             .find(|method| text.eq_ignore_ascii_case(method.name()))
     }
 
-    /// The method's name in lower case.
+    /// Returns the method's name in lower case.
     pub fn name(self) -> &'static str
         ensures { result.now ≡ method_name self }
     {
@@ -47,7 +47,7 @@ impl Method {
         }
     }
 
-    /// Whether a request with this method may have a body: all but `delete` and `get`.
+    /// Returns whether a request with this method may have a body: all but `delete` and `get`.
     pub fn takes_body(self) -> bool
         ensures { result ≡ takes_body self }
     {

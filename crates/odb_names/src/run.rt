@@ -4,21 +4,21 @@ ghost use Rattle.odb_names.specs.Runs.{SplitsRun};
 
 use crate::identifier::is_unreserved;
 
-/// A class of characters of which runs are cut.
+/// A set of bytes.
 #[derive(Clone, Copy)]
 pub(crate) enum Class {
-    /// What identifiers are made of.
+    /// Those of identifiers.
     Unreserved,
-    /// What base64url is made of, before its padding.
+    /// Those of base64url, before its padding.
     Base64Url,
-    /// What the path of a URL is made of.
+    /// Those of the path of a URL.
     Path,
-    /// What a segment of the path is made of.
+    /// Those of a segment of the path.
     Segment,
 }
 
 impl Class {
-    /// Whether the byte is of this class.
+    /// Returns whether the class has the byte.
     fn has(self, byte: u8) -> bool
         ensures { result ≡ is_of self byte }
     {
@@ -31,7 +31,7 @@ impl Class {
     }
 }
 
-/// Cuts the text behind its longest run of bytes of the class.
+/// Splits the text after its longest prefix of bytes in the class.
 pub(crate) fn split_run(text: &[u8], class: Class) -> (&[u8], &[u8])
     ensures { SplitsRun (is_of class) text.now result.0.now result.1.now }
 {

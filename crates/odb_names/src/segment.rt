@@ -6,14 +6,14 @@ use crate::run::{Class, split_run};
 use percent_encoding::ascii_str;
 use std::alloc::{AllocError, Global};
 
-/// What the first segment of a URL says to a batch (OData JSON Format 4.01, section 19.1).
+/// What the first segment of a URL means in a batch (OData JSON Format 4.01, section 19.1).
 #[derive(Debug, Drop, PartialEq, Eq)]
 pub enum Front {
     /// The segment does not begin with `$`, so the URL refers to no request.
     Plain,
-    /// `$` and a name that OData has a meaning for, as `$metadata`, whatever follows the name.
+    /// `$` and a name that OData reserves, such as `$metadata`, whatever follows the name.
     Reserved,
-    /// `$` and this identifier: the URL begins at what the request with the identifier answers.
+    /// `$` and this identifier: the URL is relative to the response of the request that has it.
     Reference(String),
     /// `$`, and then neither a reserved name nor an identifier alone.
     Bad,
@@ -29,14 +29,14 @@ const RESERVED_NAMES: [&str; 7] = [
     "metadata",
 ];
 
-/// Whether the name is one of these.
+/// Returns whether the name is one of these.
 fn is_among(name: &[u8], names: &[&str]) -> bool
     ensures { result ≡ list_any (λ other. bytes_eq name.now other.now) names.now }
 {
     names.iter().any(|other| name == other.as_bytes())
 }
 
-/// Whether OData has a meaning for the name behind a `$`.
+/// Returns whether OData reserves the name after a `$`.
 fn is_reserved(name: &[u8]) -> bool
     ensures { result ≡ is_reserved name.now }
 {
@@ -44,7 +44,7 @@ fn is_reserved(name: &[u8]) -> bool
 }
 
 impl Front {
-    /// The front that a segment is, once it is percent-decoded.
+    /// Returns the front that a percent-decoded segment is.
     pub(crate) fn of_segment(alloc: Global, segment: &[u8]) -> Result<Front, AllocError>
         ensures front { IfOk result (λ front. IsFrontOf segment.now (form front)) }
         ensures memory { OnErr result ((id : List ℕ) × IsFrontOf segment.now (reference id)) }

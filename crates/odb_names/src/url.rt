@@ -7,14 +7,14 @@ use crate::segment::Front;
 use percent_encoding::percent_decode;
 use std::alloc::{AllocError, Global};
 
-/// What stands before the first `/`, `?` or `#` of a URL.
+/// Returns the part of a URL before its first `/`, `?` or `#`.
 fn first_segment(url: &[u8]) -> &[u8]
     ensures { IsFirstSegment url.now result.now }
 {
     split_run(url, Class::Segment).0
 }
 
-/// The place of the last `/` of a path.
+/// Returns the position of the last `/` of a path.
 fn last_slash(path: &[u8]) -> Option<usize>
     ensures none { IfNone result (HasNoSlash path.now) }
     ensures bound { IfSome result (λ i. i < length path.now) }
@@ -24,7 +24,7 @@ fn last_slash(path: &[u8]) -> Option<usize>
     path.iter().rposition(|byte| *byte == b'/')
 }
 
-/// What stands after the last `/` of the path of a URL.
+/// Returns the part of a URL after the last `/` of its path.
 fn last_segment(url: &[u8]) -> &[u8]
     ensures { IsLastSegment url.now result.now }
 {
@@ -35,10 +35,10 @@ fn last_segment(url: &[u8]) -> &[u8]
     }
 }
 
-/// What a URL says to a batch by its first segment (OData JSON Format 4.01, section 19.1).
+/// Returns what the first segment of a URL means in a batch (OData JSON Format 4.01, section 19.1).
 ///
 /// The first segment of `url` ends before the first `/`, `?` or `#`, and is percent-decoded once;
-/// a `%` without two hexadecimal digits stands for itself. Allocates the decoded segment if it has a
+/// a `%` without two hexadecimal digits is kept. Allocates the decoded segment if it has a
 /// `%`, and the identifier of a reference; no other URL runs out of memory.
 pub fn front(alloc: Global, url: &str) -> Result<Front, AllocError>
     ensures front { IfOk result (λ found. HasFront url.now (form found)) }
@@ -51,12 +51,11 @@ pub fn front(alloc: Global, url: &str) -> Result<Front, AllocError>
     Front::of_segment(alloc, segment.as_slice())
 }
 
-/// Whether the URL names a batch, which no request of a batch may be (OData ABNF 4.01, rule
-/// `odataRelativeUri`).
+/// Returns whether the URL names a batch, which no request of a batch may be (OData ABNF 4.01, rule
+/// `odataRelativeUri`): whether the last segment of its path, percent-decoded once, is `$batch`.
 ///
-/// That is so where the last segment of `url`, percent-decoded once, is `$batch`. It is what stands
-/// after the last `/` of the path, and the path ends before the first `?` or `#`. Allocates the
-/// decoded segment if it has a `%`; no other URL runs out of memory.
+/// The path ends before the first `?` or `#`, and its last segment begins after its last `/`.
+/// Allocates the decoded segment if it has a `%`; no other URL runs out of memory.
 pub fn is_nested_batch(alloc: Global, url: &str) -> Result<bool, AllocError>
     ensures nested { IfOk result (λ nested. IsTrue nested ↔ IsNestedBatch url.now) }
     ensures memory { (segment : List ℕ) → IsLastSegment url.now segment → HasNoEscape segment

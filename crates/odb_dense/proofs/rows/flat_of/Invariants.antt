@@ -2,7 +2,7 @@ use Rattle.std.proofs.Common.{◌≡◌, ℕ, ◌<◌, ◌+◌, length, get_or, 
 use Rattle.odb_dense.specs.Starts.{at_key, AreRowsOf}
 use Rattle.odb_dense.proofs.rows.flat_of.Given as goal
 
--- the pairs so far stand in the rows, and the next of each key goes behind them
+-- the pairs so far are in the rows, and the next of each key goes after them
 abbrev pub invariant-loop-key : goal.invariant-loop-key
 invariant-loop-key l = record {
   room : length l.flat.items ≡ length l.pairs;

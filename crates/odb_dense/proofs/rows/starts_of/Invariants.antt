@@ -2,7 +2,7 @@ use Rattle.std.proofs.Common.{◌≡◌, ℕ, ◌<◌, ◌≤◌, ◌+◌, lengt
 use Rattle.odb_dense.specs.Starts.{at_key, below_key}
 use Rattle.odb_dense.proofs.rows.starts_of.Given as goal
 
--- one place on from each key stands how many of the pairs so far have the key
+-- one place after each key is how many of the pairs so far have the key
 abbrev pub invariant-loop-key : goal.invariant-loop-key
 invariant-loop-key l = record {
   room : length l.starts.items ≡ l.keys + 1;

@@ -8,5 +8,5 @@ pub returns-clause-sound : goal.returns-clause-sound
 returns-clause-sound c =
     let d = view c.args.element.now in
     let allowed = body_allowed d c.args.method c.requires.method (sym c.takes_body.ensures ∙ c.if-not-takes_body.false) in
-    let fits = body_fits d (headers_in c.args.headers.now) (view c.in-Some.body.now) c.requires.headers (sym c.in-Some.ensures) (c.in_ok-is_fit.ensures.0 c.if-not-branch.false) in
+    let fits = body_fits d (headers_in c.args.headers.now) (view c.in-Some.body.now) c.requires.headers (sym c.in-Some.ensures) (c.in_ok-is_allowed.ensures.0 c.if-not-branch.false) in
     before_nested d (before_fit d c.requires.below allowed) fits

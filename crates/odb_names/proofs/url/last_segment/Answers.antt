@@ -1,11 +1,11 @@
--- The path is cut behind its last `/`, or not at all.
+-- The path is cut after its last `/`, or not at all.
 use Rattle.std.proofs.Common.{◌≡◌, ◌+◌, ◌<◌, ℕ, List, [], ◌∷◌, ◌++◌, length, take, drop, get_or, refl, sym, subst, inl, inr, ◌∙◌, ap}
 use Rattle.std.proofs.lemmas.List.{take_more, take_rest, take-append-drop}
 use Rattle.odb_names.specs.Runs.{SplitsRun}
 use Rattle.odb_names.specs.Segments.{slash, HasNoSlash, is_in_path, IsLastSegment}
 use Rattle.odb_names.proofs.url.last_segment.Goals as goal
 
--- what stands after a `/` of the path, where no further one stands, is the last segment
+-- the part after a `/` of the path, if no other one follows, is the last segment
 after_slash : (url path rest : List ℕ) (i : ℕ) → SplitsRun is_in_path url path rest → i < length path → get_or path i 0 ≡ slash → HasNoSlash (drop (i + 1) path) → IsLastSegment url (drop (i + 1) path)
 after_slash url path rest i splits within found none = record {
   before = take (i + 1) path;

@@ -1,4 +1,4 @@
--- The map behind the value has the names that the object has.
+-- The map of the value has the names that the object has.
 use Rattle.std.proofs.Common.{◌≡◌, ◌∙◌, ap, sym, rules}
 use Rattle.std.specs.List.{list_any}
 use Rattle.serde_json.specs.View.{view, members_view}

@@ -1,6 +1,6 @@
 use Rattle.odb_doc.specs.BodyKinds.{HasKind}
 use Rattle.odb_doc.proofs.TypeLemmas.{kind_fits, fits_kind}
-use Rattle.odb_doc.proofs.body.is_fit.Goals as goal
+use Rattle.odb_doc.proofs.body.is_allowed.Goals as goal
 
 pub returns : goal.returns
 returns c =
