@@ -24,11 +24,11 @@ use Rattle.odb_doc.specs.Outcomes.{HasOutcome, status_of}
 abbrev pub texts : List (String Global) → List (List ℕ)
 texts strings = map string_bytes strings
 
--- the values at the four members, which alone are there
+-- what is at the four members, as far as it is of their types, and there are no others
 pub record ArePartsOf (kind : Object) (name : List ℕ) (d : Data) (parts : Parts) : Type 0 where
   pub known : ¬ HasOther kind d
-  pub id : option_map view parts.id ≡ get name d
-  pub status : option_map view parts.status ≡ get (codes "status") d
+  pub id : option_map string_bytes parts.id ≡ text_at name d
+  pub status : option_map number_view parts.status ≡ status_of d
   pub headers : option_map view parts.headers ≡ get (codes "headers") d
   pub body : option_map view parts.body ≡ get (codes "body") d
 

@@ -1,6 +1,7 @@
-ghost use Rattle.std.specs.Prelude.{◌≡◌, ℕ, List, false, bytes_eq, codes, MatchOption, IfOk};
+ghost use Rattle.std.specs.Prelude.{◌≡◌, ℕ, List, false, bytes_eq, codes, string_bytes, option_map, option_and_then, MatchOption, IfOk};
 ghost use Rattle.std.specs.BTreeMap.{get_by_text};
-ghost use Rattle.serde_json.specs.View.{view};
+ghost use Rattle.serde_json.specs.Find.{as_str, as_number};
+ghost use Rattle.serde_json.specs.View.{view, number_view};
 ghost use Rattle.odb_doc.specs.Outcomes.{HasOutcome};
 ghost use Rattle.odb_doc.specs.OutcomeShapes.{ArePartsOf, HasShape};
 
@@ -24,8 +25,8 @@ pub struct Outcome {
 /// The members that an outcome may have, moved out of its object.
 #[derive(Drop)]
 pub(crate) struct Parts {
-    pub(crate) id: Option<Value>,
-    pub(crate) status: Option<Value>,
+    pub(crate) id: Option<String>,
+    pub(crate) status: Option<Number>,
     pub(crate) headers: Option<Value>,
     pub(crate) body: Option<Value>,
 }
@@ -49,6 +50,20 @@ pub(crate) fn moved(members: &mut Map<String, Value>, name: &str) -> Option<Valu
     Some(value.take())
 }
 
+/// Moves the string out of a member.
+fn text_in(member: Option<Value>) -> Option<String>
+    ensures { option_map string_bytes result ≡ option_and_then as_str (option_map view member) }
+{
+    member.and_then(|value| text_of(value))
+}
+
+/// Returns the number at a member.
+fn number_in(member: Option<Value>) -> Option<Number>
+    ensures { option_map number_view result ≡ option_and_then as_number (option_map view member) }
+{
+    member.and_then(|value| number_of(&value))
+}
+
 /// Moves the members of an outcome out of the object, or returns `None` if it has another one. Its id
 /// is at `name`.
 fn parts_of(kind: Object, name: &str, element: &mut Value) -> Option<Parts>
@@ -62,8 +77,8 @@ fn parts_of(kind: Object, name: &str, element: &mut Value) -> Option<Parts>
         return None;
     }
     let members = element.as_object_mut()?;
-    let id = moved(members, name);
-    let status = moved(members, "status");
+    let id = text_in(moved(members, name));
+    let status = number_in(moved(members, "status"));
     let headers = moved(members, "headers");
     let body = moved(members, "body");
     Some(Parts {
@@ -92,9 +107,7 @@ pub(crate) fn shape_of(
         return Ok(None);
     };
     let headers = headers_from(alloc, parts.headers)?;
-    let id = parts.id.and_then(|value| text_of(value));
-    let status = parts.status.and_then(|value| number_of(&value));
-    match (id, status, headers) {
+    match (parts.id, parts.status, headers) {
         (Some(id), Some(status), Some(headers)) => Ok(Some(Shape {
             id,
             status,
