@@ -1,20 +1,12 @@
 -- The kinds of bodies that the code distinguishes: for private clauses, nothing to believe.
-use Rattle.std.specs.Prelude.{◌≡◌, ℕ, false, List, [], ◌∷◌, ◌++◌, IsSome, IsSomeAnd}
-use Rattle.std.specs.List.{AllPass}
+use Rattle.std.specs.Prelude.{ℕ, List, IsSome, IsSomeAnd}
 use Rattle.std.specs.Str.{str_to_ascii_lowercase}
 use Rattle.serde_json.specs.Data.{Data}
 use Rattle.serde_json.specs.Find.{as_str}
 use Rattle.odb_names.specs.Base64Url.{IsBase64Url}
 use Rattle.odb_doc.specs.declared.media_type.BodyKind.{BodyKind}
 use Rattle.odb_doc.specs.declared.media_type.BodyKind.TheVariants.{Any, Text, Base64Url}
-use Rattle.odb_doc.specs.MediaTypes.{is_blank, HasType, IsJson, IsText}
-
--- the name, and then blanks, and the name does not end with one
-pub record IsEndOf (text name : List ℕ) : Type 0 where
-  pub after : List ℕ
-  pub whole : text ≡ name ++ after
-  pub trailing : AllPass is_blank after
-  pub ends : (more : List ℕ) (last : ℕ) → name ≡ more ++ last ∷ [] → is_blank last ≡ false
+use Rattle.odb_doc.specs.MediaTypes.{HasType, IsJson, IsText}
 
 -- the kind that a media type in lower case asks for
 abbrev pub AsksFor : List ℕ → BodyKind → Type 0

@@ -16,15 +16,19 @@ is_in_type byte = not (byte == 59)
 abbrev pub is_blank : ℕ → Bool
 is_blank byte = (byte == 32) || (byte == 9)
 
--- the text is blanks, then the name, then blanks, and the name has none at its ends
+-- the text is the name and then blanks, and the name does not end with one
+pub record IsEndOf (text name : List ℕ) : Type 0 where
+  pub after : List ℕ
+  pub whole : text ≡ name ++ after
+  pub blanks : AllPass is_blank after
+  pub ends : (more : List ℕ) (last : ℕ) → name ≡ more ++ last ∷ [] → is_blank last ≡ false
+
+-- the name is what is left of the text without the blanks at its ends
 pub record IsTrimmed (text name : List ℕ) : Type 0 where
   pub before : List ℕ
-  pub after : List ℕ
-  pub whole : text ≡ before ++ (name ++ after)
-  pub leading : AllPass is_blank before
-  pub trailing : AllPass is_blank after
-  pub starts : (first : ℕ) (more : List ℕ) → name ≡ first ∷ more → is_blank first ≡ false
-  pub ends : (more : List ℕ) (last : ℕ) → name ≡ more ++ last ∷ [] → is_blank last ≡ false
+  pub rest : List ℕ
+  pub leading : SplitsRun is_blank text before rest
+  pub trailing : IsEndOf rest name
 
 -- the value has this media type, which ends before the first `;`
 pub record HasType (value name : List ℕ) : Type 0 where

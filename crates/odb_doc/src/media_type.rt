@@ -1,8 +1,8 @@
 ghost use Rattle.std.specs.Prelude.{◌≡◌, ◌≤◌, ◌<◌, ◌-◌, ℕ, true, false, List, length, slice_index, IfOk};
 ghost use Rattle.std.specs.Str.{str_to_ascii_lowercase};
 ghost use Rattle.odb_names.specs.Runs.{SplitsRun};
-ghost use Rattle.odb_doc.specs.MediaTypes.{HasType, IsTrimmed, is_blank, is_in_type};
-ghost use Rattle.odb_doc.specs.BodyKinds.{AsksFor, HasKind, IsEndOf};
+ghost use Rattle.odb_doc.specs.MediaTypes.{HasType, IsEndOf, IsTrimmed, is_blank, is_in_type};
+ghost use Rattle.odb_doc.specs.BodyKinds.{AsksFor, HasKind};
 
 use std::alloc::{AllocError, Global};
 
