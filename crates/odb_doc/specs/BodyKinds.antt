@@ -6,13 +6,13 @@ use Rattle.serde_json.specs.Find.{as_str}
 use Rattle.odb_names.specs.Base64Url.{IsBase64Url}
 use Rattle.odb_doc.specs.declared.media_type.BodyKind.{BodyKind}
 use Rattle.odb_doc.specs.declared.media_type.BodyKind.TheVariants.{Any, Text, Base64Url}
-use Rattle.odb_doc.specs.MediaTypes.{HasType, IsJson, IsText}
+use Rattle.odb_doc.specs.MediaTypes.{HasType, IsJsonType, IsTextType}
 
 -- the kind that a media type in lower case asks for
 abbrev pub AsksFor : List ℕ → BodyKind → Type 0
-AsksFor name Any = IsJson name
-AsksFor name Text = IsText name × ¬ IsJson name
-AsksFor name Base64Url = ¬ IsText name × ¬ IsJson name
+AsksFor name Any = IsJsonType name
+AsksFor name Text = IsTextType name × ¬ IsJsonType name
+AsksFor name Base64Url = ¬ IsTextType name × ¬ IsJsonType name
 
 -- the kind that the media type in the value asks for
 pub record HasKind (value : List ℕ) (kind : BodyKind) : Type 0 where

@@ -38,18 +38,18 @@ pub record HasType (value name : List ℕ) : Type 0 where
   pub trimmed : IsTrimmed text name
 
 -- no media type, `application/json`, or one with the suffix `+json`
-abbrev pub IsJson : List ℕ → Type 0
-IsJson name = (name ≡ []) ⊎ (name ≡ codes "application/json") ⊎ ((prefix : List ℕ) × (name ≡ prefix ++ codes "+json"))
+abbrev pub IsJsonType : List ℕ → Type 0
+IsJsonType name = (name ≡ []) ⊎ (name ≡ codes "application/json") ⊎ ((prefix : List ℕ) × (name ≡ prefix ++ codes "+json"))
 
 -- a type of `text`
-abbrev pub IsText : List ℕ → Type 0
-IsText name = (subtype : List ℕ) × (name ≡ codes "text/" ++ subtype)
+abbrev pub IsTextType : List ℕ → Type 0
+IsTextType name = (subtype : List ℕ) × (name ≡ codes "text/" ++ subtype)
 
 -- The bodies that a media type in lower case allows: any value for JSON, also for JSON below `text`, a string for other
 -- text, and base64url for all else.
 pub record TypeAllows (name : List ℕ) (body : Data) : Type 0 where
-  pub text : ¬ IsJson name → IsText name → IsSome (as_str body)
-  pub other : ¬ IsJson name → ¬ IsText name → IsSomeAnd (as_str body) IsBase64Url
+  pub text : ¬ IsJsonType name → IsTextType name → IsSome (as_str body)
+  pub other : ¬ IsJsonType name → ¬ IsTextType name → IsSomeAnd (as_str body) IsBase64Url
 
 -- the body is one that the media type in the value allows, in any case of its letters
 pub record AllowsBody (value : List ℕ) (body : Data) : Type 0 where
