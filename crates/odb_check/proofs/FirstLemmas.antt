@@ -58,6 +58,15 @@ count_step : (v : Bool) (m : ℕ) → m ≤ cond v (suc m) m
 count_step true m = omega arith
 count_step false m = omega arith
 
+few_more : (v : Bool) (m n : ℕ) → m ≤ n → cond v (suc m) m ≤ suc n
+few_more true m n h = omega arith
+few_more false m n h = omega arith
+
+-- at most all numbers pass
+pub count_few : (n : ℕ) (test : ℕ → Bool) → count_below n test ≤ n
+count_few zero test = omega arith
+count_few (suc n) test = few_more (test n) (count_below n test) n (count_few n test)
+
 pub count_more : (test : ℕ → Bool) (m n : ℕ) → m ≤ n → count_below m test ≤ count_below n test
 count_more test m zero h = let same : zero ≡ m = omega arith in subst (λ j. count_below j test ≤ 0) same (omega arith)
 count_more test m (suc n) h =

@@ -1,5 +1,5 @@
 -- Where the names of the request under judgement break a rule.
-use Rattle.std.proofs.Common.{◌≡◌, ◌≤◌, ◌<◌, ◌+◌, ◌⊎◌, ℕ, Bool, true, false, not, List, Option, Some, None, refl, sym, ap, ◌∙◌, subst, inl, inr, arith, length, get_or}
+use Rattle.std.proofs.Common.{◌≡◌, ◌≤◌, ◌<◌, ◌+◌, ◌⊎◌, ℕ, Bool, true, false, not, List, Option, Some, None, refl, sym, ◌∙◌, subst, inl, inr, arith, length, get_or}
 use Rattle.std.specs.Prelude.{◌==◌, nat_lt, nat_le, is_some, slice_index, Contains, IsSomeAnd}
 use Rattle.std.specs.Bool.{Decides}
 use Rattle.std.specs.List.{list_any, IsAnyAnswer}
@@ -17,12 +17,12 @@ use Rattle.odb_check.specs.Marks.{is_group}
 use Rattle.odb_check.specs.NameFaults.{SomeName, StandsAt, IsMemberAlone}
 use Rattle.odb_check.specs.Needs.{need_of, named_at}
 use Rattle.odb_check.specs.Positions.{id_at, group_at, names_at, IsId, IsIdFrom, IsGroup, IsGroupAfter, IsInGroupOf, NamesGroupOf}
-use Rattle.odb_check.specs.Units.{begin_in, unit_begin, unit_at}
+use Rattle.odb_check.specs.Units.{unit_begin, unit_at}
 use Rattle.odb_check.proofs.AnyLemmas.{SomePasses, StandsFor, any_passes, some_passes, stands_for, Contains-meaning}
 use Rattle.odb_check.proofs.DecideLemmas.{Decides-none}
 use Rattle.odb_check.proofs.NeedLemmas.{IsMeant, is_meant, group_need, means_nothing, no_group, one_id}
 use Rattle.odb_check.proofs.PositionLemmas.{IsFirstAt}
-use Rattle.odb_check.proofs.UnitLemmas.{BeginsAt, unit_begins, unit_before, same_begin, same_group, one_unit, begin_of_group, in_group, in_unit, in_order}
+use Rattle.odb_check.proofs.UnitLemmas.{unit_before, has_units, begin_of_group, in_group, in_unit, in_order}
 
 pub once : (rs : List Record) → HasSoundIds rs → (i : ℕ) → ¬ StandsAt IdTwice rs i
 once rs sound i h = sound IdTwice i (refl, h)
@@ -111,16 +111,10 @@ own_group j u name is =
 -- ---- members of other groups
 
 -- p precedes i and the two are not in one group
-together_case : (rs : List Record) (i p : ℕ) → p < i → unit_at rs p ≡ unit_at rs i → (group : Option (List ℕ)) → group_at rs i ≡ group → IsInGroupOf rs i p
-together_case rs i p less same None e =
-    let at_itself : unit_begin rs i ≡ i = ap (begin_in rs i) e in
-    let begun : BeginsAt rs p (unit_begin rs p) = unit_begins rs p in
-    absurd (omega (arith, same_begin rs p i same, begun.upto))
-together_case rs i p less same (Some g) e = (g, e, same_group rs p i same ∙ e)
-
 pub outside_Decides : (rs : List Record) (i p : ℕ) → p < i → Decides (not (unit_at rs p == unit_at rs i)) ((p < i) × ¬ IsInGroupOf rs i p)
-outside_Decides rs i p less = Decides-like (not (unit_at rs p == unit_at rs i)) (λ other. (less, (λ h. other (one_unit rs p i h.0 h.2 h.1))))
-    (λ h same. h.1 (together_case rs i p less same (group_at rs i) refl)) (Decides-not (unit_at rs p == unit_at rs i) (Decides-eqb (unit_at rs p) (unit_at rs i)))
+outside_Decides rs i p less = Decides-like (not (unit_at rs p == unit_at rs i)) (λ other. (less, (λ both. other (sym (((has_units rs).together i p).1 (inr both))))))
+    (λ h same. elim (((has_units rs).together i p).0 (sym same)) [ inl one ↦ absurd (omega arith) | inr both ↦ h.1 both ])
+    (Decides-not (unit_at rs p == unit_at rs i) (Decides-eqb (unit_at rs p) (unit_at rs i)))
 
 -- the unit of p is named where its group is
 unit_sound : (rs : List Record) (p : ℕ) (name : List ℕ) (need : Need) → IsMeant rs name need → is_group (unit_at rs p) need ≡ true → group_at rs p ≡ Some name

@@ -15,18 +15,20 @@ use Rattle.odb_check.specs.declared.need.Need.{Need}
 use Rattle.odb_check.specs.declared.need.Need.TheVariants.{One, Group}
 use Rattle.odb_check.specs.Firsts.{list_below}
 use Rattle.odb_check.specs.LeastNameFault.{HasGoodNames}
+use Rattle.odb_check.specs.Laws.{HasPositions, NeedsGroups}
 use Rattle.odb_check.specs.Walks.{HasSoundIds}
 use Rattle.odb_check.specs.Needs.{need_of, further_names, needed_names, needs_at}
 use Rattle.odb_check.specs.Positions.{id_at, group_at, names_at, reference_at, IsId, IsIdFrom, IsInGroupOf, NamesGroupOf}
-use Rattle.odb_check.specs.Shape.{unit_of, needs_of, shape_of, IsEarlier, IsAlone, IsPlan, HasNamesAsNeeds}
-use Rattle.odb_check.specs.Units.{begin_in, unit_begin, unit_at}
+use Rattle.odb_check.specs.Shape.{unit_of, needs_of, shape_of, IsEarlier, IsAlone, IsPlan, IsShapeOf, HasNamesAsNeeds}
+use Rattle.odb_check.specs.Units.{begins_unit, unit_at}
 use Rattle.odb_check.proofs.AnyLemmas.{StandsFor, stands_for, Contains-meaning, Contains-head, Contains-none, Contains-cases, Contains-Decides}
 use Rattle.odb_check.proofs.BelowLemmas.{length-list_below, get_or-list_below}
+use Rattle.odb_check.proofs.FirstLemmas.{count_few}
 use Rattle.odb_check.proofs.LevelLemmas.{HasNeedsBefore}
 use Rattle.odb_check.proofs.NameLemmas.{later_unit}
-use Rattle.odb_check.proofs.NeedLemmas.{IsMeant, is_meant, id_need, group_need}
-use Rattle.odb_check.proofs.PositionLemmas.{group_within, reference_within}
-use Rattle.odb_check.proofs.UnitLemmas.{IsUnitOf, unit_before, same_begin, same_group, one_unit, in_group, in_unit, in_order, unit_at_start}
+use Rattle.odb_check.proofs.NeedLemmas.{IsMeant, is_meant, position_is, id_need, group_need}
+use Rattle.odb_check.proofs.PositionLemmas.{group_within, reference_within, position_first}
+use Rattle.odb_check.proofs.UnitLemmas.{IsUnitOf, unit_before, same_group, one_unit, has_units, in_group, in_unit, in_order, unit_at_start}
 
 pub good_ids : (rs : List Record) → HasGoodNames rs → HasSoundIds rs
 good_ids rs good rule i broken = good rule i broken.1
@@ -123,23 +125,27 @@ group_covers rs good i r group name there other here less refers =
       ]
     ]
 
-alone_case : (rs : List Record) (r j : ℕ) → group_at rs r ≡ None → unit_at rs j ≡ unit_at rs r → j ≡ r
-alone_case rs r j none same =
-    let at_r : unit_begin rs r ≡ r = ap (begin_in rs r) none in
-    let at_j : unit_begin rs j ≡ j = ap (begin_in rs j) (same_group rs j r same ∙ none) in
-    sym at_j ∙ same_begin rs j r same ∙ at_r
-
-listed_case : (rs : List Record) → HasGoodNames rs → (i r : ℕ) → Contains (needs_at rs i) (One r) → unit_at rs r ≢ unit_at rs i → (group : Option (List ℕ)) → group_at rs r ≡ group
-    → ((j : ℕ) → unit_at rs j ≡ unit_at rs r → j ≡ r) ⊎ Contains (needs_at rs i) (Group (unit_at rs r))
-listed_case rs good i r h other None e = inl (λ j same. alone_case rs r j e same)
-listed_case rs good i r h other (Some group) e =
+-- who needs a request of another group needs that group too
+group_needed : (rs : List Record) → HasGoodNames rs → (i r : ℕ) (group : List ℕ) → Contains (needs_at rs i) (One r) → group_at rs r ≡ Some group → unit_at rs r ≢ unit_at rs i → Contains (needs_at rs i) (Group (unit_at rs r))
+group_needed rs good i r group h there other =
     let name : StandsFor (need_of rs) (needed_names rs i) (One r) = stands_for (need_of rs) (needed_names rs i) (One r) h in
     let here : id_at rs r ≡ Some name.element = (is_meant rs name.element (One r) name.means).1.here in
     let less : r < i = (needs_before rs good).one i r h in
     elim (named_cases rs i name.element name.inside) [
-      | inl listed ↦ inr (group_listed rs good i r group name.element e other here less listed)
-      | inr refers ↦ inr (group_covers rs good i r group name.element e other here less refers)
+      | inl listed ↦ group_listed rs good i r group name.element there other here less listed
+      | inr refers ↦ group_covers rs good i r group name.element there other here less refers
     ]
+
+pub needs_groups : (rs : List Record) → HasGoodNames rs → NeedsGroups rs
+needs_groups rs good = record { needed = λ i r group h there lacks. group_needed rs good i r group h there (λ same. lacks (sym (same_group rs r i same) ∙ there)) }
+
+pub has_positions : (rs : List Record) → HasGoodNames rs → HasPositions rs
+has_positions rs good = record { found = λ id p. ((λ e. (position_first rs id p e).1.here), (λ here. position_is rs (good IdTwice) id p here)) }
+
+listed_case : (rs : List Record) → HasGoodNames rs → (i r : ℕ) → Contains (needs_at rs i) (One r) → unit_at rs r ≢ unit_at rs i → (group : Option (List ℕ)) → group_at rs r ≡ group
+    → ((j : ℕ) → unit_at rs j ≡ unit_at rs r → j ≡ r) ⊎ Contains (needs_at rs i) (Group (unit_at rs r))
+listed_case rs good i r h other None e = inl (λ j same. elim (((has_units rs).together j r).0 same) [ inl one ↦ one | inr both ↦ let some : None ≡ Some both.0 = sym e ∙ both.2 in cc ])
+listed_case rs good i r h other (Some group) e = inr (group_needed rs good i r group h e other)
 
 -- two names that stand for one need are one name
 one_name : (rs : List Record) (need : Need) (name other : List ℕ) → IsMeant rs name need → IsMeant rs other need → name ≡ other
@@ -175,11 +181,19 @@ needs_apart rs (name ∷ names) apart = means_apart rs name names (λ other h sa
     (needs_apart rs names (λ i j d less inside. apart (suc i) (suc j) d (omega arith) (omega arith))) (need_of rs name) refl
 
 -- units and needs of the plan as data
+pub is_shape : (rs : List Record) → IsShapeOf rs (shape_of rs)
+is_shape rs = record {
+  size = length-list_below (length rs) (unit_at rs);
+  unit_count = refl;
+  units = λ i h. get_or-list_below (length rs) (unit_at rs) i 0 h;
+  needs = λ i h. get_or-list_below (length rs) (needs_at rs) i [] h;
+}
+
 unit_there : (rs : List Record) (i : ℕ) → i < length rs → unit_of (shape_of rs) i ≡ unit_at rs i
-unit_there rs i h = get_or-list_below (length rs) (unit_at rs) i 0 h
+unit_there rs i h = (is_shape rs).units i h
 
 needs_there : (rs : List Record) (i : ℕ) → i < length rs → needs_of (shape_of rs) i ≡ needs_at rs i
-needs_there rs i h = get_or-list_below (length rs) (needs_at rs) i [] h
+needs_there rs i h = (is_shape rs).needs i h
 
 in_plan : (rs : List Record) (i : ℕ) → i < length (list_below (length rs) (unit_at rs)) → i < length rs
 in_plan rs i h = omega (arith, length-list_below (length rs) (unit_at rs))
@@ -206,6 +220,7 @@ is_plan rs good few distinct =
     record {
       few = omega (arith, length-list_below (length rs) (unit_at rs));
       as_long = length-list_below (length rs) (needs_at rs) ∙ sym (length-list_below (length rs) (unit_at rs));
+      few_units = omega (arith, count_few (length rs) (begins_unit rs), length-list_below (length rs) (unit_at rs));
       counted = λ i h. let inside : i < length rs = in_plan rs i h in omega (arith, unit_there rs i inside, unit_before rs i (length rs) inside);
       in_order = λ i j h less. let inside : j < length rs = in_plan rs j less in omega (arith, unit_there rs i (omega arith), unit_there rs j inside, before.order i j h);
       earlier = λ i need h inside. earlier_case rs good i (in_plan rs i h) need (needs i need (in_plan rs i h) inside);

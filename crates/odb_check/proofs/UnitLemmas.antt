@@ -1,12 +1,13 @@
--- Where units begin, and the order of their numbers.
-use Rattle.std.proofs.Common.{◌≡◌, ◌≤◌, ◌<◌, ◌+◌, ◌-◌, ℕ, zero, suc, true, not, List, Option, Some, None, refl, sym, ap, ◌∙◌, subst, inl, inr, arith, length}
+-- Where units begin, what they are, and the order of their numbers.
+use Rattle.std.proofs.Common.{◌≡◌, ◌≤◌, ◌<◌, ◌⊎◌, ◌+◌, ◌-◌, ℕ, zero, suc, true, not, List, Option, Some, None, refl, sym, ap, ◌∙◌, subst, inl, inr, arith, length}
 use Rattle.std.specs.Prelude.{is_some, unwrap_or, option_map, IsSomeAnd}
 use Rattle.std.proofs.lemmas.Bool.{cases_lt, cases_Bool}
 use Rattle.odb_doc.specs.Records.{Record}
 use Rattle.odb_check.specs.declared.fault.NameRule.TheVariants.{GroupSplit}
 use Rattle.odb_check.specs.Firsts.{is_text}
+use Rattle.odb_check.specs.Laws.{HasUnits}
 use Rattle.odb_check.specs.NameFaults.{StandsAt}
-use Rattle.odb_check.specs.Positions.{group_at, IsGroupBefore}
+use Rattle.odb_check.specs.Positions.{group_at, IsGroupBefore, IsInGroupOf}
 use Rattle.odb_check.specs.Units.{first_in_group, is_new_group, begins_unit, units_before, begin_in, unit_begin, unit_at, group_begin, unit_of_group}
 use Rattle.odb_check.proofs.FirstLemmas.{count_less, count_same}
 use Rattle.odb_check.proofs.PositionLemmas.{IsFirstAt, text_there, there_text, text_first, text_none, text_alone, text_absent, group_first, group_none}
@@ -75,6 +76,22 @@ begin_of_group rs i group here = begins_first rs group (unit_begin rs i) (unit_b
 pub one_unit : (rs : List Record) (i j : ℕ) (group : List ℕ) → group_at rs i ≡ Some group → group_at rs j ≡ Some group → unit_at rs i ≡ unit_at rs j
 one_unit rs i j group here there =
     ap (units_before rs) (text_alone (group_at rs) group (unit_begin rs i) (unit_begin rs j) (begin_of_group rs i group here) (begin_of_group rs j group there))
+
+-- a unit is one group, or one position without a group
+unit_cases : (rs : List Record) (i j : ℕ) → unit_at rs i ≡ unit_at rs j → (group : Option (List ℕ)) → group_at rs i ≡ group → (i ≡ j) ⊎ IsInGroupOf rs i j
+unit_cases rs i j same None e =
+    let at_i : unit_begin rs i ≡ i = ap (begin_in rs i) e in
+    let at_j : unit_begin rs j ≡ j = ap (begin_in rs j) (sym (same_group rs i j same) ∙ e) in
+    inl (sym at_i ∙ same_begin rs i j same ∙ at_j)
+unit_cases rs i j same (Some group) e = inr (group, e, sym (same_group rs i j same) ∙ e)
+
+pub has_units : (rs : List Record) → HasUnits rs
+has_units rs = record {
+  together = λ i j. (
+    (λ same. unit_cases rs i j same (group_at rs i) refl),
+    (λ h. elim h [ inl one ↦ ap (unit_at rs) one | inr both ↦ one_unit rs i j both.0 both.1 both.2 ]),
+  );
+}
 
 -- the unit of a group
 pub record IsUnitOf (rs : List Record) (group : List ℕ) (u : ℕ) : Type 0 where

@@ -15,4 +15,5 @@ pub mod Marks
 pub mod Levels
 pub mod Shape
 pub mod Plans
+pub mod Laws
 pub mod Texts

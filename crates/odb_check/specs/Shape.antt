@@ -26,6 +26,13 @@ needs_of plan i = slice_index_or plan.needs i []
 abbrev pub shape_of : List Record → Shape
 shape_of rs = record { units = list_below (length rs) (all.unit_at rs); unit_count = all.unit_count rs; needs = list_below (length rs) (needs_at rs) }
 
+-- position by position these are the units and needs of the requests
+pub record IsShapeOf (rs : List Record) (plan : Shape) : Type 0 where
+  pub size : length plan.units ≡ length rs
+  pub unit_count : plan.unit_count ≡ all.unit_count rs
+  pub units : (i : ℕ) → i < length rs → unit_of plan i ≡ all.unit_at rs i
+  pub needs : (i : ℕ) → i < length rs → needs_of plan i ≡ needs_at rs i
+
 -- a need of the request at i is of an earlier position, or of an earlier unit
 abbrev pub IsEarlier : Shape → ℕ → Need → Type 0
 IsEarlier plan i (One r) = r < i
@@ -40,6 +47,7 @@ IsAlone plan r = (j : ℕ) → j < length plan.units → unit_of plan j ≡ unit
 pub record IsPlan (plan : Shape) : Type 0 where
   pub few : length plan.units ≤ 10000
   pub as_long : length plan.needs ≡ length plan.units
+  pub few_units : plan.unit_count ≤ length plan.units
   pub counted : (i : ℕ) → i < length plan.units → unit_of plan i < plan.unit_count
   pub in_order : (i j : ℕ) → i ≤ j → j < length plan.units → unit_of plan i ≤ unit_of plan j
   pub earlier : (i : ℕ) (need : Need) → i < length plan.units → Contains (needs_of plan i) need → IsEarlier plan i need

@@ -1,13 +1,21 @@
-//! What the requests of a batch determine: the least fault of their names.
+//! What the requests of a batch determine: the least fault of their names; and what holds of every
+//! plan.
 //!
-//! The laws are clauses of a function that changes nothing. They speak of the words that the clauses
-//! of [`crate::check`] use, for callers that compare two readings of one batch.
+//! The laws are clauses of functions that change nothing. They speak of the words that the clauses of
+//! [`crate::check`] and of [`Plan`] use, for callers that compare two readings of one batch, or that
+//! run a plan.
 
 ghost use Rattle.std.specs.Prelude.{◌≡◌, List};
 ghost use Rattle.odb_doc.specs.Records.{Record};
 ghost use Rattle.odb_check.specs.declared.fault.CheckFault.{CheckFault};
 ghost use Rattle.odb_check.specs.FaultTable.{IsNumbered};
+ghost use Rattle.odb_check.specs.Laws.{HasPositions, HasUnits, NeedsGroups};
 ghost use Rattle.odb_check.specs.LeastNameFault.{HasGoodNames, RefusesNames};
+ghost use Rattle.odb_check.specs.Levels.{HasLevels};
+ghost use Rattle.odb_check.specs.Plans.{plan_records, shape};
+ghost use Rattle.odb_check.specs.Shape.{HasNamesAsNeeds, IsPlan, IsShapeOf};
+
+use crate::plan::Plan;
 
 /// Requests have one least fault of names at most, and none where their names are good (OData JSON
 /// Format 4.01, sections 19.1 and 19.2).
@@ -18,3 +26,23 @@ pub fn one_fault()
     ensures none { (requests : List Record) (fault : CheckFault) → IsNumbered fault
         → RefusesNames fault requests → ¬ HasGoodNames requests }
 {}
+
+/// What holds of every plan (OData JSON Format 4.01, sections 19.1 and 19.2).
+///
+/// Its names are good. Two positions are in one unit if and only if they are one position or in one
+/// group; units are adjacent and in order. Identifiers have their positions, and no other text has
+/// one. What a request depends on precedes it; each name of its `dependsOn` and its reference are
+/// among its dependencies, and so is the group of each member of another group. Levels are the
+/// lengths of the longest chains.
+pub fn every_plan(plan: &Plan<'_>)
+    ensures good { HasGoodNames (plan_records plan.now) }
+    ensures units { HasUnits (plan_records plan.now) }
+    ensures positions { HasPositions (plan_records plan.now) }
+    ensures groups { NeedsGroups (plan_records plan.now) }
+    ensures levels { HasLevels (plan_records plan.now) }
+    ensures shape { IsShapeOf (plan_records plan.now) (shape plan.now) }
+    ensures order { IsPlan (shape plan.now) }
+    ensures names { HasNamesAsNeeds (plan_records plan.now) (shape plan.now) }
+{
+    let _count = plan.len();
+}

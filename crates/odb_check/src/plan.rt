@@ -2,7 +2,7 @@ ghost use Rattle.std.specs.Prelude.{◌≡◌, ◌≤◌, ◌<◌, length, slice
 ghost use Rattle.std.proofs.Props.{props};
 ghost use Rattle.odb_doc.specs.Records.{IsSoundRecord, record_of};
 ghost use Rattle.odb_check.specs.LeastNameFault.{HasGoodNames};
-ghost use Rattle.odb_check.specs.Levels.{HasLevels, level_at, levels_below};
+ghost use Rattle.odb_check.specs.Levels.{level_at, levels_below};
 ghost use Rattle.odb_check.specs.Needs.{AreNeeds};
 ghost use Rattle.odb_check.specs.Requests.{requests};
 ghost use Rattle.odb_check.specs.Units as units;
@@ -109,8 +109,7 @@ impl<'b> Plan<'b> {
     /// a group is the greatest of its members.
     pub fn level(&self, i: u32) -> u32
         requires { i < length (plan_records self.now) }
-        ensures value { result ≡ level_at (plan_records self.now) i }
-        ensures law { HasLevels (plan_records self.now) }
+        ensures { result ≡ level_at (plan_records self.now) i }
     {
         self.levels[i as usize]
     }
