@@ -3,7 +3,8 @@ use Rattle.std.proofs.Common.{◌≡◌, ◌<◌, ℕ, zero, suc, Bool, true, fa
 use Rattle.std.proofs.Math.Seq.{get_or-append_seam}
 use Rattle.std.proofs.lemmas.List.{get_or_append_left}
 use Rattle.std.proofs.lemmas.Bool.{cases_lt}
-use Rattle.odb_check.specs.Firsts.{count_below, pass_below, list_below}
+use Rattle.odb_check.specs.Firsts.{count_below, list_below}
+use Rattle.odb_check.specs.Tables.{pass_below}
 
 pub length-list_below : {X : Type 0} (n : ℕ) (value : ℕ → X) → length (list_below n value) ≡ n
 length-list_below zero value = refl

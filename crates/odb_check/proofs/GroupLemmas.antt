@@ -10,9 +10,10 @@ use Rattle.odb_doc.specs.Names.{with_name}
 use Rattle.odb_doc.specs.Records.{Record}
 use Rattle.odb_doc.proofs.NameLemmas.{fold-with_name-nil}
 use Rattle.odb_check.specs.Firsts.{or_else, is_text}
-use Rattle.odb_check.specs.Groups.{groups_of, with_group, groups_below}
+use Rattle.odb_check.specs.Groups.{groups_of}
 use Rattle.odb_check.specs.Positions.{group_at}
 use Rattle.odb_check.specs.Units.{first_in_group}
+use Rattle.odb_check.specs.Tables.{with_group, groups_below}
 
 -- ---- a group is among those of the first n requests where one of these is in it
 

@@ -8,12 +8,20 @@ use Rattle.std.proofs.lemmas.List.{get_or_append_left}
 use Rattle.odb_doc.specs.Records.{Record}
 use Rattle.odb_check.specs.declared.need.Need.{Need}
 use Rattle.odb_check.specs.declared.need.Need.TheVariants.{One, Group}
-use Rattle.odb_check.specs.Levels.{greatest_of, greatest_below, unit_level, level_needed, next_level, levels_below, level_at, level_of_unit, HasLevels, AreLevelsOf}
+use Rattle.odb_check.specs.Levels.{greatest_of, greatest_below, unit_level, level_needed, next_level, levels_below, level_at, level_of_unit, HasLevels}
 use Rattle.odb_check.specs.Needs.{needs_at}
 use Rattle.odb_check.specs.Units.{unit_at, unit_count}
 use Rattle.odb_check.specs.Marks.{IsWithin}
 use Rattle.odb_check.proofs.AnyLemmas.{Contains-head, Contains-tail}
 use Rattle.odb_check.proofs.UnitLemmas.{unit_before}
+
+-- the levels of the first n requests, and of the units among these
+pub record AreLevelsOf (rs : List Record) (n : ℕ) (levels unit_levels : List ℕ) : Type 0 where
+  pub levels_are : levels ≡ levels_below rs n
+  pub unit_levels_are : (u : ℕ) → slice_index unit_levels u ≡ unit_level rs n (levels_below rs n) u
+  pub unit_levels_count : length unit_levels ≡ unit_count rs
+  pub low : (k : ℕ) → slice_index levels k ≤ n
+  pub unit_low : (u : ℕ) → slice_index unit_levels u ≤ n
 
 pub greatest_of-append : {X : Type 0} (value : X → ℕ) (xs : List X) (x : X) → greatest_of value (xs ++ x ∷ []) ≡ max (greatest_of value xs) (value x)
 greatest_of-append value [] x = omega arith

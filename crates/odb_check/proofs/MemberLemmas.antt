@@ -4,9 +4,10 @@ use Rattle.std.proofs.lemmas.Bool.{cases_lt}
 use Rattle.odb_doc.specs.Records.{Record}
 use Rattle.odb_check.specs.declared.fault.NameRule.TheVariants.{GroupSplit}
 use Rattle.odb_check.specs.NameFaults.{StandsAt}
-use Rattle.odb_check.specs.Units.{begins_unit, unit_at, unit_count, HasMembers, IsStartOf}
+use Rattle.odb_check.specs.Units.{begins_unit, unit_at, unit_count, HasMembers}
 use Rattle.odb_check.proofs.FirstLemmas.{count_more}
 use Rattle.odb_check.proofs.UnitLemmas.{unit_before, unit_at_begin, in_order}
+use Rattle.odb_check.specs.Tables.{IsStartOf}
 
 after_start : (rs : List Record) (u start i : ℕ) → IsStartOf rs u start → unit_at rs i ≡ u → start ≤ i
 after_start rs u start i is e = elim (cases_lt i start) [ inl less ↦ absurd (omega (arith, unit_before rs i start less, is.number)) | inr more ↦ more ]

@@ -12,10 +12,10 @@ use Rattle.odb_check.specs.declared.names.Judged.{Judged}
 use Rattle.odb_check.specs.declared.need.Need.{Need}
 use Rattle.odb_check.specs.declared.need.Need.TheVariants.{One, Group}
 use Rattle.odb_check.specs.Judged.{IsAnswer, MissesGroupOf, batch_of}
-use Rattle.odb_check.specs.Walks.{HasSoundIds}
+use Rattle.odb_check.specs.Walks.{HasSoundIds, named_at}
 use Rattle.odb_check.specs.Marks.{is_group}
 use Rattle.odb_check.specs.NameFaults.{SomeName, StandsAt, IsMemberAlone}
-use Rattle.odb_check.specs.Needs.{need_of, named_at}
+use Rattle.odb_check.specs.Needs.{need_of}
 use Rattle.odb_check.specs.Positions.{id_at, group_at, names_at, IsId, IsIdFrom, IsGroup, IsGroupAfter, IsInGroupOf, NamesGroupOf}
 use Rattle.odb_check.specs.Units.{unit_begin, unit_at}
 use Rattle.odb_check.proofs.AnyLemmas.{SomePasses, StandsFor, any_passes, some_passes, stands_for, Contains-meaning}

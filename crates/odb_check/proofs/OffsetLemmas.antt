@@ -6,8 +6,9 @@ use Rattle.std.proofs.lemmas.Bool.{cases_lt}
 use Rattle.odb_doc.specs.Records.{Record}
 use Rattle.odb_check.specs.declared.need.Need.{Need}
 use Rattle.odb_check.specs.Firsts.{joined_below}
-use Rattle.odb_check.specs.Needs.{needs_at, AreNeedsOf}
+use Rattle.odb_check.specs.Needs.{needs_at}
 use Rattle.odb_check.proofs.BelowLemmas.{length-list_below, get_or-list_below}
+use Rattle.odb_check.specs.Walks.{AreNeedsOf}
 
 -- the lists up to one, that one, and the others
 pub record IsCutAt {X : Type 0} (n i : ℕ) (lists : ℕ → List X) : Type 0 where

@@ -11,10 +11,10 @@ use Rattle.odb_check.specs.declared.names.Judged.{Judged}
 use Rattle.odb_check.specs.declared.need.Need.{Need}
 use Rattle.odb_check.specs.declared.need.Need.TheVariants.{One, Group}
 use Rattle.odb_check.specs.Judged.{MissesGroupOf, batch_of, referred_by}
-use Rattle.odb_check.specs.Walks.{HasSoundIds}
+use Rattle.odb_check.specs.Walks.{HasSoundIds, further_needs, named_at}
 use Rattle.odb_check.specs.Marks.{is_one}
 use Rattle.odb_check.specs.NameFaults.{StandsAt}
-use Rattle.odb_check.specs.Needs.{need_of, further_names, further_needs, named_at}
+use Rattle.odb_check.specs.Needs.{need_of, further_names}
 use Rattle.odb_check.specs.Positions.{id_at, names_at, reference_at, IsId, IsIdFrom, IsInGroupOf, NamesGroupOf}
 use Rattle.odb_check.specs.Units.{position_of}
 use Rattle.odb_check.proofs.AnyLemmas.{SomePasses, StandsFor, any_passes, some_passes, stands_for, Contains-meaning, Contains-Decides}

@@ -5,11 +5,10 @@ use Rattle.std.specs.List.{IsDistinct, list_any}
 use Rattle.std.proofs.lemmas.Bool.{cases_Bool, cases_lt, eq-eqb, ne_eqb}
 use Rattle.odb_doc.specs.Records.{Record}
 use Rattle.odb_check.specs.declared.table.Table.{Table}
-use Rattle.odb_check.specs.Firsts.{or_else, is_text, first_below, list_below, pass_below}
+use Rattle.odb_check.specs.Firsts.{or_else, is_text, first_below, list_below}
 use Rattle.odb_check.specs.Positions.{id_at, group_at, names_at}
-use Rattle.odb_check.specs.Tables.{AreTablesOf, at_text, more_with, table_len, unit_among}
+use Rattle.odb_check.specs.Tables.{AreTablesOf, at_text, more_with, table_len, unit_among, pass_below, groups_below, with_group}
 use Rattle.odb_check.specs.Units.{first_in_group, begins_unit, units_before, begin_in, unit_begin, unit_at}
-use Rattle.odb_check.specs.Groups.{groups_below, with_group}
 use Rattle.odb_check.proofs.GroupLemmas.{any-groups_below, length-groups_below, length-with}
 use Rattle.odb_check.proofs.FirstLemmas.{count_less}
 use Rattle.odb_check.proofs.PositionLemmas.{text_there}

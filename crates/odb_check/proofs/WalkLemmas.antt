@@ -17,9 +17,9 @@ use Rattle.odb_check.specs.Faults.{number, phase}
 use Rattle.odb_check.specs.LeastNameFault.{BreaksIn, HasGoodNames, RefusesNames}
 use Rattle.odb_check.specs.Marks.{ones_with, groups_with, AreUpTo, AreMarksOf}
 use Rattle.odb_check.specs.NameFaults.{StandsAt}
-use Rattle.odb_check.specs.Needs.{need_of, further_names, further_needs, named_at, needs_at}
+use Rattle.odb_check.specs.Needs.{need_of, further_names, needs_at}
 use Rattle.odb_check.specs.Positions.{names_at, reference_at}
-use Rattle.odb_check.specs.Walks.{BreaksFirst, FailsAt, HasSoundIds}
+use Rattle.odb_check.specs.Walks.{BreaksFirst, FailsAt, HasSoundIds, further_needs, named_at}
 use Rattle.odb_check.proofs.AnyLemmas.{Contains-map, Contains-none}
 use Rattle.odb_check.proofs.MarkLemmas.{mark_on, mark_none}
 use Rattle.odb_check.proofs.NameLemmas.{meant_known, unknown}

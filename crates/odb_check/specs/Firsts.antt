@@ -16,11 +16,6 @@ abbrev pub count_below : ℕ → (ℕ → Bool) → ℕ
 count_below zero test = 0
 count_below (suc n) test = cond (test n) (suc (count_below n test)) (count_below n test)
 
--- the numbers below n that pass
-abbrev pub pass_below : ℕ → (ℕ → Bool) → List ℕ
-pass_below zero test = []
-pass_below (suc n) test = cond (test n) (pass_below n test ++ n ∷ []) (pass_below n test)
-
 -- what a function gives at each number below n
 abbrev pub list_below : {X : Type 0} → ℕ → (ℕ → X) → List X
 list_below zero value = []

@@ -1,9 +1,9 @@
 -- How long the chains of needs are.
-use Rattle.std.specs.Prelude.{◌≡◌, ◌≤◌, ◌<◌, ◌==◌, ◌+◌, ℕ, zero, suc, max, cond, List, [], ◌∷◌, ◌++◌, length, slice_index}
+use Rattle.std.specs.Prelude.{◌≡◌, ◌<◌, ◌==◌, ◌+◌, ℕ, zero, suc, max, cond, List, [], ◌∷◌, ◌++◌, length, slice_index}
 use Rattle.odb_doc.specs.Records.{Record}
 use Rattle.odb_check.specs.declared.need.Need.{Need}
 use Rattle.odb_check.specs.declared.need.Need.TheVariants.{One, Group}
-use Rattle.odb_check.specs.Units.{unit_at, unit_count}
+use Rattle.odb_check.specs.Units.{unit_at}
 use Rattle.odb_check.specs.Needs.{needs_at}
 
 -- the greatest value of a list, or 0
@@ -45,11 +45,3 @@ level_of_unit rs u = greatest_below (length rs) (λ j. cond (unit_at rs j == u) 
 -- each level is 0 without needs, else one more than the greatest level of what is needed
 pub record HasLevels (rs : List Record) : Type 0 where
   pub each : (i : ℕ) → i < length rs → level_at rs i ≡ next_level (level_at rs) (level_of_unit rs) (needs_at rs i)
-
--- the levels of the first n requests, and of the units among these
-pub record AreLevelsOf (rs : List Record) (n : ℕ) (levels unit_levels : List ℕ) : Type 0 where
-  pub levels_are : levels ≡ levels_below rs n
-  pub unit_levels_are : (u : ℕ) → slice_index unit_levels u ≡ unit_level rs n (levels_below rs n) u
-  pub unit_levels_count : length unit_levels ≡ unit_count rs
-  pub low : (k : ℕ) → slice_index levels k ≤ n
-  pub unit_low : (u : ℕ) → slice_index unit_levels u ≤ n

@@ -1,3 +1,4 @@
+-- What public clauses cite: it has to be believed.
 pub mod Faults
 pub mod FaultTable
 pub mod Positions
@@ -7,13 +8,14 @@ pub mod Firsts
 pub mod Units
 pub mod Groups
 pub mod Needs
-pub mod Tables
+pub mod Levels
+pub mod Texts
 pub mod Requests
+pub mod Plans
+pub mod Shape
+pub mod Laws
+-- What serves invariants and private clauses: no public clause cites it.
+pub mod Tables
 pub mod Judged
 pub mod Walks
 pub mod Marks
-pub mod Levels
-pub mod Shape
-pub mod Plans
-pub mod Laws
-pub mod Texts

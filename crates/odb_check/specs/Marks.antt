@@ -1,5 +1,5 @@
--- The marks of what a request names: a number for each request and each unit, which is the stamp of the last
--- request that named it.
+-- For invariants and private clauses: the marks of what a request names, a number for each request and each unit,
+-- which is the stamp of the last request that named it.
 use Rattle.std.specs.Prelude.{◌≡◌, ◌≤◌, ◌<◌, ◌==◌, ℕ, Bool, false, List, length, slice_index, slice_set}
 use Rattle.std.specs.List.{list_any}
 use Rattle.odb_doc.specs.Records.{Record}

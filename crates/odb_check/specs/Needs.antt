@@ -1,12 +1,10 @@
 -- What the requests of a batch need (OData JSON Format 4.01, section 19.1, `dependsOn`, and section 19.2).
-use Rattle.std.specs.Prelude.{◌≡◌, ℕ, suc, List, [], ◌∷◌, ◌++◌, Option, Some, None, length, bytes_eq, cond}
+use Rattle.std.specs.Prelude.{ℕ, List, [], ◌∷◌, ◌++◌, Option, Some, None, bytes_eq, cond}
 use Rattle.std.specs.List.{list_any, filter_map}
 use Rattle.odb_doc.specs.Records.{Record}
 use Rattle.odb_check.specs.declared.need.Need.{Need}
-use Rattle.odb_check.specs.declared.needs.Needs.{Needs}
 use Rattle.odb_check.specs.declared.need.Need.TheVariants.{One, Group}
 use Rattle.odb_check.specs.Positions.{names_at, reference_at}
-use Rattle.odb_check.specs.Firsts.{list_below, joined_below}
 use Rattle.odb_check.specs.Units.{position_of, unit_of_group}
 
 -- a position, or else a unit
@@ -24,14 +22,6 @@ abbrev pub further_names : List (List ℕ) → Option (List ℕ) → List (List 
 further_names names None = []
 further_names names (Some id) = cond (list_any (bytes_eq id) names) [] (id ∷ [])
 
--- what the names in `dependsOn` stand for
-abbrev pub named_at : List Record → ℕ → List Need
-named_at rs i = filter_map (need_of rs) (names_at rs i)
-
--- what the reference stands for, where it is not among the names
-abbrev pub further_needs : List Record → ℕ → List Need
-further_needs rs i = filter_map (need_of rs) (further_names (names_at rs i) (reference_at rs i))
-
 -- the names in `dependsOn`, and then the reference where it is not among them
 abbrev pub needed_names : List Record → ℕ → List (List ℕ)
 needed_names rs i = names_at rs i ++ further_names (names_at rs i) (reference_at rs i)
@@ -39,12 +29,3 @@ needed_names rs i = names_at rs i ++ further_names (names_at rs i) (reference_at
 -- what these names stand for
 abbrev pub needs_at : List Record → ℕ → List Need
 needs_at rs i = filter_map (need_of rs) (needed_names rs i)
-
--- the needs of the first n requests, one after another, and where those of each begin
-pub record AreNeedsOf (rs : List Record) (n : ℕ) (needs : List Need) (offsets : List ℕ) : Type 0 where
-  pub needs_are : needs ≡ joined_below n (needs_at rs)
-  pub offsets_are : offsets ≡ list_below (suc n) (λ k. length (joined_below k (needs_at rs)))
-
--- the needs of all requests
-abbrev pub AreNeeds : List Record → Needs → Type 0
-AreNeeds rs needs = AreNeedsOf rs (length rs) needs.list.items needs.offsets.items

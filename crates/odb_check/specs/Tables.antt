@@ -1,14 +1,14 @@
--- What the tables of identifiers and groups hold.
-use Rattle.std.specs.Prelude.{◌≡◌, ◌≤◌, ◌<◌, ℕ, List, Option, option_map, option_and_then, unwrap_or, is_some, bytes_eq, length, Some, None, cond}
+-- For invariants and private clauses: what the tables of identifiers and groups hold.
+use Rattle.std.specs.Prelude.{◌≡◌, ◌≤◌, ◌<◌, ℕ, zero, suc, Bool, true, List, [], ◌∷◌, ◌++◌, Option, option_map, option_and_then, unwrap_or, is_some, bytes_eq, length, Some, None, cond}
 use Rattle.std.specs.List.{IsDistinct}
 use Rattle.std.specs.BTreeMap.{get_by_text, btree_map_len}
 use Rattle.indexmap.specs.IndexMap.{get_by, index_map_len}
+use Rattle.odb_doc.specs.Names.{with_name}
 use Rattle.odb_doc.specs.Records.{Record}
 use Rattle.odb_check.specs.declared.table.Table.{Table}
 use Rattle.odb_check.specs.declared.table.Table.TheVariants as tables
-use Rattle.odb_check.specs.Positions.{names_at}
-use Rattle.odb_check.specs.Firsts.{pass_below, list_below}
-use Rattle.odb_check.specs.Groups.{groups_below}
+use Rattle.odb_check.specs.Positions.{group_at, names_at}
+use Rattle.odb_check.specs.Firsts.{list_below}
 use Rattle.odb_check.specs.Units.{first_id, first_in_group, units_before, unit_at, begins_unit}
 
 -- what a table has at a text
@@ -29,6 +29,27 @@ more_with table (Some text) = cond (is_some (at_text table text)) 0 1
 -- the unit that a table has for a group, or else the next one
 abbrev pub unit_among : Table → Option (List ℕ) → ℕ → ℕ
 unit_among groups group next = unwrap_or (option_and_then (at_text groups) group) next
+
+-- the numbers below n that pass
+abbrev pub pass_below : ℕ → (ℕ → Bool) → List ℕ
+pass_below zero test = []
+pass_below (suc n) test = cond (test n) (pass_below n test ++ n ∷ []) (pass_below n test)
+
+-- the unit begins at the position
+pub record IsStartOf (rs : List Record) (u start : ℕ) : Type 0 where
+  pub within : start < length rs
+  pub begins : begins_unit rs start ≡ true
+  pub number : units_before rs start ≡ u
+
+-- the names, and this group at the end unless it is none or one of them
+abbrev pub with_group : List (List ℕ) → Option (List ℕ) → List (List ℕ)
+with_group names None = names
+with_group names (Some group) = with_name names group
+
+-- the different groups of the first n requests
+abbrev pub groups_below : List Record → ℕ → List (List ℕ)
+groups_below rs zero = []
+groups_below rs (suc n) = with_group (groups_below rs n) (group_at rs n)
 
 -- the first n requests, as tables
 pub record AreTablesOf (rs : List Record) (n : ℕ) (ids groups : Table) (units starts : List ℕ) : Type 0 where

@@ -60,9 +60,3 @@ pub record HasMembers (rs : List Record) (u from to : ℕ) : Type 0 where
   pub begins : from < to
   pub within : to ≤ length rs
   pub exact : (i : ℕ) → i < length rs → (unit_at rs i ≡ u) ↔ ((from ≤ i) × (i < to))
-
--- the unit begins at the position
-pub record IsStartOf (rs : List Record) (u start : ℕ) : Type 0 where
-  pub within : start < length rs
-  pub begins : begins_unit rs start ≡ true
-  pub number : units_before rs start ≡ u

@@ -1,12 +1,19 @@
--- What the walks over the requests find: that over identifiers and groups, and that over names and references.
-use Rattle.std.specs.Prelude.{◌≡◌, ℕ, List}
+-- For invariants and private clauses: what the walks over the requests find, that over identifiers and groups, and
+-- that over names and references.
+use Rattle.std.specs.Prelude.{◌≡◌, ℕ, suc, List, length}
+use Rattle.std.specs.List.{filter_map}
 use Rattle.odb_doc.specs.LeastRules.{AreSound, IsLeast}
 use Rattle.odb_doc.specs.Records.{Record}
 use Rattle.odb_check.specs.declared.fault.NameRule.{NameRule}
 use Rattle.odb_check.specs.declared.fault.CheckFault.{CheckFault}
 use Rattle.odb_check.specs.declared.fault.CheckFault.TheVariants as faults
+use Rattle.odb_check.specs.declared.need.Need.{Need}
+use Rattle.odb_check.specs.declared.needs.Needs.{Needs}
 use Rattle.odb_check.specs.Faults.{number}
+use Rattle.odb_check.specs.Firsts.{joined_below, list_below}
 use Rattle.odb_check.specs.LeastNameFault.{BreaksIn}
+use Rattle.odb_check.specs.Needs.{further_names, need_of, needs_at}
+use Rattle.odb_check.specs.Positions.{names_at, reference_at}
 
 -- no identifier and no group breaks a rule
 abbrev pub HasSoundIds : List Record → Type 0
@@ -24,3 +31,20 @@ BreaksFirst ph rs i rule = IsLeast number (λ other. BreaksIn ph rs other i) rul
 abbrev pub FailsAt : ℕ → List Record → ℕ → CheckFault → Type 0
 FailsAt ph rs i (faults.Request at rule) = (at ≡ i) × BreaksFirst ph rs i rule
 FailsAt ph rs i faults.OutOfMemory = Unit {0}
+
+-- what the names in `dependsOn` stand for
+abbrev pub named_at : List Record → ℕ → List Need
+named_at rs i = filter_map (need_of rs) (names_at rs i)
+
+-- what the reference stands for, where it is not among the names
+abbrev pub further_needs : List Record → ℕ → List Need
+further_needs rs i = filter_map (need_of rs) (further_names (names_at rs i) (reference_at rs i))
+
+-- the needs of the first n requests, one after another, and where those of each begin
+pub record AreNeedsOf (rs : List Record) (n : ℕ) (needs : List Need) (offsets : List ℕ) : Type 0 where
+  pub needs_are : needs ≡ joined_below n (needs_at rs)
+  pub offsets_are : offsets ≡ list_below (suc n) (λ k. length (joined_below k (needs_at rs)))
+
+-- the needs of all requests
+abbrev pub AreNeeds : List Record → Needs → Type 0
+AreNeeds rs needs = AreNeedsOf rs (length rs) needs.list.items needs.offsets.items

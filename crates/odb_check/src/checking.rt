@@ -2,9 +2,9 @@ ghost use Rattle.std.specs.Prelude.{◌≡◌, length, OnOk, IfOk, IfErr};
 ghost use Rattle.odb_doc.specs.Batches.{records};
 ghost use Rattle.odb_check.specs.LeastNameFault.{HasGoodNames, RefusesNames};
 ghost use Rattle.odb_check.specs.Levels.{levels_below};
-ghost use Rattle.odb_check.specs.Needs.{AreNeeds};
 ghost use Rattle.odb_check.specs.Plans.{plan_records};
 ghost use Rattle.odb_check.specs.Requests.{requests};
+ghost use Rattle.odb_check.specs.Walks.{AreNeeds};
 
 use crate::fault::CheckFault;
 use crate::ids::check_ids;

@@ -3,10 +3,9 @@ ghost use Rattle.std.specs.Bool.{Decides};
 ghost use Rattle.std.proofs.Props.{props};
 ghost use Rattle.odb_check.specs.Marks.{AreMarksOf};
 ghost use Rattle.odb_check.specs.NameFaults.{StandsAt, IsMemberAlone};
-ghost use Rattle.odb_check.specs.Needs.{named_at, further_needs};
 ghost use Rattle.odb_check.specs.Positions.{id_at, group_at, names_at, IsIdFrom, IsGroupAfter, IsInGroupOf, NamesGroupOf};
 ghost use Rattle.odb_check.specs.Requests.{requests};
-ghost use Rattle.odb_check.specs.Walks.{BreaksFirst, BreaksNone, HasSoundIds};
+ghost use Rattle.odb_check.specs.Walks.{BreaksFirst, BreaksNone, HasSoundIds, named_at, further_needs};
 ghost use Rattle.odb_check.specs.declared.fault.NameRule.TheVariants as rules;
 
 use crate::fault::NameRule;

@@ -1,6 +1,7 @@
 ghost use Rattle.std.specs.Prelude.{◌≡◌, ◌≤◌, ◌<◌, length, slice_index, slice_range};
-ghost use Rattle.odb_check.specs.Needs.{AreNeeds, needs_at};
+ghost use Rattle.odb_check.specs.Needs.{needs_at};
 ghost use Rattle.odb_check.specs.Requests.{requests};
+ghost use Rattle.odb_check.specs.Walks.{AreNeeds};
 
 use crate::need::Need;
 use crate::tables::Tables;

@@ -3,9 +3,9 @@ ghost use Rattle.std.proofs.Props.{props};
 ghost use Rattle.odb_doc.specs.Records.{IsSoundRecord, record_of};
 ghost use Rattle.odb_check.specs.LeastNameFault.{HasGoodNames};
 ghost use Rattle.odb_check.specs.Levels.{level_at, levels_below};
-ghost use Rattle.odb_check.specs.Needs.{AreNeeds};
 ghost use Rattle.odb_check.specs.Requests.{requests};
 ghost use Rattle.odb_check.specs.Units as units;
+ghost use Rattle.odb_check.specs.Walks.{AreNeeds};
 
 use crate::need::Need;
 use crate::needs::{Needs, needs_of_request};

@@ -4,7 +4,7 @@ ghost use Rattle.odb_doc.specs.Batches.{records};
 ghost use Rattle.odb_doc.specs.Names.{texts_in};
 ghost use Rattle.odb_doc.specs.Records.{IsSoundRecord, record_of};
 ghost use Rattle.odb_check.specs.Firsts.{or_else, is_text};
-ghost use Rattle.odb_check.specs.Tables.{AreTablesOf, at_text, more_with, table_len, unit_among};
+ghost use Rattle.odb_check.specs.Tables.{AreTablesOf, IsStartOf, at_text, more_with, table_len, unit_among};
 
 use crate::need::Need;
 use crate::seed::Seed;
@@ -215,7 +215,7 @@ impl<'b> Tables<'b> {
     /// Where the unit begins.
     pub(crate) fn start_of(&self, u: u32) -> u32
         requires { u < spec.unit_count (requests self.now) }
-        ensures { spec.IsStartOf (requests self.now) u result }
+        ensures { IsStartOf (requests self.now) u result }
     {
         self.starts[u as usize]
     }

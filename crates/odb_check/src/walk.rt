@@ -3,10 +3,10 @@ ghost use Rattle.odb_doc.specs.Names.{texts_in};
 ghost use Rattle.odb_check.specs.LeastNameFault.{HasGoodNames, RefusesNames};
 ghost use Rattle.odb_check.specs.Marks.{AreMarksOf, AreUpTo};
 ghost use Rattle.odb_check.specs.NameFaults.{StandsAt};
-ghost use Rattle.odb_check.specs.Needs.{AreNeeds, named_at, needs_at};
+ghost use Rattle.odb_check.specs.Needs.{needs_at};
 ghost use Rattle.odb_check.specs.Positions.{names_at};
 ghost use Rattle.odb_check.specs.Requests.{requests};
-ghost use Rattle.odb_check.specs.Walks.{BreaksNone, FailsAt, HasSoundIds};
+ghost use Rattle.odb_check.specs.Walks.{BreaksNone, FailsAt, HasSoundIds, AreNeeds, named_at};
 ghost use Rattle.odb_check.specs.declared.fault.NameRule.TheVariants as rules;
 
 use crate::fault::{CheckFault, NameRule};

@@ -1,6 +1,6 @@
 use Rattle.odb_doc.specs.Batches.{records}
-use Rattle.odb_check.specs.Levels.{AreLevelsOf}
 use Rattle.odb_check.proofs.levels.levels_of.Given as goal
+use Rattle.odb_check.proofs.LevelLemmas.{AreLevelsOf}
 
 -- the levels of the requests before i, and of the units among these
 abbrev pub invariant-loop-i : goal.invariant-loop-i

@@ -1,9 +1,9 @@
 use Rattle.std.proofs.Common.{◌≡◌, ◌∙◌, ap, sym, subst, get_or, length}
 use Rattle.odb_doc.specs.Batches.{records}
-use Rattle.odb_check.specs.Firsts.{pass_below}
-use Rattle.odb_check.specs.Units.{IsStartOf, begins_unit}
+use Rattle.odb_check.specs.Units.{begins_unit}
 use Rattle.odb_check.proofs.BelowLemmas.{IsPassed, get_or-pass_below}
 use Rattle.odb_check.proofs.tables.Tables.start_of.Goals as goal
+use Rattle.odb_check.specs.Tables.{pass_below, IsStartOf}
 
 pub returns : goal.returns
 returns c =
