@@ -1,7 +1,8 @@
 -- Requests have one least fault of names.
-use Rattle.std.proofs.Common.{◌≡◌, inl, inr, ℕ, List, refl, sym, subst}
+use Rattle.std.proofs.Common.{◌≡◌, inl, inr, ℕ, List, refl, subst}
 use Rattle.std.proofs.lemmas.Bool.{cases_order}
 use Rattle.odb_doc.specs.LeastRules.{IsFirst}
+use Rattle.odb_doc.specs.OneLeast.{one_first}
 use Rattle.odb_doc.specs.Records.{Record}
 use Rattle.odb_check.specs.declared.fault.NameRule.{NameRule}
 use Rattle.odb_check.specs.declared.fault.CheckFault.{CheckFault}
@@ -11,22 +12,13 @@ use Rattle.odb_check.specs.FaultTable.{IsNumbered}
 use Rattle.odb_check.specs.LeastNameFault.{BreaksIn, IsLeastAt, HasGoodNames, RefusesNames}
 use Rattle.odb_check.proofs.RuleLemmas.{same_rule}
 
-one_first : (rs : List Record) (ph i j : ℕ) (a b : NameRule) → IsFirst number (BreaksIn ph rs) i a → IsFirst number (BreaksIn ph rs) j b → faults.Request i a ≡ faults.Request j b
-one_first rs ph i j a b one two =
-    elim (cases_order i j) [
-      | inr (inl less) ↦ absurd (two.before a i less one.here.broken)
-      | inr (inr more) ↦ absurd (one.before b j more two.here.broken)
-      | inl here ↦ elim (cases_order (number a) (number b)) [
-        | inr (inl less) ↦ absurd (two.here.least a less (subst (λ k. BreaksIn ph rs a k) here one.here.broken))
-        | inr (inr more) ↦ absurd (one.here.least b more (subst (λ k. BreaksIn ph rs b k) (sym here) two.here.broken))
-        | inl same ↦ let rule : a ≡ b = same_rule a b same in cc (here, rule)
-      ]
-    ]
+at_one : (rs : List Record) (ph i j : ℕ) (a b : NameRule) → IsFirst number (BreaksIn ph rs) i a → IsFirst number (BreaksIn ph rs) j b → faults.Request i a ≡ faults.Request j b
+at_one rs ph i j a b one two = let same : (i ≡ j) × (a ≡ b) = one_first number (λ rule k. BreaksIn ph rs rule k) same_rule i j a b one two in cc
 
 one_least : (rs : List Record) (i j : ℕ) (a b : NameRule) → IsLeastAt rs a i → IsLeastAt rs b j → faults.Request i a ≡ faults.Request j b
 one_least rs i j a b one two =
     elim (cases_order (phase a) (phase b)) [
-      | inl same ↦ one_first rs (phase b) i j a b (subst (λ ph. IsFirst number (BreaksIn ph rs) i a) same one.first) two.first
+      | inl same ↦ at_one rs (phase b) i j a b (subst (λ ph. IsFirst number (BreaksIn ph rs) i a) same one.first) two.first
       | inr (inl less) ↦ absurd (two.earlier (phase a) less a i one.first.here.broken)
       | inr (inr more) ↦ absurd (one.earlier (phase b) more b j two.first.here.broken)
     ]

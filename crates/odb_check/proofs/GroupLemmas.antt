@@ -6,9 +6,8 @@ use Rattle.std.proofs.lemmas.List.{drop_more, at_drop_all}
 use Rattle.std.proofs.lemmas.List.Folds.{list_any-append}
 use Rattle.std.proofs.lemmas.Option.{get_or_from_slice_get, slice_get_cases}
 use Rattle.std.proofs.lemmas.Slice.Eq.{bytes_eq-Decides}
-use Rattle.odb_doc.specs.Names.{with_name}
+use Rattle.odb_doc.specs.Names.{distinct, with_name}
 use Rattle.odb_doc.specs.Records.{Record}
-use Rattle.odb_doc.proofs.NameLemmas.{fold-with_name-nil}
 use Rattle.odb_check.specs.Firsts.{or_else, is_text}
 use Rattle.odb_check.specs.Groups.{groups_of}
 use Rattle.odb_check.specs.Positions.{group_at}
@@ -91,11 +90,12 @@ put_next rs n within =
       | inr (past, _) ↦ absurd (omega arith)
     ]
 
-put_all : (rs : List Record) (n : ℕ) → n ≤ length rs → put_on (groups_below rs n) (drop n rs) ≡ groups_of rs
-put_all rs zero within = fold-with_name-nil (filter_map (λ (r : Record). r.group) rs)
-put_all rs (suc n) within =
+-- what is assumed is a law of the names of a list
+put_all : (rs : List Record) (n : ℕ) → ((names : List (List ℕ)) → fold with_name [] names ≡ distinct names) → n ≤ length rs → put_on (groups_below rs n) (drop n rs) ≡ groups_of rs
+put_all rs zero law within = law (filter_map (λ (r : Record). r.group) rs)
+put_all rs (suc n) law within =
     let more : n + 1 ≡ suc n = omega arith in
-    subst (λ k. put_on (groups_below rs (suc n)) (drop k rs) ≡ groups_of rs) more (sym (put_next rs n (omega arith)) ∙ put_all rs n (omega arith))
+    subst (λ k. put_on (groups_below rs (suc n)) (drop k rs) ≡ groups_of rs) more (sym (put_next rs n (omega arith)) ∙ put_all rs n law (omega arith))
 
-pub groups_below-all : (rs : List Record) → groups_below rs (length rs) ≡ groups_of rs
-groups_below-all rs = sym (at_drop_all (put_on (groups_below rs (length rs))) rs (length rs) (omega arith)) ∙ put_all rs (length rs) (omega arith)
+pub groups_below-all : (rs : List Record) → ((names : List (List ℕ)) → fold with_name [] names ≡ distinct names) → groups_below rs (length rs) ≡ groups_of rs
+groups_below-all rs law = sym (at_drop_all (put_on (groups_below rs (length rs))) rs (length rs) (omega arith)) ∙ put_all rs (length rs) law (omega arith)

@@ -201,6 +201,7 @@ impl<'b> Tables<'b> {
     pub(crate) fn group_count(&self) -> u32
         ensures { result ≡ length (groups_of (requests self.now)) }
     {
+        odb_doc::laws::distinct_names();
         self.groups.len() as u32
     }
 
