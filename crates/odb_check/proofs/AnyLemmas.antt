@@ -1,9 +1,11 @@
--- Tests of some element of a list, and lists of what elements stand for.
+-- Tests of some element of a list, and lists of what elements mean.
 use Rattle.std.proofs.Common.{◌≡◌, ◌<◌, ◌⊎◌, ℕ, zero, suc, Bool, true, List, [], ◌∷◌, Option, Some, None, refl, sym, ap, ◌∙◌, subst, inl, inr, arith, length, get_or}
 use Rattle.std.specs.Prelude.{Contains, map, bytes_eq, Any}
 use Rattle.std.specs.Bool.{Decides}
 use Rattle.std.specs.List.{list_any, filter_map, cons_option}
 use Rattle.std.proofs.lemmas.List.Folds.{Any-from_list_any, list_any_at}
+use Rattle.std.proofs.lemmas.Bool.{cases_Bool}
+use Rattle.std.proofs.lemmas.Bool.Decides.{not_from_Decides}
 use Rattle.std.proofs.lemmas.Slice.Eq.{bytes_eq-Decides}
 
 pub Contains-head : {X : Type 0} (x : X) (xs : List X) → Contains (x ∷ xs) x
@@ -45,34 +47,38 @@ Contains-Decides text texts = (
   (λ h. any_passes (bytes_eq text) texts text h ((bytes_eq-Decides text text).1 refl)),
 )
 
--- what stands for an element of a list
-pub record StandsFor {X Y : Type 0} (meaning : X → Option Y) (xs : List X) (y : Y) : Type 0 where
+pub contains_cases : (text : List ℕ) (texts : List (List ℕ)) → Contains texts text ⊎ (¬ Contains texts text)
+contains_cases text texts =
+    elim (cases_Bool (list_any (bytes_eq text) texts)) [ inl found ↦ inl ((Contains-Decides text texts).0 found) | inr missing ↦ inr (not_from_Decides (list_any (bytes_eq text) texts) (Contains-Decides text texts) missing) ]
+
+-- an element of the list means y
+pub record ElementMeaning {X Y : Type 0} (meaning : X → Option Y) (xs : List X) (y : Y) : Type 0 where
   pub element : X
   pub inside : Contains xs element
   pub means : meaning element ≡ Some y
 
-cons_cases : {X Y : Type 0} (meaning : X → Option Y) (x : X) (xs : List X) (y : Y) → (Contains (filter_map meaning xs) y → StandsFor meaning xs y) → (found : Option Y) → meaning x ≡ found
-    → Contains (cons_option found (filter_map meaning xs)) y → StandsFor meaning (x ∷ xs) y
+cons_cases : {X Y : Type 0} (meaning : X → Option Y) (x : X) (xs : List X) (y : Y) → (Contains (filter_map meaning xs) y → ElementMeaning meaning xs y) → (found : Option Y) → meaning x ≡ found
+    → Contains (cons_option found (filter_map meaning xs)) y → ElementMeaning meaning (x ∷ xs) y
 cons_cases meaning x xs y rest None e h =
-    let more : StandsFor meaning xs y = rest h in
+    let more : ElementMeaning meaning xs y = rest h in
     record { element = more.element; inside = Contains-tail x more.element xs more.inside; means = more.means }
 cons_cases meaning x xs y rest (Some z) e h =
     elim (Contains-cases z y (filter_map meaning xs) h) [
       | inl same ↦ record { element = x; inside = Contains-head x xs; means = e ∙ ap Some same }
       | inr later ↦
-          let more : StandsFor meaning xs y = rest later in
+          let more : ElementMeaning meaning xs y = rest later in
           record { element = more.element; inside = Contains-tail x more.element xs more.inside; means = more.means }
     ]
 
-pub stands_for : {X Y : Type 0} (meaning : X → Option Y) (xs : List X) (y : Y) → Contains (filter_map meaning xs) y → StandsFor meaning xs y
-stands_for meaning [] y h = absurd (Contains-none y h)
-stands_for meaning (x ∷ xs) y h = cons_cases meaning x xs y (λ g. stands_for meaning xs y g) (meaning x) refl h
+pub element_meaning : {X Y : Type 0} (meaning : X → Option Y) (xs : List X) (y : Y) → Contains (filter_map meaning xs) y → ElementMeaning meaning xs y
+element_meaning meaning [] y h = absurd (Contains-none y h)
+element_meaning meaning (x ∷ xs) y h = cons_cases meaning x xs y (λ g. element_meaning meaning xs y g) (meaning x) refl h
 
 kept : {Y : Type 0} (found : Option Y) (ys : List Y) (y : Y) → Contains ys y → Contains (cons_option found ys) y
 kept None ys y h = h
 kept (Some z) ys y h = Contains-tail z y ys h
 
--- each element that stands for something is in the list of what elements stand for
+-- what an element means is in the list of what elements mean
 pub Contains-meaning : {X Y : Type 0} (meaning : X → Option Y) (xs : List X) (x : X) (y : Y) → Contains xs x → meaning x ≡ Some y → Contains (filter_map meaning xs) y
 Contains-meaning meaning [] x y h e = absurd (Contains-none x h)
 Contains-meaning meaning (z ∷ zs) x y h e =

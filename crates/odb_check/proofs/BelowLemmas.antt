@@ -52,7 +52,7 @@ passed_last test n u d before true e h =
     ]
 passed_last test n u d before false e h = passed_more test n u (get_or (pass_below n test) u d) (before h)
 
--- the numbers that pass stand where they are counted
+-- the number that passes is at its count
 pub get_or-pass_below : (n : ℕ) (test : ℕ → Bool) (u d : ℕ) → u < count_below n test → IsPassed test n u (get_or (pass_below n test) u d)
 get_or-pass_below zero test u d h = absurd (omega arith)
 get_or-pass_below (suc n) test u d h = passed_last test n u d (get_or-pass_below n test u d) (test n) refl h

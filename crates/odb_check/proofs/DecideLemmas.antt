@@ -4,14 +4,9 @@ use Rattle.std.specs.Borrow.{Bor}
 use Rattle.std.specs.Prelude.{IsSomeAnd, is_some, option_copied}
 use Rattle.std.specs.Bool.{Decides}
 use Rattle.std.proofs.lemmas.Bool.{false≢true}
-use Rattle.std.proofs.lemmas.Bool.Decides.{Decides-like, not_from_Decides}
 
 pub Decides-none : {P : Type 0} → ¬ P → Decides false P
 Decides-none never = (λ e. absurd (false≢true e), λ p. absurd (never p))
-
--- where a first question is answered no, no second is asked
-pub Decides-else : {A P : Type 0} (answer : Bool) → answer ≡ false → (P → A) → Decides answer A → Decides answer P
-Decides-else answer e only decides = Decides-like answer (λ a. absurd (not_from_Decides answer decides e a)) only decides
 
 pub some_Decides : {X : Type 0} (found : Option X) (x : X) (P : X → Type 0) (answer : Bool) → found ≡ Some x → Decides answer (P x) → Decides answer (IsSomeAnd found P)
 some_Decides found x P answer here decides = subst (λ o. Decides answer (IsSomeAnd o P)) (sym here) decides

@@ -13,13 +13,13 @@ abbrev pub FirstCases : ℕ → (ℕ → Bool) → Option ℕ → Type 0
 FirstCases n test None = (k : ℕ) → k < n → test k ≡ false
 FirstCases n test (Some b) = (b < n) × IsFirst test b
 
-none_more : (n : ℕ) (test : ℕ → Bool) → ((k : ℕ) → k < n → test k ≡ false) → test n ≡ false → (k : ℕ) → k < suc n → test k ≡ false
-none_more n test below here k h =
-    elim (cases_lt k n) [ inl less ↦ below k less | inr more ↦ let same : n ≡ k = omega arith in subst (λ j. test j ≡ false) same here ]
+-- what holds below n and at n holds below the next number
+pub below_more : (n : ℕ) (P : ℕ → Type 0) → ((k : ℕ) → k < n → P k) → P n → (k : ℕ) → k < suc n → P k
+below_more n P below here k h = elim (cases_lt k n) [ inl less ↦ below k less | inr more ↦ let same : n ≡ k = omega arith in subst P same here ]
 
 last_one : (n : ℕ) (test : ℕ → Bool) → ((k : ℕ) → k < n → test k ≡ false) → (v : Bool) → test n ≡ v → FirstCases (suc n) test (cond v (Some n) None)
 last_one n test below true e = (omega arith, record { passes = e; before = below })
-last_one n test below false e = none_more n test below e
+last_one n test below false e = below_more n (λ k. test k ≡ false) below e
 
 one_more : (n : ℕ) (test : ℕ → Bool) (found : Option ℕ) → FirstCases n test found → FirstCases (suc n) test (or_else found (cond (test n) (Some n) None))
 one_more n test None below = last_one n test below (test n) refl
@@ -34,10 +34,8 @@ pub first_alone : (test : ℕ → Bool) (b c : ℕ) → IsFirst test b → IsFir
 first_alone test b c first other =
     elim (cases_order b c) [
       | inl same ↦ same
-      | inr less ↦ elim less [
-        | inl b_less ↦ absurd (both_ways (test b) (other.before b b_less) first.passes)
-        | inr c_less ↦ absurd (both_ways (test c) (first.before c c_less) other.passes)
-      ]
+      | inr (inl less) ↦ absurd (both_ways (test b) (other.before b less) first.passes)
+      | inr (inr more) ↦ absurd (both_ways (test c) (first.before c more) other.passes)
     ]
 
 found_first : (n : ℕ) (test : ℕ → Bool) (b : ℕ) → b < n → IsFirst test b → (found : Option ℕ) → FirstCases n test found → found ≡ Some b
@@ -79,7 +77,7 @@ count_grows : (v : Bool) (m : ℕ) → v ≡ true → m < cond v (suc m) m
 count_grows true m e = omega arith
 count_grows false m e = cc
 
--- a number that passes is counted behind it
+-- a number that passes is counted after it
 pub count_less : (test : ℕ → Bool) (b n : ℕ) → test b ≡ true → b < n → count_below b test < count_below n test
 count_less test b n passes h =
     let step : count_below b test < cond (test b) (suc (count_below b test)) (count_below b test) = count_grows (test b) (count_below b test) passes in
@@ -91,8 +89,6 @@ pub count_same : (test : ℕ → Bool) (b c : ℕ) → test b ≡ true → test 
 count_same test b c passes other e =
     elim (cases_order b c) [
       | inl same ↦ same
-      | inr less ↦ elim less [
-        | inl b_less ↦ absurd (omega (arith, count_less test b c passes b_less))
-        | inr c_less ↦ absurd (omega (arith, count_less test c b other c_less))
-      ]
+      | inr (inl less) ↦ absurd (omega (arith, count_less test b c passes less))
+      | inr (inr more) ↦ absurd (omega (arith, count_less test c b other more))
     ]

@@ -1,4 +1,4 @@
--- Levels: one more request, and the law that they keep.
+-- Levels: one more request, and their law.
 use Rattle.std.proofs.Common.{◌≡◌, ◌≢◌, ◌≤◌, ◌<◌, ◌+◌, ℕ, zero, suc, Bool, true, false, cond, List, [], ◌∷◌, ◌++◌, refl, sym, ap, ◌∙◌, subst, inl, inr, arith, length, get_or, get_or-set_same, get_or-set_other, length-append}
 use Rattle.std.specs.Prelude.{◌==◌, max, slice_index, slice_set, Contains}
 use Rattle.std.proofs.Math.ListN.{length-set}
@@ -132,11 +132,11 @@ low_unit_level unit_levels v level n u inside here low =
     bounded true a m h = h
     bounded false a m h = omega arith
 
--- the levels go on by one request
-pub levels_on : (rs : List Record) (n : ℕ) (levels levels' unit_levels unit_levels' : List ℕ) (level : ℕ) → AreLevelsOf rs n levels unit_levels → unit_at rs n < unit_count rs
+-- the levels with one more request
+pub levels_more : (rs : List Record) (n : ℕ) (levels levels' unit_levels unit_levels' : List ℕ) (level : ℕ) → AreLevelsOf rs n levels unit_levels → unit_at rs n < unit_count rs
     → level ≡ next_level (slice_index levels) (slice_index unit_levels) (needs_at rs n) → levels' ≡ levels ++ level ∷ []
     → unit_levels' ≡ slice_set unit_levels (unit_at rs n) (max (slice_index unit_levels (unit_at rs n)) level) → AreLevelsOf rs (suc n) levels' unit_levels'
-levels_on rs n levels levels' unit_levels unit_levels' level are within level_is levels_go unit_levels_go =
+levels_more rs n levels levels' unit_levels unit_levels' level are within level_is levels_go unit_levels_go =
     let inside : unit_at rs n < length unit_levels = omega (arith, are.unit_levels_count) in
     let next : level ≡ next_level (slice_index (levels_below rs n)) (unit_level rs n (levels_below rs n)) (needs_at rs n) = level_is
     ∙ greatest_of-same (λ need. level_needed (slice_index levels) (slice_index unit_levels) need + 1) (λ need. level_needed (slice_index (levels_below rs n)) (unit_level rs n (levels_below rs n)) need + 1) (needs_at rs n)

@@ -51,9 +51,9 @@ low_set marks p stamp within low q =
           omega (arith, low q)
     ]
 
-pub mark_on : (rs : List Record) (named : List Need) (need : Need) (stamp : ℕ) (ones groups : List ℕ) → IsWithin need (length rs) (unit_count rs)
+pub marks_more : (rs : List Record) (named : List Need) (need : Need) (stamp : ℕ) (ones groups : List ℕ) → IsWithin need (length rs) (unit_count rs)
     → AreMarksOf rs named stamp ones groups → AreMarksOf rs (named ++ need ∷ []) stamp (ones_with need stamp ones) (groups_with need stamp groups)
-mark_on rs named (One p) stamp ones groups within marks =
+marks_more rs named (One p) stamp ones groups within marks =
     let inside : p < length ones = omega (arith, marks.up_to.ones_count) in
     record {
       up_to = record {
@@ -65,7 +65,7 @@ mark_on rs named (One p) stamp ones groups within marks =
       ones_are = marked is_one named (One p) ones stamp p inside (λ q. refl) marks.ones_are;
       groups_are = λ u. unmarked (is_group u) named (One p) (slice_index groups u == stamp) refl (marks.groups_are u);
     }
-mark_on rs named (Group u) stamp ones groups within marks =
+marks_more rs named (Group u) stamp ones groups within marks =
     let inside : u < length groups = omega (arith, marks.up_to.groups_count) in
     record {
       up_to = record {

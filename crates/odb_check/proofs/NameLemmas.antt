@@ -14,20 +14,20 @@ use Rattle.odb_check.specs.declared.need.Need.TheVariants.{One, Group}
 use Rattle.odb_check.specs.Judged.{IsAnswer, MissesGroupOf, batch_of}
 use Rattle.odb_check.specs.Walks.{HasSoundIds, named_at}
 use Rattle.odb_check.specs.Marks.{is_group}
-use Rattle.odb_check.specs.NameFaults.{SomeName, StandsAt, IsMemberAlone}
+use Rattle.odb_check.specs.NameFaults.{SomeName, IsBrokenAt, IsMemberAlone}
 use Rattle.odb_check.specs.Needs.{need_of}
 use Rattle.odb_check.specs.Positions.{id_at, group_at, names_at, IsId, IsIdFrom, IsGroup, IsGroupAfter, IsInGroupOf, NamesGroupOf}
 use Rattle.odb_check.specs.Units.{unit_begin, unit_at}
-use Rattle.odb_check.proofs.AnyLemmas.{SomePasses, StandsFor, any_passes, some_passes, stands_for, Contains-meaning}
+use Rattle.odb_check.proofs.AnyLemmas.{SomePasses, ElementMeaning, any_passes, some_passes, element_meaning, Contains-meaning}
 use Rattle.odb_check.proofs.DecideLemmas.{Decides-none}
 use Rattle.odb_check.proofs.NeedLemmas.{IsMeant, is_meant, group_need, means_nothing, no_group, one_id}
 use Rattle.odb_check.proofs.PositionLemmas.{IsFirstAt}
 use Rattle.odb_check.proofs.UnitLemmas.{unit_before, has_units, begin_of_group, in_group, in_unit, in_order}
 
-pub once : (rs : List Record) → HasSoundIds rs → (i : ℕ) → ¬ StandsAt IdTwice rs i
+pub once : (rs : List Record) → HasSoundIds rs → (i : ℕ) → ¬ IsBrokenAt IdTwice rs i
 once rs sound i h = sound IdTwice i (refl, h)
 
-pub apart : (rs : List Record) → HasSoundIds rs → (i : ℕ) → ¬ StandsAt IdIsGroup rs i
+pub apart : (rs : List Record) → HasSoundIds rs → (i : ℕ) → ¬ IsBrokenAt IdIsGroup rs i
 apart rs sound i h = sound IdIsGroup i (refl, h)
 
 -- a later unit has later positions
@@ -37,7 +37,7 @@ later_unit rs sound i j less =
 
 -- ---- names that are unknown
 
-pub unknown : (rs : List Record) (i : ℕ) (name : List ℕ) → Contains (names_at rs i) name → need_of rs name ≡ None → StandsAt UnknownName rs i
+pub unknown : (rs : List Record) (i : ℕ) (name : List ℕ) → Contains (names_at rs i) name → need_of rs name ≡ None → IsBrokenAt UnknownName rs i
 unknown rs i name listed e =
     let nothing : ((j : ℕ) → ¬ (id_at rs j ≡ Some name)) × ((j : ℕ) → ¬ (group_at rs j ≡ Some name)) = means_nothing rs name e in
     record { name = name; listed = listed; holds = ((λ h. nothing.0 h.0 h.1), (λ h. nothing.1 h.0 h.1)) }
@@ -51,10 +51,10 @@ meant_known rs name (Group u) is no_id not_group = not_group (is.unit.start, is.
 answered_yes : (rs : List Record) (i k : ℕ) (P : List ℕ → Type 0) → k < length (named_at rs i) → ((d : Need) → IsAnswer rs (get_or (named_at rs i) k d) true P) → SomeName rs i P
 answered_yes rs i k P within answers =
     let need = get_or (named_at rs i) k (One 0) in
-    let name : StandsFor (need_of rs) (names_at rs i) need = stands_for (need_of rs) (names_at rs i) need (Contains-get_or (named_at rs i) k (One 0) within) in
+    let name : ElementMeaning (need_of rs) (names_at rs i) need = element_meaning (need_of rs) (names_at rs i) need (Contains-get_or (named_at rs i) k (One 0) within) in
     record { name = name.element; listed = name.inside; holds = (answers (One 0) name.element name.means).0 refl }
 
-answered_no : (rs : List Record) (i : ℕ) (P : List ℕ → Type 0) → ¬ StandsAt UnknownName rs i → ((k : ℕ) (d : Need) → 0 ≤ k → k < length (named_at rs i) → IsAnswer rs (get_or (named_at rs i) k d) false P)
+answered_no : (rs : List Record) (i : ℕ) (P : List ℕ → Type 0) → ¬ IsBrokenAt UnknownName rs i → ((k : ℕ) (d : Need) → 0 ≤ k → k < length (named_at rs i) → IsAnswer rs (get_or (named_at rs i) k d) false P)
     → (some : SomeName rs i P) → (found : Option Need) → need_of rs some.name ≡ found → ⊥
 answered_no rs i P known answers some None e = known (unknown rs i some.name some.listed e)
 answered_no rs i P known answers some (Some need) e =
@@ -62,11 +62,11 @@ answered_no rs i P known answers some (Some need) e =
     let answer : IsAnswer rs need false P = subst (λ x. IsAnswer rs x false P) inside.2 (answers inside.0 need (omega arith) inside.1) in
     false≢true ((answer some.name e).1 some.holds)
 
-any_case : (rs : List Record) (i : ℕ) (P : List ℕ → Type 0) → ¬ StandsAt UnknownName rs i → (answer : Bool) → IsAnyAnswer (λ need b. IsAnswer rs need b P) (named_at rs i) answer → Decides answer (SomeName rs i P)
+any_case : (rs : List Record) (i : ℕ) (P : List ℕ → Type 0) → ¬ IsBrokenAt UnknownName rs i → (answer : Bool) → IsAnyAnswer (λ need b. IsAnswer rs need b P) (named_at rs i) answer → Decides answer (SomeName rs i P)
 any_case rs i P known true h = ((λ e. answered_yes rs i h.0 P h.1 h.2), λ some. refl)
 any_case rs i P known false h = Decides-none (λ some. answered_no rs i P known h some (need_of rs some.name) refl)
 
--- what is answered of the needs, where the names are known, is so of the names
+-- what is answered of the needs holds of the names, if the names are known
 pub any_Decides : (j : Judged) (P : List ℕ → Type 0) (answer : Bool) → IsAnyAnswer (λ need b. IsAnswer (batch_of j) need b P) j.named.now answer → Decides answer (SomeName (batch_of j) j.i P)
 any_Decides j P answer h = any_case (batch_of j) j.i P j.known answer (subst (λ xs. IsAnyAnswer (λ need b. IsAnswer (batch_of j) need b P) xs answer) j.names h)
 
@@ -125,7 +125,7 @@ group_listed : (rs : List Record) → HasSoundIds rs → (i p : ℕ) → Decides
 group_listed rs sound i p = (
   (λ e.
       let found : SomePasses (is_group (unit_at rs p)) (named_at rs i) = some_passes (is_group (unit_at rs p)) (named_at rs i) e in
-      let name : StandsFor (need_of rs) (names_at rs i) found.element = stands_for (need_of rs) (names_at rs i) found.element found.inside in
+      let name : ElementMeaning (need_of rs) (names_at rs i) found.element = element_meaning (need_of rs) (names_at rs i) found.element found.inside in
       (name.element, unit_sound rs p name.element found.element (is_meant rs name.element found.element name.means) found.passes, name.inside)),
   (λ h.
       let means : need_of rs h.0 ≡ Some (Group (unit_at rs p)) = group_need rs (apart rs sound) h.0 p h.1 in

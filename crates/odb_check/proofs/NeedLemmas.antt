@@ -1,5 +1,5 @@
--- What names stand for.
-use Rattle.std.proofs.Common.{◌≡◌, ◌<◌, ℕ, List, Option, Some, None, refl, sym, ap, ◌∙◌, subst, inl, inr, length}
+-- What names resolve to.
+use Rattle.std.proofs.Common.{◌≡◌, ◌<◌, ℕ, List, Option, Some, None, refl, sym, ap, ◌∙◌, subst, inl, inr, arith, length}
 use Rattle.std.specs.Prelude.{IsSomeAnd}
 use Rattle.std.proofs.lemmas.Bool.{cases_order}
 use Rattle.odb_doc.specs.Records.{Record}
@@ -7,20 +7,20 @@ use Rattle.odb_check.specs.declared.fault.NameRule.TheVariants.{IdTwice, IdIsGro
 use Rattle.odb_check.specs.declared.need.Need.{Need}
 use Rattle.odb_check.specs.declared.need.Need.TheVariants.{One, Group}
 use Rattle.odb_check.specs.Marks.{IsWithin}
-use Rattle.odb_check.specs.NameFaults.{StandsAt}
+use Rattle.odb_check.specs.NameFaults.{IsBrokenAt}
 use Rattle.odb_check.specs.Needs.{need_at, need_of}
 use Rattle.odb_check.specs.Positions.{id_at, group_at, IsIdBefore, IsGroup}
 use Rattle.odb_check.specs.Units.{begins_unit, unit_at, unit_count, position_of, unit_of_group}
 use Rattle.odb_check.proofs.FirstLemmas.{count_less}
-use Rattle.odb_check.proofs.PositionLemmas.{IsFirstAt, position_first, position_none}
+use Rattle.odb_check.proofs.PositionLemmas.{IsFirstAt, text_some, text_absent, id_within, position_first, position_none}
 use Rattle.odb_check.proofs.UnitLemmas.{IsUnitOf, unit_is, group_begins, known_group, unknown_unit}
 
--- a name that stands for a group is no identifier
+-- a name that resolves to a group is not an identifier
 pub record IsGroupName (rs : List Record) (name : List ℕ) (u : ℕ) : Type 0 where
   pub no_id : (j : ℕ) → ¬ (id_at rs j ≡ Some name)
   pub unit : IsUnitOf rs name u
 
--- what a need says of the name that stands for it
+-- what a need says of the name that resolves to it
 abbrev pub IsMeant : List Record → List ℕ → Need → Type 0
 IsMeant rs name (One p) = (p < length rs) × IsFirstAt (id_at rs) name p
 IsMeant rs name (Group u) = IsGroupName rs name u
@@ -47,42 +47,32 @@ within_case rs name (Group u) is = unit_within rs name u is.unit
 pub need_within : (rs : List Record) (name : List ℕ) (need : Need) → need_of rs name ≡ Some need → IsWithin need (length rs) (unit_count rs)
 need_within rs name need e = within_case rs name need (is_meant rs name need e)
 
--- no identifier stands twice
-pub one_id : (rs : List Record) → ((i : ℕ) → ¬ StandsAt IdTwice rs i) → (id : List ℕ) (i j : ℕ) → id_at rs i ≡ Some id → id_at rs j ≡ Some id → i ≡ j
+-- no identifier comes twice
+pub one_id : (rs : List Record) → ((i : ℕ) → ¬ IsBrokenAt IdTwice rs i) → (id : List ℕ) (i j : ℕ) → id_at rs i ≡ Some id → id_at rs j ≡ Some id → i ≡ j
 one_id rs once id i j here there =
     let twice : (k l : ℕ) → k < l → id_at rs k ≡ Some id → id_at rs l ≡ Some id → ⊥ =
     λ k l less first second. once l (subst (λ o. IsSomeAnd o (λ x. IsIdBefore rs x l)) (sym second) (k, less, first)) in
     elim (cases_order i j) [
       | inl same ↦ same
-      | inr less ↦ elim less [ inl i_less ↦ absurd (twice i j i_less here there) | inr j_less ↦ absurd (twice j i j_less there here) ]
+      | inr (inl less) ↦ absurd (twice i j less here there)
+      | inr (inr more) ↦ absurd (twice j i more there here)
     ]
 
 -- no identifier is a group
-pub no_group : (rs : List Record) → ((i : ℕ) → ¬ StandsAt IdIsGroup rs i) → (name : List ℕ) (i j : ℕ) → id_at rs i ≡ Some name → group_at rs j ≡ Some name → ⊥
+pub no_group : (rs : List Record) → ((i : ℕ) → ¬ IsBrokenAt IdIsGroup rs i) → (name : List ℕ) (i j : ℕ) → id_at rs i ≡ Some name → group_at rs j ≡ Some name → ⊥
 no_group rs apart name i j here there = apart i (subst (λ o. IsSomeAnd o (λ x. IsGroup rs x)) (sym here) (j, there))
 
-position_case : (rs : List Record) → ((i : ℕ) → ¬ StandsAt IdTwice rs i) → (name : List ℕ) (p : ℕ) → id_at rs p ≡ Some name → (found : Option ℕ) → position_of rs name ≡ found → found ≡ Some p
-position_case rs once name p here None e = absurd (position_none rs name e p here)
-position_case rs once name p here (Some q) e =
-    let first : (q < length rs) × IsFirstAt (id_at rs) name q = position_first rs name q e in
-    ap Some (one_id rs once name q p first.1.here here)
-
 -- each identifier has its position
-pub position_is : (rs : List Record) → ((i : ℕ) → ¬ StandsAt IdTwice rs i) → (name : List ℕ) (p : ℕ) → id_at rs p ≡ Some name → position_of rs name ≡ Some p
-position_is rs once name p here = position_case rs once name p here (position_of rs name) refl
+pub position_is : (rs : List Record) → ((i : ℕ) → ¬ IsBrokenAt IdTwice rs i) → (name : List ℕ) (p : ℕ) → id_at rs p ≡ Some name → position_of rs name ≡ Some p
+position_is rs once name p here =
+    text_some (id_at rs) name (length rs) p (id_within rs p name here) (record { here = here; before = λ k less there. let same : k ≡ p = one_id rs once name k p there here in omega arith })
 
-pub id_need : (rs : List Record) → ((i : ℕ) → ¬ StandsAt IdTwice rs i) → (name : List ℕ) (p : ℕ) → id_at rs p ≡ Some name → need_of rs name ≡ Some (One p)
+pub id_need : (rs : List Record) → ((i : ℕ) → ¬ IsBrokenAt IdTwice rs i) → (name : List ℕ) (p : ℕ) → id_at rs p ≡ Some name → need_of rs name ≡ Some (One p)
 id_need rs once name p here = ap (λ o. need_at o (unit_of_group rs name)) (position_is rs once name p here)
 
-no_position : (rs : List Record) (name : List ℕ) → ((j : ℕ) → ¬ (id_at rs j ≡ Some name)) → (found : Option ℕ) → position_of rs name ≡ found → found ≡ None
-no_position rs name none None e = refl
-no_position rs name none (Some p) e =
-    let first : (p < length rs) × IsFirstAt (id_at rs) name p = position_first rs name p e in
-    absurd (none p first.1.here)
-
-pub group_need : (rs : List Record) → ((i : ℕ) → ¬ StandsAt IdIsGroup rs i) → (name : List ℕ) (j : ℕ) → group_at rs j ≡ Some name → need_of rs name ≡ Some (Group (unit_at rs j))
+pub group_need : (rs : List Record) → ((i : ℕ) → ¬ IsBrokenAt IdIsGroup rs i) → (name : List ℕ) (j : ℕ) → group_at rs j ≡ Some name → need_of rs name ≡ Some (Group (unit_at rs j))
 group_need rs apart name j here =
-    let none : position_of rs name ≡ None = no_position rs name (λ i there. no_group rs apart name i j there here) (position_of rs name) refl in
+    let none : position_of rs name ≡ None = text_absent (id_at rs) name (length rs) (λ k less there. no_group rs apart name k j there here) in
     ap (λ o. need_at o (unit_of_group rs name)) none ∙ ap (need_at None) (known_group rs name j here)
 
 nothing_case : (rs : List Record) (name : List ℕ) (position unit : Option ℕ) → position_of rs name ≡ position → unit_of_group rs name ≡ unit → need_at position unit ≡ None
@@ -91,6 +81,6 @@ nothing_case rs name (Some p) unit e g h = cc
 nothing_case rs name None (Some u) e g h = cc
 nothing_case rs name None None e g h = (position_none rs name e, unknown_unit rs name g)
 
--- a name that stands for nothing is no identifier and no group
+-- a name that resolves to nothing is neither an identifier nor a group
 pub means_nothing : (rs : List Record) (name : List ℕ) → need_of rs name ≡ None → ((j : ℕ) → ¬ (id_at rs j ≡ Some name)) × ((j : ℕ) → ¬ (group_at rs j ≡ Some name))
 means_nothing rs name e = nothing_case rs name (position_of rs name) (unit_of_group rs name) refl refl e

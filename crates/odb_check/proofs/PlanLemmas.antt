@@ -1,9 +1,9 @@
 -- The laws of the plan of a batch whose names fit together.
 use Rattle.std.proofs.Common.{◌≡◌, ◌≢◌, ◌≤◌, ◌<◌, ◌⊎◌, ℕ, zero, suc, Bool, true, false, cond, List, [], ◌∷◌, ◌++◌, Option, Some, None, refl, sym, ap, ◌∙◌, subst, inl, inr, arith, length, append-nil}
-use Rattle.std.specs.Prelude.{Contains, IsSomeAnd, AllPairs, bytes_eq, option_map, unwrap_or}
+use Rattle.std.specs.Prelude.{Contains, IsSomeAnd, AllPairs, bytes_eq}
 use Rattle.std.specs.List.{list_any, filter_map, cons_option, IsDistinct}
 use Rattle.std.proofs.lemmas.Map.Made.{AllPairs-from_IsDistinct}
-use Rattle.std.proofs.lemmas.Bool.{cases_lt, cases_eq, cases_Bool, both_ways}
+use Rattle.std.proofs.lemmas.Bool.{cases_lt, cases_eq, both_ways}
 use Rattle.std.proofs.lemmas.Option.{slice_get_cases}
 use Rattle.std.proofs.lemmas.List.Kept.{AllPairs-cons}
 use Rattle.std.proofs.lemmas.List.Quantifiers.{all_pairs_push}
@@ -21,7 +21,7 @@ use Rattle.odb_check.specs.Needs.{need_of, further_names, needed_names, needs_at
 use Rattle.odb_check.specs.Positions.{id_at, group_at, names_at, reference_at, IsId, IsIdFrom, IsInGroupOf, NamesGroupOf}
 use Rattle.odb_check.specs.Shape.{unit_of, needs_of, shape_of, IsEarlier, IsAlone, IsPlan, IsShapeOf, HasNamesAsNeeds}
 use Rattle.odb_check.specs.Units.{begins_unit, unit_at}
-use Rattle.odb_check.proofs.AnyLemmas.{StandsFor, stands_for, Contains-meaning, Contains-head, Contains-none, Contains-cases, Contains-Decides}
+use Rattle.odb_check.proofs.AnyLemmas.{ElementMeaning, element_meaning, Contains-meaning, Contains-head, Contains-none, Contains-cases, Contains-Decides, contains_cases}
 use Rattle.odb_check.proofs.BelowLemmas.{length-list_below, get_or-list_below}
 use Rattle.odb_check.proofs.FirstLemmas.{count_few}
 use Rattle.odb_check.proofs.LevelLemmas.{HasNeedsBefore}
@@ -34,11 +34,7 @@ pub good_ids : (rs : List Record) → HasGoodNames rs → HasSoundIds rs
 good_ids rs good rule i broken = good rule i broken.1
 
 name_inside : (rs : List Record) (i : ℕ) (name : List ℕ) → Contains (names_at rs i) name → i < length rs
-name_inside rs i name h =
-    elim (slice_get_cases rs i).1 [
-      | inl inside ↦ inside.1
-      | inr past ↦ absurd (Contains-none name (subst (λ xs. Contains xs name) (ap (λ o. unwrap_or (option_map (λ r. r.names) o) []) past.1) h))
-    ]
+name_inside rs i name h = grind (arith, slice_get_cases rs i, Contains-none)
 
 further_one : (v : Bool) (id name : List ℕ) → Contains (cond v [] (id ∷ [])) name → Some id ≡ Some name
 further_one true id name h = absurd (Contains-none name h)
@@ -56,8 +52,8 @@ named_cases rs i name h =
       | inr further ↦ inr (further_reference (names_at rs i) (reference_at rs i) name further)
     ]
 
-refers_stands : (rs : List Record) (i : ℕ) (id : List ℕ) (P : List ℕ → Type 0) → reference_at rs i ≡ Some id → P id → IsSomeAnd (reference_at rs i) P
-refers_stands rs i id P here holds = subst (λ o. IsSomeAnd o P) (sym here) holds
+refers_with : (rs : List Record) (i : ℕ) (id : List ℕ) (P : List ℕ → Type 0) → reference_at rs i ≡ Some id → P id → IsSomeAnd (reference_at rs i) P
+refers_with rs i id P here holds = subst (λ o. IsSomeAnd o P) (sym here) holds
 
 earlier_one : (rs : List Record) → HasGoodNames rs → (i r : ℕ) (name : List ℕ) → id_at rs r ≡ Some name → Contains (names_at rs i) name ⊎ (reference_at rs i ≡ Some name) → r < i
 earlier_one rs good i r name here cases =
@@ -65,7 +61,7 @@ earlier_one rs good i r name here cases =
       | inl less ↦ less
       | inr more ↦ elim cases [
         | inl listed ↦ absurd (good ForwardName i (record { name = name; listed = listed; holds = inl (r, more, here) }))
-        | inr refers ↦ absurd (good ForwardReference i (refers_stands rs i name (λ id. IsIdFrom rs id i) refers (r, more, here)))
+        | inr refers ↦ absurd (good ForwardReference i (refers_with rs i name (λ id. IsIdFrom rs id i) refers (r, more, here)))
       ]
     ]
 
@@ -74,7 +70,7 @@ earlier_group rs good i u name no_id is cases =
     elim (cases_lt u (unit_at rs i)) [
       | inl less ↦ less
       | inr more ↦ elim cases [
-        | inr refers ↦ absurd (good UnknownReference i (refers_stands rs i name (λ id. ¬ IsId rs id) refers (λ h. no_id h.0 h.1)))
+        | inr refers ↦ absurd (good UnknownReference i (refers_with rs i name (λ id. ¬ IsId rs id) refers (λ h. no_id h.0 h.1)))
         | inl listed ↦ elim (cases_eq u (unit_at rs i)) [
           | inl own ↦ absurd (good OwnGroup i (record { name = name; listed = listed; holds = in_group rs name u i is (sym own) }))
           | inr other ↦
@@ -87,10 +83,10 @@ earlier_group rs good i u name no_id is cases =
 pub needs_before : (rs : List Record) → HasGoodNames rs → HasNeedsBefore rs
 needs_before rs good = record {
   one = λ i r h.
-      let name : StandsFor (need_of rs) (needed_names rs i) (One r) = stands_for (need_of rs) (needed_names rs i) (One r) h in
+      let name : ElementMeaning (need_of rs) (needed_names rs i) (One r) = element_meaning (need_of rs) (needed_names rs i) (One r) h in
       earlier_one rs good i r name.element (is_meant rs name.element (One r) name.means).1.here (named_cases rs i name.element name.inside);
   group = λ i u h.
-      let name : StandsFor (need_of rs) (needed_names rs i) (Group u) = stands_for (need_of rs) (needed_names rs i) (Group u) h in
+      let name : ElementMeaning (need_of rs) (needed_names rs i) (Group u) = element_meaning (need_of rs) (needed_names rs i) (Group u) h in
       earlier_group rs good i u name.element (is_meant rs name.element (Group u) name.means).no_id (is_meant rs name.element (Group u) name.means).unit (named_cases rs i name.element name.inside);
   order = in_order rs (good GroupSplit);
 }
@@ -99,41 +95,27 @@ needs_before rs good = record {
 listed_need : (rs : List Record) (i : ℕ) (name : List ℕ) (need : Need) → Contains (names_at rs i) name → need_of rs name ≡ Some need → Contains (needs_at rs i) need
 listed_need rs i name need h means = Contains-meaning (need_of rs) (needed_names rs i) name need (Contains-append_left (names_at rs i) (further_names (names_at rs i) (reference_at rs i)) name h) means
 
-group_listed : (rs : List Record) → HasGoodNames rs → (i r : ℕ) (group name : List ℕ) → group_at rs r ≡ Some group → unit_at rs r ≢ unit_at rs i → id_at rs r ≡ Some name → r < i → Contains (names_at rs i) name → Contains (needs_at rs i) (Group (unit_at rs r))
-group_listed rs good i r group name there other here less listed =
-    elim (cases_Bool (list_any (bytes_eq group) (names_at rs i))) [
-      | inl named ↦ listed_need rs i group (Group (unit_at rs r)) ((Contains-Decides group (names_at rs i)).0 named) (group_need rs (good IdIsGroup) group r there)
-      | inr unnamed ↦
-          let P : List ℕ → Type 0 = λ g. ¬ (group_at rs i ≡ Some g) × ¬ Contains (names_at rs i) g in
-          let lacks : P group = ((λ same. other (one_unit rs r i group there same)), (λ h. both_ways (list_any (bytes_eq group) (names_at rs i)) unnamed ((Contains-Decides group (names_at rs i)).1 h))) in
-          absurd (good GroupNotListed i (record { name = name; listed = listed; holds = (r, less, here, subst (λ o. IsSomeAnd o P) (sym there) lacks) }))
-    ]
-
-group_covers : (rs : List Record) → HasGoodNames rs → (i r : ℕ) (group name : List ℕ) → group_at rs r ≡ Some group → unit_at rs r ≢ unit_at rs i → id_at rs r ≡ Some name → r < i → reference_at rs i ≡ Some name → Contains (needs_at rs i) (Group (unit_at rs r))
-group_covers rs good i r group name there other here less refers =
-    elim (cases_Bool (list_any (bytes_eq name) (names_at rs i))) [
-      | inl named ↦ group_listed rs good i r group name there other here less ((Contains-Decides name (names_at rs i)).0 named)
-      | inr unnamed ↦ elim (cases_Bool (list_any (bytes_eq group) (names_at rs i))) [
-        | inl covered ↦ listed_need rs i group (Group (unit_at rs r)) ((Contains-Decides group (names_at rs i)).0 covered) (group_need rs (good IdIsGroup) group r there)
-        | inr uncovered ↦
-            let not_together : ¬ IsInGroupOf rs i r = λ h. other (one_unit rs r i h.0 h.2 h.1) in
-            let not_named : ¬ Contains (names_at rs i) name = λ h. both_ways (list_any (bytes_eq name) (names_at rs i)) unnamed ((Contains-Decides name (names_at rs i)).1 h) in
-            let not_covered : ¬ NamesGroupOf rs i r = λ h. both_ways (list_any (bytes_eq group) (names_at rs i)) uncovered ((Contains-Decides group (names_at rs i)).1
-            (let same : h.0 ≡ group = (let s : Some h.0 ≡ Some group = sym h.1 ∙ there in cc) in subst (Contains (names_at rs i)) same h.2)) in
-            absurd (good ReferenceNotListed i (refers_stands rs i name (λ id. (j : ℕ) × (j < i) × (id_at rs j ≡ Some id) × ¬ IsInGroupOf rs i j × ¬ Contains (names_at rs i) id × ¬ NamesGroupOf rs i j) refers
-            (r, less, here, not_together, not_named, not_covered)))
-      ]
-    ]
-
--- who needs a request of another group needs that group too
+-- who needs a request of another group needs that group too, since else F43 or F46 is broken
 group_needed : (rs : List Record) → HasGoodNames rs → (i r : ℕ) (group : List ℕ) → Contains (needs_at rs i) (One r) → group_at rs r ≡ Some group → unit_at rs r ≢ unit_at rs i → Contains (needs_at rs i) (Group (unit_at rs r))
 group_needed rs good i r group h there other =
-    let name : StandsFor (need_of rs) (needed_names rs i) (One r) = stands_for (need_of rs) (needed_names rs i) (One r) h in
+    let name : ElementMeaning (need_of rs) (needed_names rs i) (One r) = element_meaning (need_of rs) (needed_names rs i) (One r) h in
     let here : id_at rs r ≡ Some name.element = (is_meant rs name.element (One r) name.means).1.here in
     let less : r < i = (needs_before rs good).one i r h in
-    elim (named_cases rs i name.element name.inside) [
-      | inl listed ↦ group_listed rs good i r group name.element there other here less listed
-      | inr refers ↦ group_covers rs good i r group name.element there other here less refers
+    elim (contains_cases group (names_at rs i)) [
+      | inl named ↦ listed_need rs i group (Group (unit_at rs r)) named (group_need rs (good IdIsGroup) group r there)
+      | inr lacking ↦ elim (contains_cases name.element (names_at rs i)) [
+        | inl listed ↦
+            let P : List ℕ → Type 0 = λ g. ¬ (group_at rs i ≡ Some g) × ¬ Contains (names_at rs i) g in
+            let alone : P group = ((λ same. other (one_unit rs r i group there same)), lacking) in
+            absurd (good GroupNotListed i (record { name = name.element; listed = listed; holds = (r, less, here, subst (λ o. IsSomeAnd o P) (sym there) alone) }))
+        | inr unlisted ↦ elim (named_cases rs i name.element name.inside) [
+          | inl listed ↦ absurd (unlisted listed)
+          | inr refers ↦
+              let uncovered : ¬ NamesGroupOf rs i r = λ named. lacking (let same : named.0 ≡ group = (let s : Some named.0 ≡ Some group = sym named.1 ∙ there in cc) in subst (Contains (names_at rs i)) same named.2) in
+              absurd (good ReferenceNotListed i (refers_with rs i name.element (λ id. (j : ℕ) × (j < i) × (id_at rs j ≡ Some id) × ¬ IsInGroupOf rs i j × ¬ Contains (names_at rs i) id × ¬ NamesGroupOf rs i j) refers
+              (r, less, here, (λ both. other (one_unit rs r i both.0 both.2 both.1)), unlisted, uncovered)))
+        ]
+      ]
     ]
 
 pub needs_groups : (rs : List Record) → HasGoodNames rs → NeedsGroups rs
@@ -147,7 +129,7 @@ listed_case : (rs : List Record) → HasGoodNames rs → (i r : ℕ) → Contain
 listed_case rs good i r h other None e = inl (λ j same. elim (((has_units rs).together j r).0 same) [ inl one ↦ one | inr both ↦ let some : None ≡ Some both.0 = sym e ∙ both.2 in cc ])
 listed_case rs good i r h other (Some group) e = inr (group_needed rs good i r group h e other)
 
--- two names that stand for one need are one name
+-- two names that resolve to one need are one name
 one_name : (rs : List Record) (need : Need) (name other : List ℕ) → IsMeant rs name need → IsMeant rs other need → name ≡ other
 one_name rs (One p) name other is also = let s : Some name ≡ Some other = sym is.1.here ∙ also.1.here in cc
 one_name rs (Group u) name other is also =
@@ -170,11 +152,11 @@ means_apart rs name names apart more None e = more
 means_apart rs name names apart more (Some need) e = AllPairs-cons (λ x y. x ≢ y) need (filter_map (need_of rs) names)
     (λ k d less same.
     let inside : Contains (filter_map (need_of rs) names) need = subst (Contains (filter_map (need_of rs) names)) (sym same) (Contains-get_or (filter_map (need_of rs) names) k d less) in
-    let stands : StandsFor (need_of rs) names need = stands_for (need_of rs) names need inside in
-    apart stands.element stands.inside (one_name rs need name stands.element (is_meant rs name need e) (is_meant rs stands.element need stands.means)))
+    let meant : ElementMeaning (need_of rs) names need = element_meaning (need_of rs) names need inside in
+    apart meant.element meant.inside (one_name rs need name meant.element (is_meant rs name need e) (is_meant rs meant.element need meant.means)))
     more
 
--- different names stand for different needs
+-- different names resolve to different needs
 needs_apart : (rs : List Record) (names : List (List ℕ)) → AllPairs (λ x y. x ≢ y) names → AllPairs (λ x y. x ≢ y) (filter_map (need_of rs) names)
 needs_apart rs [] apart = λ i j d less inside. absurd (omega arith)
 needs_apart rs (name ∷ names) apart = means_apart rs name names (λ other h same. apart zero (suc h.0) other (omega arith) (omega (arith, h.1)) (same ∙ sym h.2))

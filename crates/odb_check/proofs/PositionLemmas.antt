@@ -1,6 +1,5 @@
 -- First positions of identifiers and groups.
-use Rattle.std.proofs.Common.{◌≡◌, ◌<◌, ℕ, true, List, Option, Some, None, refl, sym, ap, subst, inl, inr, length}
-use Rattle.std.specs.Prelude.{option_map, option_and_then}
+use Rattle.std.proofs.Common.{◌≡◌, ◌<◌, ℕ, true, List, Option, Some, None, refl, sym, ap, subst, arith, length}
 use Rattle.std.proofs.lemmas.Bool.{both_ways, false_from_ne_true}
 use Rattle.std.proofs.lemmas.Slice.Eq.{bytes_eq-Decides}
 use Rattle.std.proofs.lemmas.Option.{slice_get_cases}
@@ -10,7 +9,7 @@ use Rattle.odb_check.specs.Positions.{id_at, group_at, reference_at}
 use Rattle.odb_check.specs.Units.{position_of, group_begin}
 use Rattle.odb_check.proofs.FirstLemmas.{IsFirst, first_alone, first_some, first_of, none_below}
 
--- the text stands at b, and not before
+-- the text is at b, and at no position before
 pub record IsFirstAt (what : ℕ → Option (List ℕ)) (text : List ℕ) (b : ℕ) : Type 0 where
   pub here : what b ≡ Some text
   pub before : (k : ℕ) → k < b → ¬ (what k ≡ Some text)
@@ -22,8 +21,8 @@ text_there text (Some other) e = ap Some (sym ((bytes_eq-Decides text other).0 e
 pub there_text : (text : List ℕ) (found : Option (List ℕ)) → found ≡ Some text → is_text text found ≡ true
 there_text text found e = subst (λ v. is_text text v ≡ true) (sym e) ((bytes_eq-Decides text text).1 refl)
 
-stands_first : (what : ℕ → Option (List ℕ)) (text : List ℕ) (b : ℕ) → IsFirst (λ j. is_text text (what j)) b → IsFirstAt what text b
-stands_first what text b first = record {
+text_is_first : (what : ℕ → Option (List ℕ)) (text : List ℕ) (b : ℕ) → IsFirst (λ j. is_text text (what j)) b → IsFirstAt what text b
+text_is_first what text b first = record {
   here = text_there text (what b) first.passes;
   before = λ k h e. both_ways (is_text text (what k)) (first.before k h) (there_text text (what k) e);
 }
@@ -37,7 +36,7 @@ passes_first what text b first = record {
 pub text_first : (what : ℕ → Option (List ℕ)) (text : List ℕ) (n b : ℕ) → first_below n (λ j. is_text text (what j)) ≡ Some b → (b < n) × IsFirstAt what text b
 text_first what text n b e =
     let first : (b < n) × IsFirst (λ j. is_text text (what j)) b = first_of n (λ j. is_text text (what j)) b e in
-    (first.0, stands_first what text b first.1)
+    (first.0, text_is_first what text b first.1)
 
 pub text_none : (what : ℕ → Option (List ℕ)) (text : List ℕ) (n : ℕ) → first_below n (λ j. is_text text (what j)) ≡ None → (k : ℕ) → k < n → ¬ (what k ≡ Some text)
 text_none what text n none k h e = both_ways (is_text text (what k)) (none_below n (λ j. is_text text (what j)) none k h) (there_text text (what k) e)
@@ -57,27 +56,15 @@ absent_case what text n absent (Some b) e =
 pub text_absent : (what : ℕ → Option (List ℕ)) (text : List ℕ) (n : ℕ) → ((k : ℕ) → k < n → ¬ (what k ≡ Some text)) → first_below n (λ j. is_text text (what j)) ≡ None
 text_absent what text n absent = absent_case what text n absent (first_below n (λ j. is_text text (what j))) refl
 
--- what stands at a position is of a request
+-- what a position has belongs to a request
 pub id_within : (rs : List Record) (i : ℕ) (id : List ℕ) → id_at rs i ≡ Some id → i < length rs
-id_within rs i id e =
-    elim (slice_get_cases rs i).1 [
-      | inl inside ↦ inside.1
-      | inr past ↦ let none : id_at rs i ≡ None = ap (λ o. option_map (λ r. r.id) o) past.1 in cc
-    ]
+id_within rs i id e = grind (arith, slice_get_cases rs i)
 
 pub group_within : (rs : List Record) (i : ℕ) (group : List ℕ) → group_at rs i ≡ Some group → i < length rs
-group_within rs i group e =
-    elim (slice_get_cases rs i).1 [
-      | inl inside ↦ inside.1
-      | inr past ↦ let none : group_at rs i ≡ None = ap (λ o. option_and_then (λ r. r.group) o) past.1 in cc
-    ]
+group_within rs i group e = grind (arith, slice_get_cases rs i)
 
 pub reference_within : (rs : List Record) (i : ℕ) (id : List ℕ) → reference_at rs i ≡ Some id → i < length rs
-reference_within rs i id e =
-    elim (slice_get_cases rs i).1 [
-      | inl inside ↦ inside.1
-      | inr past ↦ let none : reference_at rs i ≡ None = ap (λ o. option_and_then (λ r. r.reference) o) past.1 in cc
-    ]
+reference_within rs i id e = grind (arith, slice_get_cases rs i)
 
 pub position_first : (rs : List Record) (id : List ℕ) (p : ℕ) → position_of rs id ≡ Some p → (p < length rs) × IsFirstAt (id_at rs) id p
 position_first rs id p e = text_first (id_at rs) id (length rs) p e

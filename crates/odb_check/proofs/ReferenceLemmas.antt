@@ -13,11 +13,11 @@ use Rattle.odb_check.specs.declared.need.Need.TheVariants.{One, Group}
 use Rattle.odb_check.specs.Judged.{MissesGroupOf, batch_of, referred_by}
 use Rattle.odb_check.specs.Walks.{HasSoundIds, further_needs, named_at}
 use Rattle.odb_check.specs.Marks.{is_one}
-use Rattle.odb_check.specs.NameFaults.{StandsAt}
+use Rattle.odb_check.specs.NameFaults.{IsBrokenAt}
 use Rattle.odb_check.specs.Needs.{need_of, further_names}
 use Rattle.odb_check.specs.Positions.{id_at, names_at, reference_at, IsId, IsIdFrom, IsInGroupOf, NamesGroupOf}
 use Rattle.odb_check.specs.Units.{position_of}
-use Rattle.odb_check.proofs.AnyLemmas.{SomePasses, StandsFor, any_passes, some_passes, stands_for, Contains-meaning, Contains-Decides}
+use Rattle.odb_check.proofs.AnyLemmas.{SomePasses, ElementMeaning, any_passes, some_passes, element_meaning, Contains-meaning, Contains-Decides}
 use Rattle.odb_check.proofs.DecideLemmas.{Decides-none, some_Decides, IsThere, is_there}
 use Rattle.odb_check.proofs.NameLemmas.{once}
 use Rattle.odb_check.proofs.NeedLemmas.{is_meant, id_need, one_id}
@@ -49,21 +49,21 @@ unknown_case : (j : Judged) → referred_by j ≡ None → (reference : Option (
 unknown_case j none None e = Decides-none (λ h. h)
 unknown_case j none (Some id) e = ((λ yes. refers_nowhere j id none e), λ h. refl)
 
-pub unknown_Decides : (j : Judged) → referred_by j ≡ None → Decides (is_some (reference_at (batch_of j) j.i)) (StandsAt UnknownReference (batch_of j) j.i)
+pub unknown_Decides : (j : Judged) → referred_by j ≡ None → Decides (is_some (reference_at (batch_of j) j.i)) (IsBrokenAt UnknownReference (batch_of j) j.i)
 unknown_Decides j none = unknown_case j none (reference_at (batch_of j) j.i) refl
 
-pub known : (j : Judged) (p : ℕ) → RefersTo j p → ¬ StandsAt UnknownReference (batch_of j) j.i
+pub known : (j : Judged) (p : ℕ) → RefersTo j p → ¬ IsBrokenAt UnknownReference (batch_of j) j.i
 known j p to h = subst (λ o. IsSomeAnd o (λ id. ¬ IsId (batch_of j) id)) to.here h (p, to.there)
 
 -- ---- a reference that does not precede
 
-pub forward_Decides : (j : Judged) (p : ℕ) → RefersTo j p → Decides (nat_le j.i p) (StandsAt ForwardReference (batch_of j) j.i)
+pub forward_Decides : (j : Judged) (p : ℕ) → RefersTo j p → Decides (nat_le j.i p) (IsBrokenAt ForwardReference (batch_of j) j.i)
 forward_Decides j p to = some_Decides (reference_at (batch_of j) j.i) to.id (λ id. IsIdFrom (batch_of j) id j.i) (nat_le j.i p) to.here (
   (λ e. (p, leb-true j.i p e, to.there)),
   (λ h. let same : p ≡ h.0 = one_id (batch_of j) (once (batch_of j) j.sound) to.id p h.0 to.there h.2 in le-leb j.i p (omega (arith, h.1))),
 )
 
-pub nowhere_forward : (j : Judged) → referred_by j ≡ None → ¬ StandsAt ForwardReference (batch_of j) j.i
+pub nowhere_forward : (j : Judged) → referred_by j ≡ None → ¬ IsBrokenAt ForwardReference (batch_of j) j.i
 nowhere_forward j none h =
     let there : IsThere (reference_at (batch_of j) j.i) (λ id. IsIdFrom (batch_of j) id j.i) = is_there (reference_at (batch_of j) j.i) _ h in
     refers_nowhere j there.value none there.here (there.holds.0, there.holds.2)
@@ -74,21 +74,21 @@ nowhere_forward j none h =
 abbrev IsNotListed : List Record → ℕ → List ℕ → Type 0
 IsNotListed rs i id = (j : ℕ) × (j < i) × (id_at rs j ≡ Some id) × ¬ IsInGroupOf rs i j × ¬ Contains (names_at rs i) id × ¬ NamesGroupOf rs i j
 
-unlisted_at : (j : Judged) (p : ℕ) (to : RefersTo j p) → StandsAt ReferenceNotListed (batch_of j) j.i → MissesGroupOf (batch_of j) j.i p × ¬ Contains (names_at (batch_of j) j.i) to.id
+unlisted_at : (j : Judged) (p : ℕ) (to : RefersTo j p) → IsBrokenAt ReferenceNotListed (batch_of j) j.i → MissesGroupOf (batch_of j) j.i p × ¬ Contains (names_at (batch_of j) j.i) to.id
 unlisted_at j p to h =
     let rs = batch_of j in
     let at_id : IsNotListed rs j.i to.id = subst (λ o. IsSomeAnd o (IsNotListed rs j.i)) to.here h in
     let same : at_id.0 ≡ p = one_id rs (once rs j.sound) to.id at_id.0 p at_id.2 to.there in
     ((omega (arith, at_id.1), subst (λ k. ¬ IsInGroupOf rs j.i k) same at_id.3, subst (λ k. ¬ NamesGroupOf rs j.i k) same at_id.5), at_id.4)
 
-pub unlisted_Decides : (j : Judged) (p : ℕ) (to : RefersTo j p) → ¬ Contains (names_at (batch_of j) j.i) to.id → (misses : Bool) → Decides misses (MissesGroupOf (batch_of j) j.i p) → Decides misses (StandsAt ReferenceNotListed (batch_of j) j.i)
+pub unlisted_Decides : (j : Judged) (p : ℕ) (to : RefersTo j p) → ¬ Contains (names_at (batch_of j) j.i) to.id → (misses : Bool) → Decides misses (MissesGroupOf (batch_of j) j.i p) → Decides misses (IsBrokenAt ReferenceNotListed (batch_of j) j.i)
 unlisted_Decides j p to lacks misses decides = some_Decides (reference_at (batch_of j) j.i) to.id (IsNotListed (batch_of j) j.i) misses to.here
     (Decides-like misses (λ m. (p, m.0, to.there, m.1, lacks, m.2)) (λ h. (unlisted_at j p to (subst (λ o. IsSomeAnd o (IsNotListed (batch_of j) j.i)) (sym to.here) h)).0) decides)
 
-pub listed_never : (j : Judged) (p : ℕ) (to : RefersTo j p) → Contains (names_at (batch_of j) j.i) to.id → ¬ StandsAt ReferenceNotListed (batch_of j) j.i
+pub listed_never : (j : Judged) (p : ℕ) (to : RefersTo j p) → Contains (names_at (batch_of j) j.i) to.id → ¬ IsBrokenAt ReferenceNotListed (batch_of j) j.i
 listed_never j p to listed h = (unlisted_at j p to h).1 listed
 
-pub nowhere_unlisted : (j : Judged) → referred_by j ≡ None → ¬ StandsAt ReferenceNotListed (batch_of j) j.i
+pub nowhere_unlisted : (j : Judged) → referred_by j ≡ None → ¬ IsBrokenAt ReferenceNotListed (batch_of j) j.i
 nowhere_unlisted j none h =
     let there : IsThere (reference_at (batch_of j) j.i) (IsNotListed (batch_of j) j.i) = is_there (reference_at (batch_of j) j.i) _ h in
     refers_nowhere j there.value none there.here (there.holds.0, there.holds.2)
@@ -102,12 +102,12 @@ one_means rs id name p here (One q) means e =
     cc
 one_means rs id name p here (Group u) means e = cc
 
--- a position is among what the names stand for where its identifier is among the names
+-- the names resolve to a position if and only if its identifier is among them
 one_listed : (rs : List Record) → HasSoundIds rs → (i : ℕ) (id : List ℕ) (p : ℕ) → id_at rs p ≡ Some id → Decides (list_any (is_one p) (named_at rs i)) (Contains (names_at rs i) id)
 one_listed rs sound i id p here = (
   (λ e.
       let found : SomePasses (is_one p) (named_at rs i) = some_passes (is_one p) (named_at rs i) e in
-      let name : StandsFor (need_of rs) (names_at rs i) found.element = stands_for (need_of rs) (names_at rs i) found.element found.inside in
+      let name : ElementMeaning (need_of rs) (names_at rs i) found.element = element_meaning (need_of rs) (names_at rs i) found.element found.inside in
       subst (Contains (names_at rs i)) (one_means rs id name.element p here found.element name.means found.passes) name.inside),
   (λ h. any_passes (is_one p) (named_at rs i) (One p) (Contains-meaning (need_of rs) (names_at rs i) id (One p) h (id_need rs (once rs sound) id p here)) (eq-eqb p p refl)),
 )
@@ -130,9 +130,9 @@ further_is j p to listed decides =
     ap (λ o. filter_map (need_of rs) (further_names (names_at rs j.i) o)) to.here ∙ ap (λ v. filter_map (need_of rs) (cond v [] (to.id ∷ []))) same
     ∙ further_case rs to.id (One p) (id_need rs (once rs j.sound) to.id p to.there) listed
 
-none_case : (j : Judged) → referred_by j ≡ None → ¬ StandsAt UnknownReference (batch_of j) j.i → (reference : Option (List ℕ)) → reference_at (batch_of j) j.i ≡ reference → further_needs (batch_of j) j.i ≡ []
+none_case : (j : Judged) → referred_by j ≡ None → ¬ IsBrokenAt UnknownReference (batch_of j) j.i → (reference : Option (List ℕ)) → reference_at (batch_of j) j.i ≡ reference → further_needs (batch_of j) j.i ≡ []
 none_case j none is_known None e = ap (λ o. filter_map (need_of (batch_of j)) (further_names (names_at (batch_of j) j.i) o)) e
 none_case j none is_known (Some id) e = absurd (is_known (subst (λ o. IsSomeAnd o (λ x. ¬ IsId (batch_of j) x)) (sym e) (refers_nowhere j id none e)))
 
-pub further_none : (j : Judged) → referred_by j ≡ None → ¬ StandsAt UnknownReference (batch_of j) j.i → further_needs (batch_of j) j.i ≡ []
+pub further_none : (j : Judged) → referred_by j ≡ None → ¬ IsBrokenAt UnknownReference (batch_of j) j.i → further_needs (batch_of j) j.i ≡ []
 further_none j none is_known = none_case j none is_known (reference_at (batch_of j) j.i) refl

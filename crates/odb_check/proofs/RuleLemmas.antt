@@ -4,7 +4,7 @@ use Rattle.std.proofs.lemmas.Option.{slice_get_cases}
 use Rattle.odb_doc.specs.Records.{Record}
 use Rattle.odb_check.specs.declared.fault.NameRule.{NameRule}
 use Rattle.odb_check.specs.Faults.{number, phase}
-use Rattle.odb_check.specs.NameFaults.{StandsAt}
+use Rattle.odb_check.specs.NameFaults.{IsBrokenAt}
 use Rattle.odb_check.proofs.AnyLemmas.{Contains-none}
 
 pub same_rule : (rule other : NameRule) → number rule ≡ number other → rule ≡ other
@@ -13,5 +13,5 @@ same_rule rule other same = search rules
 pub two_phases : (rule : NameRule) → (phase rule ≡ 3) ⊎ (phase rule ≡ 4)
 two_phases rule = search rules
 
-pub stands_inside : (rs : List Record) (rule : NameRule) (i : ℕ) → StandsAt rule rs i → i < length rs
-stands_inside rs rule i h = grind (arith, slice_get_cases rs i, Contains-none)
+pub broken_inside : (rs : List Record) (rule : NameRule) (i : ℕ) → IsBrokenAt rule rs i → i < length rs
+broken_inside rs rule i h = grind (arith, slice_get_cases rs i, Contains-none)

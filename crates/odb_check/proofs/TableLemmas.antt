@@ -2,7 +2,7 @@
 use Rattle.std.proofs.Common.{◌≡◌, ◌≢◌, ◌≤◌, ◌<◌, ◌+◌, ◌⊎◌, ℕ, suc, Bool, true, false, cond, List, [], ◌∷◌, ◌++◌, Option, Some, None, refl, sym, ap, ◌∙◌, subst, inl, inr, arith, length, length-append}
 use Rattle.std.specs.Prelude.{◌==◌, slice_get, option_map, option_and_then, unwrap_or, is_some, bytes_eq}
 use Rattle.std.specs.List.{IsDistinct, list_any}
-use Rattle.std.proofs.lemmas.Bool.{cases_Bool, cases_lt, eq-eqb, ne_eqb}
+use Rattle.std.proofs.lemmas.Bool.{cases_Bool, eq-eqb, ne_eqb}
 use Rattle.odb_doc.specs.Records.{Record}
 use Rattle.odb_check.specs.declared.table.Table.{Table}
 use Rattle.odb_check.specs.Firsts.{or_else, is_text, first_below, list_below}
@@ -10,7 +10,7 @@ use Rattle.odb_check.specs.Positions.{id_at, group_at, names_at}
 use Rattle.odb_check.specs.Tables.{AreTablesOf, at_text, more_with, table_len, unit_among, pass_below, groups_below, with_group}
 use Rattle.odb_check.specs.Units.{first_in_group, begins_unit, units_before, begin_in, unit_begin, unit_at}
 use Rattle.odb_check.proofs.GroupLemmas.{any-groups_below, length-groups_below, length-with}
-use Rattle.odb_check.proofs.FirstLemmas.{count_less}
+use Rattle.odb_check.proofs.FirstLemmas.{below_more, count_less}
 use Rattle.odb_check.proofs.PositionLemmas.{text_there}
 use Rattle.odb_check.proofs.UnitLemmas.{BeginsAt, unit_begins, unit_at_begin}
 
@@ -49,16 +49,16 @@ next_count rs i starts count =
           rw (other, within.0) count
     ]
 
--- the unit that the tables tell of the next position
+-- the unit of the next position, by the tables
 found_unit : (rs : List Record) (i next : ℕ) (group : List ℕ) → next ≡ units_before rs i → (found : Option ℕ)
     → unwrap_or (option_map (units_before rs) found) next ≡ units_before rs (unwrap_or found i)
 found_unit rs i next group e None = e
 found_unit rs i next group e (Some b) = refl
 
-told_unit : (rs : List Record) (i next : ℕ) (groups : Table) → ((q : List ℕ) → at_text groups q ≡ option_map (units_before rs) (first_in_group rs i q))
+unit_among_is : (rs : List Record) (i next : ℕ) (groups : Table) → ((q : List ℕ) → at_text groups q ≡ option_map (units_before rs) (first_in_group rs i q))
     → next ≡ units_before rs i → (group : Option (List ℕ)) → unit_among groups group next ≡ units_before rs (begin_in rs i group)
-told_unit rs i next groups are e None = e
-told_unit rs i next groups are e (Some group) = ap (λ o. unwrap_or o next) (are group) ∙ found_unit rs i next group e (first_in_group rs i group)
+unit_among_is rs i next groups are e None = e
+unit_among_is rs i next groups are e (Some group) = ap (λ o. unwrap_or o next) (are group) ∙ found_unit rs i next group e (first_in_group rs i group)
 
 new_group : (rs : List Record) (i unit : ℕ) (q : List ℕ) → unit ≡ unit_at rs i → first_in_group rs i q ≡ None → (v : Bool) → is_text q (group_at rs i) ≡ v
     → cond v (Some unit) None ≡ option_map (units_before rs) (cond v (Some i) None)
@@ -77,10 +77,6 @@ few_more : (v : Bool) (starts : List ℕ) (i : ℕ) → length starts ≤ i → 
 few_more true starts i few = omega (arith, length-append starts (i ∷ []))
 few_more false starts i few = omega arith
 
-apart_more : (rs : List Record) (i : ℕ) → ((k : ℕ) → k < i → IsDistinct bytes_eq (names_at rs k)) → IsDistinct bytes_eq (names_at rs i) → (k : ℕ) → k < suc i → IsDistinct bytes_eq (names_at rs k)
-apart_more rs i before here k h =
-    elim (cases_lt k i) [ inl less ↦ before k less | inr more ↦ let same : i ≡ k = omega arith in subst (λ j. IsDistinct bytes_eq (names_at rs j)) same here ]
-
 some-map : {X Y : Type 0} (f : X → Y) (o : Option X) → is_some (option_map f o) ≡ is_some o
 some-map f None = refl
 some-map f (Some x) = refl
@@ -94,8 +90,8 @@ next_group_count rs i groups are (Some group) =
     any-groups_below rs i group ∙ sym (some-map (units_before rs) (first_in_group rs i group)) ∙ ap (λ o. is_some o) (sym (are group)) in
     length-with (list_any (bytes_eq group) (groups_below rs i)) (groups_below rs i) group ∙ ap (λ b. length (groups_below rs i) + cond b 0 1) known
 
--- the tables go on by one request, from what each call says
-pub walk_on : (rs : List Record) (i : ℕ) (r : Record) (ids ids' groups groups' : Table) (units starts units' starts' : List ℕ) (unit : ℕ)
+-- the tables with one more request, from what each call ensures
+pub tables_more : (rs : List Record) (i : ℕ) (r : Record) (ids ids' groups groups' : Table) (units starts units' starts' : List ℕ) (unit : ℕ)
     → slice_get rs i ≡ Some r
     → IsDistinct bytes_eq r.names
     → AreTablesOf rs i ids groups units starts
@@ -106,10 +102,10 @@ pub walk_on : (rs : List Record) (i : ℕ) (r : Record) (ids ids' groups groups'
     → starts' ≡ cond (unit == length starts) (starts ++ i ∷ []) starts
     → units' ≡ units ++ unit ∷ []
     → AreTablesOf rs (suc i) ids' groups' units' starts'
-walk_on rs i r ids ids' groups groups' units starts units' starts' unit here apart tables told ids_go groups_go groups_more starts_go units_go =
+tables_more rs i r ids ids' groups groups' units starts units' starts' unit here apart tables among ids_go groups_go groups_more starts_go units_go =
     let id_is : id_at rs i ≡ Some r.id = ap (λ o. option_map (λ x. x.id) o) here in
     let group_is : group_at rs i ≡ r.group = ap (λ o. option_and_then (λ x. x.group) o) here in
-    let unit_is : unit ≡ unit_at rs i = told ∙ told_unit rs i (length starts) groups tables.groups_are tables.count r.group ∙ ap (λ g. units_before rs (begin_in rs i g)) (sym group_is) in
+    let unit_is : unit ≡ unit_at rs i = among ∙ unit_among_is rs i (length starts) groups tables.groups_are tables.count r.group ∙ ap (λ g. units_before rs (begin_in rs i g)) (sym group_is) in
     let starts_unit : starts' ≡ cond (unit_at rs i == length starts) (starts ++ i ∷ []) starts = starts_go ∙ ap (λ u. cond (u == length starts) (starts ++ i ∷ []) starts) unit_is in
     let groups_next : table_len groups' ≡ length (groups_below rs (suc i)) =
     groups_more ∙ ap (λ n. n + more_with groups r.group) tables.groups_count ∙ sym (next_group_count rs i groups tables.groups_are r.group)
@@ -126,5 +122,5 @@ walk_on rs i r ids ids' groups groups' units starts units' starts' unit here apa
       starts_are = starts_unit ∙ next_start rs i starts tables.count tables.starts_are;
       count = ap length starts_unit ∙ next_count rs i starts tables.count;
       few = subst (λ xs. length xs ≤ suc i) (sym starts_unit) (few_more (unit_at rs i == length starts) starts i tables.few);
-      names_apart = apart_more rs i tables.names_apart (subst (IsDistinct bytes_eq) (sym (ap (λ o. unwrap_or (option_map (λ x. x.names) o) []) here)) apart);
+      names_apart = below_more i (λ k. IsDistinct bytes_eq (names_at rs k)) tables.names_apart (subst (IsDistinct bytes_eq) (sym (ap (λ o. unwrap_or (option_map (λ x. x.names) o) []) here)) apart);
     }

@@ -10,11 +10,11 @@ use Rattle.odb_check.specs.Needs.{need_of, needed_names, needs_at}
 use Rattle.odb_check.specs.Positions.{group_at}
 use Rattle.odb_check.specs.Texts.{need_name, further_text, group_of_unit}
 use Rattle.odb_check.specs.Units.{unit_at, unit_count, HasMembers}
-use Rattle.odb_check.proofs.AnyLemmas.{StandsFor, stands_for}
+use Rattle.odb_check.proofs.AnyLemmas.{ElementMeaning, element_meaning}
 use Rattle.odb_check.proofs.FirstLemmas.{first_some}
 use Rattle.odb_check.proofs.NeedLemmas.{need_within}
 
--- the group of a unit is that of where its positions begin
+-- the group of a unit is that of its first position
 pub group_of_start : (rs : List Record) (u from to : ℕ) → HasMembers rs u from to → group_of_unit rs u ≡ group_at rs from
 group_of_start rs u from to is =
     let inside : from < length rs = omega (arith, is.begins, is.within) in
@@ -23,11 +23,11 @@ group_of_start rs u from to is =
       before = λ k less. ne_eqb (unit_at rs k) u (λ e. omega (arith, ((is.exact k (omega arith)).0 e).0));
     }))
 
--- all needs are of the batch
+-- the batch has all that is needed
 pub needs_within : (rs : List Record) (i : ℕ) → All (λ need. IsWithin need (length rs) (unit_count rs)) (needs_at rs i)
 needs_within rs i k d h =
     let need = get_or (needs_at rs i) k d in
-    let name : StandsFor (need_of rs) (needed_names rs i) need = stands_for (need_of rs) (needed_names rs i) need (Contains-get_or (needs_at rs i) k d h) in
+    let name : ElementMeaning (need_of rs) (needed_names rs i) need = element_meaning (need_of rs) (needed_names rs i) need (Contains-get_or (needs_at rs i) k d h) in
     need_within rs name.element need name.means
 
 pub further_text-append : (rs : List Record) (needs : List Need) (need : Need) → further_text rs (needs ++ need ∷ []) ≡ further_text rs needs ++ (codes "," ++ need_name rs need)

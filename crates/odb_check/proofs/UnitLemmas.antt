@@ -6,11 +6,11 @@ use Rattle.odb_doc.specs.Records.{Record}
 use Rattle.odb_check.specs.declared.fault.NameRule.TheVariants.{GroupSplit}
 use Rattle.odb_check.specs.Firsts.{is_text}
 use Rattle.odb_check.specs.Laws.{HasUnits}
-use Rattle.odb_check.specs.NameFaults.{StandsAt}
+use Rattle.odb_check.specs.NameFaults.{IsBrokenAt}
 use Rattle.odb_check.specs.Positions.{group_at, IsGroupBefore, IsInGroupOf}
 use Rattle.odb_check.specs.Units.{first_in_group, is_new_group, begins_unit, units_before, begin_in, unit_begin, unit_at, group_begin, unit_of_group}
 use Rattle.odb_check.proofs.FirstLemmas.{count_less, count_same}
-use Rattle.odb_check.proofs.PositionLemmas.{IsFirstAt, text_there, there_text, text_first, text_none, text_alone, text_absent, group_first, group_none}
+use Rattle.odb_check.proofs.PositionLemmas.{IsFirstAt, text_there, there_text, text_first, text_none, text_alone, text_absent, text_some, group_first, group_within}
 
 -- the unit of i begins at b
 pub record BeginsAt (rs : List Record) (i b : ℕ) : Type 0 where
@@ -18,7 +18,7 @@ pub record BeginsAt (rs : List Record) (i b : ℕ) : Type 0 where
   pub upto : b ≤ i
   pub same : group_at rs b ≡ group_at rs i
 
--- where a group stands first a unit begins
+-- a unit begins at the first position of a group
 first_begins : (rs : List Record) (group : List ℕ) (b : ℕ) → group_at rs b ≡ Some group → first_in_group rs b group ≡ None → begins_unit rs b ≡ true
 first_begins rs group b here none = ap (is_new_group rs b) here ∙ ap (λ o. not (is_some o)) none
 
@@ -119,20 +119,16 @@ in_group rs group u i is e = same_group rs i is.start (e ∙ sym (unit_at_start 
 pub in_unit : (rs : List Record) (group : List ℕ) (u i : ℕ) → IsUnitOf rs group u → group_at rs i ≡ Some group → unit_at rs i ≡ u
 in_unit rs group u i is e = one_unit rs i is.start group e is.first.here ∙ unit_at_start rs group u is
 
-known_case : (rs : List Record) (group : List ℕ) (i : ℕ) → group_at rs i ≡ Some group → (found : Option ℕ) → group_begin rs group ≡ found → option_map (units_before rs) found ≡ Some (unit_at rs i)
-known_case rs group i here None e = absurd (group_none rs group e i here)
-known_case rs group i here (Some b) e =
-    let first : (b < length rs) × IsFirstAt (group_at rs) group b = group_first rs group b e in
-    ap (λ q. Some (units_before rs q)) (text_alone (group_at rs) group b (unit_begin rs i) first.1 (begin_of_group rs i group here))
-
 -- each group has a unit
 pub known_group : (rs : List Record) (group : List ℕ) (i : ℕ) → group_at rs i ≡ Some group → unit_of_group rs group ≡ Some (unit_at rs i)
-known_group rs group i here = known_case rs group i here (group_begin rs group) refl
+known_group rs group i here =
+    let within : unit_begin rs i < length rs = omega (arith, (unit_begins rs i).upto, group_within rs i group here) in
+    ap (option_map (units_before rs)) (text_some (group_at rs) group (length rs) (unit_begin rs i) within (begin_of_group rs i group here))
 
 pub unknown_unit : (rs : List Record) (group : List ℕ) → unit_of_group rs group ≡ None → (i : ℕ) → ¬ (group_at rs i ≡ Some group)
 unknown_unit rs group none i here = let some : unit_of_group rs group ≡ Some (unit_at rs i) = known_group rs group i here in cc
 
-one_back : (rs : List Record) → ((i : ℕ) → ¬ StandsAt GroupSplit rs i) → (q k : ℕ) (group : List ℕ) → q < k → group_at rs q ≡ Some group → group_at rs (suc k) ≡ Some group → group_at rs k ≡ Some group
+one_back : (rs : List Record) → ((i : ℕ) → ¬ IsBrokenAt GroupSplit rs i) → (q k : ℕ) (group : List ℕ) → q < k → group_at rs q ≡ Some group → group_at rs (suc k) ≡ Some group → group_at rs k ≡ Some group
 one_back rs adjacent q k group less here there =
     elim (cases_Bool (is_text group (group_at rs k))) [
       | inl same ↦ text_there group (group_at rs k) same
@@ -144,7 +140,7 @@ one_back rs adjacent q k group less here there =
     ]
 
 -- between two positions of a group all are in it
-between : (rs : List Record) → ((i : ℕ) → ¬ StandsAt GroupSplit rs i) → (q : ℕ) (group : List ℕ) (d k j : ℕ) → k + d ≡ j → q ≤ k → group_at rs q ≡ Some group → group_at rs j ≡ Some group → group_at rs k ≡ Some group
+between : (rs : List Record) → ((i : ℕ) → ¬ IsBrokenAt GroupSplit rs i) → (q : ℕ) (group : List ℕ) (d k j : ℕ) → k + d ≡ j → q ≤ k → group_at rs q ≡ Some group → group_at rs j ≡ Some group → group_at rs k ≡ Some group
 between rs adjacent q group zero k j e h here there = let same : j ≡ k = omega arith in subst (λ n. group_at rs n ≡ Some group) same there
 between rs adjacent q group (suc d) k j e h here there =
     let next : group_at rs (suc k) ≡ Some group = between rs adjacent q group d (suc k) j (omega arith) (omega arith) here there in
@@ -153,7 +149,7 @@ between rs adjacent q group (suc d) k j e h here there =
       | inr more ↦ let same : q ≡ k = omega arith in subst (λ n. group_at rs n ≡ Some group) same here
     ]
 
-in_order_case : (rs : List Record) → ((i : ℕ) → ¬ StandsAt GroupSplit rs i) → (i j : ℕ) → i ≤ j → unit_begin rs j ≤ i → (group : Option (List ℕ)) → group_at rs j ≡ group → unit_at rs i ≡ unit_at rs j
+in_order_case : (rs : List Record) → ((i : ℕ) → ¬ IsBrokenAt GroupSplit rs i) → (i j : ℕ) → i ≤ j → unit_begin rs j ≤ i → (group : Option (List ℕ)) → group_at rs j ≡ group → unit_at rs i ≡ unit_at rs j
 in_order_case rs adjacent i j h begun None e =
     let at_itself : unit_begin rs j ≡ j = ap (begin_in rs j) e in
     let same : i ≡ j = omega arith in
@@ -163,7 +159,7 @@ in_order_case rs adjacent i j h begun (Some group) e =
     one_unit rs i j group (between rs adjacent (unit_begin rs j) group (j - i) i j (omega arith) begun here e) e
 
 -- a later position is in no earlier unit
-pub in_order : (rs : List Record) → ((i : ℕ) → ¬ StandsAt GroupSplit rs i) → (i j : ℕ) → i ≤ j → unit_at rs i ≤ unit_at rs j
+pub in_order : (rs : List Record) → ((i : ℕ) → ¬ IsBrokenAt GroupSplit rs i) → (i j : ℕ) → i ≤ j → unit_at rs i ≤ unit_at rs j
 in_order rs adjacent i j h =
     elim (cases_lt i (unit_begin rs j)) [
       | inl less ↦ omega (arith, unit_before rs i (unit_begin rs j) less)

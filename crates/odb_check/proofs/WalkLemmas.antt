@@ -1,5 +1,5 @@
 -- The walk over the requests: the names of each, and its least fault.
-use Rattle.std.proofs.Common.{◌≡◌, ◌<◌, ◌+◌, ℕ, suc, List, [], ◌∷◌, ◌++◌, Option, Some, None, refl, sym, ap, ◌∙◌, subst, inl, inr, arith, length, take, get_or, append_assoc, append-nil}
+use Rattle.std.proofs.Common.{◌≡◌, ◌<◌, ◌+◌, ℕ, List, [], ◌∷◌, ◌++◌, Option, Some, None, refl, sym, ap, ◌∙◌, subst, inl, inr, arith, length, take, get_or, append_assoc}
 use Rattle.std.specs.Borrow.{Bor}
 use Rattle.std.specs.Prelude.{Contains, Result, Ok, Err, IfErr, IsErrAnd}
 use Rattle.std.specs.List.{filter_map, cons_option}
@@ -15,36 +15,32 @@ use Rattle.odb_check.specs.declared.fault.NameRule.TheVariants.{UnknownName}
 use Rattle.odb_check.specs.declared.need.Need.{Need}
 use Rattle.odb_check.specs.Faults.{number, phase}
 use Rattle.odb_check.specs.LeastNameFault.{BreaksIn, HasGoodNames, RefusesNames}
-use Rattle.odb_check.specs.Marks.{ones_with, groups_with, AreUpTo, AreMarksOf}
-use Rattle.odb_check.specs.NameFaults.{StandsAt}
+use Rattle.odb_check.specs.Marks.{ones_with, groups_with, AreMarksOf}
+use Rattle.odb_check.specs.NameFaults.{IsBrokenAt}
 use Rattle.odb_check.specs.Needs.{need_of, further_names, needs_at}
 use Rattle.odb_check.specs.Positions.{names_at, reference_at}
 use Rattle.odb_check.specs.Walks.{BreaksFirst, FailsAt, HasSoundIds, further_needs, named_at}
-use Rattle.odb_check.proofs.AnyLemmas.{Contains-map, Contains-none}
-use Rattle.odb_check.proofs.MarkLemmas.{mark_on, mark_none}
+use Rattle.odb_check.proofs.AnyLemmas.{Contains-map}
+use Rattle.odb_check.proofs.MarkLemmas.{marks_more}
 use Rattle.odb_check.proofs.NameLemmas.{meant_known, unknown}
 use Rattle.odb_check.proofs.NeedLemmas.{is_meant, need_within}
-use Rattle.odb_check.proofs.RuleLemmas.{two_phases, stands_inside}
+use Rattle.odb_check.proofs.RuleLemmas.{two_phases, broken_inside}
 
 -- the error of a `?` that keeps its type
-pub told_on : {T : Type 0} (r : Result T CheckFault) (P : CheckFault → Type 0) (fault : CheckFault) → IsErrAnd r (λ e. e ≡ fault) → P fault → IfErr r P
-told_on (Ok v) P fault is told = absurd is
-told_on (Err e) P fault is told = subst P (sym is) told
+pub same_error : {T : Type 0} (r : Result T CheckFault) (P : CheckFault → Type 0) (fault : CheckFault) → IsErrAnd r (λ e. e ≡ fault) → P fault → IfErr r P
+same_error (Ok v) P fault is holds = absurd is
+same_error (Err e) P fault is holds = subst P (sym is) holds
 
--- some names are known, what they stand for was added to a list, and it is what has the stamp
+-- some names are known, what they resolve to was added to a list, and has the stamp
 pub record AddsNames (rs : List Record) (names : List (List ℕ)) (stamp : ℕ) (before after : List Need) (ones groups : List ℕ) : Type 0 where
   pub known : (name : List ℕ) → Contains names name → ¬ (need_of rs name ≡ None)
   pub added : after ≡ before ++ filter_map (need_of rs) names
   pub marked : AreMarksOf rs (filter_map (need_of rs) names) stamp ones groups
 
--- no name is added yet
-pub names_none : (rs : List Record) (i : ℕ) (list : List Need) (ones groups : List ℕ) → AreUpTo rs i ones groups → AddsNames rs [] (suc i) list list ones groups
-names_none rs i list ones groups up_to = record { known = λ name h. absurd (Contains-none name h); added = sym (append-nil list); marked = mark_none rs i ones groups up_to }
-
--- a name is added, and what it stands for
-names_on : (rs : List Record) (names : List (List ℕ)) (name : List ℕ) (need : Need) (stamp : ℕ) (before list : List Need) (ones groups : List ℕ) → need_of rs name ≡ Some need
+-- one more name, and what it resolves to
+names_more : (rs : List Record) (names : List (List ℕ)) (name : List ℕ) (need : Need) (stamp : ℕ) (before list : List Need) (ones groups : List ℕ) → need_of rs name ≡ Some need
     → AddsNames rs names stamp before list ones groups → AddsNames rs (names ++ name ∷ []) stamp before (list ++ need ∷ []) (ones_with need stamp ones) (groups_with need stamp groups)
-names_on rs names name need stamp before list ones groups means adds =
+names_more rs names name need stamp before list ones groups means adds =
     let more : filter_map (need_of rs) (names ++ name ∷ []) ≡ filter_map (need_of rs) names ++ need ∷ [] =
     filter_map-append (need_of rs) names (name ∷ []) ∙ ap (λ o. filter_map (need_of rs) names ++ cons_option o []) means in
     record {
@@ -54,37 +50,37 @@ names_on rs names name need stamp before list ones groups means adds =
       ];
       added = ap (λ xs. xs ++ need ∷ []) adds.added ∙ append_assoc before (filter_map (need_of rs) names) (need ∷ []) ∙ ap (λ xs. before ++ xs) (sym more);
       marked = subst (λ named. AreMarksOf rs named stamp (ones_with need stamp ones) (groups_with need stamp groups)) (sym more)
-          (mark_on rs (filter_map (need_of rs) names) need stamp ones groups (need_within rs name need means) adds.marked);
+          (marks_more rs (filter_map (need_of rs) names) need stamp ones groups (need_within rs name need means) adds.marked);
     }
 
--- the walk goes on by one name, from what each call says
-pub names_go_on : (rs : List Record) (names : List (Bor (List ℕ))) (k : ℕ) (d : Bor (List ℕ)) (need : Need) (stamp : ℕ) (before list list' : List Need) (ones ones' groups groups' : List ℕ)
+-- one more name, from what each call ensures
+pub names_more_called : (rs : List Record) (names : List (Bor (List ℕ))) (k : ℕ) (d : Bor (List ℕ)) (need : Need) (stamp : ℕ) (before list list' : List Need) (ones ones' groups groups' : List ℕ)
     → k < length names → Some need ≡ need_of rs (get_or names k d).now
     → AddsNames rs (texts_in (take k names)) stamp before list ones groups
     → list' ≡ list ++ need ∷ [] → ones' ≡ ones_with need stamp ones → groups' ≡ groups_with need stamp groups
     → AddsNames rs (texts_in (take (k + 1) names)) stamp before list' ones' groups'
-names_go_on rs names k d need stamp before list list' ones ones' groups groups' inside means adds list_is ones_are groups_are =
+names_more_called rs names k d need stamp before list list' ones ones' groups groups' inside means adds list_is ones_are groups_are =
     let more : texts_in (take (k + 1) names) ≡ texts_in (take k names) ++ (get_or names k d).now ∷ [] =
     ap texts_in (take_more names k d inside) ∙ map-append (λ (x : Bor (List ℕ)). x.now) (take k names) (get_or names k d ∷ []) in
     let on : AddsNames rs (texts_in (take k names) ++ (get_or names k d).now ∷ []) stamp before (list ++ need ∷ []) (ones_with need stamp ones) (groups_with need stamp groups) =
-    names_on rs (texts_in (take k names)) (get_or names k d).now need stamp before list ones groups (sym means) adds in
+    names_more rs (texts_in (take k names)) (get_or names k d).now need stamp before list ones groups (sym means) adds in
     rw more (rw list_is (rw ones_are (rw groups_are on)))
 
--- a name that stands for nothing is unknown
-pub name_unknown : (rs : List Record) (i : ℕ) (names : List (Bor (List ℕ))) (k : ℕ) (d : Bor (List ℕ)) → texts_in names ≡ names_at rs i → k < length names → None ≡ need_of rs (get_or names k d).now → StandsAt UnknownName rs i
+-- a name that resolves to nothing is unknown
+pub name_unknown : (rs : List Record) (i : ℕ) (names : List (Bor (List ℕ))) (k : ℕ) (d : Bor (List ℕ)) → texts_in names ≡ names_at rs i → k < length names → None ≡ need_of rs (get_or names k d).now → IsBrokenAt UnknownName rs i
 name_unknown rs i names k d are within nothing =
     let listed : Contains (texts_in names) (get_or names k d).now = Contains-map (λ (x : Bor (List ℕ)). x.now) names (get_or names k d) (Contains-get_or names k d within) in
     unknown rs i (get_or names k d).now (subst (λ xs. Contains xs (get_or names k d).now) are listed) (sym nothing)
 
--- names that stand for something are not unknown
-pub names_known : (rs : List Record) (i : ℕ) → ((name : List ℕ) → Contains (names_at rs i) name → ¬ (need_of rs name ≡ None)) → ¬ StandsAt UnknownName rs i
+-- names that resolve to something are not unknown
+pub names_known : (rs : List Record) (i : ℕ) → ((name : List ℕ) → Contains (names_at rs i) name → ¬ (need_of rs name ≡ None)) → ¬ IsBrokenAt UnknownName rs i
 names_known rs i known h = by_meaning (need_of rs h.name) refl
   where
     by_meaning : (found : Option Need) → need_of rs h.name ≡ found → ⊥
     by_meaning None e = known h.name h.listed e
     by_meaning (Some need) e = meant_known rs h.name need (is_meant rs h.name need e) h.holds.0 h.holds.1
 
--- what the names stand for, and then what the reference adds
+-- what the names resolve to, and then what the reference adds
 pub needs_added : (rs : List Record) (i : ℕ) (before middle further : List Need) → middle ≡ before ++ named_at rs i → further_needs rs i ≡ further → middle ++ further ≡ before ++ needs_at rs i
 needs_added rs i before middle further first second =
     ap (λ xs. xs ++ further) first ∙ append_assoc before (named_at rs i) further ∙ ap (λ xs. before ++ xs)
@@ -93,8 +89,8 @@ needs_added rs i before middle further first second =
 -- ---- the first fault is the least
 
 -- F40 is the first rule on names
-pub unknown_least : (rs : List Record) (i : ℕ) → StandsAt UnknownName rs i → BreaksFirst 4 rs i UnknownName
-unknown_least rs i stands = record { broken = (refl, stands); least = λ other less broken. omega (arith, less, broken.0) }
+pub unknown_least : (rs : List Record) (i : ℕ) → IsBrokenAt UnknownName rs i → BreaksFirst 4 rs i UnknownName
+unknown_least rs i broken_here = record { broken = (refl, broken_here); least = λ other less broken. omega (arith, less, broken.0) }
 
 pub names_refused : (rs : List Record) (i : ℕ) → HasSoundIds rs → ((rule : NameRule) (k : ℕ) → k < i → ¬ BreaksIn 4 rs rule k) → (fault : CheckFault) → FailsAt 4 rs i fault → RefusesNames fault rs
 names_refused rs i sound before faults.OutOfMemory fails = tt
@@ -110,4 +106,4 @@ names_refused rs i sound before (faults.Request at_place rule) fails =
     }
 
 pub all_good : (rs : List Record) → HasSoundIds rs → ((rule : NameRule) (k : ℕ) → k < length rs → ¬ BreaksIn 4 rs rule k) → HasGoodNames rs
-all_good rs sound none rule i stands = elim (two_phases rule) [ inl third ↦ sound rule i (third, stands) | inr fourth ↦ none rule i (stands_inside rs rule i stands) (fourth, stands) ]
+all_good rs sound none rule i broken_here = elim (two_phases rule) [ inl third ↦ sound rule i (third, broken_here) | inr fourth ↦ none rule i (broken_inside rs rule i broken_here) (fourth, broken_here) ]

@@ -6,7 +6,7 @@ use Rattle.odb_check.specs.declared.fault.CheckFault.{CheckFault}
 use Rattle.odb_check.specs.declared.fault.CheckFault.TheVariants as faults
 use Rattle.odb_check.specs.Faults.{rule_code, rule_name}
 
--- any fault but want of memory
+-- any fault but out of memory
 abbrev pub IsNumbered : CheckFault → Type 0
 IsNumbered fault = fault ≢ faults.OutOfMemory
 

@@ -17,7 +17,7 @@ batch_of judged = requests judged.tables.now
 abbrev pub referred_by : Judged → Option ℕ
 referred_by judged = option_and_then (position_of (batch_of judged)) (reference_at (batch_of judged) judged.i)
 
--- what is answered of a need is so of each name that stands for it
+-- the answer decides this of each name that resolves to the need
 abbrev pub IsAnswer : List Record → Need → Bool → (List ℕ → Type 0) → Type 0
 IsAnswer rs need answer P = (name : List ℕ) → need_of rs name ≡ Some need → Decides answer (P name)
 

@@ -1,4 +1,4 @@
--- How long the chains of needs are.
+-- The lengths of the chains of needs.
 use Rattle.std.specs.Prelude.{◌≡◌, ◌<◌, ◌==◌, ◌+◌, ℕ, zero, suc, max, cond, List, [], ◌∷◌, ◌++◌, length, slice_index}
 use Rattle.odb_doc.specs.Records.{Record}
 use Rattle.odb_check.specs.declared.need.Need.{Need}
@@ -20,12 +20,12 @@ greatest_below (suc n) value = max (value n) (greatest_below n value)
 abbrev pub unit_level : List Record → ℕ → List ℕ → ℕ → ℕ
 unit_level rs n levels u = greatest_below n (λ j. cond (unit_at rs j == u) (slice_index levels j) 0)
 
--- the level of what is needed, where the levels of requests and of units are known
+-- the level of what is needed, by the levels of requests and of units
 abbrev pub level_needed : (ℕ → ℕ) → (ℕ → ℕ) → Need → ℕ
 level_needed level group_level (One r) = level r
 level_needed level group_level (Group u) = group_level u
 
--- 0 without needs, else one more than the greatest level of what is needed
+-- the level of a request with these needs: one above the highest level among them, and 0 if there are none
 abbrev pub next_level : (ℕ → ℕ) → (ℕ → ℕ) → List Need → ℕ
 next_level level group_level needs = greatest_of (λ need. level_needed level group_level need + 1) needs
 
@@ -42,6 +42,6 @@ level_at rs i = slice_index (levels_below rs (length rs)) i
 abbrev pub level_of_unit : List Record → ℕ → ℕ
 level_of_unit rs u = greatest_below (length rs) (λ j. cond (unit_at rs j == u) (level_at rs j) 0)
 
--- each level is 0 without needs, else one more than the greatest level of what is needed
+-- the level of each request is one above the highest level among its needs, and 0 if it has none
 pub record HasLevels (rs : List Record) : Type 0 where
   pub each : (i : ℕ) → i < length rs → level_at rs i ≡ next_level (level_at rs) (level_of_unit rs) (needs_at rs i)

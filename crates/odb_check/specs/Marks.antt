@@ -7,7 +7,7 @@ use Rattle.odb_check.specs.declared.need.Need.{Need}
 use Rattle.odb_check.specs.declared.need.Need.TheVariants.{One, Group}
 use Rattle.odb_check.specs.Units.{unit_count}
 
--- the need is of so many requests and units
+-- the batch, of so many requests and units, has what is needed
 abbrev pub IsWithin : Need → ℕ → ℕ → Type 0
 IsWithin (One p) requests units = p < requests
 IsWithin (Group u) requests units = u < units

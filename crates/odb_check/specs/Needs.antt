@@ -13,19 +13,19 @@ need_at (Some position) unit = Some (One position)
 need_at None (Some unit) = Some (Group unit)
 need_at None None = None
 
--- an identifier stands for its position and a group for its unit, any other text for nothing
+-- an identifier resolves to its position and a group to its unit, any other text to nothing
 abbrev pub need_of : List Record → List ℕ → Option Need
 need_of rs name = need_at (position_of rs name) (unit_of_group rs name)
 
--- the reference, where it is not among the names
+-- the reference, unless it is among the names
 abbrev pub further_names : List (List ℕ) → Option (List ℕ) → List (List ℕ)
 further_names names None = []
 further_names names (Some id) = cond (list_any (bytes_eq id) names) [] (id ∷ [])
 
--- the names in `dependsOn`, and then the reference where it is not among them
+-- the names in `dependsOn`, and then the reference unless it is among them
 abbrev pub needed_names : List Record → ℕ → List (List ℕ)
 needed_names rs i = names_at rs i ++ further_names (names_at rs i) (reference_at rs i)
 
--- what these names stand for
+-- what these names resolve to
 abbrev pub needs_at : List Record → ℕ → List Need
 needs_at rs i = filter_map (need_of rs) (needed_names rs i)

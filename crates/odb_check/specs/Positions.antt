@@ -1,12 +1,12 @@
--- What stands at the positions of a batch (OData JSON Format 4.01, section 19.1).
+-- What the positions of a batch have (OData JSON Format 4.01, section 19.1).
 use Rattle.std.specs.Prelude.{◌≡◌, ◌<◌, ◌≤◌, ℕ, List, [], Option, Some, option_map, option_and_then, unwrap_or, slice_get, Contains}
 use Rattle.odb_doc.specs.Records.{Record}
 
--- the identifier, where the batch has the position
+-- the identifier, if the batch has the position
 abbrev pub id_at : List Record → ℕ → Option (List ℕ)
 id_at rs i = option_map (λ r. r.id) (slice_get rs i)
 
--- the group, where the position has one
+-- the group, if the position has one
 abbrev pub group_at : List Record → ℕ → Option (List ℕ)
 group_at rs i = option_and_then (λ r. r.group) (slice_get rs i)
 
@@ -14,7 +14,7 @@ group_at rs i = option_and_then (λ r. r.group) (slice_get rs i)
 abbrev pub names_at : List Record → ℕ → List (List ℕ)
 names_at rs i = unwrap_or (option_map (λ r. r.names) (slice_get rs i)) []
 
--- the reference, where the position has one
+-- the reference, if the position has one
 abbrev pub reference_at : List Record → ℕ → Option (List ℕ)
 reference_at rs i = option_and_then (λ r. r.reference) (slice_get rs i)
 

@@ -33,7 +33,7 @@ pub record IsShapeOf (rs : List Record) (plan : Shape) : Type 0 where
   pub units : (i : ℕ) → i < length rs → unit_of plan i ≡ all.unit_at rs i
   pub needs : (i : ℕ) → i < length rs → needs_of plan i ≡ needs_at rs i
 
--- a need of the request at i is of an earlier position, or of an earlier unit
+-- what the request at i needs precedes it: an earlier position, or an earlier unit
 abbrev pub IsEarlier : Shape → ℕ → Need → Type 0
 IsEarlier plan i (One r) = r < i
 IsEarlier plan i (Group u) = u < unit_of plan i
@@ -42,8 +42,8 @@ IsEarlier plan i (Group u) = u < unit_of plan i
 abbrev pub IsAlone : Shape → ℕ → Type 0
 IsAlone plan r = (j : ℕ) → j < length plan.units → unit_of plan j ≡ unit_of plan r → j ≡ r
 
--- The laws of a plan: units are adjacent and in order, what is needed comes before, and who needs a member of
--- another group needs that group too.
+-- The laws of a plan: units are adjacent and in order, what is needed precedes, and a need of a member of another
+-- group comes with a need of that group.
 pub record IsPlan (plan : Shape) : Type 0 where
   pub few : length plan.units ≤ 10000
   pub as_long : length plan.needs ≡ length plan.units

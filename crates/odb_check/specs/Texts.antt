@@ -28,7 +28,7 @@ abbrev pub need_name : List Record → Need → List ℕ
 need_name rs (One r) = unwrap_or (id_at rs r) []
 need_name rs (Group u) = group_text (group_of_unit rs u)
 
--- names, each behind a comma
+-- names, each after a comma
 abbrev pub further_text : List Record → List Need → List ℕ
 further_text rs [] = []
 further_text rs (need ∷ needs) = codes "," ++ need_name rs need ++ further_text rs needs

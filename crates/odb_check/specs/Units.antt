@@ -1,4 +1,4 @@
--- The units of a batch: one atomicity group, or one request without a group (OData JSON Format 4.01,
+-- The units of a batch: its atomicity groups, and its requests without a group (OData JSON Format 4.01,
 -- section 19.1, `atomicityGroup`).
 use Rattle.std.specs.Prelude.{◌≡◌, ◌↔◌, ◌≤◌, ◌<◌, ℕ, Bool, true, not, is_some, List, Option, Some, None, option_map, unwrap_or, length}
 use Rattle.odb_doc.specs.Records.{Record}

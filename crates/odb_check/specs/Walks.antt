@@ -27,16 +27,16 @@ BreaksNone ph rs i = (rule : NameRule) → ¬ BreaksIn ph rs rule i
 abbrev pub BreaksFirst : ℕ → List Record → ℕ → NameRule → Type 0
 BreaksFirst ph rs i rule = IsLeast number (λ other. BreaksIn ph rs other i) rule
 
--- the fault is that of i. Out of memory says nothing.
+-- the fault is that of i. Out of memory says nothing about it.
 abbrev pub FailsAt : ℕ → List Record → ℕ → CheckFault → Type 0
 FailsAt ph rs i (faults.Request at rule) = (at ≡ i) × BreaksFirst ph rs i rule
 FailsAt ph rs i faults.OutOfMemory = Unit {0}
 
--- what the names in `dependsOn` stand for
+-- what the names in `dependsOn` resolve to
 abbrev pub named_at : List Record → ℕ → List Need
 named_at rs i = filter_map (need_of rs) (names_at rs i)
 
--- what the reference stands for, where it is not among the names
+-- what the reference resolves to, unless it is among the names
 abbrev pub further_needs : List Record → ℕ → List Need
 further_needs rs i = filter_map (need_of rs) (further_names (names_at rs i) (reference_at rs i))
 

@@ -65,8 +65,8 @@ pub fn check_with<'a: 'b, 'b>(
 
 /// Returns the plan of a batch, as [`check_with`] does, without a seed.
 ///
-/// A look-up among n names takes O(log n), whatever the names: no batch can make this call slow. Where
-/// a random seed is to be had, [`check_with`] is faster.
+/// A look-up among n names takes O(log n), whatever the names: no batch can make this call slow. If a
+/// random seed is available, [`check_with`] is faster.
 ///
 /// # Errors
 ///

@@ -19,7 +19,7 @@ pub enum NameRule {
     /// F32: the request has a group that the request just before it is not in, and an earlier one is
     /// in it.
     GroupSplit,
-    /// F40: a name of `dependsOn` is no identifier and no group of the batch.
+    /// F40: a name of `dependsOn` is neither an identifier nor a group of the batch.
     UnknownName,
     /// F41: a name is the identifier of this request or of a later one, or is a group all of whose
     /// requests come later.
@@ -29,7 +29,7 @@ pub enum NameRule {
     /// F43: a name is the identifier of an earlier request that is in another group, and that group
     /// is not in `dependsOn`.
     GroupNotListed,
-    /// F44: the reference is no identifier of the batch.
+    /// F44: the reference is not an identifier of the batch.
     UnknownReference,
     /// F45: the reference is the identifier of this request or of a later one.
     ForwardReference,

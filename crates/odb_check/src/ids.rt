@@ -1,7 +1,7 @@
 ghost use Rattle.std.specs.Prelude.{◌≡◌, ◌<◌, length, None, IfSome, OnOk, IfErr};
 ghost use Rattle.std.specs.Bool.{Decides};
 ghost use Rattle.odb_check.specs.LeastNameFault.{RefusesNames};
-ghost use Rattle.odb_check.specs.NameFaults.{StandsAt};
+ghost use Rattle.odb_check.specs.NameFaults.{IsBrokenAt};
 ghost use Rattle.odb_check.specs.Requests.{requests};
 ghost use Rattle.odb_check.specs.Walks.{BreaksFirst, BreaksNone, HasSoundIds};
 ghost use Rattle.odb_check.specs.declared.fault.NameRule.TheVariants as rules;
@@ -12,7 +12,7 @@ use crate::tables::Tables;
 /// F30: whether an earlier request has the same identifier.
 fn repeats_id(tables: &Tables<'_>, i: u32) -> bool
     requires { i < length (requests tables.now) }
-    ensures { Decides result (StandsAt rules.IdTwice (requests tables.now) i) }
+    ensures { Decides result (IsBrokenAt rules.IdTwice (requests tables.now) i) }
 {
     match tables.position_of(tables.id(i)) {
         Some(first) => first < i,
@@ -23,7 +23,7 @@ fn repeats_id(tables: &Tables<'_>, i: u32) -> bool
 /// F31: whether the identifier is a group.
 fn has_id_of_group(tables: &Tables<'_>, i: u32) -> bool
     requires { i < length (requests tables.now) }
-    ensures { Decides result (StandsAt rules.IdIsGroup (requests tables.now) i) }
+    ensures { Decides result (IsBrokenAt rules.IdIsGroup (requests tables.now) i) }
 {
     tables.unit_of_group(tables.id(i)).is_some()
 }
@@ -31,7 +31,7 @@ fn has_id_of_group(tables: &Tables<'_>, i: u32) -> bool
 /// F32: whether the group of the request is that of earlier ones, but not of the one just before.
 fn splits_group(tables: &Tables<'_>, i: u32) -> bool
     requires { i < length (requests tables.now) }
-    ensures { Decides result (StandsAt rules.GroupSplit (requests tables.now) i) }
+    ensures { Decides result (IsBrokenAt rules.GroupSplit (requests tables.now) i) }
 {
     tables.begin_of(i) < i && tables.unit_of(i - 1) != tables.unit_of(i)
 }

@@ -21,7 +21,8 @@ fn level_needed(need: Need, levels: &[u32], unit_levels: &[u32]) -> u32
     }
 }
 
-/// 0 without needs, else one more than the greatest level of what is needed.
+/// The level of a request with these needs: one above the highest level among them, and 0 if there are
+/// none.
 fn next_level(needs: &[Need], levels: &[u32], unit_levels: &[u32]) -> u32
     requires within { All (λ need. IsWithin need (length levels.now) (length unit_levels.now))
         needs.now }
@@ -37,7 +38,7 @@ fn next_level(needs: &[Need], levels: &[u32], unit_levels: &[u32]) -> u32
     level
 }
 
-/// The level of each request: how long its longest chain of needs is.
+/// The level of each request: the length of its longest chain of needs.
 pub(crate) fn levels_of(
     alloc: Global,
     tables: &Tables<'_>,

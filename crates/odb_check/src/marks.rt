@@ -27,7 +27,7 @@ impl Marks {
         })
     }
 
-    /// Marks what a name stands for.
+    /// Marks what a name resolves to.
     pub(crate) fn mark(&mut self, need: Need, stamp: u32)
         requires { IsWithin need (length self.old.ones.items) (length self.old.groups.items) }
         ensures ones { self.new.ones.items ≡ ones_with need stamp self.old.ones.items }

@@ -2,7 +2,7 @@ ghost use Rattle.std.specs.Prelude.{◌≡◌, ◌<◌, ◌+◌, ◌⊎◌, ◌�
 ghost use Rattle.std.specs.Bool.{Decides};
 ghost use Rattle.std.proofs.Props.{props};
 ghost use Rattle.odb_check.specs.Marks.{AreMarksOf};
-ghost use Rattle.odb_check.specs.NameFaults.{StandsAt, IsMemberAlone};
+ghost use Rattle.odb_check.specs.NameFaults.{IsBrokenAt, IsMemberAlone};
 ghost use Rattle.odb_check.specs.Positions.{id_at, group_at, names_at, IsIdFrom, IsGroupAfter, IsInGroupOf, NamesGroupOf};
 ghost use Rattle.odb_check.specs.Requests.{requests};
 ghost use Rattle.odb_check.specs.Walks.{BreaksFirst, BreaksNone, HasSoundIds, named_at, further_needs};
@@ -18,13 +18,13 @@ use crate::tables::Tables;
 pub(crate) struct Judged<'w, 'b> {
     pub(crate) tables: &'w Tables<'b>,
     pub(crate) i: u32,
-    /// What its names stand for.
+    /// What its names resolve to.
     pub(crate) named: &'w [Need],
     /// The marks, among which that has the stamp `i + 1`.
     pub(crate) marks: &'w Marks,
     ghost within: { i < length (requests tables.now) },
     ghost sound: { HasSoundIds (requests tables.now) },
-    ghost known: { ¬ StandsAt rules.UnknownName (requests tables.now) i },
+    ghost known: { ¬ IsBrokenAt rules.UnknownName (requests tables.now) i },
     ghost names: { named.now ≡ named_at (requests tables.now) i },
     ghost marked: { AreMarksOf (requests tables.now) (named_at (requests tables.now) i) (i + 1)
         marks.now.ones.items marks.now.groups.items } by { Prim.hlevel props },
@@ -114,28 +114,28 @@ impl Judged<'_, '_> {
 
     /// F41: whether `dependsOn` lists a request or a group that does not precede.
     fn names_later(&self) -> bool
-        ensures { Decides result (StandsAt rules.ForwardName (batch_of self.now) self.now.i) }
+        ensures { Decides result (IsBrokenAt rules.ForwardName (batch_of self.now) self.now.i) }
     {
         self.named.iter().any(|need| self.is_later(*need))
     }
 
     /// F42: whether `dependsOn` lists the group of the request.
     fn names_own_group(&self) -> bool
-        ensures { Decides result (StandsAt rules.OwnGroup (batch_of self.now) self.now.i) }
+        ensures { Decides result (IsBrokenAt rules.OwnGroup (batch_of self.now) self.now.i) }
     {
         self.named.iter().any(|need| self.is_own(*need))
     }
 
     /// F43: whether `dependsOn` lists a member of another group without that group.
     fn names_member_alone(&self) -> bool
-        ensures { Decides result (StandsAt rules.GroupNotListed (batch_of self.now) self.now.i) }
+        ensures { Decides result (IsBrokenAt rules.GroupNotListed (batch_of self.now) self.now.i) }
     {
         self.named.iter().any(|need| self.is_member_alone(*need))
     }
 
     /// F44: whether the URL refers to a request that the batch does not have.
     fn has_unknown_reference(&self) -> bool
-        ensures { Decides result (StandsAt rules.UnknownReference (batch_of self.now) self.now.i) }
+        ensures { Decides result (IsBrokenAt rules.UnknownReference (batch_of self.now) self.now.i) }
     {
         match self.referred() {
             Some(_) => false,
@@ -145,7 +145,7 @@ impl Judged<'_, '_> {
 
     /// F45: whether the URL refers to a request that does not precede.
     fn has_forward_reference(&self) -> bool
-        ensures { Decides result (StandsAt rules.ForwardReference (batch_of self.now) self.now.i) }
+        ensures { Decides result (IsBrokenAt rules.ForwardReference (batch_of self.now) self.now.i) }
     {
         match self.referred() {
             Some(position) => self.i <= position,
@@ -156,7 +156,7 @@ impl Judged<'_, '_> {
     /// F46: whether the URL refers to an earlier request outside the group, and `dependsOn` lists
     /// neither that request nor its group.
     fn lacks_reference(&self) -> bool
-        ensures { Decides result (StandsAt rules.ReferenceNotListed (batch_of self.now) self.now.i) }
+        ensures { Decides result (IsBrokenAt rules.ReferenceNotListed (batch_of self.now) self.now.i) }
     {
         match self.referred() {
             Some(position) => !self.lists(position) && self.misses_group_of(position),
@@ -192,7 +192,7 @@ impl Judged<'_, '_> {
 
     /// The request that the URL refers to, unless `dependsOn` lists it.
     pub(crate) fn further_need(&self) -> Option<Need>
-        requires { ¬ StandsAt rules.UnknownReference (batch_of self.now) self.now.i }
+        requires { ¬ IsBrokenAt rules.UnknownReference (batch_of self.now) self.now.i }
         ensures some { IfSome result (λ need. further_needs (batch_of self.now) self.now.i ≡ need ∷ []) }
         ensures none { result ≡ None → further_needs (batch_of self.now) self.now.i ≡ [] }
     {

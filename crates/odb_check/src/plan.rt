@@ -16,8 +16,8 @@ use std::ops::Range;
 /// The plan of a batch whose names fit together: its units, and what each request needs before it may
 /// start (OData JSON Format 4.01, sections 19.1 and 19.2; OData Protocol 4.01, section 11.7).
 ///
-/// A unit is one atomicity group, or one request without a group; units are numbered from 0 in the
-/// order of their first requests. The texts of the batch are borrowed from it.
+/// Each atomicity group is a unit, and so is each request that is in no group. Unit numbers start at 0
+/// and follow the first request of each unit. The texts of the batch are borrowed from it.
 #[derive(Drop)]
 pub struct Plan<'b> {
     pub(crate) tables: Tables<'b>,
@@ -34,7 +34,7 @@ impl<'b> Plan<'b> {
     ghost use Rattle.odb_check.specs.Plans.{plan_records};
     ghost use Rattle.odb_check.specs.Shape.{HasNamesAsNeeds, IsPlan, shape_of};
 
-    /// How many requests there are: 10,000 at most.
+    /// Returns the number of requests: 10,000 at most.
     pub fn len(&self) -> u32
         ensures count { result ≡ length (plan_records self.now) }
         ensures small { result ≤ 10000 }
@@ -47,7 +47,7 @@ impl<'b> Plan<'b> {
         self.tables.len()
     }
 
-    /// The request at a position, counted from 0.
+    /// Returns the request at a position, counted from 0.
     pub fn request(&self, i: u32) -> &Request<'b>
         requires { i < length (plan_records self.now) }
         ensures value { slice_get (plan_records self.now) i ≡ Some (record_of result.now) }
@@ -56,7 +56,7 @@ impl<'b> Plan<'b> {
         self.tables.request(i)
     }
 
-    /// How many units there are.
+    /// Returns the number of units.
     pub fn unit_count(&self) -> u32
         ensures count { result ≡ units.unit_count (plan_records self.now) }
         ensures few { result ≤ length (plan_records self.now) }
@@ -71,7 +71,7 @@ impl<'b> Plan<'b> {
         self.tables.group_count()
     }
 
-    /// The unit that the request at a position is in.
+    /// Returns the unit of the request at a position.
     pub fn unit_of(&self, i: u32) -> u32
         requires { i < length (plan_records self.now) }
         ensures value { result ≡ units.unit_at (plan_records self.now) i }
@@ -80,7 +80,7 @@ impl<'b> Plan<'b> {
         self.tables.unit_of(i)
     }
 
-    /// The positions of a unit, which are adjacent.
+    /// Returns the positions of a unit, which are adjacent.
     pub fn members(&self, u: u32) -> Range<u32>
         requires { u < units.unit_count (plan_records self.now) }
         ensures { units.HasMembers (plan_records self.now) u result.start result.end }
@@ -105,8 +105,8 @@ impl<'b> Plan<'b> {
 
     /// Returns the length of the longest dependency chain that ends at the request at a position.
     ///
-    /// That is 0 without needs, else one more than the greatest level of what is needed. The level of
-    /// a group is the greatest of its members.
+    /// A request without dependencies has level 0, and a dependency on a group has the highest level
+    /// among its requests.
     pub fn level(&self, i: u32) -> u32
         requires { i < length (plan_records self.now) }
         ensures { result ≡ level_at (plan_records self.now) i }

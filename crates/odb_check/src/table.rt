@@ -27,7 +27,7 @@ impl<'b> Table<'b> {
         }
     }
 
-    /// Makes room for some more texts, where that spares moving the others.
+    /// Makes room for some more texts, if that spares moving the others.
     pub(crate) fn reserve(&mut self, count: usize) -> Result<(), AllocError>
         ensures texts { OnOk result ((q : List ℕ) → at_text self.new q ≡ at_text self.old q) }
         ensures len { OnOk result (table_len self.new ≡ table_len self.old) }

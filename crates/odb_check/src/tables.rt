@@ -251,7 +251,7 @@ impl<'b> Tables<'b> {
         self.groups.get(group)
     }
 
-    /// What a name stands for.
+    /// What a name resolves to.
     pub(crate) fn need_of(&self, name: &str) -> Option<Need>
         ensures { result ≡ need_of (requests self.now) name.now }
     {

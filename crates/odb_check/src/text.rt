@@ -88,7 +88,7 @@ impl Plan<'_> {
         text.push_str("\n")
     }
 
-    /// A line per request, each with a newline at its end: `POS ID level L group G needs NAMES`.
+    /// Returns a line per request, each with a newline at its end: `POS ID level L group G needs NAMES`.
     ///
     /// `G` is the name of the group, or `*`. `NAMES` are the names of the needs in their order, with
     /// commas between them, or `*`: the identifier of a request, or the name of a group.

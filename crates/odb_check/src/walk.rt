@@ -2,7 +2,7 @@ ghost use Rattle.std.specs.Prelude.{◌≡◌, ◌<◌, ◌+◌, ◌++◌, lengt
 ghost use Rattle.odb_doc.specs.Names.{texts_in};
 ghost use Rattle.odb_check.specs.LeastNameFault.{HasGoodNames, RefusesNames};
 ghost use Rattle.odb_check.specs.Marks.{AreMarksOf, AreUpTo};
-ghost use Rattle.odb_check.specs.NameFaults.{StandsAt};
+ghost use Rattle.odb_check.specs.NameFaults.{IsBrokenAt};
 ghost use Rattle.odb_check.specs.Needs.{needs_at};
 ghost use Rattle.odb_check.specs.Positions.{names_at};
 ghost use Rattle.odb_check.specs.Requests.{requests};
@@ -17,7 +17,7 @@ use crate::needs::Needs;
 use crate::tables::Tables;
 use std::alloc::Global;
 
-/// F40: adds and marks what the names of the request at `i` stand for, unless one stands for nothing.
+/// F40: adds and marks what the names of the request at `i` resolve to, unless one resolves to nothing.
 fn add_names(
     tables: &Tables<'_>,
     i: u32,
@@ -28,7 +28,7 @@ fn add_names(
     requires position { i < length (requests tables.now) }
     requires names { texts_in names.now ≡ names_at (requests tables.now) i }
     requires marks { AreUpTo (requests tables.now) i marks.old.ones.items marks.old.groups.items }
-    ensures known { OnOk result (¬ StandsAt rules.UnknownName (requests tables.now) i) }
+    ensures known { OnOk result (¬ IsBrokenAt rules.UnknownName (requests tables.now) i) }
     ensures added { OnOk result (list.new.items ≡ list.old.items ++ named_at (requests tables.now) i) }
     ensures marked { OnOk result (AreMarksOf (requests tables.now) (named_at (requests tables.now) i)
         (i + 1) marks.new.ones.items marks.new.groups.items) }

@@ -7,7 +7,7 @@ use Rattle.odb_check.specs.Levels.{next_level}
 use Rattle.odb_check.specs.Marks.{IsWithin}
 use Rattle.odb_check.specs.Needs.{needs_at}
 use Rattle.odb_check.specs.Units.{unit_at, unit_count}
-use Rattle.odb_check.proofs.LevelLemmas.{length-levels_below, levels_on, need_known}
+use Rattle.odb_check.proofs.LevelLemmas.{length-levels_below, levels_more, need_known}
 use Rattle.odb_check.proofs.PlanLemmas.{needs_before}
 use Rattle.odb_check.proofs.levels.levels_of.Goals as goal
 
@@ -35,5 +35,5 @@ loop-i-preserved c =
     let set_is : slice_set c.loop-i.unit_levels.items unit c.max.result ≡ slice_set c.loop-i.unit_levels.items (unit_at rs c.loop-i.i) (max (slice_index c.loop-i.unit_levels.items (unit_at rs c.loop-i.i)) c.next_level-level.result) =
     ap (λ m. slice_set c.loop-i.unit_levels.items unit m) (c.max.ensures ∙ ap (λ m. max m c.next_level-level.result) read)
     ∙ ap (λ u. slice_set c.loop-i.unit_levels.items u (max (slice_index c.loop-i.unit_levels.items u) c.next_level-level.result)) c.unit_of-unit.ensures.value in
-    rw add-one (levels_on rs c.loop-i.i c.loop-i.levels.items c.push.new.self.items c.loop-i.unit_levels.items (slice_set c.loop-i.unit_levels.items unit c.max.result) c.next_level-level.result
+    rw add-one (levels_more rs c.loop-i.i c.loop-i.levels.items c.push.new.self.items c.loop-i.unit_levels.items (slice_set c.loop-i.unit_levels.items unit c.max.result) c.next_level-level.result
     c.loop-i.invariant (subst (λ u. u < unit_count rs) c.unit_of-unit.ensures.value within) level c.in_ok-push.ensures.items set_is)

@@ -2,14 +2,14 @@ use Rattle.std.proofs.Common.{◌≡◌, ap, ◌∙◌, length, add-one, rules}
 use Rattle.odb_doc.specs.Batches.{records}
 use Rattle.odb_doc.specs.Records.{record_of}
 use Rattle.odb_check.specs.Tables.{unit_among}
-use Rattle.odb_check.proofs.TableLemmas.{walk_on}
+use Rattle.odb_check.proofs.TableLemmas.{tables_more}
 use Rattle.odb_check.proofs.tables.add.Goals as goal
 
 pub returns : goal.returns
 returns c =
     let next : c.len.result ≡ length c.args.starts.now.items = search rules in
-    let told : c.unit_in-unit.result ≡ unit_among c.args.groups.now (record_of c.request-request.result.now).group (length c.args.starts.now.items) =
+    let among : c.unit_in-unit.result ≡ unit_among c.args.groups.now (record_of c.request-request.result.now).group (length c.args.starts.now.items) =
     c.unit_in-unit.ensures ∙ ap (unit_among c.args.groups.now (record_of c.request-request.result.now).group) next in
-    rw add-one (walk_on (records c.args.batch.now) c.args.i (record_of c.request-request.result.now) c.args.ids.now c.note.new.self c.args.groups.now c.note_group.new.groups
+    rw add-one (tables_more (records c.args.batch.now) c.args.i (record_of c.request-request.result.now) c.args.ids.now c.note.new.self c.args.groups.now c.note_group.new.groups
     c.args.units.now.items c.args.starts.now.items c.push.new.self.items c.note_start.new.starts.items c.unit_in-unit.result
-    c.request-request.ensures.value c.request-request.ensures.sound.names c.requires.before told c.in_ok-note.ensures.texts c.in_ok-note_group.ensures.texts c.in_ok-note_group.ensures.len c.in_ok-note_start.ensures c.in_ok-push.ensures.items)
+    c.request-request.ensures.value c.request-request.ensures.sound.names c.requires.before among c.in_ok-note.ensures.texts c.in_ok-note_group.ensures.texts c.in_ok-note_group.ensures.len c.in_ok-note_start.ensures c.in_ok-push.ensures.items)

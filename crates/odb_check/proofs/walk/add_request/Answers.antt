@@ -5,7 +5,7 @@ use Rattle.odb_check.proofs.WalkLemmas.{needs_added}
 use Rattle.odb_check.proofs.walk.add_request.Goals as goal
 
 pub further_need-requires : goal.further_need-requires
-further_need-requires c = λ stands. c.in_default.ensures.none refl UnknownReference (refl, stands)
+further_need-requires c = λ broken_here. c.in_default.ensures.none refl UnknownReference (refl, broken_here)
 
 pub returns-in_ok-push-clause-needs : goal.returns-in_ok-push-clause-needs
 returns-in_ok-push-clause-needs c =

@@ -1,13 +1,13 @@
 use Rattle.std.proofs.Common.{arith}
 use Rattle.odb_check.specs.LeastNameFault.{RefusesNames}
 use Rattle.odb_check.specs.Requests.{requests}
-use Rattle.odb_check.proofs.WalkLemmas.{told_on, names_refused, all_good}
+use Rattle.odb_check.proofs.WalkLemmas.{same_error, names_refused, all_good}
 use Rattle.odb_check.proofs.walk.needs_of.Goals as goal
 
 pub returns-in_err-add_request-clause-least : goal.returns-in_err-add_request-clause-least
 returns-in_err-add_request-clause-least c =
     let rs = requests c.args.tables.now in
-    told_on c.from_residual-in_err-add_request.result (λ fault. RefusesNames fault rs) c.in_err-add_request.field-0.0 c.from_residual-in_err-add_request.ensures.1
+    same_error c.from_residual-in_err-add_request.result (λ fault. RefusesNames fault rs) c.in_err-add_request.field-0.0 c.from_residual-in_err-add_request.ensures.1
     (names_refused rs c.loop-i.i c.requires c.loop-i.invariant.none c.in_err-add_request.field-0.0 c.in_err-add_request.ensures.least)
 
 pub returns-clause-good : goal.returns-clause-good

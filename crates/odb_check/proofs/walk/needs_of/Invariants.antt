@@ -6,7 +6,7 @@ use Rattle.odb_check.specs.Requests.{requests}
 use Rattle.odb_check.proofs.walk.needs_of.Given as goal
 use Rattle.odb_check.specs.Walks.{AreNeedsOf}
 
--- the requests before i break no rule, and their needs stand in the list
+-- the requests before i break no rule, and the list has their needs
 abbrev pub invariant-loop-i : goal.invariant-loop-i
 invariant-loop-i l = record {
   none : (rule : NameRule) (k : ℕ) → k < l.i → ¬ BreaksIn 4 (requests l.tables) rule k;
