@@ -1,5 +1,5 @@
 -- One more mark.
-use Rattle.std.proofs.Common.{◌≡◌, ◌≢◌, ◌≤◌, ◌<◌, ℕ, suc, Bool, true, false, ◌||◌, List, [], ◌∷◌, ◌++◌, refl, sym, ap, ◌∙◌, subst, inl, inr, arith, length, get_or-set_same, get_or-set_other}
+use Rattle.std.proofs.Common.{◌≡◌, ◌≢◌, ◌≤◌, ◌<◌, ℕ, Bool, true, false, ◌||◌, List, [], ◌∷◌, ◌++◌, refl, sym, ap, ◌∙◌, subst, inl, inr, arith, length, get_or-set_same, get_or-set_other}
 use Rattle.std.specs.Prelude.{◌==◌, slice_index, slice_set}
 use Rattle.std.specs.List.{list_any}
 use Rattle.std.proofs.Math.ListN.{length-set}
@@ -8,7 +8,7 @@ use Rattle.std.proofs.lemmas.List.Folds.{list_any-append}
 use Rattle.odb_doc.specs.Records.{Record}
 use Rattle.odb_check.specs.declared.need.Need.{Need}
 use Rattle.odb_check.specs.declared.need.Need.TheVariants.{One, Group}
-use Rattle.odb_check.specs.Marks.{IsWithin, ones_with, groups_with, is_one, is_group, AreUpTo, AreMarksOf}
+use Rattle.odb_check.specs.Marks.{IsWithin, ones_with, groups_with, is_one, is_group, AreMarksOf}
 use Rattle.odb_check.specs.Units.{unit_count}
 
 or_right : (v w : Bool) → w ≡ true → (v || w) ≡ true
@@ -77,16 +77,3 @@ marks_more rs named (Group u) stamp ones groups within marks =
       ones_are = λ p. unmarked (is_one p) named (Group u) (slice_index ones p == stamp) refl (marks.ones_are p);
       groups_are = marked is_group named (Group u) groups stamp u inside (λ v. refl) marks.groups_are;
     }
-
--- above the stamps so far nothing is marked
-pub mark_none : (rs : List Record) (i : ℕ) (ones groups : List ℕ) → AreUpTo rs i ones groups → AreMarksOf rs [] (suc i) ones groups
-mark_none rs i ones groups up_to = record {
-  up_to = record {
-    ones_count = up_to.ones_count;
-    groups_count = up_to.groups_count;
-    ones_low = λ p. omega (arith, up_to.ones_low p);
-    groups_low = λ u. omega (arith, up_to.groups_low u);
-  };
-  ones_are = λ p. ne_eqb (slice_index ones p) (suc i) (λ e. omega (arith, up_to.ones_low p));
-  groups_are = λ u. ne_eqb (slice_index groups u) (suc i) (λ e. omega (arith, up_to.groups_low u));
-}

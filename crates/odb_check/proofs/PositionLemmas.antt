@@ -74,6 +74,3 @@ position_none rs id none j e = text_none (id_at rs) id (length rs) none j (id_wi
 
 pub group_first : (rs : List Record) (group : List ℕ) (b : ℕ) → group_begin rs group ≡ Some b → (b < length rs) × IsFirstAt (group_at rs) group b
 group_first rs group b e = text_first (group_at rs) group (length rs) b e
-
-pub group_none : (rs : List Record) (group : List ℕ) → group_begin rs group ≡ None → (j : ℕ) → ¬ (group_at rs j ≡ Some group)
-group_none rs group none j e = text_none (group_at rs) group (length rs) none j (group_within rs j group e) e

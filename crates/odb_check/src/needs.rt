@@ -34,6 +34,7 @@ impl Needs {
 }
 
 /// The needs of the request at `i`.
+#[tactic(auto, using(crate::proofs::OffsetLemmas::part_of))]
 pub(crate) fn needs_of_request<'n>(tables: &Tables<'_>, needs: &'n Needs, i: u32) -> &'n [Need]
     requires position { i < length (requests tables.now) }
     requires needs { AreNeeds (requests tables.now) needs.now }
