@@ -9,7 +9,7 @@ use Rattle.odb_check.specs.declared.fault.CheckFault.{CheckFault}
 use Rattle.odb_check.specs.declared.fault.CheckFault.TheVariants as faults
 use Rattle.odb_check.specs.Faults.{number, phase}
 use Rattle.odb_check.specs.FaultTable.{IsNumbered}
-use Rattle.odb_check.specs.LeastNameFault.{BreaksIn, IsLeastAt, HasGoodNames, RefusesNames}
+use Rattle.odb_check.specs.LeastNameFault.{BreaksIn, IsLeastAt, RefusesNames}
 use Rattle.odb_check.proofs.RuleLemmas.{same_rule}
 
 at_one : (rs : List Record) (ph i j : ℕ) (a b : NameRule) → IsFirst number (BreaksIn ph rs) i a → IsFirst number (BreaksIn ph rs) j b → faults.Request i a ≡ faults.Request j b
@@ -27,7 +27,3 @@ pub one_fault : (rs : List Record) (fault other : CheckFault) → IsNumbered fau
 one_fault rs (faults.Request at rule) (faults.Request other_at other) numbered_one numbered_two one two = one_least rs at other_at rule other one two
 one_fault rs (faults.Request at rule) faults.OutOfMemory numbered_one numbered_two one two = absurd (numbered_two refl)
 one_fault rs faults.OutOfMemory other numbered_one numbered_two one two = absurd (numbered_one refl)
-
-pub no_fault : (rs : List Record) (fault : CheckFault) → IsNumbered fault → RefusesNames fault rs → ¬ HasGoodNames rs
-no_fault rs (faults.Request at rule) numbered_one least good = good rule at least.first.here.broken.1
-no_fault rs faults.OutOfMemory numbered_one least good = numbered_one refl

@@ -1,5 +1,5 @@
 -- One more request in the tables.
-use Rattle.std.proofs.Common.{◌≡◌, ◌≢◌, ◌≤◌, ◌<◌, ◌+◌, ◌⊎◌, ℕ, suc, Bool, true, false, cond, List, [], ◌∷◌, ◌++◌, Option, Some, None, refl, sym, ap, ◌∙◌, subst, inl, inr, arith, length, length-append}
+use Rattle.std.proofs.Common.{◌≡◌, ◌≢◌, ◌≤◌, ◌<◌, ◌+◌, ◌⊎◌, ℕ, suc, Bool, true, false, cond, List, [], ◌∷◌, ◌++◌, Option, Some, None, refl, sym, ap, ◌∙◌, subst, inl, inr, arith, length}
 use Rattle.std.specs.Prelude.{◌==◌, slice_get, option_map, option_and_then, unwrap_or, is_some, bytes_eq}
 use Rattle.std.specs.List.{IsDistinct, list_any}
 use Rattle.std.proofs.lemmas.Bool.{cases_Bool, eq-eqb, ne_eqb}
@@ -10,7 +10,8 @@ use Rattle.odb_check.specs.Positions.{id_at, group_at, names_at}
 use Rattle.odb_check.specs.Tables.{AreTablesOf, at_text, more_with, table_len, unit_among, pass_below, groups_below, with_group}
 use Rattle.odb_check.specs.Units.{first_in_group, begins_unit, units_before, begin_in, unit_begin, unit_at}
 use Rattle.odb_check.proofs.GroupLemmas.{any-groups_below, length-groups_below, length-with}
-use Rattle.odb_check.proofs.FirstLemmas.{below_more, count_less}
+use Rattle.odb_check.proofs.FirstLemmas.{below_more, count_few, count_less}
+use Rattle.odb_check.proofs.BelowLemmas.{length-pass_below}
 use Rattle.odb_check.proofs.PositionLemmas.{text_there}
 use Rattle.odb_check.proofs.UnitLemmas.{BeginsAt, unit_begins, unit_at_begin}
 
@@ -37,18 +38,6 @@ next_start rs i starts count are =
           rw (other, within.0) are
     ]
 
-next_count : (rs : List Record) (i : ℕ) (starts : List ℕ) → length starts ≡ units_before rs i
-    → length (cond (unit_at rs i == length starts) (starts ++ i ∷ []) starts) ≡ units_before rs (suc i)
-next_count rs i starts count =
-    elim (unit_cases rs i) [
-      | inl begins ↦
-          let same : (unit_at rs i == length starts) ≡ true = eq-eqb (unit_at rs i) (length starts) (begins.1 ∙ sym count) in
-          rw (same, begins.0) (omega (arith, length-append starts (i ∷ [])))
-      | inr within ↦
-          let other : (unit_at rs i == length starts) ≡ false = ne_eqb (unit_at rs i) (length starts) (λ e. omega arith) in
-          rw (other, within.0) count
-    ]
-
 -- the unit of the next position, by the tables
 found_unit : (rs : List Record) (i next : ℕ) (group : List ℕ) → next ≡ units_before rs i → (found : Option ℕ)
     → unwrap_or (option_map (units_before rs) found) next ≡ units_before rs (unwrap_or found i)
@@ -72,10 +61,6 @@ next_group : (rs : List Record) (i unit : ℕ) (q : List ℕ) → unit ≡ unit_
     → or_else (option_map (units_before rs) found) (cond (is_text q (group_at rs i)) (Some unit) None) ≡ option_map (units_before rs) (or_else found (cond (is_text q (group_at rs i)) (Some i) None))
 next_group rs i unit q e None here = new_group rs i unit q e here (is_text q (group_at rs i)) refl
 next_group rs i unit q e (Some b) here = refl
-
-few_more : (v : Bool) (starts : List ℕ) (i : ℕ) → length starts ≤ i → length (cond v (starts ++ i ∷ []) starts) ≤ suc i
-few_more true starts i few = omega (arith, length-append starts (i ∷ []))
-few_more false starts i few = omega arith
 
 some-map : {X Y : Type 0} (f : X → Y) (o : Option X) → is_some (option_map f o) ≡ is_some o
 some-map f None = refl
@@ -107,6 +92,7 @@ tables_more rs i r ids ids' groups groups' units starts units' starts' unit here
     let group_is : group_at rs i ≡ r.group = ap (λ o. option_and_then (λ x. x.group) o) here in
     let unit_is : unit ≡ unit_at rs i = among ∙ unit_among_is rs i (length starts) groups tables.groups_are tables.count r.group ∙ ap (λ g. units_before rs (begin_in rs i g)) (sym group_is) in
     let starts_unit : starts' ≡ cond (unit_at rs i == length starts) (starts ++ i ∷ []) starts = starts_go ∙ ap (λ u. cond (u == length starts) (starts ++ i ∷ []) starts) unit_is in
+    let starts_next : starts' ≡ pass_below (suc i) (begins_unit rs) = starts_unit ∙ next_start rs i starts tables.count tables.starts_are in
     let groups_next : table_len groups' ≡ length (groups_below rs (suc i)) =
     groups_more ∙ ap (λ n. n + more_with groups r.group) tables.groups_count ∙ sym (next_group_count rs i groups tables.groups_are r.group)
     ∙ ap (λ g. length (with_group (groups_below rs i) g)) (sym group_is) in
@@ -119,8 +105,8 @@ tables_more rs i r ids ids' groups groups' units starts units' starts' unit here
           ∙ ap (λ o. or_else (option_map (units_before rs) (first_in_group rs i q)) (cond (is_text q o) (Some unit) None)) (sym group_is)
           ∙ next_group rs i unit q unit_is (first_in_group rs i q) refl;
       units_are = units_go ∙ ap (λ xs. xs ++ unit ∷ []) tables.units_are ∙ ap (λ u. list_below i (unit_at rs) ++ u ∷ []) unit_is;
-      starts_are = starts_unit ∙ next_start rs i starts tables.count tables.starts_are;
-      count = ap length starts_unit ∙ next_count rs i starts tables.count;
-      few = subst (λ xs. length xs ≤ suc i) (sym starts_unit) (few_more (unit_at rs i == length starts) starts i tables.few);
+      starts_are = starts_next;
+      count = ap length starts_next ∙ length-pass_below (suc i) (begins_unit rs);
+      few = omega (arith, ap length starts_next, length-pass_below (suc i) (begins_unit rs), count_few (suc i) (begins_unit rs));
       names_apart = below_more i (λ k. IsDistinct bytes_eq (names_at rs k)) tables.names_apart (subst (IsDistinct bytes_eq) (sym (ap (λ o. unwrap_or (option_map (λ x. x.names) o) []) here)) apart);
     }

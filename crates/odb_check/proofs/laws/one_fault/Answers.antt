@@ -1,8 +1,5 @@
-use Rattle.odb_check.proofs.FaultLemmas.{one_fault, no_fault}
+use Rattle.odb_check.proofs.FaultLemmas.{one_fault}
 use Rattle.odb_check.proofs.laws.one_fault.Goals as goal
 
 pub returns-clause-one : goal.returns-clause-one
 returns-clause-one c = one_fault
-
-pub returns-clause-none : goal.returns-clause-none
-returns-clause-none c = no_fault
