@@ -2,9 +2,9 @@
 
 In a block that begins ```console, a line that begins with `$ ` is a command, and the lines up to the
 next command or the end of the block are what it prints, on standard output and standard error.
-Commands run by bash at the top of the repository. A block that begins ```rust, and in it with a
-comment that names a file, as `// crates/NAME/src/tests.rt`, shows lines of that file: what follows
-the comment has to stand there word for word.
+Commands run by bash at the top of the repository. A block that begins ```rust begins with a comment
+that names a file, as `// crates/NAME/src/tests.rt`, and shows lines of that file: what follows the
+comment has to appear there word for word.
 """
 
 import re
@@ -40,17 +40,18 @@ def examples(page):
 
 
 def excerpts(page):
-    """The blocks of the page that show a file: line number, the file's path and its lines."""
+    """The blocks of the page that show a file: line number, the file's path, or none, and its lines."""
     found = []
     for number, lines in blocks(page, "rust"):
         named = re.fullmatch(r"// (\S+/\S+\.rt)", lines[0]) if lines else None
-        if named:
-            found.append((number, named[1], lines[1:]))
+        found.append((number, named[1] if named else None, lines[1:]))
     return found
 
 
 def stands_in(path, lines):
-    """Whether the file has these lines, one after another."""
+    """Whether a file is named and has these lines, one after another."""
+    if path is None:
+        return False
     try:
         with open(path, encoding="utf-8") as file:
             all_lines = file.read().splitlines()
@@ -82,7 +83,7 @@ def main():
     print(f"{path}: {len(cases) - failed} commands as shown, {failed} not")
     differ = [it for it in shown if not stands_in(it[1], it[2])]
     for number, source, _ in differ:
-        print(f"{path}:{number}: {source} does not have these lines")
+        print(f"{path}:{number}: {source} does not have these lines" if source else f"{path}:{number}: no file is named")
     print(f"{path}: {len(shown) - len(differ)} excerpts as in their files, {len(differ)} not")
     return 1 if failed or differ or not cases else 0
 
