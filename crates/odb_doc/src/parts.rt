@@ -10,7 +10,7 @@ ghost use Rattle.odb_doc.specs.Names.{texts_in};
 ghost use Rattle.odb_doc.specs.WholeNumbers.{IsWhole};
 
 use crate::batch::Batch;
-use crate::quoting::{push_if, push_quoted};
+use crate::quoting::{push_if, push_owned, push_quoted};
 use odb_names::Method;
 use serde_json::Value;
 use std::alloc::{AllocError, Global};
@@ -47,7 +47,7 @@ fn push_body(alloc: Global, text: &mut String, body: Option<&Value>) -> Result<(
     match body {
         Some(body) => {
             text.push_str("\"body\":")?;
-            text.push_str(body.to_string(alloc)?.as_str())?;
+            push_owned(text, body.to_string(alloc)?)?;
             text.push_str(",")
         }
         None => Ok(()),

@@ -59,3 +59,16 @@ pub(crate) fn push_if(text: &mut String, holds: bool, piece: &str) -> Result<(),
 {
     if holds { text.push_str(piece) } else { Ok(()) }
 }
+
+/// Appends a text that the caller gives up. One that is longer than the room of `text` takes what
+/// `text` holds to its front and then replaces it, so that no second room of its length is filled.
+pub(crate) fn push_owned(text: &mut String, mut piece: String) -> Result<(), AllocError>
+    ensures { OnOk result (string_bytes text.new ≡ string_bytes text.old ++ string_bytes piece) }
+{
+    if piece.len() <= text.capacity() {
+        return text.push_str(piece.as_str());
+    }
+    piece.insert_str(0, text.as_str())?;
+    *text = piece;
+    Ok(())
+}
