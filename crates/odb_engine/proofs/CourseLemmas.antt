@@ -25,10 +25,10 @@ pub record HasOrder (order : Order) (recorded : List (Option Outcome)) (first : 
 
 module _ (order : Order) (policy : Policy) (traced : Bool) (plan : Plan) (entries : List Recorded) where
   missing : (ended : Ended) (text : List ℕ) → (lacks : LacksOutcome (AllowsOrder order) policy plan entries ended text)
-      → Faults order (recorded_for (plan_records plan) entries) (at_first plan policy.mode policy.width) (fault.NoOutcome lacks.at)
+      → Faults order (recorded_for (plan_records plan) entries) (at_first plan policy) (fault.NoOutcome lacks.at)
   missing ended text lacks = (search rules, (lacks.due, lacks.none))
 
-  one_plan : HasOrder order (recorded_for (plan_records plan) entries) (at_first plan policy.mode policy.width) → IsOne (ReplaysPlan (AllowsOrder order) policy traced plan entries)
+  one_plan : HasOrder order (recorded_for (plan_records plan) entries) (at_first plan policy) → IsOne (ReplaysPlan (AllowsOrder order) policy traced plan entries)
   one_plan law a b s t (inl x) (inl y) =
       let (steps, last) = law.course x.steps y.steps x.last y.last x.course y.course in
       (x.ends ∙ sym y.ends, x.result ∙ ap (λ e. result_text traced e x.steps) last ∙ ap (λ e. result_text traced y.last e) steps ∙ sym y.result)
@@ -38,6 +38,6 @@ module _ (order : Order) (policy : Policy) (traced : Bool) (plan : Plan) (entrie
       let same = law.fault (fault.NoOutcome x.at) (fault.NoOutcome y.at) (missing a s x) (missing b t y) in
       (x.ends ∙ sym y.ends, x.line ∙ ap (λ cause. line_of (execution_refusal cause)) same ∙ sym y.line)
 
-  pub one_replay : HasOrder order (recorded_for (plan_records plan) entries) (at_first plan policy.mode policy.width) → IsOne (ReplaysBatch (AllowsOrder order) policy traced entries (plan_records plan))
+  pub one_replay : HasOrder order (recorded_for (plan_records plan) entries) (at_first plan policy) → IsOne (ReplaysBatch (AllowsOrder order) policy traced entries (plan_records plan))
   one_replay law a b s t (one, same, x) (two, equal, y) =
       one_plan law a b s t (replays-plan (AllowsOrder order) policy traced plan one (sym same) entries a s x) (replays-plan (AllowsOrder order) policy traced plan two (sym equal) entries b t y)

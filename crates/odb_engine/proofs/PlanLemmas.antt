@@ -13,7 +13,6 @@ use Rattle.odb_check.specs.Shape.{Shape, shape_of}
 use Rattle.odb_sched.specs.declared.event.Event.{Event}
 use Rattle.odb_sched.specs.declared.event.Event.TheVariants as event
 use Rattle.odb_sched.specs.declared.phase.Phase.TheVariants.{Unstarted}
-use Rattle.odb_sched.specs.declared.policy.Mode.{Mode}
 use Rattle.odb_sched.specs.declared.policy.Policy.{Policy}
 use Rattle.odb_sched.specs.declared.service.ServiceFault.TheVariants.{NoOutcome}
 use Rattle.odb_sched.specs.declared.step.Step.{Step}
@@ -34,7 +33,7 @@ use Rattle.odb_engine.specs.Traces.{report_line, step_line, undo_line}
 
 -- the state of a run of this plan
 abbrev pub with_plan : Plan → State → State
-with_plan plan state = record { plan = plan; shape = state.shape; mode = state.mode; width = state.width; phases = state.phases }
+with_plan plan state = record { plan = plan; shape = state.shape; policy = state.policy; phases = state.phases }
 
 -- ---- courses
 
@@ -77,9 +76,9 @@ shape-same : (plan other : Plan) → plan_records plan ≡ plan_records other �
 unfolding shape
 shape-same plan other same = ap shape_of same
 
-pub at_first-plan : (plan other : Plan) (mode : Mode) (width : ℕ) → plan_records plan ≡ plan_records other → with_plan plan (at_first other mode width) ≡ at_first plan mode width
-at_first-plan plan other mode width same =
-    ap (λ (s : Shape). record { plan = plan; shape = s; mode = mode; width = width; phases = replicate (length s.units) Unstarted }) (sym (shape-same plan other same))
+pub at_first-plan : (plan other : Plan) (policy : Policy) → plan_records plan ≡ plan_records other → with_plan plan (at_first other policy) ≡ at_first plan policy
+at_first-plan plan other policy same =
+    ap (λ (s : Shape). record { plan = plan; shape = s; policy = policy; phases = replicate (length s.units) Unstarted }) (sym (shape-same plan other same))
 
 -- ---- texts
 
@@ -127,11 +126,11 @@ module _ (allows : Allowance) (policy : Policy) (traced : Bool) (plan other : Pl
   offers batch = OffersRecorded (recorded_for batch entries)
 
   abbrev first : Plan → State
-  first p = at_first p policy.mode policy.width
+  first p = at_first p policy
 
   result-plan : (ended : Ended) (text : List ℕ) → IsResult allows policy traced other entries ended text → IsResult allows policy traced plan entries ended text
   result-plan ended text is =
-      let begun = at_first-plan plan other policy.mode policy.width same in
+      let begun = at_first-plan plan other policy same in
       let events = is.course.events in
       let kept : plan_records plan ≡ plan_records is.last.plan = same ∙ ap plan_records (sym (ap (λ (s : State). s.plan) is.course.last_is ∙ plan-kept (first other) events)) in
       let moved = subst (λ (s : State). IsCourse allows (offers (plan_records other)) s events) begun (IsCourse-plan allows (offers (plan_records other)) plan (first other) events is.course.course) in
@@ -153,7 +152,7 @@ module _ (allows : Allowance) (policy : Policy) (traced : Bool) (plan other : Pl
 
   lacks-plan : (ended : Ended) (text : List ℕ) → LacksOutcome allows policy other entries ended text → LacksOutcome allows policy plan entries ended text
   lacks-plan ended text lacks =
-      let begun = at_first-plan plan other policy.mode policy.width same in
+      let begun = at_first-plan plan other policy same in
       let moved = subst (λ (s : State). IsDue allows (offers (plan_records other)) s lacks.at) begun (IsDue-plan allows (offers (plan_records other)) plan (first other) lacks.at lacks.due) in record {
         at = lacks.at;
         due = subst (λ (rs : List Record). IsDue allows (offers rs) (first plan) lacks.at) (sym same) moved;

@@ -98,7 +98,7 @@ in_range status low high = grind (arith, nat_tests)
 
 -- an execution by recorded outcomes fails only where an outcome is missing
 pub lacks-outcome : (allows : Allowance) (policy : Policy) (plan : Plan) (entries : List Recorded) (cause : ExecFault) → All IsSoundOutcome entries → IsNumbered cause
-    → IsCausedBy (offers_of plan entries) (IsDue allows (offers_of plan entries) (at_first plan policy.mode policy.width)) cause
+    → IsCausedBy (offers_of plan entries) (IsDue allows (offers_of plan entries) (at_first plan policy)) cause
     → LacksOutcome allows policy plan entries Refused (line_of (execution_refusal cause))
 lacks-outcome allows policy plan entries (fault.NoOutcome i) sound numbered (due, none) = record { at = i; due = due; none = none; ends = refl; line = refl }
 lacks-outcome allows policy plan entries (fault.Service i) sound numbered (due, failed) = absurd (not_failed (get_or (recorded_for (plan_records plan) entries) i None) failed)

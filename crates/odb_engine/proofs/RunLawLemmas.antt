@@ -144,7 +144,7 @@ not-stopped state events cause x run = both_ways _ x.barred (may-come state x.be
 
 module _ (policy : Policy) (plan : Plan) (good : HasGoodNames (plan_records plan)) (ns : List NamedEvent) where
   abbrev first : State
-  first = at_first plan policy.mode policy.width
+  first = at_first plan policy
 
   same-events : (es fs : List Event) → AreResolved plan ns es → AreResolved plan ns fs → es ≡ fs
   same-events es fs a b = one-list (plan_records plan) good ns es fs a b

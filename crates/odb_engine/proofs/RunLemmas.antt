@@ -78,7 +78,7 @@ all-resolved batch (n ∷ recorded) (e ∷ events) (is, rest) sound =
 -- a run by recorded events answers whole bodies alone
 pub whole-bodies : (policy : Policy) (plan : Plan) (recorded : List NamedEvent) (events : List Event) → AreResolved plan recorded events → All IsSoundEvent recorded → HasWholeBodies (end_of policy plan events)
 whole-bodies policy plan recorded events is sound i within =
-    let first = at_first plan policy.mode policy.width in
+    let first = at_first plan policy in
     let state = end_of policy plan events in
     let each = whole-after first events (all-resolved (plan_records plan) recorded events is sound) (All-replicate IsWholePhase _ Unstarted tt) in
     whole-answer (phase_at state i) (unit_succeeded state (unit_of state.shape i)) (at-or IsWholePhase state.phases i Unstarted tt each)
@@ -91,7 +91,7 @@ unknown-event policy plan recorded fault.OutOfMemory first numbered = absurd (nu
 
 -- an event that may not come
 pub barred-event : (policy : Policy) (plan : Plan) (recorded : List NamedEvent) (events : List Event) (cause : RunRefusal) → AreResolved plan recorded events
-    → Refuses (at_first plan policy.mode policy.width) events cause → refusals.IsNumbered cause → IsLeastOfRun policy plan recorded (run_refusal cause)
+    → Refuses (at_first plan policy) events cause → refusals.IsNumbered cause → IsLeastOfRun policy plan recorded (run_refusal cause)
 barred-event policy plan recorded events (refusal.Start at cause) resolved stops numbered = OfEvent events (refusal.Start at cause) resolved stops refl
 barred-event policy plan recorded events (refusal.Report at cause) resolved stops numbered = OfEvent events (refusal.Report at cause) resolved stops refl
 barred-event policy plan recorded events refusal.OutOfMemory resolved stops numbered = absurd (numbered refl)

@@ -29,10 +29,10 @@ use Rattle.odb_engine.proofs.RunLawLemmas.{one-run}
 
 module _ (policy : Policy) (plan other : Plan) (same : plan_records plan ≡ plan_records other) (ns : List NamedEvent) where
   abbrev first : Plan → State
-  first p = at_first p policy.mode policy.width
+  first p = at_first p policy
 
   begun : with_plan plan (first other) ≡ first plan
-  begun = at_first-plan plan other policy.mode policy.width same
+  begun = at_first-plan plan other policy same
 
   run-plan : (events : List Event) → IsRunFrom (first other) events → IsRunFrom (first plan) events
   run-plan events run = subst (λ (s : State). IsRunFrom s events) begun (IsRunFrom-plan plan (first other) events run)

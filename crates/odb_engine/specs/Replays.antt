@@ -49,7 +49,7 @@ pub record IsResult (allows : Allowance) (policy : Policy) (traced : Bool) (plan
   pub ends : ended ≡ Done
   pub steps : List Step
   pub last : State
-  pub course : IsFinishedBy allows (offers_of plan entries) (at_first plan policy.mode policy.width) steps last
+  pub course : IsFinishedBy allows (offers_of plan entries) (at_first plan policy) steps last
   pub result : text ≡ result_text traced last steps
   pub dependencies_first : StartsLast (plan_records plan) course.events
   pub one_per_id : HasOnePerId (plan_records plan) (response_value last)
@@ -57,7 +57,7 @@ pub record IsResult (allows : Allowance) (policy : Policy) (traced : Bool) (plan
 -- a request whose report is due after some course has no outcome
 pub record LacksOutcome (allows : Allowance) (policy : Policy) (plan : Plan) (entries : List Recorded) (ended : Ended) (text : List ℕ) : Type 0 where
   pub at : ℕ
-  pub due : IsDue allows (offers_of plan entries) (at_first plan policy.mode policy.width) at
+  pub due : IsDue allows (offers_of plan entries) (at_first plan policy) at
   pub none : offers_of plan entries at (Err NoOutcome)
   pub ends : ended ≡ Refused
   pub line : text ≡ line_of (record { code = codes "F80"; name = codes "NoOutcome"; place = places.Request at })

@@ -58,14 +58,14 @@ AreResolved plan named events = AllZip (IsResolved (plan_records plan)) named ev
 
 -- the state after these events
 abbrev pub end_of : Policy → Plan → List Event → State
-end_of policy plan events = state_after plan policy.mode policy.width events
+end_of policy plan events = state_after plan policy events
 
 -- The least fault of recorded events on a plan: the first that names no request; or else the first that may not come,
 -- with its first cause; or else that the run is not finished after all of them.
 pub data IsLeastOfRun (policy : Policy) (plan : Plan) (named : List NamedEvent) (refusal : Refusal) : Type 0 where
   OfIds : (at : ℕ) → IsFirstUnknown (plan_records plan) named at → refusal ≡ resolve_refusal (UnknownEvent at) → IsLeastOfRun policy plan named refusal
-  OfEvent : (events : List Event) (cause : RunRefusal) → AreResolved plan named events → StopsAt (at_first plan policy.mode policy.width) events cause → refusal ≡ run_refusal cause → IsLeastOfRun policy plan named refusal
-  OfEnd : (events : List Event) → AreResolved plan named events → IsRun plan policy.mode policy.width events → is_finished (end_of policy plan events) ≡ false → refusal ≡ unfinished → IsLeastOfRun policy plan named refusal
+  OfEvent : (events : List Event) (cause : RunRefusal) → AreResolved plan named events → StopsAt (at_first plan policy) events cause → refusal ≡ run_refusal cause → IsLeastOfRun policy plan named refusal
+  OfEnd : (events : List Event) → AreResolved plan named events → IsRun plan policy events → is_finished (end_of policy plan events) ≡ false → refusal ≡ unfinished → IsLeastOfRun policy plan named refusal
 
 -- The response to a finished run of the plan, under the policy, by just these events. In it no request starts before all
 -- that it names has ended with 2xx, and the response has exactly one element per id.
@@ -73,7 +73,7 @@ pub record IsResult (policy : Policy) (plan : Plan) (named : List NamedEvent) (e
   pub ends : ended ≡ Done
   pub events : List Event
   pub resolved : AreResolved plan named events
-  pub run : IsRun plan policy.mode policy.width events
+  pub run : IsRun plan policy events
   pub finished : is_finished (end_of policy plan events) ≡ true
   pub result : text ≡ response_line (end_of policy plan events)
   pub dependencies_first : StartsLast (plan_records plan) events

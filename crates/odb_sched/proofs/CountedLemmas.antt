@@ -67,10 +67,10 @@ regroup false stopped failed met room = refl
 
 -- which positions may start
 pub starts_is : (state : State) (views : Views) (i : ℕ) → IsReached state → AreViews state views → i < size state
-    → (get_or views.tally.ready i false && not views.stopped && nat_lt (count_by (λ runs. runs) views.tally.running) state.width) ≡ may_start state i
+    → (get_or views.tally.ready i false && not views.stopped && nat_lt (count_by (λ runs. runs) views.tally.running) state.policy.width) ≡ may_start state i
 starts_is state views i reached are within =
     rw (are.counts.ready.exact i within, gone_is state views i reached are within, unmet_is state views i are within, are.stopped, running_is state views are)
-    (regroup (is_unstarted (phase_at state i)) (is_stopped state) (unit_failed state (unit_of state.shape i)) (all_met state i) (nat_lt (running_count state) state.width))
+    (regroup (is_unstarted (phase_at state i)) (is_stopped state) (unit_failed state (unit_of state.shape i)) (all_met state i) (nat_lt (running_count state) state.policy.width))
 
 -- which positions run
 pub runs_is : (state : State) (views : Views) (i : ℕ) → AreViews state views → get_or views.tally.running i false ≡ is_running (phase_at state i)
@@ -78,9 +78,9 @@ runs_is state views i are = ap (λ running. get_or running i false) are.counts.r
 
 -- the positions that may start are listed
 pub ready_listed : (state : State) (views : Views) (xs : List ℕ) → IsReached state → AreViews state views
-    → ListsOnce (length views.tally.ready) (λ i. get_or views.tally.ready i false && not views.stopped && nat_lt (count_by (λ runs. runs) views.tally.running) state.width) xs → ListsOnce (size state) (may_start state) xs
+    → ListsOnce (length views.tally.ready) (λ i. get_or views.tally.ready i false && not views.stopped && nat_lt (count_by (λ runs. runs) views.tally.running) state.policy.width) xs → ListsOnce (size state) (may_start state) xs
 ready_listed state views xs reached are listed = lists_alike (size state) _ (may_start state) xs (λ i within. starts_is state views i reached are within)
-    (subst (λ n. ListsOnce n (λ i. get_or views.tally.ready i false && not views.stopped && nat_lt (count_by (λ runs. runs) views.tally.running) state.width) xs) are.counts.ready.each listed)
+    (subst (λ n. ListsOnce n (λ i. get_or views.tally.ready i false && not views.stopped && nat_lt (count_by (λ runs. runs) views.tally.running) state.policy.width) xs) are.counts.ready.each listed)
 
 -- the positions that run are listed
 pub running_listed : (state : State) (views : Views) (xs : List ℕ) → IsReached state → AreViews state views → ListsOnce (length views.tally.running) (λ i. get_or views.tally.running i false) xs → ListsOnce (size state) (λ i. is_running (phase_at state i)) xs

@@ -9,7 +9,7 @@ use Rattle.odb_check.specs.declared.plan.Plan.{Plan}
 use Rattle.odb_check.specs.Plans.{plan_records}
 use Rattle.odb_check.specs.Shape.{IsPlan, shape_of}
 use Rattle.odb_doc.specs.declared.outcome.Outcome.{Outcome}
-use Rattle.odb_sched.specs.declared.policy.Mode.{Mode}
+use Rattle.odb_sched.specs.declared.policy.Policy.{Policy}
 use Rattle.odb_sched.specs.declared.phase.Phase.{Phase}
 use Rattle.odb_sched.specs.declared.phase.Phase.TheVariants.{Unstarted, Running, Reported}
 use Rattle.odb_sched.specs.declared.event.Event.{Event}
@@ -34,7 +34,7 @@ use Rattle.odb_sched.specs.Advances.{position_in, MayTake, IsNext, IsTaken}
 use Rattle.odb_sched.proofs.ChoiceLemmas.{positions-listed, listed-in}
 use Rattle.odb_sched.proofs.PlanLemmas.{length-shape}
 use Rattle.odb_sched.proofs.PhaseLemmas.{get_or-set_cases, get_or-replicate_Unstarted}
-use Rattle.odb_sched.proofs.RunLemmas.{reached_after_all, reached_at_first, joined, after_all-push, shape-after, shape-after_all, mode-after_all, plan-after_all}
+use Rattle.odb_sched.proofs.RunLemmas.{reached_after_all, reached_at_first, joined, after_all-push, shape-after, shape-after_all, policy-after_all, plan-after_all}
 use Rattle.odb_sched.proofs.EventLemmas.{left, move_start, move_report}
 
 -- what is picked from the two lists may come next
@@ -66,8 +66,8 @@ taken-report offers state new i outcome may offered is = record { event = Report
 abbrev pub events_left : State → ℕ
 events_left state = sum_by left state.phases
 
-pub left_at_first : (source : Plan) (mode : Mode) (width : ℕ) → events_left (at_first source mode width) ≡ 2 * length (shape source).units
-left_at_first source mode width = let all : sum_by left (replicate (length (shape source).units) Unstarted) ≡ length (shape source).units * 2 = sum_by-replicate left (length (shape source).units) Unstarted in omega arith
+pub left_at_first : (source : Plan) (policy : Policy) → events_left (at_first source policy) ≡ 2 * length (shape source).units
+left_at_first source policy = let all : sum_by left (replicate (length (shape source).units) Unstarted) ≡ length (shape source).units * 2 = sum_by-replicate left (length (shape source).units) Unstarted in omega arith
 
 left-set : (state : State) (i : ℕ) (old new : Phase) → IsReached state → i < size state → phase_at state i ≡ old → left new + 1 ≡ left old → events_left (record state { phases = slice_set state.phases i new }) + 1 ≡ events_left state
 left-set state i old new reached within stood fewer =
@@ -218,33 +218,33 @@ module _ (allows allows_now allows_later : Allowance) (offers offers_now offers_
 pub so_far-first : (allows : Allowance) (offers : Offer) (first state : State) (steps : List Step) → state ≡ first → steps ≡ [] → SoFar allows allows offers offers first state steps
 so_far-first allows offers first state steps here none = subst (λ xs. SoFar allows allows offers offers first state xs) (sym none) (subst (λ s. SoFar allows allows offers offers first s []) (sym here) (none_so_far allows offers first))
 
-module _ (source : Plan) (mode : Mode) (width : ℕ) where
-  left-source : events_left (at_first source mode width) ≡ 2 * length (plan_records source)
-  left-source = let units : length (shape source).units ≡ length (plan_records source) = length-shape source in let all = left_at_first source mode width in omega arith
+module _ (source : Plan) (policy : Policy) where
+  left-source : events_left (at_first source policy) ≡ 2 * length (plan_records source)
+  left-source = let units : length (shape source).units ≡ length (plan_records source) = length-shape source in let all = left_at_first source policy in omega arith
 
   -- room for two steps to a request is room enough
-  pub room-first : (state : State) (steps : List Step) (room : ℕ) → state ≡ at_first source mode width → steps ≡ [] → 2 * length (plan_records source) ≤ room → length steps + events_left state ≤ room
+  pub room-first : (state : State) (steps : List Step) (room : ℕ) → state ≡ at_first source policy → steps ≡ [] → 2 * length (plan_records source) ≤ room → length steps + events_left state ≤ room
   room-first state steps room here none enough =
       let count : length steps ≡ 0 = ap length none in
-      let all : events_left state ≡ events_left (at_first source mode width) = ap events_left here in
+      let all : events_left state ≡ events_left (at_first source policy) = ap events_left here in
       let most = left-source in
       omega arith
 
-  module _ (allows allows_now : Allowance) (offers offers_now : Offer) (state : State) (steps : List Step) (far : SoFar allows allows_now offers offers_now (at_first source mode width) state steps) where
+  module _ (allows allows_now : Allowance) (offers offers_now : Offer) (state : State) (steps : List Step) (far : SoFar allows allows_now offers offers_now (at_first source policy) state steps) where
     pub few-steps : length steps ≤ 2 * length (plan_records source)
-    few-steps = let count : length steps + events_left state ≡ events_left (at_first source mode width) = far.count in let most = left-source in omega arith
+    few-steps = let count : length steps + events_left state ≡ events_left (at_first source policy) = far.count in let most = left-source in omega arith
 
     same-size : size state ≡ length (plan_records source)
-    same-size = ap size far.state_is ∙ ap (λ shape. length shape.units) (shape-after_all (at_first source mode width) far.events) ∙ length-shape source
+    same-size = ap size far.state_is ∙ ap (λ shape. length shape.units) (shape-after_all (at_first source policy) far.events) ∙ length-shape source
 
     pub next-within : (s : Step) → IsNext allows_now state s → position_in s < length (plan_records source)
     next-within s next = subst (λ n. position_in s < n) same-size next.within
 
-    pub reached-so_far : IsPlan (shape_of (plan_records source)) → 0 < width → IsReached state
-    reached-so_far laws wide = subst IsReached (sym far.state_is) (reached_after_all (at_first source mode width) far.events (reached_at_first source mode width laws wide) far.course.run)
+    pub reached-so_far : IsPlan (shape_of (plan_records source)) → IsReached state
+    reached-so_far laws = subst IsReached (sym far.state_is) (reached_after_all (at_first source policy) far.events (reached_at_first source policy laws) far.course.run)
 
-    pub same-mode : state.mode ≡ mode
-    same-mode = ap (λ s. s.mode) far.state_is ∙ mode-after_all (at_first source mode width) far.events
+    pub same-policy : state.policy ≡ policy
+    same-policy = ap (λ s. s.policy) far.state_is ∙ policy-after_all (at_first source policy) far.events
 
 -- each step is of a request that there is
 pub steps-within : (state : State) (events : List Event) → IsRunFrom state events → All (λ s. position_in s < size state) (map step_of events)
@@ -283,20 +283,20 @@ Reported-is Unstarted outcome e = absurd (true≢false (sym (ap is_some e)))
 Reported-is Running outcome e = absurd (true≢false (sym (ap is_some e)))
 Reported-is (Reported other) outcome e = ap (λ found. Reported (unwrap_or found outcome)) e
 
-module _ (source : Plan) (mode : Mode) (width : ℕ) (allows : Allowance) (offers : Offer) (steps : List Step) (last : State) (course : IsFinishedBy allows offers (at_first source mode width) steps last) where
+module _ (source : Plan) (policy : Policy) (allows : Allowance) (offers : Offer) (steps : List Step) (last : State) (course : IsFinishedBy allows offers (at_first source policy) steps last) where
   pub finished-within : All (λ s. position_in s < size last) steps
   finished-within = subst (λ xs. All (λ s. position_in s < size last) xs) (sym course.steps_are)
       (subst (λ n. All (λ s. position_in s < n) (map step_of course.events))
-      (sym (ap size course.last_is ∙ ap (λ shape. length shape.units) (shape-after_all (at_first source mode width) course.events)))
-      (steps-within (at_first source mode width) course.events course.course.run))
+      (sym (ap size course.last_is ∙ ap (λ shape. length shape.units) (shape-after_all (at_first source policy) course.events)))
+      (steps-within (at_first source policy) course.events course.course.run))
 
   pub finished-plan : last.plan ≡ source
-  finished-plan = ap (λ s. s.plan) course.last_is ∙ plan-after_all (at_first source mode width) course.events
+  finished-plan = ap (λ s. s.plan) course.last_is ∙ plan-after_all (at_first source policy) course.events
 
   -- each outcome that is reported was offered
   pub finished-offered : (i : ℕ) (outcome : Outcome) → reported_at last i ≡ Some outcome → offers i (Ok outcome)
   finished-offered i outcome e =
-      elim (offered_after allows offers (at_first source mode width) course.events i outcome course.course.chosen
+      elim (offered_after allows offers (at_first source policy) course.events i outcome course.course.chosen
       (ap (λ s. phase_at s i) (sym course.last_is) ∙ Reported-is (phase_at last i) outcome e)) [
         | inl early ↦ absurd (true≢false (sym (ap is_reported early) ∙ ap is_reported (get_or-replicate_Unstarted (length (shape source).units) i)))
         | inr offer ↦ offer

@@ -62,7 +62,7 @@ pub finished_none : (state : State) → IsReached state → IsNone (ready_set st
 finished_none state reached ready running = (finished_idle state reached).1 (λ i within. (none_below (size state) (may_start state) i ready within, none_below (size state) (λ j. is_running (phase_at state j)) i running within))
 
 -- no position may start
-pub none_starts : (state : State) (views : Views) → IsReached state → AreViews state views → ((i : ℕ) → (get_or views.tally.ready i false && not views.stopped && nat_lt (count_by (λ runs. runs) views.tally.running) state.width) ≡ false) → IsNone (ready_set state)
+pub none_starts : (state : State) (views : Views) → IsReached state → AreViews state views → ((i : ℕ) → (get_or views.tally.ready i false && not views.stopped && nat_lt (count_by (λ runs. runs) views.tally.running) state.policy.width) ≡ false) → IsNone (ready_set state)
 none_starts state views reached are none = none_at (size state) (may_start state) (λ i within. sym (starts_is state views i reached are within) ∙ none i)
 
 -- no position runs
@@ -71,7 +71,7 @@ none_runs state views are none = none_at (size state) (λ j. is_running (phase_a
 
 -- what stands at the end of the ready positions may start, and stands at the end of those that may
 pub starts_at : (state : State) (views : Views) (end : End) (found : Option ℕ) → IsReached state → AreViews state views → IfSome found (IsEndOf end views.tally.ready)
-    → (IsSome found → (views.stopped ≡ false) × (nat_lt (count_by (λ runs. runs) views.tally.running) state.width ≡ true))
+    → (IsSome found → (views.stopped ≡ false) × (nat_lt (count_by (λ runs. runs) views.tally.running) state.policy.width ≡ true))
     → IfSome found (λ i. (i < size state) × (may_start state i ≡ true) × IsAt end (ready_set state) i)
 starts_at state views end None reached are at goes = tt
 starts_at state views end (Some i) reached are at goes =

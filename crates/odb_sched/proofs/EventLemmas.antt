@@ -6,7 +6,7 @@ use Rattle.std.proofs.lemmas.List.Elements.{Contains-append_left, Contains-appen
 use Rattle.std.proofs.lemmas.List.Sums.{sum_by-cons}
 use Rattle.odb_doc.specs.declared.outcome.Outcome.{Outcome}
 use Rattle.odb_check.specs.declared.plan.Plan.{Plan}
-use Rattle.odb_sched.specs.declared.policy.Mode.{Mode}
+use Rattle.odb_sched.specs.declared.policy.Policy.{Policy}
 use Rattle.odb_sched.specs.declared.phase.Phase.{Phase}
 use Rattle.odb_sched.specs.declared.phase.Phase.TheVariants.{Unstarted, Running, Reported}
 use Rattle.odb_sched.specs.declared.event.Event.{Event}
@@ -124,8 +124,8 @@ phase_after_all state (event ∷ es) i reached run =
     ∙ phase_by_event state event i (first_report i es) (list_any (starts i) es) reached run.0 run.1
 
 -- before any event each request has two events left, and is unstarted
-pub few_events_first : (source : Plan) (mode : Mode) (width : ℕ) (events : List Event) → IsReached (at_first source mode width) → IsRun source mode width events → HasFewEvents events
-few_events_first source mode width events reached run i = subst (λ phase. count_by (λ e. position_of e == i) events ≤ left phase) (get_or-replicate_Unstarted (length (shape source).units) i) (few_events (at_first source mode width) events i reached run)
+pub few_events_first : (source : Plan) (policy : Policy) (events : List Event) → IsReached (at_first source policy) → IsRun source policy events → HasFewEvents events
+few_events_first source policy events reached run i = subst (λ phase. count_by (λ e. position_of e == i) events ≤ left phase) (get_or-replicate_Unstarted (length (shape source).units) i) (few_events (at_first source policy) events i reached run)
 
-pub phases_first : (source : Plan) (mode : Mode) (width : ℕ) (events : List Event) (i : ℕ) → IsReached (at_first source mode width) → IsRun source mode width events → phase_at (state_after source mode width events) i ≡ phase_of i events
-phases_first source mode width events i reached run = phase_after_all (at_first source mode width) events i reached run ∙ ap (λ phase. phase_since phase (first_report i events) (list_any (starts i) events)) (get_or-replicate_Unstarted (length (shape source).units) i)
+pub phases_first : (source : Plan) (policy : Policy) (events : List Event) (i : ℕ) → IsReached (at_first source policy) → IsRun source policy events → phase_at (state_after source policy events) i ≡ phase_of i events
+phases_first source policy events i reached run = phase_after_all (at_first source policy) events i reached run ∙ ap (λ phase. phase_since phase (first_report i events) (list_any (starts i) events)) (get_or-replicate_Unstarted (length (shape source).units) i)

@@ -7,7 +7,7 @@ use Rattle.std.proofs.lemmas.List.Sums.{sum_by-set}
 use Rattle.odb_check.specs.declared.plan.Plan.{Plan}
 use Rattle.odb_doc.specs.declared.outcome.Outcome.{Outcome}
 use Rattle.odb_check.specs.Shape.{IsPlan}
-use Rattle.odb_sched.specs.declared.policy.Mode.{Mode}
+use Rattle.odb_sched.specs.declared.policy.Policy.{Policy}
 use Rattle.odb_sched.specs.declared.phase.Phase.{Phase}
 use Rattle.odb_sched.specs.declared.phase.Phase.TheVariants.{Unstarted, Running, Reported}
 use Rattle.odb_sched.specs.declared.event.Event.{Event}
@@ -26,10 +26,9 @@ use Rattle.odb_sched.proofs.StartLemmas.{may_start-parts}
 abbrev weight : Phase → ℕ
 weight phase = cond (is_running phase) 1 0
 
-pub reached_first : (source : Plan) (mode : Mode) (width : ℕ) → IsPlan (shape source) → 0 < width → IsReached (at_first source mode width)
-reached_first source mode width laws wide = record {
+pub reached_first : (source : Plan) (policy : Policy) → IsPlan (shape source) → IsReached (at_first source policy)
+reached_first source policy laws = record {
   laws = laws;
-  wide = wide;
   each = length-replicate (length (shape source).units) Unstarted;
   narrow = let none : count_by is_running (replicate (length (shape source).units) Unstarted) ≡ length (shape source).units * 0 = sum_by-replicate weight (length (shape source).units) Unstarted in omega arith;
   needs = λ i within begun. absurd (both_ways _ begun (ap is_unstarted (get_or-replicate_Unstarted (length (shape source).units) i)));
@@ -55,7 +54,6 @@ reached_started state i reached within may =
     let room = start.room in
     record {
       laws = reached.laws;
-      wide = reached.wide;
       each = length-set state.phases i Running ∙ reached.each;
       narrow = let count = count_after state.phases i Running (omega arith) in let none : weight (phase_at state i) ≡ 0 = rw here refl in omega arith;
       needs = needs_after state i Running reached (rw here refl) start.met;
@@ -69,7 +67,6 @@ reached_reported state i outcome reached within may =
     let narrow = reached.narrow in
     record {
       laws = reached.laws;
-      wide = reached.wide;
       each = length-set state.phases i (Reported outcome) ∙ reached.each;
       narrow = let count = count_after state.phases i (Reported outcome) (omega arith) in omega arith;
       needs = needs_after state i (Reported outcome) reached (rw here refl) (reached.needs i within (rw here refl));

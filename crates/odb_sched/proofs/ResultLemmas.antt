@@ -131,10 +131,10 @@ unit_succeeded-from state table u reached finished goes agrees good = succeeded_
     has_succeeded-from (phase_at state i) (each_over state i finished goes within (rw here sound))
     (false_from_ne_true _ (λ failed. both_ways _ sound (subst (λ v. unit_failed state v ≡ true) here (fails-from_Fails state.shape (λ j. has_failed (phase_at state j)) (unit_of state.shape i) reached.laws (own i within failed))))))
 
-goes_on : (state : State) → state.mode ≡ Continue → is_stopped state ≡ false
+goes_on : (state : State) → state.policy.mode ≡ Continue → is_stopped state ≡ false
 goes_on state mode = rw mode refl
 
-pub one_result : (state : State) → IsReached state → is_finished state ≡ true → state.mode ≡ Continue → HasOneResult state
+pub one_result : (state : State) → IsReached state → is_finished state ≡ true → state.policy.mode ≡ Continue → HasOneResult state
 one_result state reached finished mode table agrees i within = (
   (
     (λ e. (sound_result state reached table agrees i within e).0),

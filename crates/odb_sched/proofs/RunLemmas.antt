@@ -1,9 +1,9 @@
 -- Runs by their parts: what holds of a state along a run.
-use Rattle.std.proofs.Common.{ℕ, ◌<◌, ◌≡◌, ◌<◌, ◌∙◌, refl, true, List, [], ◌∷◌, ◌++◌}
+use Rattle.std.proofs.Common.{◌<◌, ◌≡◌, ◌<◌, ◌∙◌, refl, true, List, [], ◌∷◌, ◌++◌}
 use Rattle.odb_check.specs.declared.plan.Plan.{Plan}
 use Rattle.odb_check.specs.Plans.{plan_records}
 use Rattle.odb_check.specs.Shape.{IsPlan, shape_of}
-use Rattle.odb_sched.specs.declared.policy.Mode.{Mode}
+use Rattle.odb_sched.specs.declared.policy.Policy.{Policy}
 use Rattle.odb_sched.specs.declared.event.Event.{Event}
 use Rattle.odb_sched.specs.declared.event.Event.TheVariants.{Start, Report}
 use Rattle.odb_sched.specs.State.{State, size, at_first, after}
@@ -17,11 +17,11 @@ pub reached_after_all : (state : State) (events : List Event) → IsReached stat
 reached_after_all state [] reached run = reached
 reached_after_all state (e ∷ es) reached run = reached_after_all (after state e) es (reached_after state e reached run.0 run.1) run.2
 
-pub reached_at_first : (source : Plan) (mode : Mode) (width : ℕ) → IsPlan (shape_of (plan_records source)) → 0 < width → IsReached (at_first source mode width)
-reached_at_first source mode width laws wide = reached_first source mode width (laws-shape source laws) wide
+pub reached_at_first : (source : Plan) (policy : Policy) → IsPlan (shape_of (plan_records source)) → IsReached (at_first source policy)
+reached_at_first source policy laws = reached_first source policy (laws-shape source laws)
 
-pub reached_run : (source : Plan) (mode : Mode) (width : ℕ) (events : List Event) → IsPlan (shape_of (plan_records source)) → 0 < width → IsRun source mode width events → IsReached (state_after source mode width events)
-reached_run source mode width events laws wide run = reached_after_all (at_first source mode width) events (reached_at_first source mode width laws wide) run
+pub reached_run : (source : Plan) (policy : Policy) (events : List Event) → IsPlan (shape_of (plan_records source)) → IsRun source policy events → IsReached (state_after source policy events)
+reached_run source policy events laws run = reached_after_all (at_first source policy) events (reached_at_first source policy laws) run
 
 -- events one after another
 pub after_all-push : (state : State) (events : List Event) (event : Event) → after_all state (events ++ event ∷ []) ≡ after (after_all state events) event
@@ -54,13 +54,13 @@ pub joined : (state : State) (before : List Event) (event : Event) → IsRunFrom
 joined state [] event run within may = (within, may, tt)
 joined state (e ∷ es) event run within may = (run.0, run.1, joined (after state e) es event run.2 within may)
 
-mode-after : (state : State) (event : Event) → (after state event).mode ≡ state.mode
-mode-after state (Start i) = refl
-mode-after state (Report i outcome) = refl
+policy-after : (state : State) (event : Event) → (after state event).policy ≡ state.policy
+policy-after state (Start i) = refl
+policy-after state (Report i outcome) = refl
 
-pub mode-after_all : (state : State) (events : List Event) → (after_all state events).mode ≡ state.mode
-mode-after_all state [] = refl
-mode-after_all state (e ∷ es) = mode-after_all (after state e) es ∙ mode-after state e
+pub policy-after_all : (state : State) (events : List Event) → (after_all state events).policy ≡ state.policy
+policy-after_all state [] = refl
+policy-after_all state (e ∷ es) = policy-after_all (after state e) es ∙ policy-after state e
 
 plan-after : (state : State) (event : Event) → (after state event).plan ≡ state.plan
 plan-after state (Start i) = refl

@@ -18,7 +18,7 @@ pub record MayStart (state : State) (i : ℕ) : Type 0 where
   pub goes : is_stopped state ≡ false
   pub sound : unit_failed state (unit_of state.shape i) ≡ false
   pub met : all_met state i ≡ true
-  pub room : running_count state < state.width
+  pub room : running_count state < state.policy.width
 
 pub may_start-from : (state : State) (i : ℕ) → MayStart state i → may_start state i ≡ true
 may_start-from state i parts =
@@ -26,7 +26,7 @@ may_start-from state i parts =
 
 pub may_start-parts : (state : State) (i : ℕ) → may_start state i ≡ true → MayStart state i
 may_start-parts state i may =
-    let room = and_parts (is_unstarted (phase_at state i) && not (is_stopped state) && not (unit_failed state (unit_of state.shape i)) && all_met state i) (nat_lt (running_count state) state.width) may in
+    let room = and_parts (is_unstarted (phase_at state i) && not (is_stopped state) && not (unit_failed state (unit_of state.shape i)) && all_met state i) (nat_lt (running_count state) state.policy.width) may in
     let met = and_parts (is_unstarted (phase_at state i) && not (is_stopped state) && not (unit_failed state (unit_of state.shape i))) (all_met state i) room.0 in
     let sound = and_parts (is_unstarted (phase_at state i) && not (is_stopped state)) (not (unit_failed state (unit_of state.shape i))) met.0 in
     let fresh = and_parts (is_unstarted (phase_at state i)) (not (is_stopped state)) sound.0 in
@@ -48,8 +48,8 @@ not_full count width = grind (arith, nat_tests)
 -- a start is refused exactly where it may not come
 pub start_refusal-may_start : (state : State) (i : ℕ) → is_none (start_refusal state i) ≡ may_start state i
 start_refusal-may_start state i =
-    refused_by (is_unstarted (phase_at state i)) (is_stopped state) (unit_failed state (unit_of state.shape i)) (find (λ need. not (is_met state need)) (needs_of state.shape i)) (all_met state i) (nat_le state.width (running_count state)) (nat_lt (running_count state) state.width)
-    (find-all (is_met state) (needs_of state.shape i)) (not_full (running_count state) state.width)
+    refused_by (is_unstarted (phase_at state i)) (is_stopped state) (unit_failed state (unit_of state.shape i)) (find (λ need. not (is_met state need)) (needs_of state.shape i)) (all_met state i) (nat_le state.policy.width (running_count state)) (nat_lt (running_count state) state.policy.width)
+    (find-all (is_met state) (needs_of state.shape i)) (not_full (running_count state) state.policy.width)
 
 -- a report is refused exactly where it may not come
 pub report_refusal-may_report : (state : State) (i : ℕ) (outcome : Outcome) → is_none (report_refusal state i outcome) ≡ may_report state i outcome

@@ -61,7 +61,7 @@ none_counted state each none = count_by-none is_running state.phases (λ k d wit
 -- none runs and the run goes on, so the first request that is not over may start
 first_may_start : (state : State) → IsReached state → any_below (size state) (λ i. is_running (phase_at state i)) ≡ false → is_stopped state ≡ false → (i : ℕ) → IsFirstFalse (size state) (is_over state) i → may_start state i ≡ true
 first_may_start state reached none goes i first =
-    let wide : 0 < state.width = reached.wide in
+    let wide : 0 < state.policy.width = state.policy.wide in
     let within : i < size state = first.below in
     let open_parts = or_parts (is_reported (phase_at state i)) (unit_failed state (unit_of state.shape i)) first.fails in
     let idle : is_running (phase_at state i) ≡ false = false_from_ne_true _ (λ runs. both_ways _ none ((any_below-Decides (size state) (λ j. is_running (phase_at state j))).1 (i, within, runs))) in

@@ -15,7 +15,7 @@ pub record IsSpan (plan : Shape) (u from to : ℕ) : Type 0 where
 
 -- the state of a run of this plan under this policy, where its requests stand so
 abbrev pub state_of : Plan → Policy → List Phase → State
-state_of plan policy phases = record { plan = plan; shape = shape plan; mode = policy.mode; width = policy.width; phases = phases }
+state_of plan policy phases = record { plan = plan; shape = shape plan; policy = policy; phases = phases }
 
 -- a need of a request or of a unit that there is
 abbrev pub IsNeed : Shape → Need → Type 0

@@ -8,9 +8,8 @@ use Rattle.odb_sched.specs.Steps.{all_met, running_count}
 -- what holds of a state before any event, and after each event that may come
 pub record IsReached (state : State) : Type 0 where
   pub laws : IsPlan state.shape
-  pub wide : 0 < state.width
   pub each : length state.phases ≡ size state
   -- no more requests run than the width allows
-  pub narrow : running_count state ≤ state.width
+  pub narrow : running_count state ≤ state.policy.width
   -- what a request needs was met before it started
   pub needs : (i : ℕ) → i < size state → is_unstarted (phase_at state i) ≡ false → all_met state i ≡ true

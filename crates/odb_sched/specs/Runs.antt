@@ -3,7 +3,7 @@ use Rattle.std.specs.Prelude.{◌≡◌, ℕ, ◌<◌, ◌==◌, Bool, true, fal
 use Rattle.std.specs.List.{list_any}
 use Rattle.odb_check.specs.declared.plan.Plan.{Plan}
 use Rattle.odb_doc.specs.declared.outcome.Outcome.{Outcome}
-use Rattle.odb_sched.specs.declared.policy.Mode.{Mode}
+use Rattle.odb_sched.specs.declared.policy.Policy.{Policy}
 use Rattle.odb_sched.specs.declared.phase.Phase.{Phase}
 use Rattle.odb_sched.specs.declared.phase.Phase.TheVariants.{Unstarted, Running, Reported}
 use Rattle.odb_sched.specs.declared.event.Event.{Event}
@@ -28,12 +28,12 @@ IsRunFrom state [] = Unit {0}
 IsRunFrom state (e ∷ es) = (position_of e < size state) × (may_come state e ≡ true) × IsRunFrom (after state e) es
 
 -- the events are a run of the plan
-abbrev pub IsRun : Plan → Mode → ℕ → List Event → Type 0
-IsRun plan mode width events = IsRunFrom (at_first plan mode width) events
+abbrev pub IsRun : Plan → Policy → List Event → Type 0
+IsRun plan policy events = IsRunFrom (at_first plan policy) events
 
 -- the state that a run leaves
-abbrev pub state_after : Plan → Mode → ℕ → List Event → State
-state_after plan mode width events = after_all (at_first plan mode width) events
+abbrev pub state_after : Plan → Policy → List Event → State
+state_after plan policy events = after_all (at_first plan policy) events
 
 abbrev pub starts : ℕ → Event → Bool
 starts i (Start j) = i == j

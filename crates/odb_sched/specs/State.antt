@@ -4,7 +4,7 @@ use Rattle.odb_doc.specs.declared.outcome.Outcome.{Outcome}
 use Rattle.odb_check.specs.declared.plan.Plan.{Plan}
 use Rattle.odb_check.specs.Plans.{plan_records}
 use Rattle.odb_check.specs.Shape.{Shape, shape_of}
-use Rattle.odb_sched.specs.declared.policy.Mode.{Mode}
+use Rattle.odb_sched.specs.declared.policy.Policy.{Policy}
 use Rattle.odb_sched.specs.declared.phase.Phase.{Phase}
 use Rattle.odb_sched.specs.declared.phase.Phase.TheVariants.{Unstarted, Running, Reported}
 use Rattle.odb_sched.specs.declared.event.Event.{Event}
@@ -18,8 +18,7 @@ shape plan = shape_of (plan_records plan)
 pub record State : Type 0 where
   pub plan : Plan
   pub shape : Shape
-  pub mode : Mode
-  pub width : ℕ
+  pub policy : Policy
   pub phases : List Phase
 
 -- how many requests there are
@@ -31,8 +30,8 @@ abbrev pub phase_at : State → ℕ → Phase
 phase_at state i = slice_index_or state.phases i Unstarted
 
 -- before any event
-abbrev pub at_first : Plan → Mode → ℕ → State
-at_first plan mode width = record { plan = plan; shape = shape plan; mode = mode; width = width; phases = replicate (length (shape plan).units) Unstarted }
+abbrev pub at_first : Plan → Policy → State
+at_first plan policy = record { plan = plan; shape = shape plan; policy = policy; phases = replicate (length (shape plan).units) Unstarted }
 
 -- after a start
 abbrev pub started : State → ℕ → State

@@ -56,7 +56,7 @@ abbrev pub stopped_in : Mode → List Phase → Bool
 stopped_in mode phases = stops mode && list_any has_erred phases
 
 abbrev pub is_stopped : State → Bool
-is_stopped state = stopped_in state.mode state.phases
+is_stopped state = stopped_in state.policy.mode state.phases
 
 -- how many requests run
 abbrev pub running_count : State → ℕ
@@ -64,7 +64,7 @@ running_count state = count_by is_running state.phases
 
 -- the start of a request may come
 abbrev pub may_start : State → ℕ → Bool
-may_start state i = is_unstarted (phase_at state i) && not (is_stopped state) && not (unit_failed state (unit_of state.shape i)) && all_met state i && nat_lt (running_count state) state.width
+may_start state i = is_unstarted (phase_at state i) && not (is_stopped state) && not (unit_failed state (unit_of state.shape i)) && all_met state i && nat_lt (running_count state) state.policy.width
 
 -- the report of a request may come
 abbrev pub may_report : State → ℕ → Outcome → Bool
@@ -89,7 +89,7 @@ start_refusal state i =
     if not (is_unstarted (phase_at state i)) then Some start.AlreadyStarted
     else if is_stopped state then Some start.Stopped
     else if unit_failed state (unit_of state.shape i) then Some start.UnitFailed
-    else waiting_refusal (find (λ need. not (is_met state need)) (needs_of state.shape i)) (nat_le state.width (running_count state))
+    else waiting_refusal (find (λ need. not (is_met state need)) (needs_of state.shape i)) (nat_le state.policy.width (running_count state))
 
 -- the first cause why a request may not be reported
 abbrev pub report_refusal : State → ℕ → Outcome → Option ReportRefusal

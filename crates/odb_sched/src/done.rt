@@ -55,9 +55,10 @@ impl<'p> Model for Done<'p> {
     ghost Value = { State };
 
     ghost use Rattle.odb_sched.specs.contracts.phase.Phase as phase;
+    ghost use Rattle.odb_sched.specs.contracts.policy.Policy as policies;
     ghost use Rattle.std.specs.Coded.{codes};
 
-    ghost coded = { Prim.hlevel (codes, plan_code, phase.the_row.coded) };
+    ghost coded = { Prim.hlevel (codes, plan_code, policies.the_row.coded, phase.the_row.coded) };
 
     ghost use Rattle.odb_sched.specs.Ended.{state_in, IsEnded};
 

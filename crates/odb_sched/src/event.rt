@@ -54,11 +54,11 @@ pub fn run<'a: 'p, 'p>(
     events: Vec<Event>,
 ) -> Result<Scheduler<'p>, RunRefusal>
     requires { All (λ event. position_of event < length (plan_records plan.now)) events.items }
-    ensures run { OnOk result (IsRun plan.now policy.mode policy.width events.items) }
+    ensures run { OnOk result (IsRun plan.now policy events.items) }
     ensures state { IfOk result (λ scheduler. scheduler
-        ≡ state_after plan.now policy.mode policy.width events.items) }
+        ≡ state_after plan.now policy events.items) }
     ensures refused { IfErr result (Refuses
-        (states.at_first plan.now policy.mode policy.width) events.items) }
+        (states.at_first plan.now policy) events.items) }
     ensures dependencies_first { OnOk result (StartsLast (plan_records plan.now) events.items) }
     ensures few_events { OnOk result (HasFewEvents events.items) }
 {

@@ -146,17 +146,17 @@ fn take_all<S: Service>(
     service: &mut S,
     steps: &mut Vec<Step>,
 ) -> Result<(), ExecFault>
-    requires first { scheduler.old ≡ at_first plan.now policy.mode policy.width }
+    requires first { scheduler.old ≡ at_first plan.now policy }
     requires unlisted { steps.old.items ≡ [] }
     requires room { 2 * length (plan_records plan.now) ≤ vec_capacity steps.old }
     ensures course { OnOk result (IsFinishedBy (allows chooser.old) (S.offers service.old)
-        (at_first plan.now policy.mode policy.width) steps.new.items scheduler.new) }
+        (at_first plan.now policy) steps.new.items scheduler.new) }
     ensures finished { OnOk result (is_finished scheduler.new ≡ true) }
     ensures few_steps { OnOk result
         (length steps.new.items ≤ 2 * length (plan_records plan.now)) }
-    ensures mode { OnOk result (scheduler.new.mode ≡ policy.mode) }
+    ensures mode { OnOk result (scheduler.new.policy.mode ≡ policy.mode) }
     ensures fault { IfErr result (IsCausedBy (S.offers service.old) (IsDue (allows chooser.old)
-        (S.offers service.old) (at_first plan.now policy.mode policy.width))) }
+        (S.offers service.old) (at_first plan.now policy))) }
 {
     let _count = plan.len();
     while let Some(step) = next_step(scheduler, chooser) {
@@ -172,7 +172,7 @@ fn prepared<'a: 'p, 'p>(
     plan: &'p Plan<'a>,
     policy: Policy,
 ) -> Result<(Scheduler<'p>, Vec<Step>), AllocError>
-    ensures first { IfOk result (λ run. run.0 ≡ at_first plan.now policy.mode policy.width) }
+    ensures first { IfOk result (λ run. run.0 ≡ at_first plan.now policy) }
     ensures unlisted { IfOk result (λ run. run.1.items ≡ []) }
     ensures room { IfOk result (λ run. 2 * length (plan_records plan.now) ≤ vec_capacity run.1) }
 {
@@ -201,7 +201,7 @@ pub fn execute<'a: 'p, 'p, S: Service>(
     service: &mut S,
 ) -> Result<Trace<'p>, ExecFault>
     ensures course { IfOk result (λ trace. IsFinishedBy (allows chooser.old) (S.offers service.old)
-        (at_first plan.now policy.mode policy.width) trace.steps.items trace.done) }
+        (at_first plan.now policy) trace.steps.items trace.done) }
     ensures plan { IfOk result (λ trace. trace.done.plan ≡ plan.now) }
     ensures within { IfOk result (λ trace.
         All (λ step. position_in step < size trace.done) trace.steps.items) }
@@ -210,10 +210,10 @@ pub fn execute<'a: 'p, 'p, S: Service>(
     ensures few_steps { IfOk result (λ trace.
         length trace.steps.items ≤ 2 * length (plan_records plan.now)) }
     ensures fault { IfErr result (IsCausedBy (S.offers service.old) (IsDue (allows chooser.old)
-        (S.offers service.old) (at_first plan.now policy.mode policy.width))) }
+        (S.offers service.old) (at_first plan.now policy))) }
     ensures dependencies_first { OnOk result ((events : List Event)
         → IsCourse (allows chooser.old) (S.offers service.old)
-        (at_first plan.now policy.mode policy.width) events
+        (at_first plan.now policy) events
         → laws.StartsLast (plan_records plan.now) events) }
     ensures one_result { policy.mode ≡ Continue
         → IfOk result (λ trace. laws.HasOneResult trace.done) }

@@ -1,4 +1,4 @@
-//! What is true of every run of a plan, in each mode, at each width, and whatever is reported
+//! What is true of every run of a plan, under each policy, and whatever is reported
 //! (OData JSON Format 4.01, sections 19.1 and 19.4; OData Protocol 4.01, section 11.7).
 //!
 //! The laws are clauses of functions that change nothing. They speak of lists of events, and of the
@@ -7,7 +7,8 @@
 ghost use Rattle.std.specs.Prelude.{◌≡◌, ℕ, ◌<◌, ◌↔◌, Bool, true, List, Option, IsTrue};
 ghost use Rattle.odb_doc.specs.declared.outcome.Outcome.{Outcome};
 ghost use Rattle.odb_check.specs.Plans.{plan_records};
-ghost use Rattle.odb_sched.specs.declared.policy.Mode.{Mode};
+ghost use Rattle.odb_sched.specs.declared.policy.Mode.TheVariants.{Continue};
+ghost use Rattle.odb_sched.specs.declared.policy.Policy.{Policy};
 ghost use Rattle.odb_sched.specs.declared.event.Event.{Event};
 ghost use Rattle.odb_sched.specs.declared.order.Order.{Order};
 ghost use Rattle.odb_sched.specs.State.{shape, phase_at, at_first};
@@ -22,14 +23,14 @@ use odb_check::Plan;
 /// No request starts before all that it names has ended with success. A run that is not finished
 /// has a request that runs or one that may start, and none has more than a start and a report.
 pub fn every_run(plan: &Plan<'_>)
-    ensures dependencies_first { (mode : Mode) (width : ℕ) (events : List Event)
-        → IsRun plan.now mode width events
+    ensures dependencies_first { (policy : Policy) (events : List Event)
+        → IsRun plan.now policy events
         → StartsLast (plan_records plan.now) events }
-    ensures never_stuck { (mode : Mode) (width : ℕ) (events : List Event) → 0 < width
-        → IsRun plan.now mode width events
-        → IsNeverStuck (state_after plan.now mode width events) }
-    ensures few_events { (mode : Mode) (width : ℕ) (events : List Event) → 0 < width
-        → IsRun plan.now mode width events
+    ensures never_stuck { (policy : Policy) (events : List Event)
+        → IsRun plan.now policy events
+        → IsNeverStuck (state_after plan.now policy events) }
+    ensures few_events { (policy : Policy) (events : List Event)
+        → IsRun plan.now policy events
         → HasFewEvents events }
 {
     let _count = plan.len();
@@ -38,19 +39,19 @@ pub fn every_run(plan: &Plan<'_>)
 /// The answers of a finished run are those of each table of outcomes that its reports agree with.
 /// The answers of a group are all successes or none is, and a success needs only successes.
 pub fn every_result(plan: &Plan<'_>)
-    ensures one_result { (width : ℕ) (events : List Event) → 0 < width
-        → IsRun plan.now Mode.Continue width events
-        → is_finished (state_after plan.now Mode.Continue width events) ≡ true
-        → HasOneResult (state_after plan.now Mode.Continue width events) }
-    ensures sound_result { (mode : Mode) (width : ℕ) (events : List Event) → 0 < width
-        → IsRun plan.now mode width events
-        → HasSoundResult (state_after plan.now mode width events) }
-    ensures all_or_none { (mode : Mode) (width : ℕ) (events : List Event) → 0 < width
-        → IsRun plan.now mode width events
-        → IsAllOrNone (state_after plan.now mode width events) }
-    ensures sound { (mode : Mode) (width : ℕ) (events : List Event) → 0 < width
-        → IsRun plan.now mode width events
-        → IsSound (state_after plan.now mode width events) }
+    ensures one_result { (policy : Policy) (events : List Event)
+        → policy.mode ≡ Continue → IsRun plan.now policy events
+        → is_finished (state_after plan.now policy events) ≡ true
+        → HasOneResult (state_after plan.now policy events) }
+    ensures sound_result { (policy : Policy) (events : List Event)
+        → IsRun plan.now policy events
+        → HasSoundResult (state_after plan.now policy events) }
+    ensures all_or_none { (policy : Policy) (events : List Event)
+        → IsRun plan.now policy events
+        → IsAllOrNone (state_after plan.now policy events) }
+    ensures sound { (policy : Policy) (events : List Event)
+        → IsRun plan.now policy events
+        → IsSound (state_after plan.now policy events) }
 {
     let _count = plan.len();
 }
@@ -59,9 +60,9 @@ pub fn every_result(plan: &Plan<'_>)
 /// report say, a failing unit is the least relation of that name, and a unit succeeds under a table
 /// where its members do, and the other units that they need.
 pub fn every_word(plan: &Plan<'_>)
-    ensures phases { (mode : Mode) (width : ℕ) (events : List Event) (i : ℕ) → 0 < width
-        → IsRun plan.now mode width events
-        → phase_at (state_after plan.now mode width events) i ≡ phase_of i events }
+    ensures phases { (policy : Policy) (events : List Event) (i : ℕ)
+        → IsRun plan.now policy events
+        → phase_at (state_after plan.now policy events) i ≡ phase_of i events }
     ensures failing { (bad : ℕ → Bool) (u : ℕ)
         → IsTrue (fails (shape plan.now) bad u)
         ↔ Fails (shape plan.now) bad u }
@@ -75,12 +76,12 @@ pub fn every_word(plan: &Plan<'_>)
 /// course: any two that finish have the same steps and the same answers, any two that do not have the
 /// same fault, and none has a fault where another finishes.
 pub fn every_order(plan: &Plan<'_>)
-    ensures one_course { (order : Order) (outcomes : List (Option Outcome)) (mode : Mode) (width : ℕ)
-        → HasOneCourse order outcomes (at_first plan.now mode width) }
-    ensures one_fault { (order : Order) (outcomes : List (Option Outcome)) (mode : Mode) (width : ℕ)
-        → HasOneFault order outcomes (at_first plan.now mode width) }
-    ensures fault_or_end { (order : Order) (outcomes : List (Option Outcome)) (mode : Mode) (width : ℕ)
-        → FaultsOrFinishes order outcomes (at_first plan.now mode width) }
+    ensures one_course { (order : Order) (outcomes : List (Option Outcome)) (policy : Policy)
+        → HasOneCourse order outcomes (at_first plan.now policy) }
+    ensures one_fault { (order : Order) (outcomes : List (Option Outcome)) (policy : Policy)
+        → HasOneFault order outcomes (at_first plan.now policy) }
+    ensures fault_or_end { (order : Order) (outcomes : List (Option Outcome)) (policy : Policy)
+        → FaultsOrFinishes order outcomes (at_first plan.now policy) }
 {
     let _count = plan.len();
 }

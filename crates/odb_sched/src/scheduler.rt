@@ -45,9 +45,10 @@ impl<'p> Model for Scheduler<'p> {
     ghost Value = { State };
 
     ghost use Rattle.odb_sched.specs.contracts.phase.Phase as phase;
+    ghost use Rattle.odb_sched.specs.contracts.policy.Policy as policies;
     ghost use Rattle.std.specs.Coded.{codes};
 
-    ghost coded = { Prim.hlevel (codes, plan_code, phase.the_row.coded) };
+    ghost coded = { Prim.hlevel (codes, plan_code, policies.the_row.coded, phase.the_row.coded) };
 
     ghost use Rattle.odb_sched.specs.Kept.{state_in, IsKept};
 
@@ -84,7 +85,7 @@ impl<'p> Scheduler<'p> {
         policy: Policy,
     ) -> Result<Scheduler<'p>, AllocError>
         ensures state { IfOk result (λ scheduler. scheduler
-            ≡ states.at_first plan.now policy.mode policy.width) }
+            ≡ states.at_first plan.now policy) }
         ensures size { IfOk result (λ scheduler. states.size scheduler
             ≡ length (plan_records plan.now)) }
     {
@@ -187,7 +188,7 @@ impl<'p> Scheduler<'p> {
         ensures listed { ListsOnce (states.size self.now)
             (λ i. tests.is_running (states.phase_at self.now i)) result.now }
         ensures within { All (λ i. i < states.size self.now) result.now }
-        ensures width { length result.now ≤ self.now.width }
+        ensures width { length result.now ≤ self.now.policy.width }
     {
         self.views.running()
     }
@@ -277,7 +278,7 @@ impl<'p> Scheduler<'p> {
     pub fn close(self) -> Done<'p>
         requires { steps.is_finished self ≡ true }
         ensures state { result ≡ self.entry }
-        ensures one_result { self.entry.mode ≡ modes.Continue → laws.HasOneResult result }
+        ensures one_result { self.entry.policy.mode ≡ modes.Continue → laws.HasOneResult result }
         ensures sound_result { laws.HasSoundResult result }
         ensures all_or_none { laws.IsAllOrNone result }
         ensures sound { laws.IsSound result }

@@ -62,7 +62,7 @@ impl Views {
 
     /// The views of a run before its first event.
     pub(crate) fn new(alloc: Global, plan: &Plan<'_>, policy: Policy) -> Result<Views, AllocError>
-        ensures { IfOk result (AreViews (states.at_first plan.now policy.mode policy.width)) }
+        ensures { IfOk result (AreViews (states.at_first plan.now policy)) }
     {
         Ok(Views {
             needers: needers_of(alloc, plan)?,

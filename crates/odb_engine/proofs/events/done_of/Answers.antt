@@ -46,7 +46,7 @@ returns-clause-result c =
     let policy = c.args.policy in
     let plan = c.args.plan.now in
     let events = c.in_ok-resolved.resolved.items in
-    let first = at_first plan policy.mode policy.width in
+    let first = at_first plan policy in
     let done = c.close-done.result in
     let same : done ≡ end_of policy plan events = c.close-done.ensures.state ∙ c.in_ok-scheduler.ensures.state in
     record {

@@ -12,9 +12,9 @@ returns-clause-requests c =
     λ order policy traced entries.
     let recorded = recorded_for (plan_records plan) entries in
     let law : courses.HasOrder order recorded _ = record {
-      course = c.every_order.ensures.one_course order recorded policy.mode policy.width;
-      fault = c.every_order.ensures.one_fault order recorded policy.mode policy.width;
-      apart = c.every_order.ensures.fault_or_end order recorded policy.mode policy.width;
+      course = c.every_order.ensures.one_course order recorded policy;
+      fault = c.every_order.ensures.one_fault order recorded policy;
+      apart = c.every_order.ensures.fault_or_end order recorded policy;
     } in
     courses.one_replay order policy traced plan entries law
 
@@ -24,9 +24,9 @@ returns-clause-document c =
     λ order policy traced entries bytes accepted.
     let recorded = recorded_for (plan_records plan) entries in
     let law : courses.HasOrder order recorded _ = record {
-      course = c.every_order.ensures.one_course order recorded policy.mode policy.width;
-      fault = c.every_order.ensures.one_fault order recorded policy.mode policy.width;
-      apart = c.every_order.ensures.fault_or_end order recorded policy.mode policy.width;
+      course = c.every_order.ensures.one_course order recorded policy;
+      fault = c.every_order.ensures.one_fault order recorded policy;
+      apart = c.every_order.ensures.fault_or_end order recorded policy;
     } in
     let laws : AreFunctional = record {
       one_shape = c.one_fault.ensures.one;

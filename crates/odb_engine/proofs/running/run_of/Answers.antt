@@ -26,7 +26,7 @@ returns-in_err-trace-clause-lacks g c =
     let recorded = entries c.args.outcomes in
     let cause = c.in_err-trace.field-0.0 in
     let lacks = LacksOutcome allows c.args.policy plan recorded in
-    let caused = subst (λ s. IsCausedBy (OffersRecorded s) (IsDue allows (OffersRecorded s) (at_first plan c.args.policy.mode c.args.policy.width)) cause) c.in_ok-new.ensures c.in_err-trace.ensures.fault in
+    let caused = subst (λ s. IsCausedBy (OffersRecorded s) (IsDue allows (OffersRecorded s) (at_first plan c.args.policy)) cause) c.in_ok-new.ensures c.in_err-trace.ensures.fault in
     at-exit (λ r. IfErr r (Refuses lacks)) _ _ c.from_residual-in_err-trace.ensures.1
     (stopped-by (λ refusal. lacks Refused (line_of refusal)) _ (execution_refusal cause) (λ numbered. lacks-outcome allows c.args.policy plan recorded cause c.len-count.ensures.sound numbered caused))
 
@@ -34,7 +34,7 @@ pub returns-clause-result : goal.returns-clause-result
 returns-clause-result g c =
     let allows = (goal.Chooser-dyn g c.args.chooser.now).allows c.args.chooser.now.1 in
     let plan = c.args.plan.now in
-    let first = at_first plan c.args.policy.mode c.args.policy.width in
+    let first = at_first plan c.args.policy in
     let trace = c.in_ok-trace.trace in
     let course = subst (λ s. IsFinishedBy allows (OffersRecorded s) first trace.steps.items trace.done) c.in_ok-new.ensures c.in_ok-trace.ensures.course in
     let law = subst (λ s. (events : List Event) → IsCourse allows (OffersRecorded s) first events → StartsLast (plan_records plan) events) c.in_ok-new.ensures c.in_ok-trace.ensures.dependencies_first in

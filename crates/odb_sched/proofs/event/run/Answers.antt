@@ -24,7 +24,7 @@ loop-at-init c =
 
 pub take-requires : goal.take-requires
 take-requires c =
-    let first = at_first c.args.plan.now c.args.policy.mode c.args.policy.width in
+    let first = at_first c.args.plan.now c.args.policy in
     let count = enumerate_count c.loop-at.at-iterator in
     let later = into_iter_items (enumerate_source c.next.new.self) in
     next_within first c.args.events.items c.in-Some.event later count c.loop-at.scheduler
@@ -33,7 +33,7 @@ take-requires c =
 
 pub loop-at-preserved : goal.loop-at-preserved
 loop-at-preserved c =
-    let first = at_first c.args.plan.now c.args.policy.mode c.args.policy.width in
+    let first = at_first c.args.plan.now c.args.policy in
     let count = enumerate_count c.loop-at.at-iterator in
     let later = into_iter_items (enumerate_source c.next.new.self) in
     let taken = taken_as first c.args.events.items _ _ count count c.loop-at.scheduler c.in-Some.ensures.steps.0.0 refl c.loop-at.invariant.taken in
@@ -48,7 +48,7 @@ loop-at-preserved c =
 
 pub returns-in_err-take-clause-refused : goal.returns-in_err-take-clause-refused
 returns-in_err-take-clause-refused c =
-    let first = at_first c.args.plan.now c.args.policy.mode c.args.policy.width in
+    let first = at_first c.args.plan.now c.args.policy in
     let count = enumerate_count c.loop-at.at-iterator in
     let later = into_iter_items (enumerate_source c.next.new.self) in
     let taken = taken_as first c.args.events.items _ _ count count c.loop-at.scheduler c.in-Some.ensures.steps.0.0 refl c.loop-at.invariant.taken in
@@ -57,13 +57,13 @@ returns-in_err-take-clause-refused c =
 
 pub returns-clause-run : goal.returns-clause-run
 returns-clause-run c =
-    let first = at_first c.args.plan.now c.args.policy.mode c.args.policy.width in
+    let first = at_first c.args.plan.now c.args.policy in
     let count = enumerate_count c.loop-at.at-iterator in
     (taken_all first c.args.events.items count c.loop-at.scheduler
     (taken_as first c.args.events.items _ _ count count c.loop-at.scheduler (nil_from_length _ (sym c.loop-at.invariant.left ∙ c.in-None.ensures.steps.0.0)) refl c.loop-at.invariant.taken)).0
 
 pub returns-clause-dependencies_first : goal.returns-clause-dependencies_first
-returns-clause-dependencies_first c = c.every_run.ensures.dependencies_first c.args.policy.mode c.args.policy.width c.args.events.items (returns-clause-run c)
+returns-clause-dependencies_first c = c.every_run.ensures.dependencies_first c.args.policy c.args.events.items (returns-clause-run c)
 
 pub returns-clause-few_events : goal.returns-clause-few_events
-returns-clause-few_events c = c.every_run.ensures.few_events c.args.policy.mode c.args.policy.width c.args.events.items c.args.policy.wide (returns-clause-run c)
+returns-clause-few_events c = c.every_run.ensures.few_events c.args.policy c.args.events.items (returns-clause-run c)

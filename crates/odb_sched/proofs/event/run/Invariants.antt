@@ -11,5 +11,5 @@ invariant-loop-at l = record {
   next : (goal.iterator-loop-at).can_next l.at-iterator;
   ends : (goal.iterator-loop-at).is_finite l.at-iterator;
   left : into_iter_len (enumerate_source l.at-iterator) ≡ length (into_iter_items (enumerate_source l.at-iterator));
-  taken : HasTaken (at_first l.plan l.fn.policy.mode l.fn.policy.width) l.fn.events.items (into_iter_items (enumerate_source l.at-iterator)) (enumerate_count l.at-iterator) l.scheduler;
+  taken : HasTaken (at_first l.plan l.fn.policy) l.fn.events.items (into_iter_items (enumerate_source l.at-iterator)) (enumerate_count l.at-iterator) l.scheduler;
 }

@@ -2,26 +2,27 @@
 use Rattle.std.proofs.Common.{◌≡◌, ◌≤◌, ◌+◌, ◌∙◌, sym, ap, subst, arith, rules, [], ◌∷◌, ◌++◌, length, is_ok, if◌then◌else◌}
 use Rattle.std.proofs.lemmas.List.{length-append}
 use Rattle.std.specs.Vec.{vec_capacity, vec_len}
+use Rattle.odb_sched.specs.declared.policy.Policy.{Policy}
 use Rattle.odb_sched.specs.State.{State, at_first}
 use Rattle.odb_sched.specs.Advances.{IsTaken}
 use Rattle.odb_sched.specs.declared.step.Step.TheVariants as step
 use Rattle.odb_sched.specs.Courses.{IsFinishedBy}
 use Rattle.odb_sched.proofs.RunLemmas.{reached_at_first}
-use Rattle.odb_sched.proofs.CourseLemmas.{SoFar, events_left, so_far-first, room-first, one_more, fewer-left, caused-first, finished-by, few-steps, next-within, reached-so_far, same-mode}
+use Rattle.odb_sched.proofs.CourseLemmas.{SoFar, events_left, so_far-first, room-first, one_more, fewer-left, caused-first, finished-by, few-steps, next-within, reached-so_far, same-policy}
 use Rattle.odb_sched.proofs.execution.take_all.Goals as goal
 
 pub loop-step-init : goal.loop-step-init
 loop-step-init g c =
     record {
       far = so_far-first ((goal.Chooser-dyn g c.args.chooser.now).allows c.args.chooser.now.1) (g.S.Service.offers c.args.service.now)
-          (at_first c.args.plan.now c.args.policy.mode c.args.policy.width) c.args.scheduler.now c.args.steps.now.items c.requires.first c.requires.unlisted;
-      room = room-first c.args.plan.now c.args.policy.mode c.args.policy.width c.args.scheduler.now c.args.steps.now.items (vec_capacity c.args.steps.now)
+          (at_first c.args.plan.now c.args.policy) c.args.scheduler.now c.args.steps.now.items c.requires.first c.requires.unlisted;
+      room = room-first c.args.plan.now c.args.policy c.args.scheduler.now c.args.steps.now.items (vec_capacity c.args.steps.now)
           c.requires.first c.requires.unlisted c.requires.room;
     }
 
 pub take-requires-clause-request : goal.take-requires-clause-request
 take-requires-clause-request g c =
-    next-within c.args.plan.now c.args.policy.mode c.args.policy.width
+    next-within c.args.plan.now c.args.policy
     ((goal.Chooser-dyn g c.args.chooser.now).allows c.args.chooser.now.1) ((goal.Chooser-dyn g c.loop-step.chooser.now).allows c.loop-step.chooser.now.1)
     (g.S.Service.offers c.args.service.now) (g.S.Service.offers c.loop-step.service)
     c.loop-step.scheduler c.loop-step.steps.items c.loop-step.invariant.far c.in-Some.step c.in-Some.ensures.next
@@ -32,7 +33,7 @@ returns-in_err-take-clause-fault g c =
     ((goal.Chooser-dyn g c.args.chooser.now).allows c.args.chooser.now.1) ((goal.Chooser-dyn g c.loop-step.chooser.now).allows c.loop-step.chooser.now.1)
     ((goal.Chooser-dyn g c.loop-step.chooser.now).allows c.loop-step.chooser.now.1)
     (g.S.Service.offers c.args.service.now) (g.S.Service.offers c.loop-step.service) (g.S.Service.offers c.loop-step.service)
-    (at_first c.args.plan.now c.args.policy.mode c.args.policy.width) c.loop-step.scheduler c.loop-step.scheduler c.loop-step.steps.items c.in-Some.step
+    (at_first c.args.plan.now c.args.policy) c.loop-step.scheduler c.loop-step.scheduler c.loop-step.steps.items c.in-Some.step
     c.loop-step.invariant.far c.in-Some.ensures.next c.in_err-take.field-0.0 c.in_err-take.ensures.fault in
     search (rules, cause)
 
@@ -43,7 +44,7 @@ unwrap-requires g c =
     let allows_now = (goal.Chooser-dyn g c.loop-step.chooser.now).allows c.loop-step.chooser.now.1 in
     let offers = g.S.Service.offers c.args.service.now in
     let offers_now = g.S.Service.offers c.loop-step.service in
-    let reached = reached-so_far plan c.args.policy.mode c.args.policy.width allows allows_now offers offers_now c.loop-step.scheduler c.loop-step.steps.items c.loop-step.invariant.far c.len-count.ensures.laws c.args.policy.wide in
+    let reached = reached-so_far plan c.args.policy allows allows_now offers offers_now c.loop-step.scheduler c.loop-step.steps.items c.loop-step.invariant.far c.len-count.ensures.laws in
     let taken = subst (λ state. IsTaken (g.S.Service.offers c.loop-step.service) state c.take.new.scheduler c.in-Some.step) c.next_step.ensures.same c.in_ok-take.ensures.taken in
     let fewer : events_left c.take.new.scheduler + 1 ≡ events_left c.loop-step.scheduler = fewer-left allows_now offers_now c.loop-step.scheduler c.take.new.scheduler c.in-Some.step reached c.in-Some.ensures.next taken in
     let room : length c.loop-step.steps.items + events_left c.loop-step.scheduler ≤ vec_capacity c.loop-step.steps = c.loop-step.invariant.room in
@@ -57,7 +58,7 @@ loop-step-smaller g c =
     let allows_now = (goal.Chooser-dyn g c.loop-step.chooser.now).allows c.loop-step.chooser.now.1 in
     let offers = g.S.Service.offers c.args.service.now in
     let offers_now = g.S.Service.offers c.loop-step.service in
-    let reached = reached-so_far plan c.args.policy.mode c.args.policy.width allows allows_now offers offers_now c.loop-step.scheduler c.loop-step.steps.items c.loop-step.invariant.far c.len-count.ensures.laws c.args.policy.wide in
+    let reached = reached-so_far plan c.args.policy allows allows_now offers offers_now c.loop-step.scheduler c.loop-step.steps.items c.loop-step.invariant.far c.len-count.ensures.laws in
     let taken = subst (λ state. IsTaken (g.S.Service.offers c.loop-step.service) state c.take.new.scheduler c.in-Some.step) c.next_step.ensures.same c.in_ok-take.ensures.taken in
     let fewer : events_left c.take.new.scheduler + 1 ≡ events_left c.loop-step.scheduler = fewer-left allows_now offers_now c.loop-step.scheduler c.take.new.scheduler c.in-Some.step reached c.in-Some.ensures.next taken in
     omega arith
@@ -69,13 +70,13 @@ loop-step-preserved g c =
     let allows_now = (goal.Chooser-dyn g c.loop-step.chooser.now).allows c.loop-step.chooser.now.1 in
     let offers = g.S.Service.offers c.args.service.now in
     let offers_now = g.S.Service.offers c.loop-step.service in
-    let reached = reached-so_far plan c.args.policy.mode c.args.policy.width allows allows_now offers offers_now c.loop-step.scheduler c.loop-step.steps.items c.loop-step.invariant.far c.len-count.ensures.laws c.args.policy.wide in
+    let reached = reached-so_far plan c.args.policy allows allows_now offers offers_now c.loop-step.scheduler c.loop-step.steps.items c.loop-step.invariant.far c.len-count.ensures.laws in
     let taken = subst (λ state. IsTaken (g.S.Service.offers c.loop-step.service) state c.take.new.scheduler c.in-Some.step) c.next_step.ensures.same c.in_ok-take.ensures.taken in
     let fewer : events_left c.take.new.scheduler + 1 ≡ events_left c.loop-step.scheduler = fewer-left allows_now offers_now c.loop-step.scheduler c.take.new.scheduler c.in-Some.step reached c.in-Some.ensures.next taken in
     let room : length c.loop-step.steps.items + events_left c.loop-step.scheduler ≤ vec_capacity c.loop-step.steps = c.loop-step.invariant.room in
     let allows_later = (goal.Chooser-dyn g (c.loop-step.chooser.now.0, c.next_step.new.chooser)).allows c.next_step.new.chooser in
     let offers_later = g.S.Service.offers c.take.new.service in
-    let first = at_first plan c.args.policy.mode c.args.policy.width in
+    let first = at_first plan c.args.policy in
     let items : c.push.new.self.items ≡ c.loop-step.steps.items ++ c.in-Some.step ∷ [] =
     subst (λ told. c.push.new.self.items ≡ (if is_ok told then c.loop-step.steps.items ++ c.in-Some.step ∷ [] else c.loop-step.steps.items)) c.unwrap.ensures c.push.ensures.items in
     let longer : length c.push.new.self.items ≡ length c.loop-step.steps.items + 1 = ap length items ∙ length-append c.loop-step.steps.items (c.in-Some.step ∷ []) in
@@ -83,7 +84,7 @@ loop-step-preserved g c =
     record {
       far = subst (λ steps. SoFar allows allows_later offers offers_later first c.take.new.scheduler steps) (sym items)
           (one_more allows allows_now allows_later offers offers_now offers_later first c.loop-step.scheduler c.take.new.scheduler c.loop-step.steps.items c.in-Some.step
-          (reached_at_first plan c.args.policy.mode c.args.policy.width c.len-count.ensures.laws c.args.policy.wide)
+          (reached_at_first plan c.args.policy c.len-count.ensures.laws)
           c.loop-step.invariant.far c.in-Some.ensures.next taken c.in-Some.ensures.narrows c.in_ok-take.ensures.narrows);
       room = omega arith;
     }
@@ -94,21 +95,21 @@ returns-clause-course g c =
     let allows_now = (goal.Chooser-dyn g c.loop-step.chooser.now).allows c.loop-step.chooser.now.1 in
     let offers = g.S.Service.offers c.args.service.now in
     let offers_now = g.S.Service.offers c.loop-step.service in
-    let first = at_first c.args.plan.now c.args.policy.mode c.args.policy.width in
+    let first = at_first c.args.plan.now c.args.policy in
     subst (λ last. IsFinishedBy allows offers first c.loop-step.steps.items last) (sym c.next_step.ensures.same)
     (finished-by allows allows_now allows_now offers offers_now offers_now first c.loop-step.scheduler c.loop-step.scheduler c.loop-step.steps.items (step.Start 0)
     c.loop-step.invariant.far (c.next_step.ensures.finished c.in_default.is))
 
 pub returns-clause-mode : goal.returns-clause-mode
 returns-clause-mode g c =
-    ap (λ (state : State). state.mode) c.next_step.ensures.same ∙ same-mode c.args.plan.now c.args.policy.mode c.args.policy.width
+    ap (λ (state : State). state.policy.mode) c.next_step.ensures.same ∙ ap (λ (p : Policy). p.mode) (same-policy c.args.plan.now c.args.policy
     ((goal.Chooser-dyn g c.args.chooser.now).allows c.args.chooser.now.1) ((goal.Chooser-dyn g c.loop-step.chooser.now).allows c.loop-step.chooser.now.1)
     (g.S.Service.offers c.args.service.now) (g.S.Service.offers c.loop-step.service)
-    c.loop-step.scheduler c.loop-step.steps.items c.loop-step.invariant.far
+    c.loop-step.scheduler c.loop-step.steps.items c.loop-step.invariant.far)
 
 pub returns-clause-few_steps : goal.returns-clause-few_steps
 returns-clause-few_steps g c =
-    few-steps c.args.plan.now c.args.policy.mode c.args.policy.width
+    few-steps c.args.plan.now c.args.policy
     ((goal.Chooser-dyn g c.args.chooser.now).allows c.args.chooser.now.1) ((goal.Chooser-dyn g c.loop-step.chooser.now).allows c.loop-step.chooser.now.1)
     (g.S.Service.offers c.args.service.now) (g.S.Service.offers c.loop-step.service)
     c.loop-step.scheduler c.loop-step.steps.items c.loop-step.invariant.far

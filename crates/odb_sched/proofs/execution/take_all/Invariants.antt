@@ -9,7 +9,7 @@ abbrev pub invariant-loop-step : goal.invariant-loop-step
 invariant-loop-step g l = record {
   far : SoFar ((goal.Chooser-dyn g l.fn.chooser.now).allows l.fn.chooser.now.1) ((goal.Chooser-dyn g l.chooser.now).allows l.chooser.now.1)
       (g.S.Service.offers l.fn.service) (g.S.Service.offers l.service)
-      (at_first l.fn.plan l.fn.policy.mode l.fn.policy.width) l.scheduler l.steps.items;
+      (at_first l.fn.plan l.fn.policy) l.scheduler l.steps.items;
   room : length l.steps.items + events_left l.scheduler ≤ vec_capacity l.steps;
 }
 

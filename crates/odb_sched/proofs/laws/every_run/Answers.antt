@@ -6,10 +6,10 @@ use Rattle.odb_sched.proofs.RunLemmas.{reached_run, reached_at_first}
 use Rattle.odb_sched.proofs.laws.every_run.Goals as goal
 
 pub returns-clause-dependencies_first : goal.returns-clause-dependencies_first
-returns-clause-dependencies_first c = λ mode width events run. dependencies_first _ mode width events c.len-count.ensures.names run
+returns-clause-dependencies_first c = λ policy events run. dependencies_first _ policy events c.len-count.ensures.names run
 
 pub returns-clause-never_stuck : goal.returns-clause-never_stuck
-returns-clause-never_stuck c = λ mode width events wide run. never_stuck _ (reached_run _ mode width events c.len-count.ensures.laws wide run)
+returns-clause-never_stuck c = λ policy events run. never_stuck _ (reached_run _ policy events c.len-count.ensures.laws run)
 
 pub returns-clause-few_events : goal.returns-clause-few_events
-returns-clause-few_events c = λ mode width events wide run. few_events_first _ mode width events (reached_at_first _ mode width c.len-count.ensures.laws wide) run
+returns-clause-few_events c = λ policy events run. few_events_first _ policy events (reached_at_first _ policy c.len-count.ensures.laws) run

@@ -6,7 +6,7 @@ use Rattle.odb_sched.proofs.PlanLemmas.{laws-shape}
 use Rattle.odb_sched.proofs.laws.every_word.Goals as goal
 
 pub returns-clause-phases : goal.returns-clause-phases
-returns-clause-phases c = λ mode width events i wide run. phases_first _ mode width events i (reached_at_first _ mode width c.len-count.ensures.laws wide) run
+returns-clause-phases c = λ policy events i run. phases_first _ policy events i (reached_at_first _ policy c.len-count.ensures.laws) run
 
 pub returns-clause-failing : goal.returns-clause-failing
 returns-clause-failing c = λ bad u. ((λ e. Fails-from_fails _ bad u e), (λ failing. fails-from_Fails _ bad u (laws-shape _ c.len-count.ensures.laws) failing))

@@ -10,7 +10,7 @@ pub returns-clause-one_result : goal.returns-clause-one_result
 returns-clause-one_result c = λ mode. one_result c.new.result
     (subst IsReached (sym c.new.ensures) c.self.invariant.reached)
     (subst (λ state. is_finished state ≡ true) (sym (c.new.ensures ∙ c.self.view_is)) c.requires)
-    (ap (λ (state : State). state.mode) (c.new.ensures ∙ c.self.view_is) ∙ mode)
+    (ap (λ (state : State). state.policy.mode) (c.new.ensures ∙ c.self.view_is) ∙ mode)
 
 pub returns-clause-sound_result : goal.returns-clause-sound_result
 returns-clause-sound_result c = sound_result c.new.result (subst IsReached (sym c.new.ensures) c.self.invariant.reached)

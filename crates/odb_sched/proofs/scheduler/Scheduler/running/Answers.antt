@@ -19,5 +19,5 @@ pub returns-clause-width : goal.returns-clause-width
 returns-clause-width c =
     let most : running_count (state_in c.self.inside) ≤ c.self.inside.policy.width = c.self.invariant.reached.narrow in
     let counted : length c.running.result.now ≡ running_count (state_in c.self.inside) = c.running.ensures.count ∙ running_is (state_in c.self.inside) c.self.inside.views c.self.invariant.views in
-    let width : c.self.inside.policy.width ≡ c.args.self.now.width = ap (λ (state : State). state.width) c.self.view_is in
+    let width : c.self.inside.policy.width ≡ c.args.self.now.policy.width = ap (λ (state : State). state.policy.width) c.self.view_is in
     omega arith
