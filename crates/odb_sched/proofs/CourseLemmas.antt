@@ -24,13 +24,16 @@ use Rattle.odb_sched.specs.Below.{ListsOnce}
 use Rattle.odb_sched.specs.Statuses.{is_status}
 use Rattle.odb_sched.specs.Phases.{is_running, is_reported}
 use Rattle.odb_sched.specs.State.{State, size, phase_at, shape, at_first, after, started, reported}
-use Rattle.odb_sched.specs.Steps.{may_start, may_report, may_come, is_finished}
+use Rattle.odb_sched.specs.Steps.{may_start, may_report, may_come}
 use Rattle.odb_sched.specs.Runs.{position_of, after_all, IsRunFrom}
 use Rattle.odb_sched.specs.Answers.{outcome_of, reported as reported_at}
 use Rattle.odb_sched.specs.Reached.{IsReached}
 use Rattle.odb_sched.specs.Choosing.{Positions, positions_of, IsAmong}
 use Rattle.odb_sched.specs.Courses.{Allowance, Offer, ready_set, running_set, IsAllowed, IsOffered, step_of, AreChosen, IsCourse, IsDue, IsFinishedBy, IsCausedBy}
-use Rattle.odb_sched.specs.Advances.{position_in, MayTake, IsNext, IsTaken}
+use Rattle.odb_sched.specs.Advances.{position_in, MayTake, IsNext, IsTaken, IsTakenBy}
+use Rattle.odb_sched.specs.Calls.{Performing, IsCall, Asks, AsksAll, IsDueNow, Faults, IsCutShort}
+use Rattle.odb_sched.specs.Laws.{StartsLast}
+use Rattle.odb_doc.specs.Records.{Record}
 use Rattle.odb_sched.proofs.ChoiceLemmas.{positions-listed, listed-in}
 use Rattle.odb_sched.proofs.PlanLemmas.{length-shape}
 use Rattle.odb_sched.proofs.PhaseLemmas.{get_or-set_cases, get_or-replicate_Unstarted}
@@ -62,6 +65,21 @@ taken-start offers state new taking i same may is = record { event = Start i; st
 pub taken-report : (offers : Offer) (state new : State) (i : ℕ) (outcome : Outcome) → may_report state i outcome ≡ true → offers i (Ok outcome) → new ≡ reported state i outcome → IsTaken offers state new (step.Report i)
 taken-report offers state new i outcome may offered is = record { event = Report i outcome; step_is = refl; may = may; offered = offered; new_is = is }
 
+module _ {S : Type 0} (performs : Performing S) (requests : List Record) where
+  pub taken-start_by : (offers : Offer) (state new : State) (service : S) (taking : Step) (i : ℕ) → taking ≡ step.Start i → MayTake state taking → new ≡ started state i → IsTakenBy performs requests offers state new service service taking
+  unfolding taken-start
+  taken-start_by offers state new service taking i same may is = record { taken = taken-start offers state new taking i same may is; asked = refl }
+
+  pub taken-report_by : (offers : Offer) (state new : State) (old later : S) (i : ℕ) (outcome : Outcome) → may_report state i outcome ≡ true → offers i (Ok outcome) → IsCall performs requests i (Ok outcome) old later → new ≡ reported state i outcome
+      → IsTakenBy performs requests offers state new old later (step.Report i)
+  unfolding taken-report
+  taken-report_by offers state new old later i outcome may offered call is = record { taken = taken-report offers state new i outcome may offered is; asked = call }
+
+  -- one more event asks once more
+  pub asks-push : (events : List Event) (event : Event) (old now later : S) → AsksAll performs requests events old now → Asks performs requests event now later → AsksAll performs requests (events ++ event ∷ []) old later
+  asks-push [] event old now later all one = (later, subst (λ s. Asks performs requests event s later) all one, refl)
+  asks-push (e ∷ es) event old now later all one = (all.0, all.1, asks-push es event all.0 now later all.2 one)
+
 -- how many events a run may still have
 abbrev pub events_left : State → ℕ
 events_left state = sum_by left state.phases
@@ -91,27 +109,16 @@ pub record SoFar (allows allows_now : Allowance) (offers offers_now : Offer) (fi
   pub offered : (i : ℕ) (answer : Result Outcome ServiceFault) → is_reported (phase_at state i) ≡ false → offers_now i answer → offers i answer
   pub count : length steps + events_left state ≡ events_left first
 
-pub none_so_far : (allows : Allowance) (offers : Offer) (first : State) → SoFar allows allows offers offers first first []
-none_so_far allows offers first = record {
-  events = [];
-  course = record { run = tt; chosen = tt };
-  steps_are = refl;
-  state_is = refl;
-  allowed = λ ready running step e. e;
-  offered = λ i answer fresh e. e;
-  count = omega arith;
-}
-
-chosen-push : (allows : Allowance) (offers : Offer) (state : State) (events : List Event) (event : Event) → AreChosen allows offers state events
+pub chosen-push : (allows : Allowance) (offers : Offer) (state : State) (events : List Event) (event : Event) → AreChosen allows offers state events
     → IsAllowed allows (after_all state events) (step_of event) → IsOffered offers event → AreChosen allows offers state (events ++ event ∷ [])
 chosen-push allows offers state [] event chosen allowed offered = (allowed, offered, tt)
 chosen-push allows offers state (e ∷ es) event chosen allowed offered = (chosen.0, chosen.1, chosen-push allows offers (after state e) es event chosen.2 allowed offered)
 
-map-push : (events : List Event) (event : Event) → map step_of (events ++ event ∷ []) ≡ map step_of events ++ step_of event ∷ []
+pub map-push : (events : List Event) (event : Event) → map step_of (events ++ event ∷ []) ≡ map step_of events ++ step_of event ∷ []
 map-push [] event = refl
 map-push (e ∷ es) event = ap (λ steps. step_of e ∷ steps) (map-push es event)
 
-position-step : (event : Event) → position_in (step_of event) ≡ position_of event
+pub position-step : (event : Event) → position_in (step_of event) ≡ position_of event
 position-step (Start i) = refl
 position-step (Report i outcome) = refl
 
@@ -125,7 +132,7 @@ is_report (step.Start i) = false
 is_report (step.Report i) = true
 
 -- a request that is not reported after a step was not reported before it, and was not the one reported
-still_open : (state : State) (event : Event) (i : ℕ) → IsReached state → position_of event < size state → may_come state event ≡ true → is_reported (phase_at (after state event) i) ≡ false
+pub still_open : (state : State) (event : Event) (i : ℕ) → IsReached state → position_of event < size state → may_come state event ≡ true → is_reported (phase_at (after state event) i) ≡ false
     → (is_reported (phase_at state i) ≡ false) × (step_of event ≡ step.Report i → ⊥)
 still_open state (Start j) i reached within may fresh = let move = move_start state j reached within may in (
   elim (cases_eq i j) [
@@ -141,7 +148,7 @@ still_open state (Report j outcome) i reached within may fresh = let move = move
     ]
 
 -- an outcome that is offered now for a request that runs was offered at first
-offered-first : (offers offers_now : Offer) (state : State) (event : Event)
+pub offered-first : (offers offers_now : Offer) (state : State) (event : Event)
     → ((i : ℕ) (answer : Result Outcome ServiceFault) → is_reported (phase_at state i) ≡ false → offers_now i answer → offers i answer)
     → may_come state event ≡ true → IsOffered offers_now event → IsOffered offers event
 offered-first offers offers_now state (Start i) first may offered = tt
@@ -157,11 +164,11 @@ fewer-left allows offers state new s reached next taken =
     omega arith
 
 module _ (allows allows_now allows_later : Allowance) (offers offers_now offers_later : Offer) (first state new : State) (steps : List Step) (s : Step) where
-  pub one_more : IsReached first → SoFar allows allows_now offers offers_now first state steps → IsNext allows_now state s → IsTaken offers_now state new s
+  unfoldable pub one_more : (all : List Step) → all ≡ steps ++ s ∷ [] → IsReached first → SoFar allows allows_now offers offers_now first state steps → IsNext allows_now state s → IsTaken offers_now state new s
       → ((ready running : Positions) (other : Step) → allows_later ready running other → allows_now ready running other)
       → ((i : ℕ) (answer : Result Outcome ServiceFault) → (s ≡ step.Report i → ⊥) → offers_later i answer → offers_now i answer)
-      → SoFar allows allows_later offers offers_later first new (steps ++ s ∷ [])
-  one_more reached far next taken narrows offered =
+      → SoFar allows allows_later offers offers_later first new all
+  one_more all whole reached far next taken narrows offered =
       let event = taken.event in
       let here : state ≡ after_all first far.events = far.state_is in
       let now : IsReached state = subst IsReached (sym here) (reached_after_all first far.events reached far.course.run) in
@@ -174,7 +181,7 @@ module _ (allows allows_now allows_later : Allowance) (offers offers_now offers_
           chosen = chosen-push allows offers first far.events event far.course.chosen (subst (λ x. IsAllowed allows x (step_of event)) here chosen)
               (offered-first offers offers_now state event far.offered taken.may taken.offered);
         };
-        steps_are = ap (λ xs. xs ++ s ∷ []) far.steps_are ∙ ap (λ x. map step_of far.events ++ x ∷ []) taken.step_is ∙ sym (map-push far.events event);
+        steps_are = whole ∙ ap (λ xs. xs ++ s ∷ []) far.steps_are ∙ ap (λ x. map step_of far.events ++ x ∷ []) taken.step_is ∙ sym (map-push far.events event);
         state_is = taken.new_is ∙ ap (λ x. after x event) here ∙ sym (after_all-push first far.events event);
         allowed = λ ready running other e. far.allowed ready running other (narrows ready running other e);
         offered = λ i answer fresh e.
@@ -183,7 +190,7 @@ module _ (allows allows_now allows_later : Allowance) (offers offers_now offers_
         count =
             let fewer : events_left (after state event) + 1 ≡ events_left state = left_after_event state event now within taken.may in
             let last : events_left new ≡ events_left (after state event) = ap events_left taken.new_is in
-            let longer : length (steps ++ s ∷ []) ≡ length steps + 1 = length-append steps (s ∷ []) in
+            let longer : length all ≡ length steps + 1 = ap length whole ∙ length-append steps (s ∷ []) in
             let before : length steps + events_left state ≡ events_left first = far.count in
             omega arith;
       }
@@ -211,12 +218,38 @@ module _ (allows allows_now allows_later : Allowance) (offers offers_now offers_
   caused-first far next (fault.BadStatus i) (same, (outcome, e, bad)) = (due-next far next i same, (outcome, offered-next far next i (Ok outcome) same e, bad))
   caused-first far next fault.OutOfMemory e = tt
 
-  pub finished-by : SoFar allows allows_now offers offers_now first state steps → is_finished state ≡ true → IsFinishedBy allows offers first steps state
-  finished-by far finished = record { events = far.events; course = far.course; steps_are = far.steps_are; last_is = far.state_is; finished = finished }
-
 -- before the first step
-pub so_far-first : (allows : Allowance) (offers : Offer) (first state : State) (steps : List Step) → state ≡ first → steps ≡ [] → SoFar allows allows offers offers first state steps
-so_far-first allows offers first state steps here none = subst (λ xs. SoFar allows allows offers offers first state xs) (sym none) (subst (λ s. SoFar allows allows offers offers first s []) (sym here) (none_so_far allows offers first))
+unfoldable pub so_far-first : (allows : Allowance) (offers : Offer) (first state : State) (steps : List Step) → state ≡ first → steps ≡ [] → SoFar allows allows offers offers first state steps
+so_far-first allows offers first state steps here none = record {
+  events = [];
+  course = record { run = tt; chosen = tt };
+  steps_are = none;
+  state_is = here;
+  allowed = λ ready running step e. e;
+  offered = λ i answer fresh e. e;
+  count =
+      let count : length steps ≡ 0 = ap length none in
+      let left : events_left state ≡ events_left first = ap events_left here in
+      omega arith;
+}
+
+-- the next step is due after what was done so far, so its fault is that of the whole
+module _ {S : Type 0} (performs : Performing S) (requests : List Record) (allows allows_now : Allowance) (offers offers_now : Offer) (first state : State) (steps : List Step) (s : Step)
+    (far : SoFar allows allows_now offers offers_now first state steps) (next : IsNext allows_now state s) where
+  due-now : (i : ℕ) → s ≡ step.Report i → IsDueNow allows (after_all first far.events) i
+  due-now i same =
+      let report : IsNext allows_now state (step.Report i) = subst (IsNext allows_now state) same next in
+      rw (← far.state_is) (record { within = report.within; runs = report.may; allowed = far.allowed (ready_set state) (running_set state) (step.Report i) report.allowed })
+
+  pub faults-now : (cause : ExecFault) (old new : S) → Faults performs requests (λ i. s ≡ step.Report i) cause old new → Faults performs requests (IsDueNow allows (after_all first far.events)) cause old new
+  faults-now (fault.NoOutcome i) old new faulty = (due-now i faulty.0, faulty.1)
+  faults-now (fault.Service i) old new faulty = (due-now i faulty.0, faulty.1)
+  faults-now (fault.BadStatus i) old new (same, outcome, bad, call) = (due-now i same, outcome, bad, call)
+  faults-now fault.OutOfMemory old new faulty = (faulty.0, due-now faulty.0 faulty.1, faulty.2)
+
+  pub cut_short : (cause : ExecFault) (service old new : S) → StartsLast requests far.events → AsksAll performs requests far.events service old → Faults performs requests (λ i. s ≡ step.Report i) cause old new
+      → IsCutShort allows offers performs requests first service new cause
+  cut_short cause service old new ended calls faulty = record { events = far.events; course = far.course; dependencies_first = ended; between = old; calls = calls; faulty = faults-now cause old new faulty }
 
 module _ (source : Plan) (policy : Policy) where
   left-source : events_left (at_first source policy) ≡ 2 * length (plan_records source)

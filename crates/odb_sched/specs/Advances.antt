@@ -1,5 +1,6 @@
 -- One step of an execution.
-use Rattle.std.specs.Prelude.{◌≡◌, ℕ, ◌<◌, true}
+use Rattle.std.specs.Prelude.{◌≡◌, ℕ, ◌<◌, true, List}
+use Rattle.odb_doc.specs.Records.{Record}
 use Rattle.odb_sched.specs.declared.event.Event.{Event}
 use Rattle.odb_sched.specs.declared.step.Step.{Step}
 use Rattle.odb_sched.specs.declared.step.Step.TheVariants as step
@@ -7,6 +8,7 @@ use Rattle.odb_sched.specs.Phases.{is_running}
 use Rattle.odb_sched.specs.State.{State, size, phase_at, after}
 use Rattle.odb_sched.specs.Steps.{may_start, may_come}
 use Rattle.odb_sched.specs.Courses.{Allowance, Offer, IsAllowed, IsOffered, step_of}
+use Rattle.odb_sched.specs.Calls.{Performing, Asks}
 
 abbrev pub position_in : Step → ℕ
 position_in (step.Start i) = i
@@ -30,3 +32,8 @@ pub record IsTaken (offers : Offer) (state new : State) (step : Step) : Type 0 w
   pub may : may_come state event ≡ true
   pub offered : IsOffered offers event
   pub new_is : new ≡ after state event
+
+-- and the service was asked for what the event reports, and for nothing else
+pub record IsTakenBy {S : Type 0} (performs : Performing S) (requests : List Record) (offers : Offer) (state new : State) (service service_new : S) (step : Step) : Type 0 where
+  pub taken : IsTaken offers state new step
+  pub asked : Asks performs requests taken.event service service_new

@@ -20,6 +20,7 @@ pub mod Refusals
 pub mod Choosing
 pub mod Ends
 pub mod Courses
+pub mod Calls
 pub mod Recordings
 pub mod ExecFaults
 pub mod Advances

@@ -5,6 +5,7 @@ use Rattle.odb_doc.specs.Records.{Record}
 use Rattle.odb_sched.specs.declared.service.ServiceFault.{ServiceFault}
 use Rattle.odb_sched.specs.declared.service.ServiceFault.TheVariants.{NoOutcome}
 use Rattle.odb_sched.specs.Courses.{Offer}
+use Rattle.odb_sched.specs.Calls.{Performing}
 
 -- the outcome that is recorded for an id
 abbrev pub outcome_for : List (List ℕ × Outcome) → List ℕ → Option Outcome
@@ -27,3 +28,7 @@ offered None = Err NoOutcome
 -- just the outcome that is recorded for a position is offered for it, or that there is none
 abbrev pub OffersRecorded : List (Option Outcome) → Offer
 OffersRecorded outcomes i answer = answer ≡ offered (slice_index_or outcomes i None)
+
+-- a call answers what is recorded for the position, and that is then gone
+abbrev pub PerformsRecorded : Performing (List (Option Outcome))
+PerformsRecorded before i request answer later = (answer ≡ offered (slice_index_or before i None)) × (later ≡ slice_set before i None)

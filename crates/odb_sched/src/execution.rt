@@ -2,14 +2,14 @@ ghost use Rattle.std.specs.Prelude.{◌≡◌, ◌≢◌, ◌<◌, ◌≤◌, �
 ghost use Rattle.std.specs.Vec.{vec_capacity};
 ghost use Rattle.odb_check.specs.Plans.{plan_records};
 ghost use Rattle.odb_sched.specs.declared.policy.Mode.TheVariants.{Continue};
-ghost use Rattle.odb_sched.specs.declared.event.Event.{Event};
 ghost use Rattle.odb_sched.specs.declared.fault.ExecFault.TheVariants as faults;
 ghost use Rattle.odb_sched.specs.declared.step.Step.TheVariants as kinds;
 ghost use Rattle.odb_sched.specs.State.{size, at_first};
 ghost use Rattle.odb_sched.specs.Steps.{is_finished};
 ghost use Rattle.odb_sched.specs.Choosing.{Positions, positions_of, IsAmong};
-ghost use Rattle.odb_sched.specs.Courses.{IsCourse, IsDue, IsFinishedBy, IsCausedBy};
-ghost use Rattle.odb_sched.specs.Advances.{position_in, MayTake, IsNext, IsTaken};
+ghost use Rattle.odb_sched.specs.Courses.{IsDue, IsCausedBy};
+ghost use Rattle.odb_sched.specs.Calls.{IsExecution, IsCutShort, IsBrokenOff, Faults};
+ghost use Rattle.odb_sched.specs.Advances.{position_in, MayTake, IsNext, IsTakenBy};
 ghost use Rattle.odb_sched.specs.Answers.{reported};
 ghost use Rattle.odb_sched.specs.Laws as laws;
 
@@ -95,11 +95,14 @@ fn report<S: Service>(
     requires request { i < length (plan_records plan.now) }
     requires within { i < size scheduler.old }
     requires may { MayTake scheduler.old (kinds.Report i) }
-    ensures taken { OnOk result (IsTaken (S.offers service.old) scheduler.old scheduler.new
+    ensures taken { OnOk result (IsTakenBy S.performs (plan_records plan.now)
+        (S.offers service.old) scheduler.old scheduler.new service.old service.new
         (kinds.Report i)) }
     ensures narrows { (j : ℕ) (answer : Result Outcome ServiceFault) → j ≢ i
         → S.offers service.new j answer → S.offers service.old j answer }
     ensures fault { IfErr result (IsCausedBy (S.offers service.old) (λ j. j ≡ i)) }
+    ensures faulty { IfErr result (λ cause. Faults S.performs (plan_records plan.now)
+        (λ j. j ≡ i) cause service.old service.new) }
 {
     let outcome = match service.perform(i, plan.request(i)) {
         Ok(outcome) => outcome,
@@ -123,10 +126,13 @@ fn take<S: Service>(
     requires request { position_in step < length (plan_records plan.now) }
     requires within { position_in step < size scheduler.old }
     requires may { MayTake scheduler.old step }
-    ensures taken { OnOk result (IsTaken (S.offers service.old) scheduler.old scheduler.new step) }
+    ensures taken { OnOk result (IsTakenBy S.performs (plan_records plan.now)
+        (S.offers service.old) scheduler.old scheduler.new service.old service.new step) }
     ensures narrows { (j : ℕ) (answer : Result Outcome ServiceFault) → (step ≡ kinds.Report j → ⊥)
         → S.offers service.new j answer → S.offers service.old j answer }
     ensures fault { IfErr result (IsCausedBy (S.offers service.old) (λ j. step ≡ kinds.Report j)) }
+    ensures faulty { IfErr result (λ cause. Faults S.performs (plan_records plan.now)
+        (λ j. step ≡ kinds.Report j) cause service.old service.new) }
 {
     match step {
         Step::Start(i) => {
@@ -149,8 +155,11 @@ fn take_all<S: Service>(
     requires first { scheduler.old ≡ at_first plan.now policy }
     requires unlisted { steps.old.items ≡ [] }
     requires room { 2 * length (plan_records plan.now) ≤ vec_capacity steps.old }
-    ensures course { OnOk result (IsFinishedBy (allows chooser.old) (S.offers service.old)
-        (at_first plan.now policy) steps.new.items scheduler.new) }
+    ensures execution { OnOk result (IsExecution (allows chooser.old) (S.offers service.old)
+        S.performs (plan_records plan.now) (at_first plan.now policy) service.old service.new
+        steps.new.items scheduler.new) }
+    ensures cut_short { IfErr result (IsCutShort (allows chooser.old) (S.offers service.old)
+        S.performs (plan_records plan.now) (at_first plan.now policy) service.old service.new) }
     ensures finished { OnOk result (is_finished scheduler.new ≡ true) }
     ensures few_steps { OnOk result
         (length steps.new.items ≤ 2 * length (plan_records plan.now)) }
@@ -158,6 +167,7 @@ fn take_all<S: Service>(
     ensures fault { IfErr result (IsCausedBy (S.offers service.old) (IsDue (allows chooser.old)
         (S.offers service.old) (at_first plan.now policy))) }
 {
+    every_run(plan);
     let _count = plan.len();
     while let Some(step) = next_step(scheduler, chooser) {
         take(scheduler, plan, service, step)?;
@@ -192,7 +202,8 @@ fn prepared<'a: 'p, 'p>(
 ///
 /// F80, F81 or F82 for the request whose report was chosen, where the service has no outcome for
 /// it, failed, or gave a status that is not from 200 to 599; `OutOfMemory` where memory was
-/// refused. Chooser and service are left as their calls so far left them.
+/// refused: before the first step, and then the service was asked for nothing, or to the service.
+/// Chooser and service are left as their calls so far left them.
 pub fn execute<'a: 'p, 'p, S: Service>(
     alloc: Global,
     plan: &'p Plan<'a>,
@@ -200,8 +211,11 @@ pub fn execute<'a: 'p, 'p, S: Service>(
     chooser: &mut dyn Chooser,
     service: &mut S,
 ) -> Result<Trace<'p>, ExecFault>
-    ensures course { IfOk result (λ trace. IsFinishedBy (allows chooser.old) (S.offers service.old)
-        (at_first plan.now policy) trace.steps.items trace.done) }
+    ensures execution { IfOk result (λ trace. IsExecution (allows chooser.old)
+        (S.offers service.old) S.performs (plan_records plan.now) (at_first plan.now policy)
+        service.old service.new trace.steps.items trace.done) }
+    ensures broken_off { IfErr result (IsBrokenOff (allows chooser.old) (S.offers service.old)
+        S.performs (plan_records plan.now) (at_first plan.now policy) service.old service.new) }
     ensures plan { IfOk result (λ trace. trace.done.plan ≡ plan.now) }
     ensures within { IfOk result (λ trace.
         All (λ step. position_in step < size trace.done) trace.steps.items) }
@@ -211,17 +225,12 @@ pub fn execute<'a: 'p, 'p, S: Service>(
         length trace.steps.items ≤ 2 * length (plan_records plan.now)) }
     ensures fault { IfErr result (IsCausedBy (S.offers service.old) (IsDue (allows chooser.old)
         (S.offers service.old) (at_first plan.now policy))) }
-    ensures dependencies_first { OnOk result ((events : List Event)
-        → IsCourse (allows chooser.old) (S.offers service.old)
-        (at_first plan.now policy) events
-        → laws.StartsLast (plan_records plan.now) events) }
     ensures one_result { policy.mode ≡ Continue
         → IfOk result (λ trace. laws.HasOneResult trace.done) }
     ensures sound_result { IfOk result (λ trace. laws.HasSoundResult trace.done) }
     ensures all_or_none { IfOk result (λ trace. laws.IsAllOrNone trace.done) }
     ensures sound { IfOk result (λ trace. laws.IsSound trace.done) }
 {
-    every_run(plan);
     let (mut scheduler, mut steps) = prepared(alloc, plan, policy)?;
     take_all(&mut scheduler, plan, policy, chooser, service, &mut steps)?;
     Ok(Trace {

@@ -92,11 +92,13 @@ impl Recorded {
 }
 
 impl Service for Recorded {
-    ghost use Rattle.odb_sched.specs.Recordings.{OffersRecorded, offered};
+    ghost use Rattle.odb_sched.specs.Recordings.{OffersRecorded, PerformsRecorded, offered};
     ghost use Rattle.std.specs.Prelude.{slice_index_or};
     ghost use Rattle.odb_sched.specs.declared.service.ServiceFault.TheVariants.{NoOutcome};
 
     ghost offers = { OffersRecorded };
+
+    ghost performs = { PerformsRecorded };
 
     fn perform(&mut self, i: u32, _request: &Request<'_>) -> Result<Outcome, ServiceFault>
         ensures given { result ≡ offered (slice_index_or self.old i None) }

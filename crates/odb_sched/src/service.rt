@@ -22,11 +22,16 @@ pub enum ServiceFault {
 pub trait Service {
     ghost use Rattle.std.specs.Prelude.{◌≢◌, ℕ, Result, Err};
     ghost use Rattle.odb_doc.specs.declared.outcome.Outcome.{Outcome};
+    ghost use Rattle.odb_doc.specs.Records.{Record, record_of};
     ghost use Rattle.odb_sched.specs.declared.service.ServiceFault.{ServiceFault};
     ghost use Rattle.odb_sched.specs.declared.service.ServiceFault.TheVariants.{OutOfMemory};
 
     /// Which answers it may give now for the request at a position.
     ghost offers: { Self → ℕ → Result Outcome ServiceFault → Type 0 };
+
+    /// What one call does: the service before it, the position, the request, the answer, and the
+    /// service after it. An execution makes one call for each report, in the order of the reports.
+    ghost performs: { Self → ℕ → Record → Result Outcome ServiceFault → Self → Type 0 };
 
     /// The outcome of the request, which stands at position `i` of its batch, counted from 0.
     ///
@@ -34,6 +39,7 @@ pub trait Service {
     ///
     /// Where the service has no outcome for it, failed, or was refused memory.
     fn perform(&mut self, i: u32, request: &Request<'_>) -> Result<Outcome, ServiceFault>
+        ensures performed { performs self.old i (record_of request.now) result self.new }
         ensures offered { result ≢ Err OutOfMemory → offers self.old i result }
         ensures narrows { (j : ℕ) (answer : Result Outcome ServiceFault) → j ≢ i
             → offers self.new j answer → offers self.old j answer };

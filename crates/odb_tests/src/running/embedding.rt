@@ -49,6 +49,8 @@ struct Store {
 impl Service for Store {
     ghost offers = { λ _ _ _. Unit {0} };
 
+    ghost performs = { λ _ _ _ _ _. Unit {0} };
+
     fn perform(&mut self, _i: u32, request: &Request<'_>) -> Result<Outcome, ServiceFault> {
         Ok(Outcome {
             status: if request.body.is_some() { 201 } else { 200 },

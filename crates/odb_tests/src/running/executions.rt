@@ -39,6 +39,8 @@ struct Statuses<'a> {
 impl Service for Statuses<'_> {
     ghost offers = { λ _ _ _. Unit {0} };
 
+    ghost performs = { λ _ _ _ _ _. Unit {0} };
+
     fn perform(&mut self, i: u32, _request: &Request<'_>) -> Result<Outcome, ServiceFault> {
         match self.statuses.get(i as usize) {
             None | Some(0) => Err(ServiceFault::NoOutcome),

@@ -34,6 +34,8 @@ struct AllBut {
 impl Service for AllBut {
     ghost offers = { λ _ _ _. Unit {0} };
 
+    ghost performs = { λ _ _ _ _ _. Unit {0} };
+
     fn perform(&mut self, i: u32, _request: &Request<'_>) -> Result<Outcome, ServiceFault> {
         let status = if i == self.position { self.status } else { 200 };
         Ok(outcome(self.alloc, status))

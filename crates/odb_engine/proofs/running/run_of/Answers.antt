@@ -4,10 +4,9 @@ use Rattle.odb_doc.specs.declared.outcome.Outcome.{Outcome}
 use Rattle.odb_doc.specs.OutcomeLists.{entries}
 use Rattle.odb_check.specs.Plans.{plan_records}
 use Rattle.odb_sched.specs.Answers.{reported}
-use Rattle.odb_sched.specs.Courses.{IsCourse, IsFinishedBy, IsDue, IsCausedBy}
-use Rattle.odb_sched.specs.declared.event.Event.{Event}
-use Rattle.odb_sched.specs.Laws.{StartsLast}
-use Rattle.odb_sched.specs.Recordings.{OffersRecorded}
+use Rattle.odb_sched.specs.Calls.{IsExecution}
+use Rattle.odb_sched.specs.Courses.{IsDue, IsCausedBy}
+use Rattle.odb_sched.specs.Recordings.{OffersRecorded, PerformsRecorded}
 use Rattle.odb_sched.specs.State.{at_first}
 use Rattle.odb_reply.specs.OnePerId.{HasOnePerId}
 use Rattle.odb_reply.specs.Responses.{response_value}
@@ -36,15 +35,14 @@ returns-clause-result g c =
     let plan = c.args.plan.now in
     let first = at_first plan c.args.policy in
     let trace = c.in_ok-trace.trace in
-    let course = subst (λ s. IsFinishedBy allows (OffersRecorded s) first trace.steps.items trace.done) c.in_ok-new.ensures c.in_ok-trace.ensures.course in
-    let law = subst (λ s. (events : List Event) → IsCourse allows (OffersRecorded s) first events → StartsLast (plan_records plan) events) c.in_ok-new.ensures c.in_ok-trace.ensures.dependencies_first in
+    let done = subst (λ s. IsExecution allows (OffersRecorded s) PerformsRecorded (plan_records plan) first s c.execute.new.service trace.steps.items trace.done) c.in_ok-new.ensures c.in_ok-trace.ensures.execution in
     λ traced. record {
       ends = refl;
       steps = trace.steps.items;
       last = trace.done;
-      course = course;
+      course = done.course;
       result = refl;
-      dependencies_first = law course.events course.course;
+      dependencies_first = done.dependencies_first;
       one_per_id = subst (λ p. HasOnePerId (plan_records p) (response_value trace.done)) c.in_ok-trace.ensures.plan c.every_response.ensures.one_per_id;
     }
 

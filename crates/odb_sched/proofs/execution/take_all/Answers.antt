@@ -1,21 +1,23 @@
 -- An execution that goes on is a course so far, and has room for the steps that are left.
-use Rattle.std.proofs.Common.{◌≡◌, ◌≤◌, ◌+◌, ◌∙◌, sym, ap, subst, arith, rules, [], ◌∷◌, ◌++◌, length, is_ok, if◌then◌else◌}
+use Rattle.std.proofs.Common.{refl, ◌≡◌, ◌≤◌, ◌+◌, ◌∙◌, ap, subst, arith, rules, [], ◌∷◌, ◌++◌, length, is_ok, if◌then◌else◌}
 use Rattle.std.proofs.lemmas.List.{length-append}
 use Rattle.std.specs.Vec.{vec_capacity, vec_len}
 use Rattle.odb_sched.specs.declared.policy.Policy.{Policy}
 use Rattle.odb_sched.specs.State.{State, at_first}
-use Rattle.odb_sched.specs.Advances.{IsTaken}
-use Rattle.odb_sched.specs.declared.step.Step.TheVariants as step
-use Rattle.odb_sched.specs.Courses.{IsFinishedBy}
+use Rattle.odb_check.specs.Plans.{plan_records}
+use Rattle.odb_sched.specs.Steps.{is_finished}
+use Rattle.odb_sched.specs.Advances.{IsTakenBy}
 use Rattle.odb_sched.proofs.RunLemmas.{reached_at_first}
-use Rattle.odb_sched.proofs.CourseLemmas.{SoFar, events_left, so_far-first, room-first, one_more, fewer-left, caused-first, finished-by, few-steps, next-within, reached-so_far, same-policy}
+use Rattle.odb_sched.proofs.CourseLemmas.{events_left, so_far-first, room-first, one_more, fewer-left, caused-first, asks-push, cut_short, few-steps, next-within, reached-so_far, same-policy}
 use Rattle.odb_sched.proofs.execution.take_all.Goals as goal
 
 pub loop-step-init : goal.loop-step-init
+unfolding so_far-first
 loop-step-init g c =
     record {
       far = so_far-first ((goal.Chooser-dyn g c.args.chooser.now).allows c.args.chooser.now.1) (g.S.Service.offers c.args.service.now)
           (at_first c.args.plan.now c.args.policy) c.args.scheduler.now c.args.steps.now.items c.requires.first c.requires.unlisted;
+      calls = refl;
       room = room-first c.args.plan.now c.args.policy c.args.scheduler.now c.args.steps.now.items (vec_capacity c.args.steps.now)
           c.requires.first c.requires.unlisted c.requires.room;
     }
@@ -45,7 +47,8 @@ unwrap-requires g c =
     let offers = g.S.Service.offers c.args.service.now in
     let offers_now = g.S.Service.offers c.loop-step.service in
     let reached = reached-so_far plan c.args.policy allows allows_now offers offers_now c.loop-step.scheduler c.loop-step.steps.items c.loop-step.invariant.far c.len-count.ensures.laws in
-    let taken = subst (λ state. IsTaken (g.S.Service.offers c.loop-step.service) state c.take.new.scheduler c.in-Some.step) c.next_step.ensures.same c.in_ok-take.ensures.taken in
+    let taken_by = subst (λ state. IsTakenBy g.S.Service.performs (plan_records plan) offers_now state c.take.new.scheduler c.loop-step.service c.take.new.service c.in-Some.step) c.next_step.ensures.same c.in_ok-take.ensures.taken in
+    let taken = taken_by.taken in
     let fewer : events_left c.take.new.scheduler + 1 ≡ events_left c.loop-step.scheduler = fewer-left allows_now offers_now c.loop-step.scheduler c.take.new.scheduler c.in-Some.step reached c.in-Some.ensures.next taken in
     let room : length c.loop-step.steps.items + events_left c.loop-step.scheduler ≤ vec_capacity c.loop-step.steps = c.loop-step.invariant.room in
     let len : vec_len c.loop-step.steps ≡ length c.loop-step.steps.items = c.loop-step.steps.ok.0 in
@@ -59,11 +62,13 @@ loop-step-smaller g c =
     let offers = g.S.Service.offers c.args.service.now in
     let offers_now = g.S.Service.offers c.loop-step.service in
     let reached = reached-so_far plan c.args.policy allows allows_now offers offers_now c.loop-step.scheduler c.loop-step.steps.items c.loop-step.invariant.far c.len-count.ensures.laws in
-    let taken = subst (λ state. IsTaken (g.S.Service.offers c.loop-step.service) state c.take.new.scheduler c.in-Some.step) c.next_step.ensures.same c.in_ok-take.ensures.taken in
+    let taken_by = subst (λ state. IsTakenBy g.S.Service.performs (plan_records plan) offers_now state c.take.new.scheduler c.loop-step.service c.take.new.service c.in-Some.step) c.next_step.ensures.same c.in_ok-take.ensures.taken in
+    let taken = taken_by.taken in
     let fewer : events_left c.take.new.scheduler + 1 ≡ events_left c.loop-step.scheduler = fewer-left allows_now offers_now c.loop-step.scheduler c.take.new.scheduler c.in-Some.step reached c.in-Some.ensures.next taken in
     omega arith
 
 pub loop-step-preserved : goal.loop-step-preserved
+unfolding one_more
 loop-step-preserved g c =
     let plan = c.args.plan.now in
     let allows = (goal.Chooser-dyn g c.args.chooser.now).allows c.args.chooser.now.1 in
@@ -71,7 +76,8 @@ loop-step-preserved g c =
     let offers = g.S.Service.offers c.args.service.now in
     let offers_now = g.S.Service.offers c.loop-step.service in
     let reached = reached-so_far plan c.args.policy allows allows_now offers offers_now c.loop-step.scheduler c.loop-step.steps.items c.loop-step.invariant.far c.len-count.ensures.laws in
-    let taken = subst (λ state. IsTaken (g.S.Service.offers c.loop-step.service) state c.take.new.scheduler c.in-Some.step) c.next_step.ensures.same c.in_ok-take.ensures.taken in
+    let taken_by = subst (λ state. IsTakenBy g.S.Service.performs (plan_records plan) offers_now state c.take.new.scheduler c.loop-step.service c.take.new.service c.in-Some.step) c.next_step.ensures.same c.in_ok-take.ensures.taken in
+    let taken = taken_by.taken in
     let fewer : events_left c.take.new.scheduler + 1 ≡ events_left c.loop-step.scheduler = fewer-left allows_now offers_now c.loop-step.scheduler c.take.new.scheduler c.in-Some.step reached c.in-Some.ensures.next taken in
     let room : length c.loop-step.steps.items + events_left c.loop-step.scheduler ≤ vec_capacity c.loop-step.steps = c.loop-step.invariant.room in
     let allows_later = (goal.Chooser-dyn g (c.loop-step.chooser.now.0, c.next_step.new.chooser)).allows c.next_step.new.chooser in
@@ -82,23 +88,39 @@ loop-step-preserved g c =
     let longer : length c.push.new.self.items ≡ length c.loop-step.steps.items + 1 = ap length items ∙ length-append c.loop-step.steps.items (c.in-Some.step ∷ []) in
     let more : vec_capacity c.loop-step.steps ≤ vec_capacity c.push.new.self = c.push.ensures.capacity in
     record {
-      far = subst (λ steps. SoFar allows allows_later offers offers_later first c.take.new.scheduler steps) (sym items)
-          (one_more allows allows_now allows_later offers offers_now offers_later first c.loop-step.scheduler c.take.new.scheduler c.loop-step.steps.items c.in-Some.step
-          (reached_at_first plan c.args.policy c.len-count.ensures.laws)
-          c.loop-step.invariant.far c.in-Some.ensures.next taken c.in-Some.ensures.narrows c.in_ok-take.ensures.narrows);
+      far = one_more allows allows_now allows_later offers offers_now offers_later first c.loop-step.scheduler c.take.new.scheduler c.loop-step.steps.items c.in-Some.step
+          c.push.new.self.items items (reached_at_first plan c.args.policy c.len-count.ensures.laws)
+          c.loop-step.invariant.far c.in-Some.ensures.next taken c.in-Some.ensures.narrows c.in_ok-take.ensures.narrows;
+      calls = asks-push g.S.Service.performs (plan_records plan) c.loop-step.invariant.far.events taken.event c.args.service.now c.loop-step.service c.take.new.service c.loop-step.invariant.calls taken_by.asked;
       room = omega arith;
     }
 
-pub returns-clause-course : goal.returns-clause-course
-returns-clause-course g c =
-    let allows = (goal.Chooser-dyn g c.args.chooser.now).allows c.args.chooser.now.1 in
-    let allows_now = (goal.Chooser-dyn g c.loop-step.chooser.now).allows c.loop-step.chooser.now.1 in
-    let offers = g.S.Service.offers c.args.service.now in
-    let offers_now = g.S.Service.offers c.loop-step.service in
-    let first = at_first c.args.plan.now c.args.policy in
-    subst (λ last. IsFinishedBy allows offers first c.loop-step.steps.items last) (sym c.next_step.ensures.same)
-    (finished-by allows allows_now allows_now offers offers_now offers_now first c.loop-step.scheduler c.loop-step.scheduler c.loop-step.steps.items (step.Start 0)
-    c.loop-step.invariant.far (c.next_step.ensures.finished c.in_default.is))
+pub returns-clause-execution : goal.returns-clause-execution
+returns-clause-execution g c =
+    let far = c.loop-step.invariant.far in
+    record {
+      course = record {
+        events = far.events;
+        course = far.course;
+        steps_are = far.steps_are;
+        last_is = c.next_step.ensures.same ∙ far.state_is;
+        finished = ap is_finished c.next_step.ensures.same ∙ c.next_step.ensures.finished c.in_default.is;
+      };
+      dependencies_first = c.every_run.ensures.dependencies_first c.args.policy far.events far.course.run;
+      calls = c.loop-step.invariant.calls;
+    }
+
+pub returns-in_err-take-clause-cut_short : goal.returns-in_err-take-clause-cut_short
+returns-in_err-take-clause-cut_short g c =
+    let far = c.loop-step.invariant.far in
+    let broken = cut_short g.S.Service.performs (plan_records c.args.plan.now)
+    ((goal.Chooser-dyn g c.args.chooser.now).allows c.args.chooser.now.1) ((goal.Chooser-dyn g c.loop-step.chooser.now).allows c.loop-step.chooser.now.1)
+    (g.S.Service.offers c.args.service.now) (g.S.Service.offers c.loop-step.service)
+    (at_first c.args.plan.now c.args.policy) c.loop-step.scheduler c.loop-step.steps.items c.in-Some.step
+    far c.in-Some.ensures.next c.in_err-take.field-0.0 c.args.service.now c.loop-step.service c.take.new.service
+    (c.every_run.ensures.dependencies_first c.args.policy far.events far.course.run)
+    c.loop-step.invariant.calls c.in_err-take.ensures.faulty in
+    search (rules, broken)
 
 pub returns-clause-mode : goal.returns-clause-mode
 returns-clause-mode g c =

@@ -1,6 +1,8 @@
 use Rattle.std.proofs.Common.{◌≤◌, ◌+◌, length}
 use Rattle.std.specs.Vec.{vec_capacity}
+use Rattle.odb_check.specs.Plans.{plan_records}
 use Rattle.odb_sched.specs.State.{at_first}
+use Rattle.odb_sched.specs.Calls.{AsksAll}
 use Rattle.odb_sched.proofs.CourseLemmas.{SoFar, events_left}
 use Rattle.odb_sched.proofs.execution.take_all.Given as goal
 
@@ -10,6 +12,7 @@ invariant-loop-step g l = record {
   far : SoFar ((goal.Chooser-dyn g l.fn.chooser.now).allows l.fn.chooser.now.1) ((goal.Chooser-dyn g l.chooser.now).allows l.chooser.now.1)
       (g.S.Service.offers l.fn.service) (g.S.Service.offers l.service)
       (at_first l.fn.plan l.fn.policy) l.scheduler l.steps.items;
+  calls : AsksAll g.S.Service.performs (plan_records l.fn.plan) far.events l.fn.service l.service;
   room : length l.steps.items + events_left l.scheduler ≤ vec_capacity l.steps;
 }
 
