@@ -31,6 +31,7 @@ pub mod KeptLemmas
 pub mod TakenLemmas
 pub mod ChoiceLemmas
 pub mod CourseLemmas
+pub mod CallLemmas
 pub mod RecordedLemmas
 pub mod OrderLemmas
 pub mod ResolveLemmas

@@ -55,6 +55,10 @@ reported_by [] = []
 reported_by (step.Start i ∷ steps) = reported_by steps
 reported_by (step.Report i ∷ steps) = i ∷ reported_by steps
 
+-- each call that is answered with an outcome writes one entry to a log
+abbrev pub Writes : {S X : Type 0} → Performing S → (S → List X) → (Call → X) → Type 0
+Writes {S = S} performs log entry = (old new : S) (i : ℕ) (request : Record) (outcome : Outcome) → performs old i request (Ok outcome) new → log new ≡ log old ++ entry (i, request, outcome) ∷ []
+
 -- an execution: its course, what each request waited for, and each call of the service
 pub record IsExecution {S : Type 0} (allows : Allowance) (offers : Offer) (performs : Performing S) (requests : List Record) (state : State) (old new : S) (steps : List Step) (last : State) : Type 0 where
   pub course : IsFinishedBy allows offers state steps last

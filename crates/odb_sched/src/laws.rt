@@ -4,7 +4,7 @@
 //! The laws are clauses of functions that change nothing. They speak of lists of events, and of the
 //! same words that the clauses of the scheduler use.
 
-ghost use Rattle.std.specs.Prelude.{◌≡◌, ℕ, ◌<◌, ◌↔◌, Bool, true, List, Option, IsTrue};
+ghost use Rattle.std.specs.Prelude.{◌≡◌, ℕ, ◌<◌, ◌++◌, ◌↔◌, Bool, true, List, map, Option, IsTrue};
 ghost use Rattle.odb_doc.specs.declared.outcome.Outcome.{Outcome};
 ghost use Rattle.odb_check.specs.Plans.{plan_records};
 ghost use Rattle.odb_sched.specs.declared.policy.Mode.TheVariants.{Continue};
@@ -16,8 +16,12 @@ ghost use Rattle.odb_sched.specs.Failing.{Fails, fails};
 ghost use Rattle.odb_sched.specs.Steps.{is_finished};
 ghost use Rattle.odb_sched.specs.Runs.{IsRun, state_after, phase_of};
 ghost use Rattle.odb_sched.specs.Laws.{StartsLast, IsNeverStuck, HasFewEvents, HasOneResult, HasSoundResult, IsAllOrNone, IsSound, SucceedsByMembers};
+ghost use Rattle.odb_doc.specs.Records.{Record};
+ghost use Rattle.odb_sched.specs.Courses.{step_of};
+ghost use Rattle.odb_sched.specs.Calls.{AsksAll, Call, calls_of, reported_by, Writes};
 ghost use Rattle.odb_sched.specs.Orders.{HasOneCourse, HasOneFault, FaultsOrFinishes};
 
+use crate::service::Service;
 use odb_check::Plan;
 
 /// No request starts before all that it names has ended with success. A run that is not finished
@@ -34,6 +38,21 @@ pub fn every_run(plan: &Plan<'_>)
         → HasFewEvents events }
 {
     let _count = plan.len();
+}
+
+/// A log of a service that each answered call adds one entry to has, after an execution, one entry
+/// more for each report, in the order of the reports; and each call is for the request that is
+/// reported. So a service is asked once for each report and for nothing else.
+pub fn every_call<S: Service, X>()
+    ensures logged { (log : S → List X) (entry : Call → X)
+        → Writes S.performs log entry
+        → (requests : List Record) (events : List Event) (old new : S)
+        → AsksAll S.performs requests events old new
+        → log new ≡ log old ++ map entry (calls_of requests events) }
+    ensures positions { (requests : List Record) (events : List Event) (old new : S)
+        → AsksAll S.performs requests events old new
+        → map (λ call. call.0) (calls_of requests events) ≡ reported_by (map step_of events) }
+{
 }
 
 /// The answers of a finished run are those of each table of outcomes that its reports agree with.
