@@ -10,7 +10,7 @@ use Rattle.odb_sched.specs.declared.phase.Phase.TheVariants.{Reported}
 use Rattle.odb_sched.specs.declared.event.Event.{Event}
 use Rattle.odb_sched.specs.declared.event.Event.TheVariants.{Start, Report}
 use Rattle.odb_sched.specs.Statuses.{is_success}
-use Rattle.odb_sched.specs.Phases.{is_running}
+use Rattle.odb_sched.specs.Phases.{is_running, has_succeeded}
 use Rattle.odb_sched.specs.State.{State, size, phase_at}
 use Rattle.odb_sched.specs.Failing.{unit_needed, succeeds}
 use Rattle.odb_sched.specs.Steps.{may_start, is_finished}
@@ -21,12 +21,20 @@ use Rattle.odb_sched.specs.Answers.{answer, is_answered_2xx}
 abbrev pub HasSuccess : List Event → ℕ → Type 0
 HasSuccess events r = (outcome : Outcome) × Contains events (Report r outcome) × IsTrue (is_success outcome.status)
 
--- What a request names has ended with success in these events: each request and each member of each group in its
--- `dependsOn`, and the request that its URL refers to.
-pub record HaveEnded (requests : List Record) (events : List Event) (i : ℕ) : Type 0 where
-  pub ids : (name : List ℕ) (r : ℕ) → Contains (names_at requests i) name → id_at requests r ≡ Some name → HasSuccess events r
-  pub groups : (name : List ℕ) (j : ℕ) → Contains (names_at requests i) name → group_at requests j ≡ Some name → HasSuccess events j
-  pub references : (name : List ℕ) (r : ℕ) → reference_at requests i ≡ Some name → id_at requests r ≡ Some name → HasSuccess events r
+-- What holds of all that a request names: each request and each member of each group in its `dependsOn`, and the request
+-- that its URL refers to.
+pub record HoldsOfNamed (requests : List Record) (i : ℕ) (holds : ℕ → Type 0) : Type 0 where
+  pub ids : (name : List ℕ) (r : ℕ) → Contains (names_at requests i) name → id_at requests r ≡ Some name → holds r
+  pub groups : (name : List ℕ) (j : ℕ) → Contains (names_at requests i) name → group_at requests j ≡ Some name → holds j
+  pub references : (name : List ℕ) (r : ℕ) → reference_at requests i ≡ Some name → id_at requests r ≡ Some name → holds r
+
+-- what a request names has ended with success in these events
+abbrev pub HaveEnded : List Record → List Event → ℕ → Type 0
+HaveEnded requests events i = HoldsOfNamed requests i (HasSuccess events)
+
+-- what a request names has succeeded in this state
+abbrev pub HaveSucceeded : List Record → State → ℕ → Type 0
+HaveSucceeded requests state i = HoldsOfNamed requests i (λ r. has_succeeded (phase_at state r) ≡ true)
 
 -- no request starts before all that it names has ended with success
 abbrev pub StartsLast : List Record → List Event → Type 0

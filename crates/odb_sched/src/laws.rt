@@ -4,18 +4,19 @@
 //! The laws are clauses of functions that change nothing. They speak of lists of events, and of the
 //! same words that the clauses of the scheduler use.
 
-ghost use Rattle.std.specs.Prelude.{◌≡◌, ℕ, ◌<◌, ◌++◌, ◌↔◌, Bool, true, List, map, Option, IsTrue};
+ghost use Rattle.std.specs.Prelude.{◌≡◌, ◌≢◌, ℕ, ◌<◌, ◌≤◌, ◌++◌, ◌↔◌, Bool, true, List, map, length, Option, Some, IsTrue};
 ghost use Rattle.odb_doc.specs.declared.outcome.Outcome.{Outcome};
 ghost use Rattle.odb_check.specs.Plans.{plan_records};
 ghost use Rattle.odb_sched.specs.declared.policy.Mode.TheVariants.{Continue};
 ghost use Rattle.odb_sched.specs.declared.policy.Policy.{Policy};
 ghost use Rattle.odb_sched.specs.declared.event.Event.{Event};
 ghost use Rattle.odb_sched.specs.declared.order.Order.{Order};
-ghost use Rattle.odb_sched.specs.State.{shape, phase_at, at_first};
+ghost use Rattle.odb_sched.specs.declared.refusal.StartRefusal.TheVariants.{WidthReached};
+ghost use Rattle.odb_sched.specs.State.{State, size, shape, phase_at, at_first};
 ghost use Rattle.odb_sched.specs.Failing.{Fails, fails};
-ghost use Rattle.odb_sched.specs.Steps.{is_finished};
+ghost use Rattle.odb_sched.specs.Steps.{may_start, start_refusal, is_finished};
 ghost use Rattle.odb_sched.specs.Runs.{IsRun, state_after, phase_of};
-ghost use Rattle.odb_sched.specs.Laws.{StartsLast, IsNeverStuck, HasFewEvents, HasOneResult, HasSoundResult, IsAllOrNone, IsSound, SucceedsByMembers};
+ghost use Rattle.odb_sched.specs.Laws.{HaveSucceeded, StartsLast, IsNeverStuck, HasFewEvents, HasOneResult, HasSoundResult, IsAllOrNone, IsSound, SucceedsByMembers};
 ghost use Rattle.odb_doc.specs.Records.{Record};
 ghost use Rattle.odb_sched.specs.Courses.{step_of};
 ghost use Rattle.odb_sched.specs.Calls.{AsksAll, Call, calls_of, reported_by, Writes};
@@ -36,6 +37,19 @@ pub fn every_run(plan: &Plan<'_>)
     ensures few_events { (policy : Policy) (events : List Event)
         → IsRun plan.now policy events
         → HasFewEvents events }
+{
+    let _count = plan.len();
+}
+
+/// A request may start only once all that it names has succeeded. At a width of 10,000 no start is
+/// refused because of the width.
+pub fn every_start(plan: &Plan<'_>)
+    ensures dependencies_first { (state : State) (i : ℕ) → state.shape ≡ shape plan.now
+        → may_start state i ≡ true
+        → HaveSucceeded (plan_records plan.now) state i }
+    ensures free { (state : State) (i : ℕ) → state.shape ≡ shape plan.now
+        → length state.phases ≡ size state → i < size state → 10000 ≤ state.policy.width
+        → start_refusal state i ≢ Some WidthReached }
 {
     let _count = plan.len();
 }

@@ -1,7 +1,6 @@
 ghost use Rattle.std.specs.Prelude.{◌≡◌, ◌<◌, ◌↔◌, IsSome, IfSome};
-ghost use Rattle.odb_sched.specs.declared.policy.TheConstants.{MAX_WIDTH};
 
-/// The width of a run that none of its requests ever waits for: as many as a batch may have.
+/// As many requests as a batch may have, so that no request ever waits because of the width.
 const MAX_WIDTH: u32 = 10_000;
 
 /// Whether a run goes on after an error (OData Protocol 4.01, section 8.2.8.3, the preference
@@ -25,10 +24,11 @@ pub struct Policy {
 }
 
 impl Policy {
-    /// A policy under which no request waits for the end of another that it does not depend on.
+    /// A policy under which no request waits for another that it does not depend on: its width is
+    /// the greatest number of requests in a batch, so no start is refused because of it.
     pub fn free(mode: Mode) -> Policy
         ensures mode { result.mode ≡ mode }
-        ensures width { result.width ≡ MAX_WIDTH }
+        ensures width { result.width ≡ 10000 }
     {
         Policy {
             mode,

@@ -1,7 +1,8 @@
-ghost use Rattle.std.specs.Prelude.{◌≡◌, ◌<◌, ◌≤◌, ◌↔◌, ℕ, true, false, List, Some, length, slice_set, replicate, IsTrue, IsOk, IfOk, IfErr, IfSome, OnOk, OnErr, None, All};
+ghost use Rattle.std.specs.Prelude.{◌≡◌, ◌≢◌, ◌<◌, ◌≤◌, ◌↔◌, ℕ, true, false, List, Some, length, slice_set, replicate, IsTrue, IsOk, IfOk, IfErr, IfSome, OnOk, OnErr, None, All};
 ghost use Rattle.odb_check.specs.Plans.{plan_records};
 ghost use Rattle.odb_sched.specs.declared.policy.Mode.TheVariants as modes;
 ghost use Rattle.odb_sched.specs.declared.phase.Phase.TheVariants.{Unstarted};
+ghost use Rattle.odb_sched.specs.declared.refusal.StartRefusal.TheVariants.{WidthReached};
 ghost use Rattle.odb_sched.specs.Below.{ListsOnce};
 ghost use Rattle.odb_sched.specs.Phases as tests;
 ghost use Rattle.odb_sched.specs.State as states;
@@ -13,6 +14,7 @@ ghost use Rattle.odb_sched.specs.Ends.{IsAt, ReportsFirst, StartsFirst};
 ghost use Rattle.odb_sched.specs.Laws as laws;
 
 use crate::done::Done;
+use crate::laws::every_start;
 use crate::order::{End, Order};
 use crate::phase::{Phase, is_status};
 use crate::policy::Policy;
@@ -131,7 +133,12 @@ impl<'p> Scheduler<'p> {
         ensures allowed { IsOk result ↔ IsTrue (steps.may_start self.old i) }
         ensures cause { IfErr result (λ cause. steps.start_refusal self.old i ≡ Some cause) }
         ensures err { OnErr result (self.new ≡ self.old) }
+        ensures dependencies_first { OnOk result
+            (laws.HaveSucceeded (plan_records self.old.plan) self.old i) }
+        ensures free { 10000 ≤ self.old.policy.width
+            → IfErr result (λ cause. cause ≢ WidthReached) }
     {
+        every_start(self.plan);
         if let Some(cause) = self.start_refusal(i) {
             return Err(cause);
         }

@@ -1,8 +1,10 @@
 -- A start that is not refused may come, and the views are told of it.
-use Rattle.std.proofs.Common.{◌≡◌, ◌∙◌, sym, ap, subst, true, set, length-set, length, refl, ◌<◌}
+use Rattle.std.proofs.Common.{◌≡◌, ◌∙◌, sym, ap, subst, true, set, length-set, length, refl, ◌<◌, Some}
 use Rattle.std.proofs.lemmas.Bool.{both_ways, false≢true}
 use Rattle.odb_sched.specs.declared.phase.Phase.TheVariants.{Unstarted, Running}
-use Rattle.odb_sched.specs.State.{size}
+use Rattle.odb_sched.specs.State.{State, shape, size}
+use Rattle.odb_sched.specs.Laws.{HaveSucceeded}
+use Rattle.odb_check.specs.Plans.{plan_records}
 use Rattle.odb_sched.specs.Steps.{may_start}
 use Rattle.odb_sched.specs.Plans.{state_of}
 use Rattle.odb_sched.specs.Kept.{AreViews, state_in}
@@ -37,3 +39,16 @@ invariant_of-self c = kept_written c.self.inside c.args.i Running c.put.new.phas
 
 pub returns-clause-allowed : goal.returns-clause-allowed
 returns-clause-allowed c = ((λ _. may_start-none c.args.self.now c.args.i (sym c.start_refusal.ensures ∙ c.in_default.is)), (λ _. refl))
+
+pub returns-clause-dependencies_first : goal.returns-clause-dependencies_first
+returns-clause-dependencies_first c =
+    let plan : c.self.inside.plan.now ≡ c.args.self.now.plan = ap (λ (s : State). s.plan) c.self.view_is in
+    let same : c.args.self.now.shape ≡ shape c.self.inside.plan.now = ap (λ (s : State). s.shape) (sym c.self.view_is) in
+    subst (λ source. HaveSucceeded (plan_records source) c.args.self.now c.args.i) plan
+    (c.every_start.ensures.dependencies_first c.args.self.now c.args.i same (may_start-none c.args.self.now c.args.i (sym c.start_refusal.ensures ∙ c.in_default.is)))
+
+pub returns-in-Some-clause-free : goal.returns-in-Some-clause-free
+returns-in-Some-clause-free c wide is =
+    let same : c.args.self.now.shape ≡ shape c.self.inside.plan.now = ap (λ (s : State). s.shape) (sym c.self.view_is) in
+    let each : length c.args.self.now.phases ≡ size c.args.self.now = subst (λ (s : State). length s.phases ≡ size s) c.self.view_is c.self.invariant.reached.each in
+    c.every_start.ensures.free c.args.self.now c.args.i same each c.requires wide (sym c.start_refusal.ensures ∙ c.in-Some.is ∙ ap Some is)
