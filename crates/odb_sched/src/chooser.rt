@@ -3,28 +3,30 @@ ghost use Rattle.odb_sched.specs.Choosing.{positions_of, IsLeast, IsGreatest};
 
 use crate::order::Order;
 
-/// Which step of a run comes next: a place, counted from 0, in one of the two slices that were lent.
+/// Which step of a run comes next: a place, counted from 0, in one of the two slices.
 #[derive(Clone, Copy, Debug, PartialEq, Eq)]
 pub enum Choice {
-    /// Start the request at this place of those that may start.
+    /// Start the request at this place of the ready ones.
     Start(usize),
-    /// Report the request at this place of those that run.
+    /// Report the request at this place of the running ones.
     Report(usize),
 }
 
 /// Decides in which order a plan is executed, as far as its dependencies leave that open.
 ///
-/// What a chooser may pick is a relation of its own over the sets of positions that may start and
-/// that run, so it does not hang on the order in which they are lent.
+/// Each chooser defines which steps it allows, given the sets of ready and running positions: the
+/// order of the two slices carries no meaning. A chooser that names an order by
+/// [`Chooser::order`] is not asked for a step.
 pub trait Chooser {
     ghost use Rattle.std.specs.Prelude.{◌≡◌, ◌<◌, ◌+◌, length, IfSome};
     ghost use Rattle.odb_sched.specs.declared.step.Step.{Step};
     ghost use Rattle.odb_sched.specs.Choosing.{Positions, positions_of, IsInRange, picked, AllowsOrder};
 
-    /// Which steps it allows for the positions that may start and those that run.
+    /// Which steps it allows for the ready and the running positions.
     ghost allows: { Self → Positions → Positions → Step → Type 0 };
 
-    /// The next step, where `ready` are the positions that may start and `running` those that run.
+    /// The next step, given the ready and the running positions. An execution does not call it if
+    /// [`Chooser::order`] names an order.
     fn choose(&mut self, ready: &[u32], running: &[u32]) -> Choice
         requires { 0 < length ready.now + length running.now }
         ensures in_range { IsInRange ready.now running.now result }
@@ -33,8 +35,8 @@ pub trait Chooser {
         ensures narrows { (ready running : Positions) (step : Step)
             → allows self.new ready running step → allows self.old ready running step };
 
-    /// The order that it goes by, where that is one of [`Order`]: an execution goes by it then and does
-    /// not ask for each step.
+    /// The built-in order that this chooser follows, if any. An execution then picks the steps by that
+    /// order itself, which takes less time, and never calls [`Chooser::choose`].
     fn order(&self) -> Option<Order>
         ensures { IfSome result (λ order. (ready running : Positions) (step : Step)
             → AllowsOrder order ready running step → allows self.now ready running step) }
@@ -43,7 +45,7 @@ pub trait Chooser {
     }
 }
 
-/// Where the least position stands.
+/// Returns the place of the least position.
 fn least_place(positions: &[u32]) -> usize
     requires { 0 < length positions.now }
     ensures within { result < length positions.now }
@@ -58,7 +60,7 @@ fn least_place(positions: &[u32]) -> usize
     least
 }
 
-/// Where the greatest position stands.
+/// Returns the place of the greatest position.
 fn greatest_place(positions: &[u32]) -> usize
     requires { 0 < length positions.now }
     ensures within { result < length positions.now }
@@ -79,6 +81,8 @@ fn greatest_place(positions: &[u32]) -> usize
 pub struct First;
 
 impl Chooser for First {
+    ghost use Rattle.std.specs.Prelude.{◌≡◌, Some};
+    ghost use Rattle.odb_sched.specs.declared.order.Order.TheVariants as order;
     ghost use Rattle.odb_sched.specs.Choosing.{AllowsFirst};
 
     ghost allows = { λ _. AllowsFirst };
@@ -91,7 +95,9 @@ impl Chooser for First {
         }
     }
 
-    fn order(&self) -> Option<Order> {
+    fn order(&self) -> Option<Order>
+        ensures named { result ≡ Some order.First }
+    {
         Some(Order::First)
     }
 }
@@ -101,6 +107,8 @@ impl Chooser for First {
 pub struct Last;
 
 impl Chooser for Last {
+    ghost use Rattle.std.specs.Prelude.{◌≡◌, Some};
+    ghost use Rattle.odb_sched.specs.declared.order.Order.TheVariants as order;
     ghost use Rattle.odb_sched.specs.Choosing.{AllowsLast};
 
     ghost allows = { λ _. AllowsLast };
@@ -113,16 +121,20 @@ impl Chooser for Last {
         }
     }
 
-    fn order(&self) -> Option<Order> {
+    fn order(&self) -> Option<Order>
+        ensures named { result ≡ Some order.Last }
+    {
         Some(Order::Last)
     }
 }
 
-/// Starts all that may start before it reports, and takes the least position.
+/// Starts all ready requests before it reports, and takes the least position.
 #[derive(Clone, Copy, Debug)]
 pub struct Wide;
 
 impl Chooser for Wide {
+    ghost use Rattle.std.specs.Prelude.{◌≡◌, Some};
+    ghost use Rattle.odb_sched.specs.declared.order.Order.TheVariants as order;
     ghost use Rattle.odb_sched.specs.Choosing.{AllowsWide};
 
     ghost allows = { λ _. AllowsWide };
@@ -135,13 +147,16 @@ impl Chooser for Wide {
         }
     }
 
-    fn order(&self) -> Option<Order> {
+    fn order(&self) -> Option<Order>
+        ensures named { result ≡ Some order.Wide }
+    {
         Some(Order::Wide)
     }
 }
 
 /// An order is a chooser too: the one that it is named for.
 impl Chooser for Order {
+    ghost use Rattle.std.specs.Prelude.{◌≡◌, Some};
     ghost use Rattle.odb_sched.specs.Choosing.{AllowsOrder};
 
     ghost allows = { AllowsOrder };
@@ -154,7 +169,9 @@ impl Chooser for Order {
         }
     }
 
-    fn order(&self) -> Option<Order> {
+    fn order(&self) -> Option<Order>
+        ensures named { result ≡ Some self.now }
+    {
         Some(*self)
     }
 }

@@ -3,7 +3,7 @@ ghost use Rattle.odb_sched.specs.Ends.{IsEndOf};
 
 use odb_dense::OrderedPositions;
 
-/// An order of steps that an execution can go by itself, without a search through all positions.
+/// A built-in order, which an execution follows without a search through all positions.
 #[derive(Clone, Copy, Debug, PartialEq, Eq)]
 pub enum Order {
     /// That of [`crate::First`].
