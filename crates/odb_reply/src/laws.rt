@@ -59,5 +59,6 @@ pub fn every_response(done: &Done<'_>)
     ensures fits { ListsFit (plan_records done.now.plan) (response_value done.now) }
     ensures document { AnswersStatuses done.now → IsResponseDocument (response_value done.now) }
 {
+    done.laws();
     let _count = done.plan().len();
 }

@@ -1,5 +1,5 @@
 -- What the requests of a finished run are answered (OData JSON Format 4.01, section 19.5).
-use Rattle.std.specs.Prelude.{ℕ, ◌&&◌, Bool, false, not, List, Option, Some, None, if◌then◌else◌}
+use Rattle.std.specs.Prelude.{ℕ, ◌&&◌, Bool, false, not, List, Option, Some, None, is_none, if◌then◌else◌}
 use Rattle.odb_doc.specs.declared.outcome.Outcome.{Outcome}
 use Rattle.odb_check.specs.Shape.{unit_of}
 use Rattle.odb_sched.specs.declared.phase.Phase.{Phase}
@@ -31,9 +31,9 @@ reported state i = outcome_of (phase_at state i)
 abbrev pub answer : State → ℕ → Option Outcome
 answer state i = answer_of (phase_at state i) (unit_succeeded state (unit_of state.shape i))
 
--- reported a success, and answered as a failed dependency
+-- reported 200 to 299, and is answered 424
 abbrev pub is_undone : State → ℕ → Bool
-is_undone state i = has_succeeded (phase_at state i) && not (unit_succeeded state (unit_of state.shape i))
+is_undone state i = has_succeeded (phase_at state i) && is_none (answer state i)
 
 -- the undone requests, from the last to the first
 abbrev pub undone : State → List ℕ

@@ -1,6 +1,7 @@
 ghost use Rattle.std.specs.Prelude.{All, option_map, ◌≡◌, ◌<◌, true, length, IfOk};
 ghost use Rattle.odb_check.specs.Shape as shapes;
 ghost use Rattle.odb_check.specs.Plans.{plan_records};
+ghost use Rattle.odb_sched.specs.declared.policy.Mode.TheVariants.{Continue};
 ghost use Rattle.odb_sched.specs.State as states;
 ghost use Rattle.odb_sched.specs.Steps as steps;
 ghost use Rattle.odb_sched.specs.Laws as laws;
@@ -100,16 +101,25 @@ impl<'p> Done<'p> {
         self.pending[unit_of(self.plan, i) as usize] == 0
     }
 
-    /// The plan that was run.
+    /// Returns the plan that was run.
     pub fn plan(&self) -> &'p Plan<'p>
         ensures plan { result.now ≡ self.now.plan }
         ensures shape { self.now.shape ≡ states.shape self.now.plan }
         ensures size { states.size self.now ≡ length (plan_records self.now.plan) }
+    {
+        self.plan
+    }
+
+    /// What holds of the answers of every finished run, as [`crate::laws::every_result`] says it of
+    /// lists of events. It changes nothing.
+    pub fn laws(&self)
         ensures finished { steps.is_finished self.now ≡ true }
+        ensures one_result { self.now.policy.mode ≡ Continue → laws.HasOneResult self.now }
+        ensures sound_result { laws.HasSoundResult self.now }
         ensures all_or_none { laws.IsAllOrNone self.now }
         ensures sound { laws.IsSound self.now }
     {
-        self.plan
+        let _ = &self.plan;
     }
 
     /// What the request at a position, counted from 0, is answered.

@@ -10,6 +10,6 @@ returns c =
     let good : HasGoodNames (plan_records state.plan) = rw (← c.plan.ensures.plan) c.len-count.ensures.good in
     record {
       one_per_id = one_per_id state good;
-      fits = ListsFit-answered state good c.plan.ensures.sound c.plan.ensures.shape c.plan.ensures.size;
+      fits = ListsFit-answered state good c.laws.ensures.sound c.plan.ensures.shape c.plan.ensures.size;
       document = IsResponseDocument-answered state c.plan.ensures.size;
     }
