@@ -18,6 +18,10 @@ use Rattle.odb_sched.specs.declared.refusal.RunRefusal.{RunRefusal}
 use Rattle.odb_sched.specs.declared.refusal.RunRefusal.TheVariants as refusal
 use Rattle.odb_sched.specs.declared.resolving.ResolveFault.TheVariants.{UnknownEvent}
 use Rattle.odb_sched.specs.Resolving.{IsFirstUnknown, IsKnown, IsResolved}
+use Rattle.odb_doc.specs.declared.outcome.Outcome.{Outcome}
+use Rattle.odb_sched.specs.declared.refusal.StartRefusal.{StartRefusal}
+use Rattle.odb_sched.specs.declared.refusal.ReportRefusal.{ReportRefusal}
+use Rattle.odb_sched.specs.Causes.{IsStartCause, IsReportCause}
 use Rattle.odb_sched.specs.Runs.{IsRunFrom, RefusesEvent, StopsAt, after_all}
 use Rattle.odb_sched.specs.State.{State, after, at_first}
 use Rattle.odb_sched.specs.Steps.{is_finished, may_come}
@@ -114,22 +118,27 @@ same-stop state (x ∷ xs) (y ∷ ys) e f later others same run walk barred clos
     barred (subst (λ z. may_come (after_all (after state z) ys) f ≡ false) (sym head) closed) in
     (ap (λ z. z ∷ xs) head ∙ ap (λ zs. y ∷ zs) front, last)
 
-one-cause : (state : State) (at : ℕ) (e : Event) (a b : RunRefusal) → RefusesEvent state at e a → RefusesEvent state at e b → a ≡ b
-one-cause state at (event.Start i) (refusal.Start p c) (refusal.Start q d) x y = ap (λ k. refusal.Start k c) (x.0 ∙ sym y.0) ∙ ap (λ found. refusal.Start q (unwrap_or found c)) (sym x.1 ∙ y.1)
-one-cause state at (event.Start i) (refusal.Start p c) (refusal.Report q d) x y = absurd y
-one-cause state at (event.Start i) (refusal.Start p c) refusal.OutOfMemory x y = absurd y
-one-cause state at (event.Start i) (refusal.Report p c) b x y = absurd x
-one-cause state at (event.Start i) refusal.OutOfMemory b x y = absurd x
-one-cause state at (event.Report i o) (refusal.Start p c) b x y = absurd x
-one-cause state at (event.Report i o) refusal.OutOfMemory b x y = absurd x
-one-cause state at (event.Report i o) (refusal.Report p c) (refusal.Start q d) x y = absurd y
-one-cause state at (event.Report i o) (refusal.Report p c) refusal.OutOfMemory x y = absurd y
-one-cause state at (event.Report i o) (refusal.Report p c) (refusal.Report q d) x y = ap (λ k. refusal.Report k c) (x.0 ∙ sym y.0) ∙ ap (λ found. refusal.Report q (unwrap_or found c)) (sym x.1 ∙ y.1)
+-- what the runs say of the causes of their refusals, in their laws
+pub record HaveOneCause : Type 0 where
+  pub one_start : (state : State) (i : ℕ) (cause other : StartRefusal) → IsStartCause state i cause → IsStartCause state i other → cause ≡ other
+  pub one_report : (state : State) (i : ℕ) (outcome : Outcome) (cause other : ReportRefusal) → IsReportCause state i outcome cause → IsReportCause state i outcome other → cause ≡ other
 
-one-stop : (state : State) (events : List Event) (a b : RunRefusal) → StopsAt state events a → StopsAt state events b → a ≡ b
-one-stop state events a b x y =
+one-cause : HaveOneCause → (state : State) (at : ℕ) (e : Event) (a b : RunRefusal) → RefusesEvent state at e a → RefusesEvent state at e b → a ≡ b
+one-cause causes state at (event.Start i) (refusal.Start p c) (refusal.Start q d) x y = ap (λ k. refusal.Start k c) (x.0 ∙ sym y.0) ∙ ap (refusal.Start q) (causes.one_start state i c d x.1 y.1)
+one-cause causes state at (event.Start i) (refusal.Start p c) (refusal.Report q d) x y = absurd y
+one-cause causes state at (event.Start i) (refusal.Start p c) refusal.OutOfMemory x y = absurd y
+one-cause causes state at (event.Start i) (refusal.Report p c) b x y = absurd x
+one-cause causes state at (event.Start i) refusal.OutOfMemory b x y = absurd x
+one-cause causes state at (event.Report i o) (refusal.Start p c) b x y = absurd x
+one-cause causes state at (event.Report i o) refusal.OutOfMemory b x y = absurd x
+one-cause causes state at (event.Report i o) (refusal.Report p c) (refusal.Start q d) x y = absurd y
+one-cause causes state at (event.Report i o) (refusal.Report p c) refusal.OutOfMemory x y = absurd y
+one-cause causes state at (event.Report i o) (refusal.Report p c) (refusal.Report q d) x y = ap (λ k. refusal.Report k c) (x.0 ∙ sym y.0) ∙ ap (refusal.Report q) (causes.one_report state i o c d x.1 y.1)
+
+one-stop : HaveOneCause → (state : State) (events : List Event) (a b : RunRefusal) → StopsAt state events a → StopsAt state events b → a ≡ b
+one-stop causes state events a b x y =
     let (front, last) = same-stop state x.before y.before x.event y.event x.later y.later (sym x.whole ∙ y.whole) x.run y.run x.barred y.barred in
-    one-cause (after_all state y.before) (length y.before) y.event a b
+    one-cause causes (after_all state y.before) (length y.before) y.event a b
     (subst (λ e. RefusesEvent (after_all state y.before) (length y.before) e a) last (subst (λ (xs : List Event). RefusesEvent (after_all state xs) (length xs) x.event a) front x.refused)) y.refused
 
 -- an event of a run may come
@@ -142,7 +151,7 @@ not-stopped state events cause x run = both_ways _ x.barred (may-come state x.be
 
 -- ---- what is written of a plan
 
-module _ (policy : Policy) (plan : Plan) (good : HasGoodNames (plan_records plan)) (ns : List NamedEvent) where
+module _ (causes : HaveOneCause) (policy : Policy) (plan : Plan) (good : HasGoodNames (plan_records plan)) (ns : List NamedEvent) where
   abbrev first : State
   first = at_first plan policy
 
@@ -155,7 +164,7 @@ module _ (policy : Policy) (plan : Plan) (good : HasGoodNames (plan_records plan
   one-least a b (OfIds i x same) (OfEnd fs r run barred equal) = absurd (not-unknown (plan_records plan) ns fs i r x.unknown)
   one-least a b (OfEvent es c q x same) (OfIds j y equal) = absurd (not-unknown (plan_records plan) ns es j q y.unknown)
   one-least a b (OfEvent es c q x same) (OfEvent fs d r y equal) =
-      same ∙ ap (λ k. run_refusal k) (one-stop first fs c d (subst (λ (l : List Event). StopsAt first l c) (same-events es fs q r) x) y) ∙ sym equal
+      same ∙ ap (λ k. run_refusal k) (one-stop causes first fs c d (subst (λ (l : List Event). StopsAt first l c) (same-events es fs q r) x) y) ∙ sym equal
   one-least a b (OfEvent es c q x same) (OfEnd fs r run barred equal) =
       absurd (not-stopped first fs c (subst (λ (l : List Event). StopsAt first l c) (same-events es fs q r) x) run)
   one-least a b (OfEnd es q run barred same) (OfIds j y equal) = absurd (not-unknown (plan_records plan) ns es j q y.unknown)

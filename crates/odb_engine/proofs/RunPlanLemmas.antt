@@ -1,5 +1,5 @@
 -- Plans of the same requests have the same runs by recorded events.
-use Rattle.std.proofs.Common.{◌≡◌, ◌∙◌, ℕ, false, List, [], length, inl, inr, refl, sym, ap, subst}
+use Rattle.std.proofs.Common.{◌≡◌, ◌↔◌, ◌∙◌, ℕ, false, List, [], length, inl, inr, refl, sym, ap, subst}
 use Rattle.std.specs.List.{AllZip}
 use Rattle.odb_doc.specs.declared.event.NamedEvent.{NamedEvent}
 use Rattle.odb_doc.specs.Records.{Record}
@@ -11,6 +11,12 @@ use Rattle.odb_sched.specs.declared.event.Event.TheVariants as event
 use Rattle.odb_sched.specs.declared.policy.Policy.{Policy}
 use Rattle.odb_sched.specs.declared.refusal.RunRefusal.{RunRefusal}
 use Rattle.odb_sched.specs.declared.refusal.RunRefusal.TheVariants as refusal
+use Rattle.odb_doc.specs.declared.outcome.Outcome.{Outcome}
+use Rattle.odb_sched.specs.declared.refusal.StartRefusal.{StartRefusal}
+use Rattle.odb_sched.specs.declared.refusal.StartRefusal.TheVariants as start
+use Rattle.odb_sched.specs.declared.refusal.ReportRefusal.{ReportRefusal}
+use Rattle.odb_sched.specs.declared.refusal.ReportRefusal.TheVariants as report
+use Rattle.odb_sched.specs.Causes.{BarsStart, BarsReport}
 use Rattle.odb_sched.specs.Laws.{StartsLast}
 use Rattle.odb_sched.specs.Resolving.{IsFirstUnknown, IsResolved}
 use Rattle.odb_sched.specs.Runs.{IsRunFrom, RefusesEvent, StopsAt, after_all}
@@ -25,7 +31,7 @@ use Rattle.odb_engine.specs.Replays.{response_line}
 use Rattle.odb_engine.specs.Runs.{AreResolved, IsLeastOfRun, IsResult, RunsPlan, RunsBatch, end_of}
 use Rattle.odb_engine.specs.Runs.IsLeastOfRun.{OfIds, OfEvent, OfEnd}
 use Rattle.odb_engine.proofs.PlanLemmas.{with_plan, IsRunFrom-plan, after_all-plan, at_first-plan, plan-kept, response_value-plan, result_text-plan}
-use Rattle.odb_engine.proofs.RunLawLemmas.{one-run}
+use Rattle.odb_engine.proofs.RunLawLemmas.{HaveOneCause, one-run}
 
 module _ (policy : Policy) (plan other : Plan) (same : plan_records plan ≡ plan_records other) (ns : List NamedEvent) where
   abbrev first : Plan → State
@@ -44,12 +50,25 @@ module _ (policy : Policy) (plan other : Plan) (same : plan_records plan ≡ pla
   come-plan state (event.Start i) = refl
   come-plan state (event.Report i outcome) = refl
 
+  bars-start : (state : State) (i : ℕ) (cause : StartRefusal) → BarsStart cause state i ↔ BarsStart cause (with_plan plan state) i
+  bars-start state i start.AlreadyStarted = ((λ e. e), (λ e. e))
+  bars-start state i start.Stopped = ((λ e. e), (λ e. e))
+  bars-start state i start.UnitFailed = ((λ e. e), (λ e. e))
+  bars-start state i (start.Waiting need) = ((λ e. e), (λ e. e))
+  bars-start state i start.WidthReached = ((λ e. e), (λ e. e))
+
+  bars-report : (state : State) (i : ℕ) (outcome : Outcome) (cause : ReportRefusal) → BarsReport cause state i outcome ↔ BarsReport cause (with_plan plan state) i outcome
+  bars-report state i outcome report.NotRunning = ((λ e. e), (λ e. e))
+  bars-report state i outcome report.BadStatus = ((λ e. e), (λ e. e))
+
   refused-plan : (state : State) (at : ℕ) (e : Event) (cause : RunRefusal) → RefusesEvent state at e cause → RefusesEvent (with_plan plan state) at e cause
-  refused-plan state at (event.Start i) (refusal.Start p c) x = x
+  refused-plan state at (event.Start i) (refusal.Start p c) (here, x) =
+      (here, record { broken = (bars-start state i c).0 x.broken; least = λ other less bars. x.least other less ((bars-start state i other).1 bars) })
   refused-plan state at (event.Start i) (refusal.Report p c) x = x
   refused-plan state at (event.Start i) refusal.OutOfMemory x = x
   refused-plan state at (event.Report i outcome) (refusal.Start p c) x = x
-  refused-plan state at (event.Report i outcome) (refusal.Report p c) x = x
+  refused-plan state at (event.Report i outcome) (refusal.Report p c) (here, x) =
+      (here, record { broken = (bars-report state i outcome c).0 x.broken; least = λ other less bars. x.least other less ((bars-report state i outcome other).1 bars) })
   refused-plan state at (event.Report i outcome) refusal.OutOfMemory x = x
 
   stops-plan : (events : List Event) (cause : RunRefusal) → StopsAt (first other) events cause → StopsAt (first plan) events cause
@@ -93,6 +112,6 @@ module _ (policy : Policy) (plan other : Plan) (same : plan_records plan ≡ pla
   runs-plan ended text (inr x) = inr (result-plan ended text x)
 
 -- the requests and the events have one text
-pub one-batch : (policy : Policy) (plan : Plan) (ns : List NamedEvent) → HasGoodNames (plan_records plan) → IsOne (RunsBatch policy ns (plan_records plan))
-one-batch policy plan ns good a b s t (one, same, x) (two, equal, y) =
-    one-run policy plan good ns a b s t (runs-plan policy plan one (sym same) ns a s x) (runs-plan policy plan two (sym equal) ns b t y)
+pub one-batch : HaveOneCause → (policy : Policy) (plan : Plan) (ns : List NamedEvent) → HasGoodNames (plan_records plan) → IsOne (RunsBatch policy ns (plan_records plan))
+one-batch causes policy plan ns good a b s t (one, same, x) (two, equal, y) =
+    one-run causes policy plan good ns a b s t (runs-plan policy plan one (sym same) ns a s x) (runs-plan policy plan two (sym equal) ns b t y)

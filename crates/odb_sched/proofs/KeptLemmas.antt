@@ -12,7 +12,8 @@ use Rattle.odb_sched.specs.declared.refusal.StartRefusal.{StartRefusal}
 use Rattle.odb_sched.specs.declared.refusal.ReportRefusal.{ReportRefusal}
 use Rattle.odb_sched.specs.Phases.{is_running}
 use Rattle.odb_sched.specs.State.{State, size, phase_at}
-use Rattle.odb_sched.specs.Steps.{may_start, may_report, start_refusal, report_refusal, is_finished}
+use Rattle.odb_sched.specs.Steps.{may_start, may_report, is_finished}
+use Rattle.odb_sched.specs.CauseTests.{start_refusal, report_refusal}
 use Rattle.odb_sched.specs.Plans.{state_of}
 use Rattle.odb_sched.specs.Reached.{IsReached}
 use Rattle.odb_sched.specs.Kept.{AreViews, IsKept}

@@ -4,6 +4,7 @@ pub mod PlanLemmas
 pub mod PhaseLemmas
 pub mod MetLemmas
 pub mod StartLemmas
+pub mod CauseLemmas
 pub mod StuckLemmas
 pub mod ReachedLemmas
 pub mod RunLemmas

@@ -15,7 +15,8 @@ use Rattle.odb_sched.specs.declared.refusal.ReportRefusal.TheVariants as report
 use Rattle.odb_sched.specs.Statuses.{is_status}
 use Rattle.odb_sched.specs.Phases.{is_unstarted, is_running}
 use Rattle.odb_sched.specs.State.{State, size, phase_at}
-use Rattle.odb_sched.specs.Steps.{is_stopped, unit_failed, is_met, all_met, running_count, may_start, may_report, waiting_refusal, start_refusal, report_refusal}
+use Rattle.odb_sched.specs.Steps.{is_stopped, unit_failed, is_met, all_met, running_count, may_start, may_report}
+use Rattle.odb_sched.specs.CauseTests.{waiting_refusal, start_refusal, report_refusal}
 use Rattle.odb_sched.proofs.BelowLemmas.{find-all}
 
 pub record MayStart (state : State) (i : ℕ) : Type 0 where

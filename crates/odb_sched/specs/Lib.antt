@@ -6,6 +6,8 @@ pub mod State
 pub mod Plans
 pub mod Failing
 pub mod Steps
+pub mod Causes
+pub mod CauseTests
 pub mod Runs
 pub mod Answers
 pub mod Laws

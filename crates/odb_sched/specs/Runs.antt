@@ -11,7 +11,8 @@ use Rattle.odb_sched.specs.declared.event.Event.TheVariants.{Start, Report}
 use Rattle.odb_sched.specs.declared.refusal.RunRefusal.{RunRefusal}
 use Rattle.odb_sched.specs.declared.refusal.RunRefusal.TheVariants as refusal
 use Rattle.odb_sched.specs.State.{State, size, at_first, after}
-use Rattle.odb_sched.specs.Steps.{may_come, start_refusal, report_refusal}
+use Rattle.odb_sched.specs.Steps.{may_come}
+use Rattle.odb_sched.specs.Causes.{IsStartCause, IsReportCause}
 
 abbrev pub position_of : Event → ℕ
 position_of (Start i) = i
@@ -63,11 +64,11 @@ phase_of i events = phase_by (first_report i events) (list_any (starts i) events
 
 -- an event may not come after a state, and this is the first cause; `at` is its place among the events
 abbrev pub RefusesEvent : State → ℕ → Event → RunRefusal → Type 0
-RefusesEvent state at (Start i) (refusal.Start place cause) = (place ≡ at) × (start_refusal state i ≡ Some cause)
+RefusesEvent state at (Start i) (refusal.Start place cause) = (place ≡ at) × IsStartCause state i cause
 RefusesEvent state at (Start i) (refusal.Report place cause) = ⊥
 RefusesEvent state at (Start i) refusal.OutOfMemory = ⊥
 RefusesEvent state at (Report i outcome) (refusal.Start place cause) = ⊥
-RefusesEvent state at (Report i outcome) (refusal.Report place cause) = (place ≡ at) × (report_refusal state i outcome ≡ Some cause)
+RefusesEvent state at (Report i outcome) (refusal.Report place cause) = (place ≡ at) × IsReportCause state i outcome cause
 RefusesEvent state at (Report i outcome) refusal.OutOfMemory = ⊥
 
 -- the events before the refused one are a run, after which it may not come

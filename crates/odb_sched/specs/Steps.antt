@@ -1,5 +1,5 @@
 -- Which event may come (OData JSON Format 4.01, section 19.4; OData Protocol 4.01, sections 8.2.8.3 and 11.7).
-use Rattle.std.specs.Prelude.{ℕ, ◌==◌, ◌&&◌, ◌||◌, Bool, true, false, not, nat_lt, nat_le, List, length, slice_index_or, Option, Some, None, count_by, find, if◌then◌else◌}
+use Rattle.std.specs.Prelude.{ℕ, ◌==◌, ◌&&◌, ◌||◌, Bool, true, false, not, nat_lt, List, length, slice_index_or, count_by}
 use Rattle.std.specs.List.{list_any, list_all}
 use Rattle.odb_doc.specs.declared.outcome.Outcome.{Outcome}
 use Rattle.odb_check.specs.declared.need.Need.{Need}
@@ -11,10 +11,6 @@ use Rattle.odb_sched.specs.declared.phase.Phase.{Phase}
 use Rattle.odb_sched.specs.declared.phase.Phase.TheVariants.{Unstarted}
 use Rattle.odb_sched.specs.declared.event.Event.{Event}
 use Rattle.odb_sched.specs.declared.event.Event.TheVariants.{Start, Report}
-use Rattle.odb_sched.specs.declared.refusal.StartRefusal.{StartRefusal}
-use Rattle.odb_sched.specs.declared.refusal.StartRefusal.TheVariants as start
-use Rattle.odb_sched.specs.declared.refusal.ReportRefusal.{ReportRefusal}
-use Rattle.odb_sched.specs.declared.refusal.ReportRefusal.TheVariants as report
 use Rattle.odb_sched.specs.Below.{any_below, all_below}
 use Rattle.odb_sched.specs.Statuses.{is_status}
 use Rattle.odb_sched.specs.Phases.{is_unstarted, is_running, is_reported, has_succeeded, has_failed, has_erred}
@@ -77,23 +73,3 @@ may_come state (Report i outcome) = may_report state i outcome
 -- none runs, and the run is stopped or each request was reported or is of a failed unit
 abbrev pub is_finished : State → Bool
 is_finished state = not (any_below (size state) (λ i. is_running (phase_at state i))) && (is_stopped state || all_below (size state) (λ i. is_reported (phase_at state i) || unit_failed state (unit_of state.shape i)))
-
--- the first need that is not met, else a full width
-abbrev pub waiting_refusal : Option Need → Bool → Option StartRefusal
-waiting_refusal (Some need) is_full = Some (start.Waiting need)
-waiting_refusal None is_full = if is_full then Some start.WidthReached else None
-
--- the first cause why a request may not start
-abbrev pub start_refusal : State → ℕ → Option StartRefusal
-start_refusal state i =
-    if not (is_unstarted (phase_at state i)) then Some start.AlreadyStarted
-    else if is_stopped state then Some start.Stopped
-    else if unit_failed state (unit_of state.shape i) then Some start.UnitFailed
-    else waiting_refusal (find (λ need. not (is_met state need)) (needs_of state.shape i)) (nat_le state.policy.width (running_count state))
-
--- the first cause why a request may not be reported
-abbrev pub report_refusal : State → ℕ → Outcome → Option ReportRefusal
-report_refusal state i outcome =
-    if not (is_running (phase_at state i)) then Some report.NotRunning
-    else if not (is_status outcome.status) then Some report.BadStatus
-    else None

@@ -4,17 +4,20 @@
 //! The laws are clauses of functions that change nothing. They speak of lists of events, and of the
 //! same words that the clauses of the scheduler use.
 
-ghost use Rattle.std.specs.Prelude.{◌≡◌, ◌≢◌, ℕ, ◌<◌, ◌≤◌, ◌++◌, ◌↔◌, Bool, true, List, map, length, Option, Some, IsTrue};
+ghost use Rattle.std.specs.Prelude.{◌≡◌, ℕ, ◌<◌, ◌≤◌, ◌++◌, ◌↔◌, Bool, true, List, map, length, Option, IsTrue};
 ghost use Rattle.odb_doc.specs.declared.outcome.Outcome.{Outcome};
 ghost use Rattle.odb_check.specs.Plans.{plan_records};
 ghost use Rattle.odb_sched.specs.declared.policy.Mode.TheVariants.{Continue};
 ghost use Rattle.odb_sched.specs.declared.policy.Policy.{Policy};
 ghost use Rattle.odb_sched.specs.declared.event.Event.{Event};
 ghost use Rattle.odb_sched.specs.declared.order.Order.{Order};
+ghost use Rattle.odb_sched.specs.declared.refusal.StartRefusal.{StartRefusal};
 ghost use Rattle.odb_sched.specs.declared.refusal.StartRefusal.TheVariants.{WidthReached};
+ghost use Rattle.odb_sched.specs.declared.refusal.ReportRefusal.{ReportRefusal};
 ghost use Rattle.odb_sched.specs.State.{State, size, shape, phase_at, at_first};
 ghost use Rattle.odb_sched.specs.Failing.{Fails, fails};
-ghost use Rattle.odb_sched.specs.Steps.{may_start, start_refusal, is_finished};
+ghost use Rattle.odb_sched.specs.Steps.{may_start, may_report, is_finished};
+ghost use Rattle.odb_sched.specs.Causes.{BarsStart, IsStartCause, BarsReport, IsReportCause};
 ghost use Rattle.odb_sched.specs.Runs.{IsRun, state_after, phase_of};
 ghost use Rattle.odb_sched.specs.Laws.{HaveSucceeded, StartsLast, IsNeverStuck, HasFewEvents, HasOneResult, HasSoundResult, IsAllOrNone, IsSound, SucceedsByMembers};
 ghost use Rattle.odb_doc.specs.Records.{Record};
@@ -49,10 +52,25 @@ pub fn every_start(plan: &Plan<'_>)
         → HaveSucceeded (plan_records plan.now) state i }
     ensures free { (state : State) (i : ℕ) → state.shape ≡ shape plan.now
         → length state.phases ≡ size state → i < size state → 10000 ≤ state.policy.width
-        → start_refusal state i ≢ Some WidthReached }
+        → ¬ IsStartCause state i WidthReached }
 {
     let _count = plan.len();
 }
+
+/// A start or a report may come if and only if no cause bars it, S1 to S5 or P1 and P2. Of the causes
+/// that bar one, a single one is the first.
+pub fn every_cause()
+    ensures start { (state : State) (i : ℕ) → IsTrue (may_start state i)
+        ↔ ((cause : StartRefusal) → ¬ BarsStart cause state i) }
+    ensures report { (state : State) (i : ℕ) (outcome : Outcome)
+        → IsTrue (may_report state i outcome)
+        ↔ ((cause : ReportRefusal) → ¬ BarsReport cause state i outcome) }
+    ensures one_start { (state : State) (i : ℕ) (cause other : StartRefusal)
+        → IsStartCause state i cause → IsStartCause state i other → cause ≡ other }
+    ensures one_report { (state : State) (i : ℕ) (outcome : Outcome) (cause other : ReportRefusal)
+        → IsReportCause state i outcome cause → IsReportCause state i outcome other
+        → cause ≡ other }
+{}
 
 /// A log of a service that each answered call adds one entry to has, after an execution, one entry
 /// more for each report, in the order of the reports; and each call is for the request that is
@@ -66,8 +84,7 @@ pub fn every_call<S: Service, X>()
     ensures positions { (requests : List Record) (events : List Event) (old new : S)
         → AsksAll S.performs requests events old new
         → map (λ call. call.0) (calls_of requests events) ≡ reported_by (map step_of events) }
-{
-}
+{}
 
 /// The answers of a finished run are those of each table of outcomes that its reports agree with.
 /// The answers of a group are all successes or none is, and a success needs only successes.

@@ -7,6 +7,8 @@ ghost use Rattle.odb_sched.specs.Below.{ListsOnce};
 ghost use Rattle.odb_sched.specs.Phases as tests;
 ghost use Rattle.odb_sched.specs.State as states;
 ghost use Rattle.odb_sched.specs.Steps as steps;
+ghost use Rattle.odb_sched.specs.Causes.{IsStartCause, IsReportCause};
+ghost use Rattle.odb_sched.specs.CauseTests as causes;
 ghost use Rattle.odb_sched.specs.Advances.{IsNext};
 ghost use Rattle.odb_sched.specs.Choosing.{IsNone, AllowsOrder};
 ghost use Rattle.odb_sched.specs.Courses as courses;
@@ -102,7 +104,7 @@ impl<'p> Scheduler<'p> {
     /// The first cause why a request may not start.
     fn start_refusal(&self, i: u32) -> Option<StartRefusal>
         requires { i < states.size self.now }
-        ensures { result ≡ steps.start_refusal self.now i }
+        ensures { result ≡ causes.start_refusal self.now i }
     {
         if !self.phases[i as usize].is_unstarted() {
             return Some(StartRefusal::AlreadyStarted);
@@ -131,7 +133,7 @@ impl<'p> Scheduler<'p> {
         requires { i < states.size self.old }
         ensures ok { OnOk result (self.new ≡ states.started self.old i) }
         ensures allowed { IsOk result ↔ IsTrue (steps.may_start self.old i) }
-        ensures cause { IfErr result (λ cause. steps.start_refusal self.old i ≡ Some cause) }
+        ensures cause { IfErr result (IsStartCause self.old i) }
         ensures err { OnErr result (self.new ≡ self.old) }
         ensures dependencies_first { OnOk result
             (laws.HaveSucceeded (plan_records self.old.plan) self.old i) }
@@ -150,7 +152,7 @@ impl<'p> Scheduler<'p> {
     /// The first cause why an outcome is not taken.
     fn report_refusal(&self, i: u32, outcome: &Outcome) -> Option<ReportRefusal>
         requires { i < states.size self.now }
-        ensures { result ≡ steps.report_refusal self.now i outcome.now }
+        ensures { result ≡ causes.report_refusal self.now i outcome.now }
     {
         if !self.phases[i as usize].is_running() {
             return Some(ReportRefusal::NotRunning);
@@ -170,7 +172,7 @@ impl<'p> Scheduler<'p> {
         requires { i < states.size self.old }
         ensures ok { OnOk result (self.new ≡ states.reported self.old i outcome) }
         ensures allowed { IsOk result ↔ IsTrue (steps.may_report self.old i outcome) }
-        ensures cause { IfErr result (λ e. steps.report_refusal self.old i outcome ≡ Some e.0) }
+        ensures cause { IfErr result (λ e. IsReportCause self.old i outcome e.0) }
         ensures back { IfErr result (λ e. e.1 ≡ outcome) }
         ensures err { OnErr result (self.new ≡ self.old) }
     {

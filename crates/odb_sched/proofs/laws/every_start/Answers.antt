@@ -3,6 +3,8 @@ use Rattle.std.proofs.Common.{◌≡◌, ◌≤◌, ◌∙◌, ap, arith, length
 use Rattle.odb_check.specs.Plans.{plan_records}
 use Rattle.odb_sched.specs.State.{size}
 use Rattle.odb_sched.proofs.PlanLemmas.{length-shape}
+use Rattle.odb_sched.specs.declared.refusal.StartRefusal.TheVariants.{WidthReached}
+use Rattle.odb_sched.proofs.CauseLemmas.{start_caused}
 use Rattle.odb_sched.proofs.NameLemmas.{named-succeeded}
 use Rattle.odb_sched.proofs.StartLemmas.{may_start-parts, not_held_back}
 use Rattle.odb_sched.proofs.laws.every_start.Goals as goal
@@ -15,4 +17,4 @@ returns-clause-free c = λ state i same each within wide.
     let count : c.len-count.result ≡ length (plan_records c.args.plan.now) = c.len-count.ensures.count in
     let few : c.len-count.result ≤ 10000 = c.len-count.ensures.small in
     let units : size state ≡ length (plan_records c.args.plan.now) = ap (λ shape. length shape.units) same ∙ length-shape c.args.plan.now in
-    not_held_back state i each within (omega arith)
+    λ cause. not_held_back state i each within (omega arith) (start_caused state i WidthReached cause)

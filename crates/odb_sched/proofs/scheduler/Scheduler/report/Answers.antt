@@ -9,6 +9,7 @@ use Rattle.odb_sched.specs.Steps.{may_report}
 use Rattle.odb_sched.specs.Plans.{state_of}
 use Rattle.odb_sched.specs.Kept.{AreViews, state_in}
 use Rattle.odb_sched.proofs.PhaseLemmas.{Running-from}
+use Rattle.odb_sched.proofs.CauseLemmas.{report_cause}
 use Rattle.odb_sched.proofs.ReachedLemmas.{reached_reported}
 use Rattle.odb_sched.proofs.KeptLemmas.{may_report-none, written_back, kept_written}
 use Rattle.odb_sched.proofs.scheduler.Scheduler.report.Goals as goal
@@ -32,3 +33,6 @@ invariant_of-self c = kept_written c.self.inside c.args.i (Reported c.args.outco
     (subst (λ state. c.args.i < size state) (sym c.self.view_is) c.requires)
     (subst (λ state. may_report state c.args.i c.args.outcome ≡ true) (sym c.self.view_is) (may_report-none c.args.self.now c.args.i c.args.outcome (sym c.report_refusal.ensures ∙ c.in_default.is))))
     c.deref.ensures.value c.report.ensures
+
+pub returns-in-Some-clause-cause : goal.returns-in-Some-clause-cause
+returns-in-Some-clause-cause c = report_cause c.args.self.now c.args.i c.args.outcome c.in-Some.cause (sym c.report_refusal.ensures ∙ c.in-Some.is)

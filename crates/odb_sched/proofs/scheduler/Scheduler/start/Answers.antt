@@ -1,5 +1,5 @@
 -- A start that is not refused may come, and the views are told of it.
-use Rattle.std.proofs.Common.{◌≡◌, ◌∙◌, sym, ap, subst, true, set, length-set, length, refl, ◌<◌, Some}
+use Rattle.std.proofs.Common.{◌≡◌, ◌∙◌, sym, ap, subst, true, set, length-set, length, refl, ◌<◌}
 use Rattle.std.proofs.lemmas.Bool.{both_ways, false≢true}
 use Rattle.odb_sched.specs.declared.phase.Phase.TheVariants.{Unstarted, Running}
 use Rattle.odb_sched.specs.State.{State, shape, size}
@@ -10,6 +10,8 @@ use Rattle.odb_sched.specs.Plans.{state_of}
 use Rattle.odb_sched.specs.Kept.{AreViews, state_in}
 use Rattle.odb_sched.proofs.PhaseLemmas.{Unstarted-from}
 use Rattle.odb_sched.proofs.StartLemmas.{may_start-parts}
+use Rattle.odb_sched.proofs.CauseLemmas.{start_cause}
+use Rattle.odb_sched.specs.Causes.{IsStartCause}
 use Rattle.odb_sched.proofs.ReachedLemmas.{reached_started}
 use Rattle.odb_sched.proofs.KeptLemmas.{may_start-none, may_start-some, written_back, kept_written}
 use Rattle.odb_sched.proofs.scheduler.Scheduler.start.Goals as goal
@@ -51,4 +53,7 @@ pub returns-in-Some-clause-free : goal.returns-in-Some-clause-free
 returns-in-Some-clause-free c wide is =
     let same : c.args.self.now.shape ≡ shape c.self.inside.plan.now = ap (λ (s : State). s.shape) (sym c.self.view_is) in
     let each : length c.args.self.now.phases ≡ size c.args.self.now = subst (λ (s : State). length s.phases ≡ size s) c.self.view_is c.self.invariant.reached.each in
-    c.every_start.ensures.free c.args.self.now c.args.i same each c.requires wide (sym c.start_refusal.ensures ∙ c.in-Some.is ∙ ap Some is)
+    c.every_start.ensures.free c.args.self.now c.args.i same each c.requires wide (subst (IsStartCause c.args.self.now c.args.i) is (start_cause c.args.self.now c.args.i c.in-Some.cause (sym c.start_refusal.ensures ∙ c.in-Some.is)))
+
+pub returns-in-Some-clause-cause : goal.returns-in-Some-clause-cause
+returns-in-Some-clause-cause c = start_cause c.args.self.now c.args.i c.in-Some.cause (sym c.start_refusal.ensures ∙ c.in-Some.is)
