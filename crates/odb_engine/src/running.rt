@@ -1,7 +1,7 @@
 ghost use Rattle.std.specs.Prelude.{◌≡◌, ◌≢◌, ◌<◌, ◌↔◌, Bool, All, Err, IsTrue, IfErr, IfOk};
 ghost use Rattle.odb_doc.specs.OutcomeLists.{entries};
 ghost use Rattle.odb_sched.specs.State.{size};
-ghost use Rattle.odb_sched.specs.Advances.{position_in};
+ghost use Rattle.odb_sched.specs.Courses.{position_in};
 ghost use Rattle.odb_reply.specs.NotWhole.{HasWholeBodies};
 ghost use Rattle.odb_engine.specs.declared.ending.Ended.TheVariants.{Done};
 ghost use Rattle.odb_engine.specs.declared.stop.Stop.TheVariants as stops;

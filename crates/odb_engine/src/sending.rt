@@ -1,6 +1,6 @@
 ghost use Rattle.std.specs.Prelude.{◌≡◌, ◌<◌, false, All};
 ghost use Rattle.odb_sched.specs.State.{size};
-ghost use Rattle.odb_sched.specs.Advances.{position_in};
+ghost use Rattle.odb_sched.specs.Courses.{position_in};
 ghost use Rattle.odb_reply.specs.NotWhole.{HasWholeBodies};
 ghost use Rattle.odb_reply.specs.Responses as responses;
 ghost use Rattle.odb_engine.specs.Cascade.{Prints};

@@ -2,7 +2,7 @@ ghost use Rattle.std.specs.Prelude.{◌≡◌, ◌<◌, All, IfOk, string_bytes}
 ghost use Rattle.odb_sched.specs.Answers.{reported, status_of};
 ghost use Rattle.std.specs.List.{flat_map};
 ghost use Rattle.odb_sched.specs.State.{size};
-ghost use Rattle.odb_sched.specs.Advances.{position_in};
+ghost use Rattle.odb_sched.specs.Courses.{position_in};
 ghost use Rattle.odb_engine.specs.Traces as traces;
 
 use odb_sched::{Done, Step, Trace};

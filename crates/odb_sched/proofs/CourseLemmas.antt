@@ -29,8 +29,8 @@ use Rattle.odb_sched.specs.Runs.{position_of, after_all, IsRunFrom}
 use Rattle.odb_sched.specs.Answers.{outcome_of, reported as reported_at}
 use Rattle.odb_sched.specs.Reached.{IsReached}
 use Rattle.odb_sched.specs.Choosing.{Positions, positions_of, IsAmong}
-use Rattle.odb_sched.specs.Courses.{Allowance, Offer, ready_set, running_set, IsAllowed, IsOffered, step_of, AreChosen, IsCourse, IsDue, IsFinishedBy, IsCausedBy}
-use Rattle.odb_sched.specs.Advances.{position_in, MayTake, IsNext, IsTaken, IsTakenBy}
+use Rattle.odb_sched.specs.Courses.{Allowance, Offer, ready_set, running_set, IsAllowed, IsOffered, step_of, AreChosen, IsCourse, IsDue, IsFinishedBy, IsCausedBy, position_in}
+use Rattle.odb_sched.specs.Advances.{MayTake, IsNext, IsTaken, IsTakenBy}
 use Rattle.odb_sched.specs.Calls.{Performing, IsCall, Asks, AsksAll, IsDueNow, Faults, IsCutShort}
 use Rattle.odb_sched.specs.Laws.{StartsLast}
 use Rattle.odb_doc.specs.Records.{Record}

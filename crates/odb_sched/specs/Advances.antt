@@ -1,5 +1,5 @@
--- One step of an execution.
-use Rattle.std.specs.Prelude.{◌≡◌, ℕ, ◌<◌, true, List}
+-- Private: one step of an execution.
+use Rattle.std.specs.Prelude.{◌≡◌, ◌<◌, true, List}
 use Rattle.odb_doc.specs.Records.{Record}
 use Rattle.odb_sched.specs.declared.event.Event.{Event}
 use Rattle.odb_sched.specs.declared.step.Step.{Step}
@@ -7,12 +7,8 @@ use Rattle.odb_sched.specs.declared.step.Step.TheVariants as step
 use Rattle.odb_sched.specs.Phases.{is_running}
 use Rattle.odb_sched.specs.State.{State, size, phase_at, after}
 use Rattle.odb_sched.specs.Steps.{may_start, may_come}
-use Rattle.odb_sched.specs.Courses.{Allowance, Offer, IsAllowed, IsOffered, step_of}
+use Rattle.odb_sched.specs.Courses.{Allowance, Offer, IsAllowed, IsOffered, step_of, position_in}
 use Rattle.odb_sched.specs.Calls.{Performing, Asks}
-
-abbrev pub position_in : Step → ℕ
-position_in (step.Start i) = i
-position_in (step.Report i) = i
 
 -- the request may start, or runs
 abbrev pub MayTake : State → Step → Type 0

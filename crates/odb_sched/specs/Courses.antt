@@ -42,6 +42,11 @@ abbrev pub step_of : Event → Step
 step_of (Start i) = step.Start i
 step_of (Report i outcome) = step.Report i
 
+-- the position of the request that a step is of
+abbrev pub position_in : Step → ℕ
+position_in (step.Start i) = i
+position_in (step.Report i) = i
+
 -- the outcome of a report is offered for its request
 abbrev pub IsOffered : Offer → Event → Type 0
 IsOffered offers (Start i) = Unit {0}

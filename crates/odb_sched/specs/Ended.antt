@@ -1,4 +1,4 @@
--- What a finished run keeps.
+-- Private: what a finished run keeps.
 use Rattle.std.specs.Prelude.{◌≡◌, true, length}
 use Rattle.odb_sched.specs.declared.done.Done.TheInside.{Inside}
 use Rattle.odb_sched.specs.State.{State, shape}

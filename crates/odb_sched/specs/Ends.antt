@@ -1,4 +1,4 @@
--- One end of a set of positions, and the steps that go by it.
+-- Private: the least or the greatest of a set of positions, and the steps that follow it.
 use Rattle.std.specs.Prelude.{◌≡◌, ℕ, ◌<◌, Bool, true, false, List, length, slice_index_or}
 use Rattle.odb_sched.specs.declared.order.End.{End}
 use Rattle.odb_sched.specs.declared.order.End.TheVariants.{Least, Greatest}

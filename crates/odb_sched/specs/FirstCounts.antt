@@ -1,4 +1,4 @@
--- What is counted of a plan before any event.
+-- Private: what is counted of a plan before any event.
 use Rattle.std.specs.Prelude.{ℕ, ◌==◌, List, length}
 use Rattle.odb_check.specs.Firsts.{count_below, list_below}
 use Rattle.odb_check.specs.Shape.{Shape, unit_of, needs_of}

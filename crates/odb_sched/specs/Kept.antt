@@ -1,4 +1,4 @@
--- What a scheduler keeps from one event to the next.
+-- Private: what a scheduler keeps from one event to the next.
 use Rattle.std.specs.Prelude.{◌≡◌}
 use Rattle.odb_sched.specs.declared.views.Views.{Views}
 use Rattle.odb_sched.specs.declared.scheduler.Scheduler.TheInside.{Inside}

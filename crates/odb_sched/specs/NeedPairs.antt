@@ -1,4 +1,4 @@
--- The needs of a run as pairs: the key of what is needed, and who needs it.
+-- Private: the needs of a plan as pairs of the key of what is needed and the request that needs it.
 use Rattle.std.specs.Prelude.{ℕ, List, map, length}
 use Rattle.odb_check.specs.Firsts.{joined_below}
 use Rattle.odb_check.specs.Shape.{Shape, needs_of}

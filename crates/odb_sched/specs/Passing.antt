@@ -1,4 +1,4 @@
--- How a failure is passed on from unit to unit, by a worklist.
+-- Private: how a failure is propagated from unit to unit by a worklist.
 use Rattle.std.specs.Prelude.{◌≡◌, ◌==◌, ◌&&◌, ℕ, ◌<◌, Bool, true, not, nat_le, List, length, slice_index_or, Contains}
 use Rattle.odb_dense.specs.declared.worklist.Standing.{Standing}
 use Rattle.odb_dense.specs.declared.worklist.Standing.TheVariants.{Sound}

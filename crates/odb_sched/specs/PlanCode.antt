@@ -1,4 +1,4 @@
--- By what a proof tells plans apart.
+-- Private: how a proof tells plans apart.
 use Rattle.std.specs.Prelude.{[]}
 use Rattle.std.specs.Coded.{Coded}
 use Rattle.odb_check.specs.contracts.plan.Plan as source

@@ -1,4 +1,4 @@
--- A plan as a run sees it.
+-- Private: a plan as the scheduler sees it.
 use Rattle.std.specs.Prelude.{◌≡◌, ◌↔◌, ℕ, ◌<◌, ◌≤◌, List, length}
 use Rattle.odb_check.specs.declared.plan.Plan.{Plan}
 use Rattle.odb_check.specs.declared.need.Need.{Need}

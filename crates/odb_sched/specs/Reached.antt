@@ -1,4 +1,4 @@
--- The states that a run can reach.
+-- Private: what holds of every state that a run can reach.
 use Rattle.std.specs.Prelude.{◌≡◌, ℕ, ◌<◌, ◌≤◌, true, false, length}
 use Rattle.odb_check.specs.Shape.{IsPlan}
 use Rattle.odb_sched.specs.Phases.{is_unstarted}

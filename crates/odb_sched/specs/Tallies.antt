@@ -1,4 +1,4 @@
--- What a scheduler counts beside where the requests of its run stand.
+-- Private: what a scheduler counts beside the phases of its requests.
 use Rattle.std.specs.Prelude.{◌≡◌, ℕ, ◌<◌, ◌==◌, ◌&&◌, ◌+◌, Bool, false, not, List, [], length, map, slice_index_or, count_by, All, if◌then◌else◌}
 use Rattle.odb_dense.specs.declared.worklist.Standing.{Standing}
 use Rattle.odb_dense.specs.declared.worklist.Standing.TheVariants.{Sound}

@@ -7,9 +7,9 @@ ghost use Rattle.odb_sched.specs.declared.step.Step.TheVariants as kinds;
 ghost use Rattle.odb_sched.specs.State.{size, at_first};
 ghost use Rattle.odb_sched.specs.Steps.{is_finished};
 ghost use Rattle.odb_sched.specs.Choosing.{Positions, positions_of, IsAmong};
-ghost use Rattle.odb_sched.specs.Courses.{IsDue, IsCausedBy};
+ghost use Rattle.odb_sched.specs.Courses.{IsDue, IsCausedBy, position_in};
 ghost use Rattle.odb_sched.specs.Calls.{IsExecution, IsCutShort, IsBrokenOff, Faults};
-ghost use Rattle.odb_sched.specs.Advances.{position_in, MayTake, IsNext, IsTakenBy};
+ghost use Rattle.odb_sched.specs.Advances.{MayTake, IsNext, IsTakenBy};
 ghost use Rattle.odb_sched.specs.Answers.{reported};
 ghost use Rattle.odb_sched.specs.Laws as laws;
 

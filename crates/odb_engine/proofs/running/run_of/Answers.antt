@@ -1,5 +1,5 @@
 -- An execution by recorded outcomes.
-use Rattle.std.proofs.Common.{◌≡◌, subst, refl, Some, Ok, ℕ, List, IfErr}
+use Rattle.std.proofs.Common.{◌≡◌, subst, refl, Some, Ok, ℕ, IfErr}
 use Rattle.odb_doc.specs.declared.outcome.Outcome.{Outcome}
 use Rattle.odb_doc.specs.OutcomeLists.{entries}
 use Rattle.odb_check.specs.Plans.{plan_records}
