@@ -2,6 +2,7 @@
 //! each request is answered in the end.
 
 mod batches;
+mod calls;
 mod draws;
 mod embedding;
 mod events;
