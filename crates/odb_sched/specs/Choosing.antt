@@ -1,4 +1,4 @@
--- Which step of a run comes next, as one allows it who chooses among the requests that may start and those that run.
+-- Which step of a run comes next, as a chooser allows it, given the ready and the running positions.
 use Rattle.std.specs.Prelude.{◌≡◌, ℕ, ◌<◌, ◌≤◌, true, false, List, length, slice_index_or, Contains}
 use Rattle.std.specs.Ordering.{nat_cmp}
 use Rattle.std.specs.FinSet.{FinSet, from_list, contains}

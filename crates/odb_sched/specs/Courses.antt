@@ -17,7 +17,7 @@ use Rattle.odb_sched.specs.Steps.{may_start, is_finished}
 use Rattle.odb_sched.specs.Runs.{IsRunFrom, after_all}
 use Rattle.odb_sched.specs.Choosing.{Positions, positions_of}
 
--- which steps are allowed for the positions that may start and those that run
+-- which steps are allowed, given the ready and the running positions
 abbrev pub Allowance : Type 1
 Allowance = Positions → Positions → Step → Type 0
 
@@ -25,11 +25,11 @@ Allowance = Positions → Positions → Step → Type 0
 abbrev pub Offer : Type 1
 Offer = ℕ → Result Outcome ServiceFault → Type 0
 
--- the positions that may start
+-- the ready positions
 abbrev pub ready_set : State → Positions
 ready_set state = positions_of (passing_below (size state) (may_start state))
 
--- the positions that run
+-- the running positions
 abbrev pub running_set : State → Positions
 running_set state = positions_of (passing_below (size state) (λ i. is_running (phase_at state i)))
 
@@ -82,7 +82,7 @@ pub record IsFinishedBy (allows : Allowance) (offers : Offer) (state : State) (s
 abbrev pub OffersBadStatus : Offer → ℕ → Type 0
 OffersBadStatus offers i = (outcome : Outcome) × offers i (Ok outcome) × (is_status outcome.status ≡ false)
 
--- the fault is the answer that was offered for such a request. Want of memory says nothing
+-- the fault is the answer that was offered for such a request. Out of memory says nothing
 abbrev pub IsCausedBy : Offer → (ℕ → Type 0) → ExecFault → Type 0
 IsCausedBy offers such (fault.NoOutcome i) = such i × offers i (Err service.NoOutcome)
 IsCausedBy offers such (fault.Service i) = such i × offers i (Err service.Failed)

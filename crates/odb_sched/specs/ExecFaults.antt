@@ -5,7 +5,7 @@ use Rattle.odb_doc.specs.declared.fault.Place.TheVariants as places
 use Rattle.odb_sched.specs.declared.fault.ExecFault.{ExecFault}
 use Rattle.odb_sched.specs.declared.fault.ExecFault.TheVariants as fault
 
--- any fault but want of memory
+-- any fault but out of memory
 abbrev pub IsNumbered : ExecFault → Type 0
 IsNumbered cause = cause ≢ fault.OutOfMemory
 

@@ -31,7 +31,7 @@ abbrev pub report_name : ReportRefusal → List ℕ
 report_name report.NotRunning = codes "NotRunning"
 report_name report.BadStatus = codes "BadStatus"
 
--- any refusal but want of memory
+-- any refusal but out of memory
 abbrev pub IsNumbered : RunRefusal → Type 0
 IsNumbered cause = cause ≢ refusal.OutOfMemory
 

@@ -81,7 +81,7 @@ pub record StopsAt (state : State) (events : List Event) (cause : RunRefusal) : 
   pub barred : may_come (after_all state before) event ≡ false
   pub refused : RefusesEvent (after_all state before) (length before) event cause
 
--- why a list of events is no run. Want of memory says nothing
+-- why a list of events is no run. Out of memory says nothing
 abbrev pub Refuses : State → List Event → RunRefusal → Type 0
 Refuses state events refusal.OutOfMemory = Unit {0}
 Refuses state events cause = StopsAt state events cause

@@ -45,8 +45,8 @@ fn take(scheduler: &mut Scheduler<'_>, at: usize, event: Event) -> Result<(), Ru
 ///
 /// # Errors
 ///
-/// The first event that may not come, by its place, with its first cause in the order S1 to S5, or
-/// P1 and P2; `OutOfMemory` where memory was refused.
+/// `Start` or `Report` for the first event that may not come: its place, and the least of the causes
+/// S1 to S5 or P1 and P2 that bar it. `OutOfMemory` if allocation failed.
 pub fn run<'a: 'p, 'p>(
     alloc: Global,
     plan: &'p Plan<'a>,

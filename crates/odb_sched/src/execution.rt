@@ -35,7 +35,7 @@ pub struct Trace<'p> {
     pub steps: Vec<Step>,
 }
 
-/// The step that the chooser picks among the positions that may start and those that run.
+/// The step that the chooser picks among the ready and the running positions.
 fn pick(chooser: &mut dyn Chooser, ready: &[u32], running: &[u32]) -> Step
     requires { 0 < length ready.now + length running.now }
     ensures among { IsAmong ready.now running.now result }
@@ -50,7 +50,7 @@ fn pick(chooser: &mut dyn Chooser, ready: &[u32], running: &[u32]) -> Step
     }
 }
 
-/// The next step that the chooser picks, or `None` where the run is finished.
+/// The next step that the chooser picks, or `None` if the run is finished.
 fn next_choice(scheduler: &Scheduler<'_>, chooser: &mut dyn Chooser) -> Option<Step>
     ensures finished { result ≡ None → is_finished scheduler.now ≡ true }
     ensures next { IfSome result (IsNext (allows chooser.old) scheduler.now) }
@@ -63,8 +63,7 @@ fn next_choice(scheduler: &Scheduler<'_>, chooser: &mut dyn Chooser) -> Option<S
     Some(pick(chooser, scheduler.ready(), scheduler.running()))
 }
 
-/// The next step, or `None` where the run is finished. A chooser that goes by an order is not asked
-/// for it.
+/// The next step, or `None` if the run is finished. A chooser that names an order is not asked.
 fn next_step(scheduler: &mut Scheduler<'_>, chooser: &mut dyn Chooser) -> Option<Step>
     ensures same { scheduler.new ≡ scheduler.old }
     ensures finished { result ≡ None → is_finished scheduler.old ≡ true }
@@ -78,14 +77,14 @@ fn next_step(scheduler: &mut Scheduler<'_>, chooser: &mut dyn Chooser) -> Option
     }
 }
 
-/// The fault of a request whose outcome is not taken.
+/// The fault of a request whose outcome is not accepted.
 fn bad_status(i: u32, _refused: (ReportRefusal, Outcome)) -> ExecFault
     ensures { result ≡ faults.BadStatus i }
 {
     ExecFault::BadStatus(i)
 }
 
-/// Asks the service for the outcome of a request that runs, and reports it.
+/// Asks the service for the outcome of a running request, and reports it.
 fn report<S: Service>(
     scheduler: &mut Scheduler<'_>,
     plan: &Plan<'_>,
@@ -195,15 +194,16 @@ fn prepared<'a: 'p, 'p>(
 /// request when its report is chosen (OData JSON Format 4.01, section 19.4; OData Protocol 4.01,
 /// section 11.7).
 ///
-/// There are two steps to a request at most, and their memory is taken before the first. A run is
-/// never stuck, so there is no fault for one that is.
+/// A run has at most two steps per request, and memory for all of them is reserved before the first. A
+/// run cannot deadlock, so there is no fault for that. The service is asked once for each report, and
+/// for nothing else ([`crate::laws::every_call`]).
 ///
 /// # Errors
 ///
-/// F80, F81 or F82 for the request whose report was chosen, where the service has no outcome for
-/// it, failed, or gave a status that is not from 200 to 599; `OutOfMemory` where memory was
-/// refused: before the first step, and then the service was asked for nothing, or to the service.
-/// Chooser and service are left as their calls so far left them.
+/// F80, F81 or F82 for the request whose report was chosen, if the service has no outcome for it,
+/// failed, or gave a status that is not from 200 to 599. `OutOfMemory` if allocation failed: before
+/// the first step, and then the service was asked for nothing, or in the service. Chooser and service
+/// are left as their calls so far left them.
 pub fn execute<'a: 'p, 'p, S: Service>(
     alloc: Global,
     plan: &'p Plan<'a>,

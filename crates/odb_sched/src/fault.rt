@@ -5,8 +5,8 @@ use odb_doc::Place;
 use std::alloc::AllocError;
 use thiserror::Error;
 
-/// Why an execution has no end. Each names the position of a request, counted from 0, whose report
-/// was chosen.
+/// Why an execution could not be completed. Each names the position of a request, counted from 0,
+/// whose report was chosen.
 #[derive(Clone, Copy, Debug, PartialEq, Eq, Error)]
 pub enum ExecFault {
     /// F80: the service has no outcome for it.
@@ -18,7 +18,7 @@ pub enum ExecFault {
     /// F82: the service gave a status that is not from 200 to 599.
     #[error("request {0}: the status is not from 200 to 599")]
     BadStatus(u32),
-    /// Memory was refused, here or to the service. That says nothing of the requests.
+    /// Allocation failed, here or in the service. That says nothing of the requests.
     #[error("out of memory")]
     OutOfMemory,
 }
@@ -52,7 +52,7 @@ impl ExecFault {
         }
     }
 
-    /// Where a numbered fault lies: at the request in its batch.
+    /// The place of a numbered fault: the request in its batch.
     pub fn place(&self) -> Place
         requires { IsNumbered self.now }
         ensures { result ≡ exec_place self.now }

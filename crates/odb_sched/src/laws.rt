@@ -29,7 +29,7 @@ use crate::service::Service;
 use odb_check::Plan;
 
 /// No request starts before all that it names has ended with success. A run that is not finished
-/// has a request that runs or one that may start, and none has more than a start and a report.
+/// has a running or a ready request, and no request has more than a start and a report.
 pub fn every_run(plan: &Plan<'_>)
     ensures dependencies_first { (policy : Policy) (events : List Event)
         → IsRun plan.now policy events
@@ -72,9 +72,9 @@ pub fn every_cause()
         → cause ≡ other }
 {}
 
-/// A log of a service that each answered call adds one entry to has, after an execution, one entry
-/// more for each report, in the order of the reports; and each call is for the request that is
-/// reported. So a service is asked once for each report and for nothing else.
+/// What a service's own log has of an execution. If each answered call adds one entry, the log has one
+/// new entry for each report, in the order of the reports, and each call is for the request that is
+/// reported. So a service is asked once for each report, and for nothing else.
 pub fn every_call<S: Service, X>()
     ensures logged { (log : S → List X) (entry : Call → X)
         → Writes S.performs log entry
@@ -87,7 +87,7 @@ pub fn every_call<S: Service, X>()
 {}
 
 /// The answers of a finished run are those of each table of outcomes that its reports agree with.
-/// The answers of a group are all successes or none is, and a success needs only successes.
+/// The answers of a group are all successes or none is, and a success depends on successes alone.
 pub fn every_result(plan: &Plan<'_>)
     ensures one_result { (policy : Policy) (events : List Event)
         → policy.mode ≡ Continue → IsRun plan.now policy events
@@ -106,9 +106,9 @@ pub fn every_result(plan: &Plan<'_>)
     let _count = plan.len();
 }
 
-/// What the words of the laws mean that are tests: a request stands where its start and its first
-/// report say, a failing unit is the least relation of that name, and a unit succeeds under a table
-/// where its members do, and the other units that they need.
+/// Shows that the definitions above that compute mean what they should: the phase of a request is that
+/// of its start and its first report, `fails` is the least relation closed under its two rules, and a
+/// unit succeeds under a table if its members do and the other units that they depend on.
 pub fn every_word(plan: &Plan<'_>)
     ensures phases { (policy : Policy) (events : List Event) (i : ℕ)
         → IsRun plan.now policy events

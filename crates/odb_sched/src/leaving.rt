@@ -10,7 +10,8 @@ use crate::shape::unit_of;
 use crate::tally::Tally;
 use odb_check::Plan;
 
-/// A request that ran has reported, as its phase says: it runs no longer, and is open no longer.
+/// Takes a request that has reported off the running ones, and off the open ones. `phases[i]` already
+/// holds the outcome.
 pub(crate) fn leave(plan: &Plan<'_>, phases: &[Phase], i: u32, tally: &mut Tally)
     requires laws { shapes.IsPlan (shape plan.now) }
     requires each { length phases.now ≡ length (shape plan.now).units }

@@ -13,8 +13,8 @@ use crate::tally::Tally;
 use odb_check::Plan;
 use odb_dense::Rows;
 
-/// One need of a request is met: the last one makes it ready, where it has not started and its unit
-/// has not failed.
+/// Takes one satisfied need off a request. The last one makes it ready, unless it has started or its
+/// unit has failed.
 fn meet(plan: &Plan<'_>, phases: &[Phase], i: u32, tally: &mut Tally)
     requires laws { shapes.IsPlan (shape plan.now) }
     requires each { length phases.now ≡ length (shape plan.now).units }
@@ -39,7 +39,7 @@ fn meet(plan: &Plan<'_>, phases: &[Phase], i: u32, tally: &mut Tally)
     }
 }
 
-/// One need is met for each entry of a list.
+/// Takes one satisfied need off the request of each entry of a list.
 fn meet_each(plan: &Plan<'_>, phases: &[Phase], list: &[u32], tally: &mut Tally)
     requires laws { shapes.IsPlan (shape plan.now) }
     requires each { length phases.now ≡ length (shape plan.now).units }
@@ -61,7 +61,7 @@ fn meet_each(plan: &Plan<'_>, phases: &[Phase], list: &[u32], tally: &mut Tally)
     }
 }
 
-/// What needs a unit has one need less, where the last member of the unit has reported a success.
+/// Takes one satisfied need off each dependent of a unit, if all members of the unit have succeeded.
 fn meet_unit(plan: &Plan<'_>, phases: &[Phase], needers: &Rows, u: u32, tally: &mut Tally)
     requires laws { shapes.IsPlan (shape plan.now) }
     requires each { length phases.now ≡ length (shape plan.now).units }
@@ -89,7 +89,7 @@ fn meet_unit(plan: &Plan<'_>, phases: &[Phase], needers: &Rows, u: u32, tally: &
     }
 }
 
-/// A member of a unit has reported a success.
+/// Takes a member that has succeeded off those that its unit waits for.
 fn settle(u: u32, tally: &mut Tally)
     requires unit { u < length tally.old.pending.items }
     requires some { 0 < slice_index_or tally.old.pending.items u 0 }
@@ -100,8 +100,8 @@ fn settle(u: u32, tally: &mut Tally)
     tally.pending[u as usize] -= 1;
 }
 
-/// A request that ran has reported a success, as its phase says: what needs it has one need less, and
-/// what needs its unit, where it was the last of its members.
+/// Handles a request that has succeeded: its dependents have one need less, and so have those of its
+/// unit if it was the last of the members. `phases[i]` already holds the outcome.
 pub(crate) fn succeed(plan: &Plan<'_>, phases: &[Phase], needers: &Rows, i: u32, tally: &mut Tally)
     requires laws { shapes.IsPlan (shape plan.now) }
     requires each { length phases.now ≡ length (shape plan.now).units }

@@ -56,7 +56,7 @@ fn pairs_of(alloc: Global, plan: &Plan<'_>) -> Result<Vec<(u32, u32)>, AllocErro
 ///
 /// # Errors
 ///
-/// Where memory for the keys and the needs is not to be had.
+/// If memory for the keys and the needs cannot be allocated.
 pub(crate) fn needers_of(alloc: Global, plan: &Plan<'_>) -> Result<Rows, AllocError>
     ensures { IfOk result (tallies.AreNeeders (shape plan.now)) }
 {

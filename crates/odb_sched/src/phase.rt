@@ -3,7 +3,7 @@ ghost use Rattle.odb_sched.specs.Statuses as statuses;
 
 use odb_doc::Outcome;
 
-/// Where a request stands in a run.
+/// What has happened to a request in a run.
 #[derive(Debug, Drop)]
 pub enum Phase {
     Unstarted,

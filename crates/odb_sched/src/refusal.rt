@@ -18,7 +18,7 @@ pub enum StartRefusal {
     /// S3: a request of its unit did not succeed, or needs something of another unit that failed.
     #[error("the unit of the request has failed")]
     UnitFailed,
-    /// S4: this is the first of its needs that has not ended with success.
+    /// S4: this is the first of its needs that is not satisfied.
     #[error("the request waits for {0:?}")]
     Waiting(Need),
     /// S5: as many requests run as the width allows.

@@ -32,8 +32,8 @@ use std::marker::Model;
 
 /// One run of a plan, as far as it has come (OData Protocol 4.01, section 11.7).
 ///
-/// A start takes a time in proportion to what the request needs, and all reports together one in
-/// proportion to the requests and what they need. What is asked between events is at hand.
+/// `start` costs O(dependencies of the request); all reports of a run together cost O(requests +
+/// dependencies). `ready`, `running` and `is_finished` take constant time.
 #[derive(Drop)]
 pub struct Scheduler<'p> {
     plan: &'p Plan<'p>,
@@ -72,7 +72,7 @@ fn all_unstarted(alloc: Global, count: u32) -> Result<Vec<Phase>, AllocError>
     Ok(phases)
 }
 
-/// Writes where a request stands now.
+/// Writes the phase of a request.
 fn put(phases: &mut [Phase], i: u32, phase: Phase)
     requires { i < length phases.old }
     ensures { phases.new ≡ slice_set phases.old i phase }
@@ -149,7 +149,7 @@ impl<'p> Scheduler<'p> {
         Ok(())
     }
 
-    /// The first cause why an outcome is not taken.
+    /// The first cause why an outcome is not accepted.
     fn report_refusal(&self, i: u32, outcome: &Outcome) -> Option<ReportRefusal>
         requires { i < states.size self.now }
         ensures { result ≡ causes.report_refusal self.now i outcome.now }
@@ -163,7 +163,7 @@ impl<'p> Scheduler<'p> {
         None
     }
 
-    /// Takes the outcome of a request that runs.
+    /// Takes the outcome of a running request.
     ///
     /// # Errors
     ///
@@ -184,7 +184,7 @@ impl<'p> Scheduler<'p> {
         Ok(())
     }
 
-    /// The positions that may start, each once, in an order that is open.
+    /// The ready positions, each once, in no particular order.
     pub fn ready(&self) -> &[u32]
         ensures listed { ListsOnce (states.size self.now) (steps.may_start self.now) result.now }
         ensures within { All (λ i. i < states.size self.now) result.now }
@@ -192,7 +192,7 @@ impl<'p> Scheduler<'p> {
         self.views.ready(self.policy)
     }
 
-    /// The positions that run, each once, in an order that is open.
+    /// The running positions, each once, in no particular order.
     pub fn running(&self) -> &[u32]
         ensures listed { ListsOnce (states.size self.now)
             (λ i. tests.is_running (states.phase_at self.now i)) result.now }
@@ -202,7 +202,7 @@ impl<'p> Scheduler<'p> {
         self.views.running()
     }
 
-    /// The position at one end of those that may start.
+    /// The least or the greatest ready position.
     fn ready_at(&mut self, end: End) -> Option<u32>
         ensures same { self.new ≡ self.old }
         ensures none { result ≡ None → IsNone (courses.ready_set self.old) }
@@ -214,7 +214,7 @@ impl<'p> Scheduler<'p> {
         self.views.ready_at(self.policy, end)
     }
 
-    /// The position at one end of those that run.
+    /// The least or the greatest running position.
     fn running_at(&mut self, end: End) -> Option<u32>
         ensures same { self.new ≡ self.old }
         ensures none { result ≡ None → IsNone (courses.running_set self.old) }
@@ -227,8 +227,7 @@ impl<'p> Scheduler<'p> {
         self.views.running_at(end)
     }
 
-    /// The report at one end of the positions that run, or else the start at that end of those that
-    /// may start.
+    /// The report of the least or the greatest running position, or else the start of that ready one.
     fn report_or_start(&mut self, end: End) -> Option<Step>
         ensures same { self.new ≡ self.old }
         ensures finished { result ≡ None → steps.is_finished self.old ≡ true }
@@ -243,8 +242,7 @@ impl<'p> Scheduler<'p> {
         }
     }
 
-    /// The start at one end of the positions that may start, or else the report at that end of those
-    /// that run.
+    /// The start of the least or the greatest ready position, or else the report of that running one.
     fn start_or_report(&mut self, end: End) -> Option<Step>
         ensures same { self.new ≡ self.old }
         ensures finished { result ≡ None → steps.is_finished self.old ≡ true }

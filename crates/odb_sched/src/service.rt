@@ -10,15 +10,16 @@ pub enum ServiceFault {
     /// It failed.
     #[error("the service failed")]
     Failed,
-    /// Memory was refused. That says nothing of the request.
+    /// Allocation failed. That says nothing of the request.
     #[error("out of memory")]
     OutOfMemory,
 }
 
 /// Performs requests (OData JSON Format 4.01, section 19.4).
 ///
-/// What a service may answer is a relation of its own. An answer for one request changes nothing of
-/// what it may answer for another.
+/// Each service defines by `offers` what it may answer, where an answer for one request changes
+/// nothing of what it may answer for another, and by `performs` what a call does to it. A service that
+/// promises nothing writes `λ _ _ _. Unit {0}` and `λ _ _ _ _ _. Unit {0}`.
 pub trait Service {
     ghost use Rattle.std.specs.Prelude.{◌≢◌, ℕ, Result, Err};
     ghost use Rattle.odb_doc.specs.declared.outcome.Outcome.{Outcome};
@@ -33,11 +34,11 @@ pub trait Service {
     /// service after it. An execution makes one call for each report, in the order of the reports.
     ghost performs: { Self → ℕ → Record → Result Outcome ServiceFault → Self → Type 0 };
 
-    /// The outcome of the request, which stands at position `i` of its batch, counted from 0.
+    /// Performs the request at position `i` of its batch, counted from 0, and returns its outcome.
     ///
     /// # Errors
     ///
-    /// Where the service has no outcome for it, failed, or was refused memory.
+    /// If the service has no outcome for it, failed, or ran out of memory.
     fn perform(&mut self, i: u32, request: &Request<'_>) -> Result<Outcome, ServiceFault>
         ensures performed { performs self.old i (record_of request.now) result self.new }
         ensures offered { result ≢ Err OutOfMemory → offers self.old i result }

@@ -16,7 +16,7 @@ use crate::tally::Tally;
 use odb_check::Plan;
 use odb_dense::Rows;
 
-/// The members of a unit that was taken from the worklist are neither ready nor open any more.
+/// Takes the members of a unit that has failed off the ready and the open requests.
 fn give_up(plan: &Plan<'_>, phases: &[Phase], u: u32, tally: &mut Tally)
     requires laws { shapes.IsPlan (shape plan.now) }
     requires each { length phases.now ≡ length (shape plan.now).units }
@@ -64,7 +64,7 @@ fn mark_each(plan: &Plan<'_>, list: &[u32], tally: &mut Tally)
     }
 }
 
-/// Puts each unit that needs something of a unit on the worklist.
+/// Puts each unit that depends on a unit on the worklist.
 fn mark_needers(plan: &Plan<'_>, needers: &Rows, u: u32, tally: &mut Tally)
     requires laws { shapes.IsPlan (shape plan.now) }
     requires units { length tally.old.units ≡ (shape plan.now).unit_count }
@@ -85,7 +85,7 @@ fn mark_needers(plan: &Plan<'_>, needers: &Rows, u: u32, tally: &mut Tally)
     mark_each(plan, needers.row(unit_key(plan, u)), tally);
 }
 
-/// Takes units from the worklist, and puts those that need something of them on it, until none waits.
+/// Takes units from the worklist, and puts those that depend on them on it, until it is empty.
 fn spread(plan: &Plan<'_>, phases: &[Phase], needers: &Rows, tally: &mut Tally)
     requires laws { shapes.IsPlan (shape plan.now) }
     requires each { length phases.now ≡ length (shape plan.now).units }
@@ -109,8 +109,8 @@ fn spread(plan: &Plan<'_>, phases: &[Phase], needers: &Rows, tally: &mut Tally)
     }
 }
 
-/// A request that ran has reported no success, as its phase says: its unit has failed, and each unit that
-/// needs something of a unit that has failed.
+/// Handles a failed request: marks its unit as failed, and propagates the failure to every unit that
+/// depends on it, directly or not. `phases[i]` already holds the outcome.
 pub(crate) fn fail(plan: &Plan<'_>, phases: &[Phase], needers: &Rows, i: u32, tally: &mut Tally)
     requires laws { shapes.IsPlan (shape plan.now) }
     requires each { length phases.now ≡ length (shape plan.now).units }

@@ -9,7 +9,8 @@ use crate::phase::Phase;
 use crate::tally::Tally;
 use odb_check::Plan;
 
-/// A request has started, as its phase says.
+/// Moves a request that has started from the ready ones to the running ones. `phases[i]` is `Running`
+/// already.
 pub(crate) fn begin(plan: &Plan<'_>, phases: &[Phase], i: u32, tally: &mut Tally)
     requires laws { shapes.IsPlan (shape plan.now) }
     requires each { length phases.now ≡ length (shape plan.now).units }

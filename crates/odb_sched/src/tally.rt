@@ -9,18 +9,18 @@ use odb_check::Plan;
 use odb_dense::{OrderedPositions, Worklist};
 use std::alloc::{AllocError, Global};
 
-/// What is counted of a run, beside where its requests stand.
+/// The counts of a run, beside the phases of its requests.
 #[derive(Drop)]
 pub(crate) struct Tally {
-    /// Of each request, how many of its needs are not met.
+    /// Of each request, how many of its needs are not satisfied.
     pub(crate) unmet: Vec<usize>,
     /// Of each unit, how many members have not reported a success.
     pub(crate) pending: Vec<u32>,
     /// The units that have failed.
     pub(crate) units: Worklist,
-    /// The requests that may start where the run goes on and has room.
+    /// The ready requests, without regard to the stop and the width.
     pub(crate) ready: OrderedPositions,
-    /// The requests that run.
+    /// The running requests.
     pub(crate) running: OrderedPositions,
     /// How many requests are neither reported nor in a unit that has failed.
     pub(crate) left: usize,
@@ -71,7 +71,7 @@ impl Tally {
     ///
     /// # Errors
     ///
-    /// Where memory for the requests and the units is not to be had.
+    /// If memory for the requests and the units cannot be allocated.
     pub(crate) fn new(alloc: Global, plan: &Plan<'_>) -> Result<Tally, AllocError>
         ensures { IfOk result (AreCounts (shape plan.now)
             (replicate (length (shape plan.now).units) Unstarted)) }

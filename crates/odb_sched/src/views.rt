@@ -31,7 +31,7 @@ fn is_stopped(stopped: bool, policy: Policy, phase: &Phase) -> bool
     stopped || (policy.mode == Mode::Stop && phase.has_erred())
 }
 
-/// A request that ran has reported, as its phase says.
+/// Handles the report of a request. `phases[i]` already holds the outcome.
 fn take_report(plan: &Plan<'_>, phases: &[Phase], needers: &Rows, i: u32, tally: &mut Tally)
     requires laws { shapes.IsPlan (shape plan.now) }
     requires each { length phases.now ≡ length (shape plan.now).units }
@@ -48,8 +48,8 @@ fn take_report(plan: &Plan<'_>, phases: &[Phase], needers: &Rows, i: u32, tally:
     }
 }
 
-/// What is kept of a run beside where its requests stand: who needs what, what is counted, and
-/// whether an error has stopped it.
+/// What is kept of a run beside the phases of its requests: their dependents, the counts, and whether
+/// an error has stopped it.
 #[derive(Drop)]
 pub(crate) struct Views {
     pub(crate) needers: Rows,
@@ -71,7 +71,7 @@ impl Views {
         })
     }
 
-    /// Tells the views that a request has started, as its phase says.
+    /// Updates the views after request `i` has started. `phases[i]` is `Running` already.
     pub(crate) fn start(&mut self, plan: &Plan<'_>, policy: Policy, phases: &[Phase], i: u32)
         requires laws { shapes.IsPlan (shape plan.now) }
         requires each { length phases.now ≡ length (shape plan.now).units }
@@ -83,7 +83,7 @@ impl Views {
         begin(plan, phases, i, &mut self.tally);
     }
 
-    /// Tells the views that a request that ran has reported, as its phase says.
+    /// Updates the views after request `i` has reported. `phases[i]` already holds the outcome.
     pub(crate) fn report(&mut self, plan: &Plan<'_>, policy: Policy, phases: &[Phase], i: u32)
         requires laws { shapes.IsPlan (shape plan.now) }
         requires each { length phases.now ≡ length (shape plan.now).units }
@@ -142,7 +142,7 @@ impl Views {
         self.tally.running.is_empty() && (self.stopped || self.tally.left == 0)
     }
 
-    /// The positions that may start.
+    /// The ready positions.
     pub(crate) fn ready(&self, policy: Policy) -> &[u32]
         ensures { ListsOnce (length self.now.tally.ready)
             (λ i. slice_index_or self.now.tally.ready i false && not self.now.stopped
@@ -154,7 +154,7 @@ impl Views {
         self.tally.ready.as_slice()
     }
 
-    /// The position at one end of those that may start.
+    /// The least or the greatest ready position.
     pub(crate) fn ready_at(&mut self, policy: Policy, end: End) -> Option<u32>
         ensures same { self.new ≡ self.old }
         ensures none { result ≡ None → (i : ℕ)
@@ -170,7 +170,7 @@ impl Views {
         end.of(&mut self.tally.ready)
     }
 
-    /// The position at one end of those that run.
+    /// The least or the greatest running position.
     pub(crate) fn running_at(&mut self, end: End) -> Option<u32>
         ensures same { self.new ≡ self.old }
         ensures none { result ≡ None
@@ -180,7 +180,7 @@ impl Views {
         end.of(&mut self.tally.running)
     }
 
-    /// The positions that run.
+    /// The running positions.
     pub(crate) fn running(&self) -> &[u32]
         ensures count { length result.now ≡ count_by (λ runs. runs) self.now.tally.running }
         ensures listed { ListsOnce (length self.now.tally.running)
