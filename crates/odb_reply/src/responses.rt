@@ -1,4 +1,4 @@
-ghost use Rattle.std.specs.Prelude.{◌≡◌, ◌<◌, length, map, slice_get, Some, IsSomeAnd, MatchOption, IfOk, IfErr, OnOk, IfSome, IfNone, OnSome, IsSome, option_map, All};
+ghost use Rattle.std.specs.Prelude.{◌≡◌, ◌<◌, length, map, slice_get, Some, IsSomeAnd, MatchOption, IfOk, IfErr, OnOk, OnErr, IfSome, IfNone, OnSome, IsSome, option_map, All};
 ghost use Rattle.std.specs.List.{AllZip};
 ghost use Rattle.serde_json.specs.Data.{string, unsigned};
 ghost use Rattle.serde_json.specs.Find.{as_str};
@@ -29,6 +29,17 @@ pub struct Responses<'a> {
     list: Vec<Response<'a>>,
 }
 
+/// The rule that each element is a response, which is F70.
+#[derive(Clone, Copy, Debug, PartialEq, Eq)]
+struct NotResponse;
+
+/// Returns the id of a response, or `None` if it is not a string.
+fn id_of(element: &Value) -> Option<&str>
+    ensures { members.id_of (view element.now) ≡ option_map (λ text. text.now) result }
+{
+    element.get("id")?.as_str()
+}
+
 /// Returns the status of a response, or `None` if it is not a whole number from 100 to 599.
 fn status_of(element: &Value) -> Option<u16>
     ensures { MatchOption result
@@ -44,30 +55,34 @@ fn status_of(element: &Value) -> Option<u16>
     }
 }
 
-/// Returns the group of a response, if any, or `None` if it is neither absent, null nor a string.
-fn group_of(element: &Value) -> Option<Option<&str>>
-    ensures { MatchOption result
-        (¬ IfSome (documents.group_in (view element.now)) (λ group. IsSome (as_str group)))
-        (λ group. documents.group_in (view element.now)
+/// Returns the group of a response, if any, or F70 if it is neither absent, null nor a string.
+fn group_of(element: &Value) -> Result<Option<&str>, NotResponse>
+    ensures group { IfOk result (λ group. documents.group_in (view element.now)
         ≡ option_map string (option_map (λ text. text.now) group)) }
+    ensures rule { OnErr result
+        (¬ IfSome (documents.group_in (view element.now)) (λ group. IsSome (as_str group))) }
 {
     match element.get("atomicityGroup") {
-        Some(value) if !value.is_null() => Some(Some(value.as_str()?)),
-        _ => Some(None),
+        Some(value) if !value.is_null() => match value.as_str() {
+            Some(group) => Ok(Some(group)),
+            None => Err(NotResponse),
+        },
+        _ => Ok(None),
     }
 }
 
-/// Reads one element, or returns `None` if it is not a response.
-fn read_response(element: &Value) -> Option<Response<'_>>
-    ensures none { IfNone result (¬ documents.IsResponse (view element.now)) }
-    ensures good { OnSome result (documents.IsResponse (view element.now)) }
-    ensures says { IfSome result (λ response. documents.Says (view element.now)
+/// Reads one element, or returns the rule that it breaks.
+fn read_response(element: &Value) -> Result<Response<'_>, NotResponse>
+    ensures rule { OnErr result (¬ documents.IsResponse (view element.now)) }
+    ensures good { OnOk result (documents.IsResponse (view element.now)) }
+    ensures says { IfOk result (λ response. documents.Says (view element.now)
         (documents.entry_of response)) }
 {
-    let id = element.get("id")?.as_str()?;
-    let status = status_of(element)?;
-    let group = group_of(element)?;
-    Some(Response { id, group, status })
+    Ok(Response {
+        id: id_of(element).ok_or(NotResponse)?,
+        status: status_of(element).ok_or(NotResponse)?,
+        group: group_of(element)?,
+    })
 }
 
 /// Returns the elements of `responses`.
@@ -94,8 +109,8 @@ fn responses_from<'a>(
     let mut list = Vec::with_capacity(alloc, elements.len())?;
     for (at, element) in elements.iter().enumerate() {
         match read_response(element) {
-            Some(response) => list.push(response)?,
-            None => return Err(ResponseFault::Response { at }),
+            Ok(response) => list.push(response)?,
+            Err(NotResponse) => return Err(ResponseFault::Response { at }),
         }
     }
     Ok(list)

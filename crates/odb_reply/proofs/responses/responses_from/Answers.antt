@@ -15,18 +15,18 @@ loop-at-preserved c =
     let v = c.index-elements-at.result in
     let within : at < length (map view vs) = omega (arith, length-map vs view) in
     let is : get_or (map view vs) at (view v) ≡ view v = get_or-map view vs at v (view v) c.loop-at-test.true ∙ ap view (sym c.index-elements-at.is) in
-    rw (c.in_ok-push-in-Some.ensures.items, map-append entry_of c.loop-at.list.items) (
-    AreReadUpTo-more (map view vs) (map entry_of c.loop-at.list.items) at (view v) (entry_of c.in-Some.response) within is c.loop-at.invariant c.in-Some.ensures.good c.in-Some.ensures.says
+    rw (c.in_ok-push-in-Ok.ensures.items, map-append entry_of c.loop-at.list.items) (
+    AreReadUpTo-more (map view vs) (map entry_of c.loop-at.list.items) at (view v) (entry_of c.in-Ok.response) within is c.loop-at.invariant c.in-Ok.ensures.good c.in-Ok.ensures.says
     )
 
-pub returns-in-None-clause-first : goal.returns-in-None-clause-first
-returns-in-None-clause-first c =
+pub returns-in-Err-clause-first : goal.returns-in-Err-clause-first
+returns-in-Err-clause-first c =
     let vs = c.args.elements.now in
     let at = c.loop-at.at in
     let v = c.index-elements-at.result in
     let within : at < length (map view vs) = omega (arith, length-map vs view) in
     let is : get_or (map view vs) at (view v) ≡ view v = get_or-map view vs at v (view v) c.loop-at-test.true ∙ ap view (sym c.index-elements-at.is) in
-    IsFirstBad-from (map view vs) (map entry_of c.loop-at.list.items) at (view v) within is c.loop-at.invariant c.in-None.ensures.none
+    IsFirstBad-from (map view vs) (map entry_of c.loop-at.list.items) at (view v) within is c.loop-at.invariant c.in-Err.ensures.rule
 
 pub returns-clause-good : goal.returns-clause-good
 returns-clause-good c =
