@@ -13,7 +13,7 @@ use crate::laws::every_response;
 use crate::parts::push_response;
 use crate::whole::first_not_whole;
 use crate::writing::{WriteFault, write_text};
-use odb_doc::{Output, Place};
+use odb_doc::{Output, Place, TextFault};
 use odb_sched::Done;
 use std::alloc::{AllocError, Global};
 use std::io::Write;
@@ -43,7 +43,7 @@ impl ReplyFault {
         ensures { result.now ≡ fault_code self.now }
     {
         match *self {
-            ReplyFault::NotWhole { .. } => "F50",
+            ReplyFault::NotWhole { at } => TextFault::NotWhole { at }.code(),
             ReplyFault::Write | ReplyFault::OutOfMemory => unreachable!(),
         }
     }
@@ -54,7 +54,7 @@ impl ReplyFault {
         ensures { result.now ≡ fault_name self.now }
     {
         match *self {
-            ReplyFault::NotWhole { .. } => "NotWhole",
+            ReplyFault::NotWhole { at } => TextFault::NotWhole { at }.name(),
             ReplyFault::Write | ReplyFault::OutOfMemory => unreachable!(),
         }
     }
@@ -65,7 +65,7 @@ impl ReplyFault {
         ensures { result ≡ fault_place self.now }
     {
         match *self {
-            ReplyFault::NotWhole { at } => Place::Request(at),
+            ReplyFault::NotWhole { at } => TextFault::NotWhole { at }.place(),
             ReplyFault::Write | ReplyFault::OutOfMemory => unreachable!(),
         }
     }
