@@ -3,30 +3,30 @@ use Rattle.std.proofs.Common.{◌≡◌, ◌∙◌, ℕ, false, List, [], ◌++�
 use Rattle.std.proofs.KnownBytes.{Appends-trans, Appends-nil}
 use Rattle.std.specs.Io.KnownBytes.{Appends}
 use Rattle.odb_doc.specs.Devices.{Writing}
-use Rattle.odb_reply.specs.Outputs.{AppendsFront}
+use Rattle.odb_reply.specs.Outputs.{AppendsPrefix}
 use Rattle.odb_engine.specs.declared.ending.EngineFault.{EngineFault}
 use Rattle.odb_engine.specs.declared.ending.EngineFault.TheVariants as faults
 use Rattle.odb_engine.specs.Engines.{Sends}
 
 -- nothing is a prefix of each text
-pub AppendsFront-none : (old : Option (List ℕ)) (text : List ℕ) → AppendsFront old old text
-AppendsFront-none old text = (text, record { front = []; whole = refl; written = Appends-nil old })
+pub AppendsPrefix-none : (old : Option (List ℕ)) (text : List ℕ) → AppendsPrefix old old text
+AppendsPrefix-none old text = (text, record { prefix = []; whole = refl; written = Appends-nil old })
 
 -- a prefix of a text is one of a longer text
-AppendsFront-longer : (old new : Option (List ℕ)) (text later : List ℕ) → AppendsFront old new text → AppendsFront old new (text ++ later)
-AppendsFront-longer old new text later (rest, part) = (
+AppendsPrefix-longer : (old new : Option (List ℕ)) (text later : List ℕ) → AppendsPrefix old new text → AppendsPrefix old new (text ++ later)
+AppendsPrefix-longer old new text later (rest, part) = (
   rest ++ later,
-  record { front = part.front; whole = ap (λ t. t ++ later) part.whole ∙ append_assoc part.front rest later; written = part.written },
+  record { prefix = part.prefix; whole = ap (λ t. t ++ later) part.whole ∙ append_assoc part.prefix rest later; written = part.written },
 )
 
 -- a text and then a prefix of another are a prefix of both
-AppendsFront-after : (old mid new : Option (List ℕ)) (text later : List ℕ) → Appends old mid text → AppendsFront mid new later → AppendsFront old new (text ++ later)
-AppendsFront-after old mid new text later written (rest, part) = (
+AppendsPrefix-after : (old mid new : Option (List ℕ)) (text later : List ℕ) → Appends old mid text → AppendsPrefix mid new later → AppendsPrefix old new (text ++ later)
+AppendsPrefix-after old mid new text later written (rest, part) = (
   rest,
   record {
-    front = text ++ part.front;
-    whole = ap (λ t. text ++ t) part.whole ∙ sym (append_assoc text part.front rest);
-    written = Appends-trans old mid new text part.front written part.written;
+    prefix = text ++ part.prefix;
+    whole = ap (λ t. text ++ t) part.whole ∙ sym (append_assoc text part.prefix rest);
+    written = Appends-trans old mid new text part.prefix written part.written;
   },
 )
 
@@ -34,7 +34,7 @@ module _ {W : Type 0} (contents : W → Option (List ℕ)) where
   -- the first part failed
   pub Sends-stopped : (text later : List ℕ) (old new : Writing W) (fault : EngineFault) → Sends contents text old new (Err fault) → Sends contents (text ++ later) old new (Err fault)
   Sends-stopped text later old new fault first =
-      record { whole = tt; part = AppendsFront-longer (contents old.writer) (contents new.writer) text later first.part; write = first.write; unread = first.unread }
+      record { whole = tt; part = AppendsPrefix-longer (contents old.writer) (contents new.writer) text later first.part; write = first.write; unread = first.unread }
 
   -- the first part was written
   pub Sends-after : (text later : List ℕ) (old mid new : Writing W) (result : Result (Unit {0}) EngineFault) → Appends (contents old.writer) (contents mid.writer) text
@@ -47,11 +47,11 @@ module _ {W : Type 0} (contents : W → Option (List ℕ)) where
   }
   Sends-after text later old mid new (Err fault) written then = record {
     whole = tt;
-    part = AppendsFront-after (contents old.writer) (contents mid.writer) (contents new.writer) text later written then.part;
+    part = AppendsPrefix-after (contents old.writer) (contents mid.writer) (contents new.writer) text later written then.part;
     write = then.write;
     unread = then.unread;
   }
 
   -- nothing was written, since there was no memory for the text
   pub Sends-none : (text : List ℕ) (old : Writing W) → old.failed ≡ false → Sends contents text old old (Err faults.OutOfMemory)
-  Sends-none text old works = record { whole = tt; part = AppendsFront-none (contents old.writer) text; write = search rules; unread = search rules }
+  Sends-none text old works = record { whole = tt; part = AppendsPrefix-none (contents old.writer) text; write = search rules; unread = search rules }

@@ -3,7 +3,7 @@ use Rattle.std.specs.Prelude.{◌≡◌, ◌≢◌, ◌↔◌, ◌⊎◌, ℕ, L
 use Rattle.std.specs.declared.alloc.Global.{Global}
 use Rattle.std.specs.Io.KnownBytes.{Appends}
 use Rattle.odb_doc.specs.Devices.{Writing}
-use Rattle.odb_reply.specs.Outputs.{AppendsFront}
+use Rattle.odb_reply.specs.Outputs.{AppendsPrefix}
 use Rattle.odb_engine.specs.declared.ending.Ended.{Ended}
 use Rattle.odb_engine.specs.declared.ending.Ended.TheVariants.{Done, Refused}
 use Rattle.odb_engine.specs.declared.ending.EngineFault.{EngineFault}
@@ -25,7 +25,7 @@ pub record WritesPrefix (old new : Option (List ℕ)) (P : Writes) : Type 0 wher
   pub ended : Ended
   pub text : List ℕ
   pub so : P ended text
-  pub written : AppendsFront old new text
+  pub written : AppendsPrefix old new text
 
 -- How an engine ends whose whole output is such. Read says exactly that an input failed, Write exactly that the output
 -- did. Without memory nothing was written, or a prefix.
@@ -60,7 +60,7 @@ Sent contents P old new (Err stop) = (new ≡ old) × Refuses P stop
 -- The writer has gained the text, or a prefix of it. Write says exactly that the output failed, and no input did.
 pub record Sends {W : Type 0} (contents : W → Option (List ℕ)) (text : List ℕ) (old new : Writing W) (result : Result (Unit {0}) EngineFault) : Type 0 where
   pub whole : OnOk result (Appends (contents old.writer) (contents new.writer) text)
-  pub part : OnErr result (AppendsFront (contents old.writer) (contents new.writer) text)
+  pub part : OnErr result (AppendsPrefix (contents old.writer) (contents new.writer) text)
   pub write : (result ≡ Err faults.Write) ↔ IsTrue new.failed
   pub unread : result ≢ Err faults.Read
 

@@ -14,13 +14,13 @@ use Rattle.odb_reply.specs.Parts.{rest_text, group_part, member_part, end_part}
 use Rattle.odb_reply.proofs.PartLemmas.{response-parts}
 
 -- the whole text is its start, and then the responses
-pub response_text-front : (state : State) → response_text state ≡ codes "{\"responses\":[" ++ rest_text state 0
+pub response_text-prefix : (state : State) → response_text state ≡ codes "{\"responses\":[" ++ rest_text state 0
 unfolding response_text rest_text serde_json_on_literals
-response_text-front state = refl
+response_text-prefix state = refl
 
 -- with the start, the buffer and all responses are the whole text
 pub response_text-begun : (state : State) (buffer : List ℕ) → buffer ≡ codes "{\"responses\":[" → buffer ++ rest_text state 0 ≡ response_text state
-response_text-begun state buffer is = ap (λ text. text ++ rest_text state 0) is ∙ sym (response_text-front state)
+response_text-begun state buffer is = ap (λ text. text ++ rest_text state 0) is ∙ sym (response_text-prefix state)
 
 -- after the last response comes the end
 pub rest_text-none : (state : State) (i : ℕ) → length (plan_records state.plan) ≤ i → rest_text state i ≡ codes "]}"

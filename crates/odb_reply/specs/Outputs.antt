@@ -2,12 +2,12 @@
 use Rattle.std.specs.Prelude.{◌≡◌, ℕ, List, ◌++◌, Option}
 use Rattle.std.specs.Io.KnownBytes.{Appends}
 
--- the writer has gained a front of the text, and this is the rest
+-- the writer has gained a prefix of the text, and this is the rest
 pub record HasWritten (old new : Option (List ℕ)) (text rest : List ℕ) : Type 0 where
-  pub front : List ℕ
-  pub whole : text ≡ front ++ rest
-  pub written : Appends old new front
+  pub prefix : List ℕ
+  pub whole : text ≡ prefix ++ rest
+  pub written : Appends old new prefix
 
--- the writer has gained a front of the text
-abbrev pub AppendsFront : Option (List ℕ) → Option (List ℕ) → List ℕ → Type 0
-AppendsFront old new text = (rest : List ℕ) × HasWritten old new text rest
+-- the writer has gained a prefix of the text
+abbrev pub AppendsPrefix : Option (List ℕ) → Option (List ℕ) → List ℕ → Type 0
+AppendsPrefix old new text = (rest : List ℕ) × HasWritten old new text rest

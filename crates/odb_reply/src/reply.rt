@@ -5,7 +5,7 @@ ghost use Rattle.odb_reply.specs.declared.reply.ReplyFault.TheVariants as faults
 ghost use Rattle.odb_reply.specs.Fits.{ListsFit};
 ghost use Rattle.odb_reply.specs.NotWhole.{HasWholeBodies, IsFirstNotWhole};
 ghost use Rattle.odb_reply.specs.OnePerId.{HasOnePerId};
-ghost use Rattle.odb_reply.specs.Outputs.{HasWritten, AppendsFront};
+ghost use Rattle.odb_reply.specs.Outputs.{HasWritten, AppendsPrefix};
 ghost use Rattle.odb_reply.specs.Parts.{rest_text};
 ghost use Rattle.odb_reply.specs.Responses.{response_text, response_value};
 
@@ -96,7 +96,7 @@ fn write_full<W: Write>(output: &mut Output<W>, buffer: &mut String) -> Result<(
     ensures fault { IsErr result ↔ IsTrue output.new.failed }
     ensures ok { OnOk result (HasWritten (W.contents output.old.writer)
         (W.contents output.new.writer) (string_bytes buffer.old) (string_bytes buffer.new)) }
-    ensures err { OnErr result (AppendsFront (W.contents output.old.writer)
+    ensures err { OnErr result (AppendsPrefix (W.contents output.old.writer)
         (W.contents output.new.writer) (string_bytes buffer.old)) }
 {
     if buffer.len() >= BUFFER_BYTES {
@@ -119,7 +119,7 @@ fn buffer_responses<W: Write>(
     ensures ok { OnOk result (HasWritten (W.contents output.old.writer)
         (W.contents output.new.writer) (string_bytes buffer.old ++ rest_text done.now 0)
         (string_bytes buffer.new)) }
-    ensures err { OnErr result (AppendsFront (W.contents output.old.writer)
+    ensures err { OnErr result (AppendsPrefix (W.contents output.old.writer)
         (W.contents output.new.writer) (string_bytes buffer.old ++ rest_text done.now 0)) }
     ensures write { (result ≡ Err ReplyFault.Write) ↔ IsTrue output.new.failed }
     ensures whole { (at : ℕ) → result ≢ Err (faults.NotWhole at) }
@@ -150,7 +150,7 @@ pub fn write_responses<W: Write>(
     requires { output.old.failed ≡ false }
     ensures ok { OnOk result (Appends (W.contents output.old.writer) (W.contents output.new.writer)
         (response_text done.now)) }
-    ensures err { OnErr result (AppendsFront (W.contents output.old.writer)
+    ensures err { OnErr result (AppendsPrefix (W.contents output.old.writer)
         (W.contents output.new.writer) (response_text done.now)) }
     ensures write { (result ≡ Err ReplyFault.Write) ↔ IsTrue output.new.failed }
     ensures not_whole { (at : ℕ)

@@ -1,6 +1,6 @@
 ghost use Rattle.std.specs.Prelude.{◌≡◌, ◌↔◌, false, IsTrue, IsErr, OnOk, OnErr};
 ghost use Rattle.std.specs.Io.KnownBytes.{Appends};
-ghost use Rattle.odb_reply.specs.Outputs.{AppendsFront};
+ghost use Rattle.odb_reply.specs.Outputs.{AppendsPrefix};
 
 use odb_doc::{DeviceFault, Output};
 use std::io::Write;
@@ -28,7 +28,7 @@ pub fn write_text<W: Write>(output: &mut Output<W>, text: &str) -> Result<(), Wr
     ensures fault { IsErr result ↔ IsTrue output.new.failed }
     ensures ok { OnOk result (Appends (W.contents output.old.writer) (W.contents output.new.writer)
         text.now) }
-    ensures err { OnErr result (AppendsFront (W.contents output.old.writer)
+    ensures err { OnErr result (AppendsPrefix (W.contents output.old.writer)
         (W.contents output.new.writer) text.now) }
 {
     let mut rest = text.as_bytes();

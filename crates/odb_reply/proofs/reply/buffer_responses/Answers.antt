@@ -1,9 +1,9 @@
 use Rattle.std.proofs.Common.{◌≡◌, ◌++◌, ◌+◌, ◌≤◌, rules, length, string_bytes}
 use Rattle.odb_check.specs.Plans.{plan_records}
-use Rattle.odb_reply.specs.Outputs.{AppendsFront}
+use Rattle.odb_reply.specs.Outputs.{AppendsPrefix}
 use Rattle.odb_reply.specs.Parts.{rest_text}
 use Rattle.odb_reply.proofs.RestLemmas.{rest_text-last}
-use Rattle.odb_reply.proofs.WriteLemmas.{AppendsFront-part, AppendsFront-after, HasWritten-none, HasWritten-part, HasWritten-trans}
+use Rattle.odb_reply.proofs.WriteLemmas.{AppendsPrefix-part, AppendsPrefix-after, HasWritten-none, HasWritten-part, HasWritten-trans}
 use Rattle.odb_reply.proofs.reply.buffer_responses.Goals as goal
 
 pub loop-i-init : goal.loop-i-init
@@ -12,7 +12,7 @@ loop-i-init g c =
 
 pub returns-in_err-push_response-clause-err : goal.returns-in_err-push_response-clause-err
 returns-in_err-push_response-clause-err g c =
-    let part : AppendsFront (g.W.Write.contents c.args.output.now.writer) (g.W.Write.contents c.loop-i.output.writer) (string_bytes c.args.buffer.now ++ rest_text c.args.done.now 0) = (string_bytes c.loop-i.buffer ++ rest_text c.args.done.now c.loop-i.i, c.loop-i.invariant.written) in
+    let part : AppendsPrefix (g.W.Write.contents c.args.output.now.writer) (g.W.Write.contents c.loop-i.output.writer) (string_bytes c.args.buffer.now ++ rest_text c.args.done.now 0) = (string_bytes c.loop-i.buffer ++ rest_text c.args.done.now c.loop-i.i, c.loop-i.invariant.written) in
     search (rules, part)
 
 pub returns-in_err-write_full-clause-err : goal.returns-in_err-write_full-clause-err
@@ -24,7 +24,7 @@ returns-in_err-write_full-clause-err g c =
     let later = rest_text state (c.loop-i.i + 1) in
     let buffer = string_bytes c.push_response.new.text in
     let before = rw c.in_ok-push_response.ensures at c.loop-i.invariant.written in
-    let part = AppendsFront-after (contents c.args.output.now.writer) mid new (string_bytes c.args.buffer.now ++ rest_text state 0) (buffer ++ later) before (AppendsFront-part mid new buffer later c.in_err-write_full.ensures.err) in
+    let part = AppendsPrefix-after (contents c.args.output.now.writer) mid new (string_bytes c.args.buffer.now ++ rest_text state 0) (buffer ++ later) before (AppendsPrefix-part mid new buffer later c.in_err-write_full.ensures.err) in
     search (rules, part)
 
 pub loop-i-preserved : goal.loop-i-preserved
@@ -44,7 +44,7 @@ loop-i-preserved g c =
 
 pub returns-in_err-push_str-clause-err : goal.returns-in_err-push_str-clause-err
 returns-in_err-push_str-clause-err g c =
-    let part : AppendsFront (g.W.Write.contents c.args.output.now.writer) (g.W.Write.contents c.loop-i.output.writer) (string_bytes c.args.buffer.now ++ rest_text c.args.done.now 0) = (string_bytes c.loop-i.buffer ++ rest_text c.args.done.now c.loop-i.i, c.loop-i.invariant.written) in
+    let part : AppendsPrefix (g.W.Write.contents c.args.output.now.writer) (g.W.Write.contents c.loop-i.output.writer) (string_bytes c.args.buffer.now ++ rest_text c.args.done.now 0) = (string_bytes c.loop-i.buffer ++ rest_text c.args.done.now c.loop-i.i, c.loop-i.invariant.written) in
     search (rules, part)
 
 pub returns-clause-ok : goal.returns-clause-ok

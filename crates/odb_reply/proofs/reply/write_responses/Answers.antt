@@ -1,23 +1,23 @@
 use Rattle.std.proofs.Common.{rules, string_bytes, subst}
-use Rattle.odb_reply.specs.Outputs.{HasWritten, AppendsFront}
+use Rattle.odb_reply.specs.Outputs.{HasWritten, AppendsPrefix}
 use Rattle.odb_reply.specs.Responses.{response_text}
 use Rattle.odb_reply.proofs.RestLemmas.{response_text-begun}
-use Rattle.odb_reply.proofs.WriteLemmas.{AppendsFront-none, AppendsFront-after, Appends-rest}
+use Rattle.odb_reply.proofs.WriteLemmas.{AppendsPrefix-none, AppendsPrefix-after, Appends-rest}
 use Rattle.odb_reply.proofs.reply.write_responses.Goals as goal
 
 pub returns-in-Some-clause-err : goal.returns-in-Some-clause-err
-returns-in-Some-clause-err g c = AppendsFront-none (g.W.Write.contents c.args.output.now.writer) (response_text c.args.done.now)
+returns-in-Some-clause-err g c = AppendsPrefix-none (g.W.Write.contents c.args.output.now.writer) (response_text c.args.done.now)
 
 pub returns-in_err-buffer-clause-err : goal.returns-in_err-buffer-clause-err
 returns-in_err-buffer-clause-err g c =
-    let part = AppendsFront-none (g.W.Write.contents c.args.output.now.writer) (response_text c.args.done.now) in
+    let part = AppendsPrefix-none (g.W.Write.contents c.args.output.now.writer) (response_text c.args.done.now) in
     search (rules, part)
 
 pub returns-in_err-buffer_responses-clause-err : goal.returns-in_err-buffer_responses-clause-err
 returns-in_err-buffer_responses-clause-err g c =
     let contents = g.W.Write.contents in
     let begun = response_text-begun c.args.done.now (string_bytes c.in_ok-buffer.buffer) c.in_ok-buffer.ensures.ok in
-    let part = subst (λ text. AppendsFront (contents c.args.output.now.writer) (contents c.buffer_responses.new.output.writer) text) begun c.in_err-buffer_responses.ensures.err in
+    let part = subst (λ text. AppendsPrefix (contents c.args.output.now.writer) (contents c.buffer_responses.new.output.writer) text) begun c.in_err-buffer_responses.ensures.err in
     search (rules, part)
 
 pub returns-in_err-write_text-clause-err : goal.returns-in_err-write_text-clause-err
@@ -28,7 +28,7 @@ returns-in_err-write_text-clause-err g c =
     let mid = contents c.buffer_responses.new.output.writer in
     let last = string_bytes c.buffer_responses.new.buffer in
     let written = subst (λ text. HasWritten old mid text last) (response_text-begun state (string_bytes c.in_ok-buffer.buffer) c.in_ok-buffer.ensures.ok) c.in_ok-buffer_responses.ensures.ok in
-    let part = AppendsFront-after old mid (contents c.write_text.new.output.writer) (response_text state) last written (rw c.as_str.ensures.value at c.in_err-write_text.ensures.err) in
+    let part = AppendsPrefix-after old mid (contents c.write_text.new.output.writer) (response_text state) last written (rw c.as_str.ensures.value at c.in_err-write_text.ensures.err) in
     search (rules, part)
 
 pub returns-clause-ok : goal.returns-clause-ok

@@ -1,7 +1,7 @@
 use Rattle.std.proofs.Common.{◌≡◌, [], rules, arith}
 use Rattle.std.proofs.lemmas.List.{nil_from_length}
 use Rattle.std.proofs.lemmas.Bool.Decides.{nat_tests}
-use Rattle.odb_reply.specs.Outputs.{AppendsFront}
+use Rattle.odb_reply.specs.Outputs.{AppendsPrefix}
 use Rattle.odb_reply.proofs.WriteLemmas.{HasWritten-none, HasWritten-more, HasWritten-kept, HasWritten-all}
 use Rattle.odb_reply.proofs.writing.write_text.Goals as goal
 
@@ -13,7 +13,7 @@ pub returns-in_err-count-clause-err : goal.returns-in_err-count-clause-err
 returns-in_err-count-clause-err g c =
     let contents = g.W.Write.contents in
     let kept = HasWritten-kept (contents c.args.output.now.writer) (contents c.loop-rest.output.writer) (contents c.put.new.self.writer) c.args.text.now c.loop-rest.rest.now c.loop-rest.invariant.1 c.in_err-count.ensures.bytes in
-    let part : AppendsFront (contents c.args.output.now.writer) (contents c.put.new.self.writer) c.args.text.now = (c.loop-rest.rest.now, kept) in
+    let part : AppendsPrefix (contents c.args.output.now.writer) (contents c.put.new.self.writer) c.args.text.now = (c.loop-rest.rest.now, kept) in
     search (rules, part)
 
 pub loop-rest-preserved : goal.loop-rest-preserved
