@@ -21,10 +21,9 @@ use Rattle.odb_engine.specs.declared.ending.Ended.TheVariants.{Done, Refused}
 use Rattle.odb_engine.specs.declared.ending.EngineFault.{EngineFault}
 use Rattle.odb_engine.specs.declared.reading.ReadFault.{ReadFault}
 use Rattle.odb_engine.specs.declared.reading.ReadFault.TheVariants as reads
-use Rattle.odb_engine.specs.declared.reading.TheConstants.{MAX_READ_BYTES}
 use Rattle.odb_engine.specs.declared.stop.Stop.{Stop}
 use Rattle.odb_engine.specs.declared.stop.Stop.TheVariants as stops
-use Rattle.odb_engine.specs.Inputs.{GivesDocument, SomeDocument}
+use Rattle.odb_engine.specs.Inputs.{most_read, GivesDocument, SomeDocument}
 use Rattle.odb_engine.specs.Cascade.{Writes, Prints, Refusal, line_of, Reports, RefusesBytes, IsLeast, Answers, document_refusal, names_refusal}
 use Rattle.odb_engine.specs.Cascade.IsLeast.{OfBytes, OfShape, OfNames}
 use Rattle.odb_engine.specs.Engines.{Found, Refuses, Sent, Stopped, text_found, StopsBy, stop_of, Ends, WritesPrefix}
@@ -37,12 +36,12 @@ FoundText = Result (String Global) Stop
 pub some-document : (left : Option (List ℕ)) → (bytes : List ℕ) × GivesDocument left bytes
 some-document None = ([], omega arith)
 some-document (Some left) = (
-  take MAX_READ_BYTES left,
+  take most_read left,
   record {
-    rest = drop MAX_READ_BYTES left;
-    whole = sym (take-append-drop MAX_READ_BYTES left);
-    within = short MAX_READ_BYTES left;
-    ends = λ less. drop_all MAX_READ_BYTES left (all MAX_READ_BYTES left less);
+    rest = drop most_read left;
+    whole = sym (take-append-drop most_read left);
+    within = short most_read left;
+    ends = λ less. drop_all most_read left (all most_read left less);
   },
 )
   where

@@ -1,13 +1,12 @@
 -- Two texts that the cascade allows for the same bytes are equal, where P allows one for each batch.
 use Rattle.std.proofs.Common.{◌≡◌, ℕ, ◌≤◌, ◌<◌, ◌∙◌, List, length, unwrap_or, inl, inr, refl, sym, subst, ap, arith}
 use Rattle.serde_json.specs.Data.{Data}
-use Rattle.odb_doc.specs.declared.document.TheConstants.{MAX_DOCUMENT_BYTES}
 use Rattle.odb_doc.specs.declared.fault.Place.{Place}
 use Rattle.odb_doc.specs.declared.fault.Place.TheVariants.{Batch}
 use Rattle.odb_doc.specs.declared.fault.DocFault.{DocFault}
 use Rattle.odb_doc.specs.declared.fault.DocFault.TheVariants as faults
 use Rattle.odb_doc.specs.declared.fault.DocumentRule.TheVariants as rules
-use Rattle.odb_doc.specs.Documents.{IsDocument, RefusesDocument}
+use Rattle.odb_doc.specs.Documents.{most_bytes, IsDocument, RefusesDocument}
 use Rattle.odb_doc.specs.FaultTable as document
 use Rattle.odb_doc.specs.LeastFault.{IsWellShaped, IsLeastFault}
 use Rattle.odb_doc.specs.Records.{Record, IsBatchOf}
@@ -35,8 +34,8 @@ one_value bytes d e first second = ap (λ o. unwrap_or o d) (sym first.1.1 ∙ s
 
 -- they are too long, or they are not JSON
 data Cause (bytes : List ℕ) : DocFault → Type 0 where
-  Long : MAX_DOCUMENT_BYTES < length bytes → Cause bytes (faults.Document rules.TooLong)
-  NoJson : length bytes ≤ MAX_DOCUMENT_BYTES → ((d : Data) → ¬ IsDocument bytes d) → Cause bytes (faults.Document rules.NotJson)
+  Long : most_bytes < length bytes → Cause bytes (faults.Document rules.TooLong)
+  NoJson : length bytes ≤ most_bytes → ((d : Data) → ¬ IsDocument bytes d) → Cause bytes (faults.Document rules.NotJson)
 
 cause : (bytes : List ℕ) (fault : DocFault) → document.IsNumbered fault → RefusesDocument fault bytes → Cause bytes fault
 cause bytes (faults.Document rules.TooLong) numbered long = Long long

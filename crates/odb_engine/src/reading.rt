@@ -1,5 +1,4 @@
 ghost use Rattle.std.specs.Prelude.{◌≡◌, ◌≤◌, ◌↔◌, false, IsTrue, IfOk, IfErr, Err};
-ghost use Rattle.odb_doc.specs.declared.device.TheConstants.{MAX_READS};
 ghost use Rattle.serde_json.specs.View.{view};
 ghost use Rattle.odb_doc.specs.Documents.{IsDocument};
 ghost use Rattle.odb_engine.specs.Cascade.{RefusesBytes};
@@ -59,7 +58,7 @@ pub fn read_document<R: Read>(alloc: Global, input: &mut Input<R>) -> Result<Vec
     ensures document { IfOk result (λ bytes. GivesDocument (R.remaining input.old.reader)
         bytes.items) }
     ensures fault { (result ≡ Err ReadFault.Read) ↔ IsTrue input.new.failed }
-    ensures reads { input.new.reads ≤ MAX_READS }
+    ensures reads { input.new.reads ≤ 16777217 }
     ensures given { GivesFew (R.remaining input.old.reader) (R.remaining input.new.reader) }
 {
     let mut bytes = Vec::with_capacity(alloc, ROOM_BYTES)?;
