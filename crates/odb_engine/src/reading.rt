@@ -59,7 +59,8 @@ pub fn read_document<R: Read>(alloc: Global, input: &mut Input<R>) -> Result<Vec
         bytes.items) }
     ensures fault { (result ≡ Err ReadFault.Read) ↔ IsTrue input.new.failed }
     ensures reads { input.new.reads ≤ 16777217 }
-    ensures given { GivesFew (R.remaining input.old.reader) (R.remaining input.new.reader) }
+    ensures given { GivesFew (R.remaining input.old.reader) (R.remaining input.new.reader)
+        input.new.reads }
 {
     let mut bytes = Vec::with_capacity(alloc, ROOM_BYTES)?;
     let mut chunk = [0u8; CHUNK_BYTES];
