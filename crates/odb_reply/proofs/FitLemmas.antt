@@ -14,9 +14,9 @@ use Rattle.odb_reply.specs.declared.match_fault.MatchFault.{MatchFault}
 use Rattle.odb_reply.specs.declared.match_fault.MatchFault.TheVariants as faults
 use Rattle.odb_reply.specs.ResponseDocuments.{Entry}
 use Rattle.odb_reply.specs.Fits.{id_in, IsOnlyOne, IsMet, Fits}
-use Rattle.odb_reply.specs.LeastMatchFault.{phase, NoneIn, HasNoMisfit, RefusesMatch}
+use Rattle.odb_reply.specs.LeastMatchFault.{phase, HasNoMisfit, RefusesMatch}
 use Rattle.odb_reply.specs.MatchFaults.{StandsAt, IsUnmet, IsNumbered}
-use Rattle.odb_reply.specs.Places.{IsFirstOfLast}
+use Rattle.odb_reply.specs.Places.{IsFirstOfLast, NoneIn}
 use Rattle.odb_reply.proofs.IdLemmas.{id_within, position_id, position_none}
 
 same_texts : (a b : List ℕ) → (a ≡ b) ⊎ (a ≢ b)

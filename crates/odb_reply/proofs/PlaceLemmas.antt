@@ -10,9 +10,9 @@ use Rattle.odb_reply.specs.declared.match_fault.MatchRule.{MatchRule}
 use Rattle.odb_reply.specs.declared.match_fault.MatchRule.TheVariants.{UnknownResponse, ResponseTwice, ResponseMissing, GroupDiffers, UnsoundSuccess}
 use Rattle.odb_reply.specs.ResponseDocuments.{Entry}
 use Rattle.odb_reply.specs.Fits.{id_in}
-use Rattle.odb_reply.specs.LeastMatchFault.{phase, IsLeastAt, NoneIn}
+use Rattle.odb_reply.specs.LeastMatchFault.{phase, IsLeastAt}
 use Rattle.odb_reply.specs.MatchFaults.{StandsAt, number}
-use Rattle.odb_reply.specs.Places.{Places, AreNoted, IsNoted, IsNotedAt, IsMisplaced}
+use Rattle.odb_reply.specs.Places.{Places, AreNoted, IsNoted, IsNotedAt, IsMisplaced, NoneIn}
 use Rattle.odb_reply.proofs.IdLemmas.{position_id, position_none}
 use Rattle.odb_reply.proofs.SliceLemmas.{slice_get-set_same, slice_get-set_other, slice_get-replicate}
 

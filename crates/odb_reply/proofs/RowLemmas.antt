@@ -11,9 +11,9 @@ use Rattle.odb_reply.specs.declared.match_fault.MatchFault.{MatchFault}
 use Rattle.odb_reply.specs.declared.match_fault.MatchFault.TheVariants as faults
 use Rattle.odb_reply.specs.ResponseDocuments.{Entry}
 use Rattle.odb_reply.specs.Fits.{id_in}
-use Rattle.odb_reply.specs.LeastMatchFault.{phase, IsLeastAt, NoneIn, RefusesMatch}
+use Rattle.odb_reply.specs.LeastMatchFault.{phase, IsLeastAt, RefusesMatch}
 use Rattle.odb_reply.specs.MatchFaults.{StandsAt, number}
-use Rattle.odb_reply.specs.Places.{Places, AreNoted, AreListed, IsListed, IsFirstFree, IsMissing, HasRows}
+use Rattle.odb_reply.specs.Places.{Places, AreNoted, AreListed, IsListed, IsFirstFree, IsMissing, HasRows, NoneIn}
 use Rattle.odb_reply.proofs.IdLemmas.{position_id, position_is}
 use Rattle.odb_reply.proofs.OneLemmas.{IsOnce}
 use Rattle.odb_reply.proofs.PlaceLemmas.{none_of_responses}

@@ -16,9 +16,9 @@ use Rattle.odb_reply.specs.declared.match_fault.MatchRule.{MatchRule}
 use Rattle.odb_reply.specs.declared.match_fault.MatchRule.TheVariants.{UnknownResponse, ResponseTwice, ResponseMissing, GroupDiffers, UnsoundSuccess}
 use Rattle.odb_reply.specs.ResponseDocuments.{Entry}
 use Rattle.odb_reply.specs.Fits.{Responds, IsRow}
-use Rattle.odb_reply.specs.LeastMatchFault.{phase, NoneIn, IsFirstIn}
+use Rattle.odb_reply.specs.LeastMatchFault.{phase}
 use Rattle.odb_reply.specs.MatchFaults.{StandsAt, number, Fails, IsUnmet}
-use Rattle.odb_reply.specs.Places.{HasRows, AreUnits, is_met}
+use Rattle.odb_reply.specs.Places.{HasRows, AreUnits, is_met, NoneIn, IsFirstIn}
 use Rattle.odb_reply.proofs.IdLemmas.{id_within}
 use Rattle.odb_reply.proofs.SliceLemmas.{slice_get-some}
 use Rattle.odb_reply.proofs.UnitLemmas.{need_within}

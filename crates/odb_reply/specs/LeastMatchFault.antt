@@ -33,13 +33,3 @@ HasNoMisfit rs es = (rule : MatchRule) (at : ℕ) → ¬ StandsAt rule rs es at
 abbrev pub RefusesMatch : MatchFault → List Record → List Entry → Type 0
 RefusesMatch (faults.Misfit at rule) rs es = IsLeastAt rs es rule at
 RefusesMatch faults.OutOfMemory rs es = Unit {0}
-
--- no rule of this phase is broken at the position
-abbrev pub NoneIn : ℕ → List Record → List Entry → ℕ → Type 0
-NoneIn ph rs es at = (rule : MatchRule) → phase rule ≡ ph → ¬ StandsAt rule rs es at
-
--- the rule is the first of its phase that is broken at the position
-pub record IsFirstIn (ph : ℕ) (rs : List Record) (es : List Entry) (at : ℕ) (rule : MatchRule) : Type 0 where
-  pub of_phase : phase rule ≡ ph
-  pub stands : StandsAt rule rs es at
-  pub first : (other : MatchRule) → phase other ≡ ph → number other < number rule → ¬ StandsAt other rs es at

@@ -1,6 +1,6 @@
+-- What public clauses cite: it has to be believed.
 pub mod Outputs
 pub mod Responses
-pub mod Parts
 pub mod OnePerId
 pub mod NotWhole
 pub mod ReplyFaults
@@ -9,5 +9,8 @@ pub mod ResponseFaults
 pub mod Fits
 pub mod MatchFaults
 pub mod LeastMatchFault
-pub mod Places
 pub mod Tables
+-- What serves invariants and private clauses: no public clause cites it.
+pub mod Parts
+pub mod Elements
+pub mod Places

@@ -1,4 +1,4 @@
--- Where the responses to requests were found: for private clauses, nothing to believe.
+-- For invariants and private clauses: where the responses to requests were found, and what was found of them.
 use Rattle.std.specs.Prelude.{◌≡◌, ◌<◌, ℕ, List, length, Option, Some, None, Bool, true, false, slice_get, slice_set, slice_index, slice_index_or}
 use Rattle.odb_doc.specs.Records.{Record}
 use Rattle.odb_check.specs.declared.need.Need.{Need}
@@ -11,7 +11,8 @@ use Rattle.odb_reply.specs.declared.match_fault.MatchFault.{MatchFault}
 use Rattle.odb_reply.specs.declared.match_fault.MatchFault.TheVariants as faults
 use Rattle.odb_reply.specs.ResponseDocuments.{Entry}
 use Rattle.odb_reply.specs.Fits.{id_in, Responds, IsTableOf}
-use Rattle.odb_reply.specs.LeastMatchFault.{NoneIn, IsFirstIn}
+use Rattle.odb_reply.specs.LeastMatchFault.{phase}
+use Rattle.odb_reply.specs.MatchFaults.{StandsAt, number}
 
 -- the places of responses by the positions of their requests, none where none was found
 abbrev pub Places : Type 0
@@ -90,6 +91,16 @@ pub record AreUnits (rs : List Record) (statuses : List ℕ) (n : ℕ) (units : 
 abbrev pub is_met : List ℕ → List Bool → Need → Bool
 is_met statuses units (One r) = is_success (slice_index statuses r)
 is_met statuses units (Group u) = slice_index_or units u false
+
+-- no rule of this phase is broken at the position
+abbrev pub NoneIn : ℕ → List Record → List Entry → ℕ → Type 0
+NoneIn ph rs es at = (rule : MatchRule) → phase rule ≡ ph → ¬ StandsAt rule rs es at
+
+-- the rule is the first of its phase that is broken at the position
+pub record IsFirstIn (ph : ℕ) (rs : List Record) (es : List Entry) (at : ℕ) (rule : MatchRule) : Type 0 where
+  pub of_phase : phase rule ≡ ph
+  pub stands : StandsAt rule rs es at
+  pub first : (other : MatchRule) → phase other ≡ ph → number other < number rule → ¬ StandsAt other rs es at
 
 -- the fault is the first of the last phase. Out of memory says nothing.
 abbrev pub IsFirstOfLast : List Record → List Entry → MatchFault → Type 0

@@ -67,12 +67,6 @@ pub record IsFirstBad (ds : List Data) (at : ℕ) : Type 0 where
   pub bad : IsSomeAnd (slice_get ds at) (λ d. ¬ IsResponse d)
   pub before : (i : ℕ) → i < at → IsSomeAnd (slice_get ds i) IsResponse
 
--- the fault is that of the first element that has one. Out of memory says nothing.
-abbrev pub RefusesElements : ResponseFault → List Data → Type 0
-RefusesElements faults.Document ds = ⊥
-RefusesElements (faults.Response at) ds = IsFirstBad ds at
-RefusesElements faults.OutOfMemory ds = Unit {0}
-
 -- the fault is the first of the document: that of the whole, or else of an element. Out of memory says nothing.
 abbrev pub RefusesResponses : ResponseFault → Data → Type 0
 RefusesResponses faults.Document d = ¬ IsSome (array_in d)

@@ -7,7 +7,7 @@ ghost use Rattle.odb_check.specs.Plans.{plan_records};
 ghost use Rattle.odb_check.specs.Shape.{IsPlan, shape_of};
 ghost use Rattle.odb_sched.specs.Statuses as specs;
 ghost use Rattle.odb_reply.specs.Fits.{Fits, IsTableOf};
-ghost use Rattle.odb_reply.specs.LeastMatchFault.{IsFirstIn, NoneIn, RefusesMatch};
+ghost use Rattle.odb_reply.specs.LeastMatchFault.{RefusesMatch};
 ghost use Rattle.odb_reply.specs.Places as known;
 ghost use Rattle.odb_reply.specs.ResponseDocuments.{entries, entry_of};
 ghost use Rattle.odb_reply.specs.Tables as tables;
@@ -92,8 +92,8 @@ fn broken_rule(
         (tables.places table.now) (tables.statuses table.now) }
     requires units { known.AreUnits (plan_records plan.now) (tables.statuses table.now)
         (length (plan_records plan.now)) units.now }
-    ensures none { IfNone result (NoneIn 3 (plan_records plan.now) (entries responses.now) i) }
-    ensures first { IfSome result (IsFirstIn 3 (plan_records plan.now) (entries responses.now) i) }
+    ensures none { IfNone result (known.NoneIn 3 (plan_records plan.now) (entries responses.now) i) }
+    ensures first { IfSome result (known.IsFirstIn 3 (plan_records plan.now) (entries responses.now) i) }
 {
     if !has_group(responses.entry(table.place(i)), plan.request(i)) {
         return Some(MatchRule::GroupDiffers);
@@ -117,7 +117,7 @@ fn check_requests(
     requires units { known.AreUnits (plan_records plan.now) (tables.statuses table.now)
         (length (plan_records plan.now)) units.now }
     ensures none { OnOk result ((i : ℕ) → i < length (plan_records plan.now)
-        → NoneIn 3 (plan_records plan.now) (entries responses.now) i) }
+        → known.NoneIn 3 (plan_records plan.now) (entries responses.now) i) }
     ensures first { IfErr result (known.IsFirstOfLast (plan_records plan.now)
         (entries responses.now)) }
 {

@@ -4,6 +4,7 @@ ghost use Rattle.serde_json.specs.Data.{string, unsigned};
 ghost use Rattle.serde_json.specs.Find.{as_str};
 ghost use Rattle.serde_json.specs.View.{view};
 ghost use Rattle.odb_doc.specs.Outcomes as members;
+ghost use Rattle.odb_reply.specs.Elements.{RefusesElements};
 ghost use Rattle.odb_reply.specs.ResponseDocuments as documents;
 
 use crate::response_fault::ResponseFault;
@@ -103,7 +104,7 @@ fn responses_from<'a>(
     ensures good { OnOk result (All documents.IsResponse (map view elements.now)) }
     ensures says { IfOk result (λ found. AllZip documents.Says (map view elements.now)
         (map documents.entry_of found.items)) }
-    ensures first { IfErr result (λ fault. documents.RefusesElements fault
+    ensures first { IfErr result (λ fault. RefusesElements fault
         (map view elements.now)) }
 {
     let mut list = Vec::with_capacity(alloc, elements.len())?;

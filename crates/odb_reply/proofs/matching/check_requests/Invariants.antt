@@ -1,6 +1,6 @@
 use Rattle.std.proofs.Common.{ℕ, ◌<◌}
 use Rattle.odb_check.specs.Plans.{plan_records}
-use Rattle.odb_reply.specs.LeastMatchFault.{NoneIn}
+use Rattle.odb_reply.specs.Places.{NoneIn}
 use Rattle.odb_reply.specs.ResponseDocuments.{entries}
 use Rattle.odb_reply.proofs.matching.check_requests.Given as goal
 
