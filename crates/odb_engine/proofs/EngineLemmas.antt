@@ -26,7 +26,8 @@ use Rattle.odb_engine.specs.declared.stop.Stop.TheVariants as stops
 use Rattle.odb_engine.specs.Inputs.{most_read, GivesDocument, SomeDocument}
 use Rattle.odb_engine.specs.Cascade.{Writes, Prints, Refusal, line_of, Reports, RefusesBytes, IsLeast, Answers, document_refusal, names_refusal}
 use Rattle.odb_engine.specs.Cascade.IsLeast.{OfBytes, OfShape, OfNames}
-use Rattle.odb_engine.specs.Engines.{Found, Refuses, Sent, Stopped, text_found, StopsBy, stop_of, Ends, WritesPrefix}
+use Rattle.odb_engine.specs.Engines.{Ends, WritesPrefix}
+use Rattle.odb_engine.specs.Stops.{Found, Refuses, Sent, Stopped, text_found, StopsBy, stop_of}
 
 -- a result of the search for a text
 abbrev pub FoundText : Type 0

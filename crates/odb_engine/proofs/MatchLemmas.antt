@@ -12,7 +12,7 @@ use Rattle.odb_reply.specs.ResponseFaults as documents
 use Rattle.odb_engine.specs.declared.ending.Ended.TheVariants.{Refused}
 use Rattle.odb_engine.specs.declared.stop.Stop.{Stop}
 use Rattle.odb_engine.specs.Cascade.{line_of}
-use Rattle.odb_engine.specs.Engines.{Refuses, StopsBy}
+use Rattle.odb_engine.specs.Stops.{Refuses, StopsBy}
 use Rattle.odb_engine.specs.Matches.{IsLeastOfResponses, Lists, Matches, Misfits, match_refusal, responses_refusal, status_line, status_lines}
 use Rattle.odb_engine.specs.Matches.IsLeastOfResponses.{OfValue}
 use Rattle.odb_engine.proofs.EngineLemmas.{reports, stopped-by}

@@ -6,7 +6,7 @@ use Rattle.odb_doc.specs.Devices.{Writing}
 use Rattle.odb_reply.specs.Outputs.{AppendsPrefix}
 use Rattle.odb_engine.specs.declared.ending.EngineFault.{EngineFault}
 use Rattle.odb_engine.specs.declared.ending.EngineFault.TheVariants as faults
-use Rattle.odb_engine.specs.Engines.{Sends}
+use Rattle.odb_engine.specs.Stops.{Sends}
 
 -- nothing is a prefix of each text
 pub AppendsPrefix-none : (old : Option (List ℕ)) (text : List ℕ) → AppendsPrefix old old text

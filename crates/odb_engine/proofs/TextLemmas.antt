@@ -9,7 +9,7 @@ use Rattle.odb_engine.specs.declared.ending.Ended.TheVariants.{Refused}
 use Rattle.odb_engine.specs.declared.stop.Stop.{Stop}
 use Rattle.odb_engine.specs.Cascade.{line_of}
 use Rattle.odb_engine.specs.Commands.{Canonical, IsNotWhole, text_refusal}
-use Rattle.odb_engine.specs.Engines.{Refuses, StopsBy}
+use Rattle.odb_engine.specs.Stops.{Refuses, StopsBy}
 use Rattle.odb_engine.proofs.EngineLemmas.{reports, stopped-by}
 
 -- a body holds a number that is not whole

@@ -1,3 +1,4 @@
+-- What public clauses cite: it has to be believed.
 pub mod Inputs
 pub mod Lines
 pub mod Traces
@@ -6,5 +7,7 @@ pub mod Engines
 pub mod Commands
 pub mod Replays
 pub mod Runs
-pub mod Laws
 pub mod Matches
+pub mod Laws
+-- What serves private clauses: no public clause cites it.
+pub mod Stops

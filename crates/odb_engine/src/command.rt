@@ -3,7 +3,8 @@ ghost use Rattle.serde_json.specs.View.{view};
 ghost use Rattle.odb_doc.specs.Documents.{IsDocument};
 ghost use Rattle.odb_engine.specs.declared.stop.Stop.TheVariants as stops;
 ghost use Rattle.odb_engine.specs.Cascade.{Answers};
-ghost use Rattle.odb_engine.specs.Engines.{Ends, Found};
+ghost use Rattle.odb_engine.specs.Engines.{Ends};
+ghost use Rattle.odb_engine.specs.Stops.{Found};
 ghost use Rattle.odb_engine.specs.Inputs.{IsFresh, ReadsFew, SomeDocument};
 
 use crate::ending::{Ended, EngineFault, end};
@@ -26,7 +27,7 @@ pub trait Command {
     ghost use Rattle.odb_check.specs.Plans.{plan_records};
     ghost use Rattle.odb_engine.specs.declared.ending.Ended.{Ended};
     ghost use Rattle.odb_engine.specs.declared.stop.Stop.TheVariants as stops;
-    ghost use Rattle.odb_engine.specs.Engines.{Found};
+    ghost use Rattle.odb_engine.specs.Stops.{Found};
 
     /// How it ends for the requests of a batch, and what it has written then.
     ghost says: { Self → List Record → Ended → List ℕ → Type 0 };

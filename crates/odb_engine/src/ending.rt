@@ -1,7 +1,8 @@
 ghost use Rattle.std.specs.Prelude.{◌≡◌, false, Err};
 ghost use Rattle.odb_engine.specs.declared.ending.EngineFault.TheVariants as faults;
 ghost use Rattle.odb_engine.specs.declared.stop.Stop.TheVariants as stops;
-ghost use Rattle.odb_engine.specs.Engines.{Ends, text_found};
+ghost use Rattle.odb_engine.specs.Engines.{Ends};
+ghost use Rattle.odb_engine.specs.Stops.{text_found};
 
 use crate::lines::fault_line;
 use crate::stop::Stop;

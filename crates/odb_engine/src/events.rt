@@ -4,7 +4,7 @@ ghost use Rattle.odb_reply.specs.NotWhole.{HasWholeBodies};
 ghost use Rattle.odb_engine.specs.declared.ending.Ended.TheVariants as ends;
 ghost use Rattle.odb_engine.specs.declared.stop.Stop.TheVariants as stops;
 ghost use Rattle.odb_engine.specs.Inputs.{IsFresh, ReadsFew, SomeDocument};
-ghost use Rattle.odb_engine.specs.Engines.{Stopped};
+ghost use Rattle.odb_engine.specs.Stops.{Stopped};
 ghost use Rattle.odb_engine.specs.Replays.{response_line};
 ghost use Rattle.odb_engine.specs.Runs as runs;
 

@@ -2,7 +2,7 @@ ghost use Rattle.std.specs.Prelude.{◌≡◌, ◌≤◌, ◌↔◌, false, IsTr
 ghost use Rattle.serde_json.specs.View.{view};
 ghost use Rattle.odb_doc.specs.Documents.{IsDocument};
 ghost use Rattle.odb_engine.specs.Cascade.{RefusesBytes};
-ghost use Rattle.odb_engine.specs.Engines.{Stopped};
+ghost use Rattle.odb_engine.specs.Stops.{Stopped};
 ghost use Rattle.odb_engine.specs.Inputs.{GivesDocument, GivesFew, IsFresh, ReadsFew, SomeDocument};
 ghost use Rattle.odb_engine.specs.declared.reading.ReadFault.TheVariants as faults;
 ghost use Rattle.odb_engine.specs.declared.stop.Stop.TheVariants as stops;

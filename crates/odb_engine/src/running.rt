@@ -6,7 +6,7 @@ ghost use Rattle.odb_reply.specs.NotWhole.{HasWholeBodies};
 ghost use Rattle.odb_engine.specs.declared.ending.Ended.TheVariants.{Done};
 ghost use Rattle.odb_engine.specs.declared.stop.Stop.TheVariants as stops;
 ghost use Rattle.odb_engine.specs.Inputs.{IsFresh, ReadsFew, SomeDocument};
-ghost use Rattle.odb_engine.specs.Engines.{Refuses, Stopped};
+ghost use Rattle.odb_engine.specs.Stops.{Refuses, Stopped};
 ghost use Rattle.odb_engine.specs.Replays as replays;
 
 use crate::held::{Held, Remains};

@@ -4,7 +4,8 @@ ghost use Rattle.odb_sched.specs.Courses.{position_in};
 ghost use Rattle.odb_reply.specs.NotWhole.{HasWholeBodies};
 ghost use Rattle.odb_reply.specs.Responses as responses;
 ghost use Rattle.odb_engine.specs.Cascade.{Prints};
-ghost use Rattle.odb_engine.specs.Engines.{Ends, Sends};
+ghost use Rattle.odb_engine.specs.Engines.{Ends};
+ghost use Rattle.odb_engine.specs.Stops.{Sends};
 ghost use Rattle.odb_engine.specs.Replays as replays;
 
 use crate::ending::{Ended, EngineFault};

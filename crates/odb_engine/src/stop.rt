@@ -12,7 +12,7 @@ ghost use Rattle.odb_reply.specs.ResponseFaults as responses;
 ghost use Rattle.odb_engine.specs.declared.stop.Stop.TheVariants as stops;
 ghost use Rattle.odb_engine.specs.Cascade.{document_refusal, names_refusal};
 ghost use Rattle.odb_engine.specs.Commands.{text_refusal};
-ghost use Rattle.odb_engine.specs.Engines.{StopsBy, stop_of};
+ghost use Rattle.odb_engine.specs.Stops.{StopsBy, stop_of};
 ghost use Rattle.odb_engine.specs.Matches.{match_refusal, responses_refusal};
 ghost use Rattle.odb_engine.specs.Replays.{outcomes_refusal, execution_refusal};
 ghost use Rattle.odb_engine.specs.Runs as runs;

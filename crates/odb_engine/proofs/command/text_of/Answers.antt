@@ -1,5 +1,5 @@
 use Rattle.odb_engine.specs.Cascade.{Answers}
-use Rattle.odb_engine.specs.Engines.{Found}
+use Rattle.odb_engine.specs.Stops.{Found}
 use Rattle.odb_engine.proofs.EngineLemmas.{at-exit, stop-shape, stop-names}
 use Rattle.odb_engine.proofs.command.text_of.Goals as goal
 

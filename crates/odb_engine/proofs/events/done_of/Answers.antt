@@ -7,7 +7,7 @@ use Rattle.odb_sched.specs.Steps.{is_finished}
 use Rattle.odb_reply.specs.NotWhole.{HasWholeBodies}
 use Rattle.odb_reply.specs.OnePerId.{HasOnePerId}
 use Rattle.odb_reply.specs.Responses.{response_value}
-use Rattle.odb_engine.specs.Engines.{Stopped}
+use Rattle.odb_engine.specs.Stops.{Stopped}
 use Rattle.odb_engine.specs.Replays.{response_line}
 use Rattle.odb_engine.specs.Runs.{IsLeastOfRun, end_of, resolve_refusal, run_refusal}
 use Rattle.odb_engine.specs.Runs.IsLeastOfRun.{OfEnd}

@@ -1,7 +1,7 @@
 use Rattle.serde_json.specs.View.{view}
 use Rattle.odb_check.specs.Plans.{plan_records}
 use Rattle.odb_reply.specs.ResponseDocuments.{entries}
-use Rattle.odb_engine.specs.Engines.{Found}
+use Rattle.odb_engine.specs.Stops.{Found}
 use Rattle.odb_engine.specs.Matches.{Matches}
 use Rattle.odb_engine.proofs.EngineLemmas.{at-exit}
 use Rattle.odb_engine.proofs.MatchLemmas.{stop-match, stop-responses}

@@ -1,6 +1,6 @@
 use Rattle.odb_engine.specs.Cascade.{Answers}
 use Rattle.odb_engine.specs.Commands.{BySecond}
-use Rattle.odb_engine.specs.Engines.{Found}
+use Rattle.odb_engine.specs.Stops.{Found}
 use Rattle.odb_engine.proofs.EngineLemmas.{at-exit, stop-shape, stop-names}
 use Rattle.odb_engine.proofs.pair.text_of.Goals as goal
 

@@ -2,7 +2,7 @@ use Rattle.std.proofs.Common.{refl, inl, inr}
 use Rattle.odb_doc.specs.EventLists.{entries}
 use Rattle.odb_engine.specs.declared.ending.Ended.TheVariants.{Refused}
 use Rattle.odb_engine.specs.Cascade.{Prints, line_of}
-use Rattle.odb_engine.specs.Engines.{Sent}
+use Rattle.odb_engine.specs.Stops.{Sent}
 use Rattle.odb_engine.specs.Replays.{response_line}
 use Rattle.odb_engine.specs.Runs.{RunsBy, IsLeastOfRun}
 use Rattle.odb_engine.proofs.EngineLemmas.{exit-stop, Ends-weaker, Stopped-weaker, printed, reports}

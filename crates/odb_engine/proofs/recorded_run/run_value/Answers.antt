@@ -1,7 +1,7 @@
 -- The cascade of a run by recorded events: the faults of the batch, and then what the events give.
 use Rattle.std.proofs.Common.{refl, inr}
 use Rattle.odb_engine.specs.Cascade.{Answers}
-use Rattle.odb_engine.specs.Engines.{Sent}
+use Rattle.odb_engine.specs.Stops.{Sent}
 use Rattle.odb_engine.specs.Runs.{Runs, RunsBy}
 use Rattle.odb_engine.proofs.EngineLemmas.{at-exit, stop-shape, stop-names, Sent-weaker}
 use Rattle.odb_engine.proofs.recorded_run.run_value.Goals as goal

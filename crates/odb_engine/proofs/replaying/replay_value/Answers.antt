@@ -1,7 +1,7 @@
 -- The cascade of a replay: the faults of the batch, and then what the outcomes give.
 use Rattle.std.proofs.Common.{refl, inr}
 use Rattle.odb_engine.specs.Cascade.{Answers}
-use Rattle.odb_engine.specs.Engines.{Sent}
+use Rattle.odb_engine.specs.Stops.{Sent}
 use Rattle.odb_engine.specs.Replays.{Replays, ReplaysBy}
 use Rattle.odb_engine.proofs.EngineLemmas.{at-exit, stop-shape, stop-names, Sent-weaker}
 use Rattle.odb_engine.proofs.replaying.replay_value.Goals as goal

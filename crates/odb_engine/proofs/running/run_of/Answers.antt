@@ -12,7 +12,7 @@ use Rattle.odb_reply.specs.OnePerId.{HasOnePerId}
 use Rattle.odb_reply.specs.Responses.{response_value}
 use Rattle.odb_engine.specs.declared.ending.Ended.TheVariants.{Refused}
 use Rattle.odb_engine.specs.Cascade.{line_of}
-use Rattle.odb_engine.specs.Engines.{Refuses}
+use Rattle.odb_engine.specs.Stops.{Refuses}
 use Rattle.odb_engine.specs.Replays.{LacksOutcome, execution_refusal}
 use Rattle.odb_engine.proofs.EngineLemmas.{at-exit, stopped-by}
 use Rattle.odb_engine.proofs.ReplayLemmas.{whole-bodies, lacks-outcome}

@@ -1,7 +1,7 @@
 -- The response, and then the end of its line.
 use Rattle.std.proofs.Common.{[], ◌∷◌}
 use Rattle.odb_reply.specs.Responses.{response_text}
-use Rattle.odb_engine.specs.Engines.{Sends}
+use Rattle.odb_engine.specs.Stops.{Sends}
 use Rattle.odb_engine.specs.Lines.{newline}
 use Rattle.odb_engine.specs.Replays.{response_line}
 use Rattle.odb_engine.proofs.EngineLemmas.{exit-stop}

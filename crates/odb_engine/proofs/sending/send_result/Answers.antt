@@ -1,6 +1,6 @@
 -- The parts of a result, one after another.
 use Rattle.std.proofs.Common.{◌++◌}
-use Rattle.odb_engine.specs.Engines.{Sends}
+use Rattle.odb_engine.specs.Stops.{Sends}
 use Rattle.odb_engine.specs.Replays.{response_line, trace_part}
 use Rattle.odb_engine.proofs.EngineLemmas.{exit-stop}
 use Rattle.odb_engine.proofs.SendLemmas.{Sends-stopped, Sends-after}

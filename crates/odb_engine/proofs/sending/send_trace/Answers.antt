@@ -1,5 +1,5 @@
 use Rattle.odb_engine.specs.declared.ending.EngineFault.TheVariants as faults
-use Rattle.odb_engine.specs.Engines.{Sends}
+use Rattle.odb_engine.specs.Stops.{Sends}
 use Rattle.odb_engine.specs.Replays.{trace_part}
 use Rattle.odb_engine.proofs.EngineLemmas.{exit-stop}
 use Rattle.odb_engine.proofs.SendLemmas.{Sends-none}

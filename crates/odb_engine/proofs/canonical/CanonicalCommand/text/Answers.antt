@@ -1,7 +1,7 @@
 use Rattle.std.proofs.Common.{Err, ap, subst}
 use Rattle.odb_doc.specs.Batches.{records}
 use Rattle.odb_engine.specs.Commands.{Canonical}
-use Rattle.odb_engine.specs.Engines.{Found}
+use Rattle.odb_engine.specs.Stops.{Found}
 use Rattle.odb_engine.proofs.EngineLemmas.{at-exit}
 use Rattle.odb_engine.proofs.TextLemmas.{stop-text}
 use Rattle.odb_engine.proofs.canonical.CanonicalCommand.text.Goals as goal
