@@ -20,7 +20,7 @@ use Rattle.odb_sched.specs.Answers.{answer, status_of, is_answered_2xx}
 use Rattle.odb_sched.specs.Laws.{IsSound}
 use Rattle.odb_sched.specs.State.{State, shape, size}
 use Rattle.odb_sched.specs.Statuses.{is_success}
-use Rattle.odb_reply.specs.Fits.{id_in, Responds, Succeeds, IsMet, Fits, ListsFit, AnswersStatuses}
+use Rattle.odb_reply.specs.Fits.{id_in, Responds, Succeeds, IsSatisfied, Fits, ListsFit, AnswersStatuses}
 use Rattle.odb_reply.specs.ResponseDocuments.{Entry, IsResponse, IsResponseDocument, IsStatus, Says, group_in}
 use Rattle.odb_reply.specs.Responses.{with_some, response, responses_from, response_value}
 use Rattle.odb_reply.proofs.IdLemmas.{id_within}
@@ -154,7 +154,7 @@ unit_there state i same within = let rs = plan_records state.plan in ap (λ plan
 
 -- a response to a member of the unit is to a request of the run
 met_answered : (state : State) (i : ℕ) (need : Need) → IsOnce (plan_records state.plan) → IsSound state → state.shape ≡ shape state.plan → size state ≡ length (plan_records state.plan)
-    → i < length (plan_records state.plan) → is_answered_2xx (answer state i) ≡ true → Contains (needs_at (plan_records state.plan) i) need → IsMet (plan_records state.plan) (listed state) need
+    → i < length (plan_records state.plan) → is_answered_2xx (answer state i) ≡ true → Contains (needs_at (plan_records state.plan) i) need → IsSatisfied (plan_records state.plan) (listed state) need
 met_answered state i (One r) once sound same count within answered needed =
     let inside : i < size state = omega (arith, count) in
     succeeds_answered state r once ((sound i inside answered).0 r (needs_there state i (One r) same within needed))

@@ -13,9 +13,9 @@ use Rattle.odb_reply.specs.declared.match_fault.MatchRule.TheVariants.{UnknownRe
 use Rattle.odb_reply.specs.declared.match_fault.MatchFault.{MatchFault}
 use Rattle.odb_reply.specs.declared.match_fault.MatchFault.TheVariants as faults
 use Rattle.odb_reply.specs.ResponseDocuments.{Entry}
-use Rattle.odb_reply.specs.Fits.{id_in, IsOnlyOne, IsMet, Fits}
+use Rattle.odb_reply.specs.Fits.{id_in, IsOnlyOne, IsSatisfied, Fits}
 use Rattle.odb_reply.specs.LeastMatchFault.{phase, HasNoMisfit, RefusesMatch}
-use Rattle.odb_reply.specs.MatchFaults.{StandsAt, IsUnmet, IsNumbered}
+use Rattle.odb_reply.specs.MatchFaults.{StandsAt, HasFailed, IsNumbered}
 use Rattle.odb_reply.specs.Places.{IsFirstOfLast, NoneIn}
 use Rattle.odb_reply.proofs.IdLemmas.{id_within, position_id, position_none}
 
@@ -70,9 +70,9 @@ succeeds_or_fails rs es r e never = at_answer (is_success e.status) refl
     at_answer true is = is
     at_answer false is = absurd (never (λ passes. both_ways (is_success e.status) is passes))
 
-met_or_unmet : (rs : List Record) (es : List Entry) (need : Need) → ¬ IsUnmet rs es need → IsMet rs es need
-met_or_unmet rs es (One r) never = λ e responds. succeeds_or_fails rs es r e (λ failed. never (e, responds, failed))
-met_or_unmet rs es (Group u) never = λ r unit e responds. succeeds_or_fails rs es r e (λ failed. never (r, unit, (e, responds, failed)))
+satisfied_or_failed : (rs : List Record) (es : List Entry) (need : Need) → ¬ HasFailed rs es need → IsSatisfied rs es need
+satisfied_or_failed rs es (One r) never = λ e responds. succeeds_or_fails rs es r e (λ failed. never (e, responds, failed))
+satisfied_or_failed rs es (Group u) never = λ r unit e responds. succeeds_or_fails rs es r e (λ failed. never (r, unit, (e, responds, failed)))
 
 known_id : (rs : List Record) (es : List Entry) (k : ℕ) (id : List ℕ) → HasNoMisfit rs es → id_in es k ≡ Some id → IsId rs id
 known_id rs es k id none has = at_position (position_of rs id) refl
@@ -93,14 +93,14 @@ Fits-from rs es none = record {
     | inr differs ↦ absurd (none GroupDiffers i (record { response = e; responds = responds; differs = differs }))
   ];
   sound = λ i e need responds success needed.
-      met_or_unmet rs es need (λ unmet. none UnsoundSuccess i (record { response = e; responds = responds; success = success; need = need; needed = needed; unmet = unmet }));
+      satisfied_or_failed rs es need (λ failing. none UnsoundSuccess i (record { response = e; responds = responds; success = success; need = need; needed = needed; fails = failing }));
 }
 
 -- ---- where they fit, none is broken
 
-met_not_unmet : (rs : List Record) (es : List Entry) (need : Need) → IsMet rs es need → ¬ IsUnmet rs es need
-met_not_unmet rs es (One r) met unmet = unmet.2 (met unmet.0 unmet.1)
-met_not_unmet rs es (Group u) met unmet = let failed = unmet.2 in failed.2 (met unmet.0 unmet.1 failed.0 failed.1)
+satisfied_not_failed : (rs : List Record) (es : List Entry) (need : Need) → IsSatisfied rs es need → ¬ HasFailed rs es need
+satisfied_not_failed rs es (One r) met failing = failing.2 (met failing.0 failing.1)
+satisfied_not_failed rs es (Group u) met failing = let failed = failing.2 in failed.2 (met failing.0 failing.1 failed.0 failed.1)
 
 none_of : (rs : List Record) (es : List Entry) → Fits rs es → (rule : MatchRule) (i : ℕ) (id : Option (List ℕ)) → (rule ≡ ResponseMissing → id_at rs i ≡ id) → (phase rule ≡ 1 → id_in es i ≡ id) → ¬ StandsAt rule rs es i
 none_of rs es fits UnknownResponse k None request response stands = rw (response refl) at stands
@@ -119,7 +119,7 @@ none_of rs es fits ResponseMissing i (Some id) request response stands =
     (rw (request refl) at stands) one.0 one.1.has
 none_of rs es fits GroupDiffers i id request response stands = stands.differs (fits.groups i stands.response stands.responds)
 none_of rs es fits UnsoundSuccess i id request response stands =
-    met_not_unmet rs es stands.need (fits.sound i stands.response stands.need stands.responds stands.success stands.needed) stands.unmet
+    satisfied_not_failed rs es stands.need (fits.sound i stands.response stands.need stands.responds stands.success stands.needed) stands.fails
 
 -- ---- the last phase
 

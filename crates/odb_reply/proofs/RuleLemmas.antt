@@ -17,8 +17,8 @@ use Rattle.odb_reply.specs.declared.match_fault.MatchRule.TheVariants.{UnknownRe
 use Rattle.odb_reply.specs.ResponseDocuments.{Entry}
 use Rattle.odb_reply.specs.Fits.{Responds, IsRow}
 use Rattle.odb_reply.specs.LeastMatchFault.{phase}
-use Rattle.odb_reply.specs.MatchFaults.{StandsAt, number, Fails, IsUnmet}
-use Rattle.odb_reply.specs.Places.{HasRows, AreUnits, is_met, NoneIn, IsFirstIn}
+use Rattle.odb_reply.specs.MatchFaults.{StandsAt, number, Fails, HasFailed}
+use Rattle.odb_reply.specs.Places.{HasRows, AreUnits, is_satisfied, NoneIn, IsFirstIn}
 use Rattle.odb_reply.proofs.IdLemmas.{id_within}
 use Rattle.odb_reply.proofs.SliceLemmas.{slice_get-some}
 use Rattle.odb_reply.proofs.UnitLemmas.{need_within}
@@ -55,22 +55,22 @@ fails_not rs es places statuses r rows passes failed = failed.2 (ap is_success (
 
 -- ---- needs
 
-unmet_from : (rs : List Record) (es : List Entry) (places statuses : List ℕ) (units : List Bool) (need : Need) → HasRows rs es places statuses → AreUnits rs statuses (length rs) units
-    → IsWithin need (length rs) (unit_count rs) → is_met statuses units need ≡ false → IsUnmet rs es need
-unmet_from rs es places statuses units (One r) rows known within unmet = fails_from rs es places statuses r rows within unmet
-unmet_from rs es places statuses units (Group u) rows known within unmet =
+failed_from : (rs : List Record) (es : List Entry) (places statuses : List ℕ) (units : List Bool) (need : Need) → HasRows rs es places statuses → AreUnits rs statuses (length rs) units
+    → IsWithin need (length rs) (unit_count rs) → is_satisfied statuses units need ≡ false → HasFailed rs es need
+failed_from rs es places statuses units (One r) rows known within failing = fails_from rs es places statuses r rows within failing
+failed_from rs es places statuses units (Group u) rows known within failing =
     let inside : u < length units = omega (arith, known.count) in
-    let member = known.failed u (slice_get-get_or units u false inside ∙ ap Some unmet) in
+    let member = known.failed u (slice_get-get_or units u false inside ∙ ap Some failing) in
     (member.0, member.2, fails_from rs es places statuses member.0 rows member.1 member.3)
 
-met_from : (rs : List Record) (es : List Entry) (places statuses : List ℕ) (units : List Bool) (need : Need) → HasRows rs es places statuses → AreUnits rs statuses (length rs) units
-    → IsWithin need (length rs) (unit_count rs) → is_met statuses units need ≡ true → ¬ IsUnmet rs es need
-met_from rs es places statuses units (One r) rows known within met unmet = fails_not rs es places statuses r rows met unmet
-met_from rs es places statuses units (Group u) rows known within met unmet =
+satisfied_from : (rs : List Record) (es : List Entry) (places statuses : List ℕ) (units : List Bool) (need : Need) → HasRows rs es places statuses → AreUnits rs statuses (length rs) units
+    → IsWithin need (length rs) (unit_count rs) → is_satisfied statuses units need ≡ true → ¬ HasFailed rs es need
+satisfied_from rs es places statuses units (One r) rows known within met failing = fails_not rs es places statuses r rows met failing
+satisfied_from rs es places statuses units (Group u) rows known within met failing =
     let inside : u < length units = omega (arith, known.count) in
-    let failed = unmet.2 in
-    let passes = known.passed u unmet.0 (slice_get-get_or units u false inside ∙ ap Some met) (id_within rs unmet.0 failed.0.id failed.1.id) unmet.1 in
-    fails_not rs es places statuses unmet.0 rows passes failed
+    let failed = failing.2 in
+    let passes = known.passed u failing.0 (slice_get-get_or units u false inside ∙ ap Some met) (id_within rs failing.0 failed.0.id failed.1.id) failing.1 in
+    fails_not rs es places statuses failing.0 rows passes failed
 
 any_first : {X : Type 0} (test : X → Bool) (x : X) (xs : List X) (b : Bool) → test x ≡ b → (b || list_any test xs) ≡ true → (list_any test xs ≡ true → (y : X) × Contains xs y × (test y ≡ true))
     → (y : X) × Contains (x ∷ xs) y × (test y ≡ true)
@@ -147,22 +147,22 @@ not_differs rs es places statuses i k e rows place given group stands =
     let same : e ≡ stands.response = same_Some e stands.response (sym given ∙ rows.only i k stands.response stands.responds place) in
     stands.differs (ap (λ (r : Entry). r.group) (sym same) ∙ group)
 
--- the response is a success, and a need is not met
+-- the response is a success, and a dependency has failed
 pub first_unsound : (rs : List Record) (es : List Entry) (places statuses : List ℕ) (units : List Bool) (i : ℕ) → HasRows rs es places statuses → AreUnits rs statuses (length rs) units → IsPlan (shape_of rs)
-    → i < length rs → ¬ StandsAt GroupDiffers rs es i → is_success (get_or statuses i 0) ≡ true → list_any (λ need. not (is_met statuses units need)) (needs_at rs i) ≡ true → IsFirstIn 3 rs es i UnsoundSuccess
+    → i < length rs → ¬ StandsAt GroupDiffers rs es i → is_success (get_or statuses i 0) ≡ true → list_any (λ need. not (is_satisfied statuses units need)) (needs_at rs i) ≡ true → IsFirstIn 3 rs es i UnsoundSuccess
 first_unsound rs es places statuses units i rows known laws within group passes some =
     let place = slice_get-some places i (omega (arith, rows.table.places_count)) in
     let row = row_at rs es places statuses i place.0 rows place.1 in
-    let unmet = any_some (λ need. not (is_met statuses units need)) (needs_at rs i) some in
+    let failing = any_some (λ need. not (is_satisfied statuses units need)) (needs_at rs i) some in
     record {
       of_phase = refl;
       stands = record {
         response = row.entry;
         responds = record { place = place.0; given = row.given; id = row.id };
         success = ap is_success row.status_is ∙ passes;
-        need = unmet.0;
-        needed = unmet.1;
-        unmet = unmet_from rs es places statuses units unmet.0 rows known (need_within rs i unmet.0 laws within unmet.1) (not_false (is_met statuses units unmet.0) unmet.2);
+        need = failing.0;
+        needed = failing.1;
+        fails = failed_from rs es places statuses units failing.0 rows known (need_within rs i failing.0 laws within failing.1) (not_false (is_satisfied statuses units failing.0) failing.2);
       };
       first = below_75 rs es i group;
     }
@@ -172,9 +172,9 @@ pub not_success : (rs : List Record) (es : List Entry) (places statuses : List �
 not_success rs es places statuses i rows failed stands =
     both_ways (is_success (get_or statuses i 0)) failed (ap is_success (status_of rs es places statuses i stands.response rows stands.responds) ∙ stands.success)
 
--- each need is met
-pub not_unmet : (rs : List Record) (es : List Entry) (places statuses : List ℕ) (units : List Bool) (i : ℕ) → HasRows rs es places statuses → AreUnits rs statuses (length rs) units → IsPlan (shape_of rs)
-    → i < length rs → list_any (λ need. not (is_met statuses units need)) (needs_at rs i) ≡ false → ¬ StandsAt UnsoundSuccess rs es i
-not_unmet rs es places statuses units i rows known laws within none stands =
-    let met = any_none (λ need. not (is_met statuses units need)) (needs_at rs i) stands.need none stands.needed in
-    met_from rs es places statuses units stands.need rows known (need_within rs i stands.need laws within stands.needed) (not_true (is_met statuses units stands.need) met) stands.unmet
+-- each dependency is satisfied
+pub not_failed : (rs : List Record) (es : List Entry) (places statuses : List ℕ) (units : List Bool) (i : ℕ) → HasRows rs es places statuses → AreUnits rs statuses (length rs) units → IsPlan (shape_of rs)
+    → i < length rs → list_any (λ need. not (is_satisfied statuses units need)) (needs_at rs i) ≡ false → ¬ StandsAt UnsoundSuccess rs es i
+not_failed rs es places statuses units i rows known laws within none stands =
+    let met = any_none (λ need. not (is_satisfied statuses units need)) (needs_at rs i) stands.need none stands.needed in
+    satisfied_from rs es places statuses units stands.need rows known (need_within rs i stands.need laws within stands.needed) (not_true (is_satisfied statuses units stands.need) met) stands.fails

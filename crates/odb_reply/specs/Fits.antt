@@ -32,10 +32,10 @@ pub record Responds (rs : List Record) (es : List Entry) (i : ℕ) (e : Entry) :
 abbrev pub Succeeds : List Record → List Entry → ℕ → Type 0
 Succeeds rs es r = (e : Entry) → Responds rs es r e → IsTrue (is_success e.status)
 
--- what is needed has succeeded: the request, or each member of the group
-abbrev pub IsMet : List Record → List Entry → Need → Type 0
-IsMet rs es (One r) = Succeeds rs es r
-IsMet rs es (Group u) = (r : ℕ) → unit_at rs r ≡ u → Succeeds rs es r
+-- a dependency is satisfied: each response to the request, or to a member of the group, is a success
+abbrev pub IsSatisfied : List Record → List Entry → Need → Type 0
+IsSatisfied rs es (One r) = Succeeds rs es r
+IsSatisfied rs es (Group u) = (r : ℕ) → unit_at rs r ≡ u → Succeeds rs es r
 
 -- Each id of the batch is that of exactly one response, and no response has another id; a response has the group of its
 -- request; and what a request with a success needs has succeeded.
@@ -43,7 +43,7 @@ pub record Fits (rs : List Record) (es : List Entry) : Type 0 where
   pub one : (i : ℕ) (id : List ℕ) → id_at rs i ≡ Some id → (k : ℕ) × IsOnlyOne es id k
   pub known : (k : ℕ) (id : List ℕ) → id_in es k ≡ Some id → IsId rs id
   pub groups : (i : ℕ) (e : Entry) → Responds rs es i e → e.group ≡ group_at rs i
-  pub sound : (i : ℕ) (e : Entry) (need : Need) → Responds rs es i e → IsTrue (is_success e.status) → Contains (needs_at rs i) need → IsMet rs es need
+  pub sound : (i : ℕ) (e : Entry) (need : Need) → Responds rs es i e → IsTrue (is_success e.status) → Contains (needs_at rs i) need → IsSatisfied rs es need
 
 -- the response at place k is to the request at i, and has the status
 pub record IsRow (rs : List Record) (es : List Entry) (i k status : ℕ) : Type 0 where

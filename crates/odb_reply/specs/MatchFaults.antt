@@ -22,10 +22,10 @@ use Rattle.odb_reply.specs.Fits.{id_in, Responds}
 abbrev pub Fails : List Record → List Entry → ℕ → Type 0
 Fails rs es r = (e : Entry) × Responds rs es r e × ¬ IsTrue (is_success e.status)
 
--- what is needed has failed: the request, or some member of the group
-abbrev pub IsUnmet : List Record → List Entry → Need → Type 0
-IsUnmet rs es (One r) = Fails rs es r
-IsUnmet rs es (Group u) = (r : ℕ) × (unit_at rs r ≡ u) × Fails rs es r
+-- a dependency has failed: the request, or some member of the group
+abbrev pub HasFailed : List Record → List Entry → Need → Type 0
+HasFailed rs es (One r) = Fails rs es r
+HasFailed rs es (Group u) = (r : ℕ) × (unit_at rs r ≡ u) × Fails rs es r
 
 -- a response to the request has another group
 pub record DiffersInGroup (rs : List Record) (es : List Entry) (i : ℕ) : Type 0 where
@@ -33,14 +33,14 @@ pub record DiffersInGroup (rs : List Record) (es : List Entry) (i : ℕ) : Type 
   pub responds : Responds rs es i response
   pub differs : ¬ (response.group ≡ group_at rs i)
 
--- a response to the request is a success, and something that the request needs has failed
+-- a response to the request is a success, and a dependency of the request has failed
 pub record RestsOnFailure (rs : List Record) (es : List Entry) (i : ℕ) : Type 0 where
   pub response : Entry
   pub responds : Responds rs es i response
   pub success : IsTrue (is_success response.status)
   pub need : Need
   pub needed : Contains (needs_at rs i) need
-  pub unmet : IsUnmet rs es need
+  pub fails : HasFailed rs es need
 
 -- The rule is broken at a place of the responses (the first two), or at a position of the requests.
 abbrev pub StandsAt : MatchRule → List Record → List Entry → ℕ → Type 0

@@ -87,10 +87,10 @@ pub record AreUnits (rs : List Record) (statuses : List ℕ) (n : ℕ) (units : 
   pub passed : (u r : ℕ) → slice_get units u ≡ Some true → r < n → unit_at rs r ≡ u → is_success (slice_index statuses r) ≡ true
   pub failed : (u : ℕ) → slice_get units u ≡ Some false → (r : ℕ) × (r < length rs) × (unit_at rs r ≡ u) × (is_success (slice_index statuses r) ≡ false)
 
--- whether what is needed has succeeded, by the statuses of the requests and by what is known of the units
-abbrev pub is_met : List ℕ → List Bool → Need → Bool
-is_met statuses units (One r) = is_success (slice_index statuses r)
-is_met statuses units (Group u) = slice_index_or units u false
+-- whether a dependency is satisfied, by the statuses of the requests and by what is known of the units
+abbrev pub is_satisfied : List ℕ → List Bool → Need → Bool
+is_satisfied statuses units (One r) = is_success (slice_index statuses r)
+is_satisfied statuses units (Group u) = slice_index_or units u false
 
 -- no rule of this phase is broken at the position
 abbrev pub NoneIn : ℕ → List Record → List Entry → ℕ → Type 0

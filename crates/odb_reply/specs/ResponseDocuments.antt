@@ -1,5 +1,5 @@
--- A service's response document (OData JSON Format 4.01, section 19.5): where its elements are responses, and what
--- they say.
+-- The response document of a service (OData JSON Format 4.01, section 19.5): which of its elements are responses, and what
+-- they have.
 use Rattle.std.specs.Prelude.{◌≡◌, ◌≤◌, ◌<◌, ℕ, List, [], map, slice_get, Option, Some, IsSome, IfSome, IsSomeAnd, option_and_then, option_map, unwrap_or, codes, All}
 use Rattle.serde_json.specs.Data.{Data, Num, unsigned, negative, float, string, Items}
 use Rattle.serde_json.specs.Find.{get, as_array, as_str}
@@ -18,7 +18,7 @@ array_in d = option_and_then as_array (get (codes "responses") d)
 abbrev pub responses_in : Data → List Data
 responses_in d = unwrap_or (option_map list_of (array_in d)) []
 
--- the value at `atomicityGroup`, where null counts as absent
+-- the value at `atomicityGroup`; null is treated as absent
 abbrev pub group_in : Data → Option Data
 group_in d = given (get (codes "atomicityGroup") d)
 
@@ -51,7 +51,7 @@ entry_of response = record {
 abbrev pub entries : Responses → List Entry
 entries responses = map entry_of responses.list.items
 
--- the element says this response
+-- the element has the id, the status and the group of this response
 pub record Says (d : Data) (entry : Entry) : Type 0 where
   pub id : id_of d ≡ Some entry.id
   pub status : status_of d ≡ Some (unsigned entry.status)

@@ -17,7 +17,7 @@ pub enum MatchRule {
     ResponseMissing,
     /// F74: the response has another atomicity group than the request.
     GroupDiffers,
-    /// F75: the response is a success, and what the request needs has failed: a request whose
+    /// F75: the response is a success, and a dependency of the request has failed: a request whose
     /// response is not a success, or a group with such a member.
     UnsoundSuccess,
 }
@@ -66,7 +66,7 @@ impl MatchRule {
             MatchRule::UnsoundSuccess => (
                 "F75",
                 "UnsoundSuccess",
-                "the response is a success, though something that the request needs failed",
+                "the response is a success, though a dependency of the request failed",
             ),
         }
     }

@@ -20,7 +20,7 @@ use odb_check::{Need, Plan};
 use odb_doc::Request;
 use std::alloc::{AllocError, Global};
 
-/// Whether a status is from 200 to 299.
+/// Returns whether a status is from 200 to 299.
 fn is_success(status: u16) -> bool
     ensures { result ≡ specs.is_success status }
 {
@@ -42,10 +42,10 @@ fn units_of(alloc: Global, plan: &Plan<'_>, table: &Table) -> Result<Vec<bool>, 
     Ok(units)
 }
 
-/// Whether what is needed has succeeded.
-fn is_met(table: &Table, units: &[bool], need: Need) -> bool
+/// Returns whether a dependency has succeeded.
+fn is_satisfied(table: &Table, units: &[bool], need: Need) -> bool
     requires { IsWithin need (length (tables.statuses table.now)) (length units.now) }
-    ensures { result ≡ known.is_met (tables.statuses table.now) units.now need }
+    ensures { result ≡ known.is_satisfied (tables.statuses table.now) units.now need }
 {
     match need {
         Need::One(r) => is_success(table.status(r)),
@@ -53,25 +53,25 @@ fn is_met(table: &Table, units: &[bool], need: Need) -> bool
     }
 }
 
-/// Whether something that the request needs has failed.
-fn has_unmet_need(plan: &Plan<'_>, table: &Table, units: &[bool], i: u32) -> bool
+/// Returns whether a dependency of the request has failed.
+fn has_failed_need(plan: &Plan<'_>, table: &Table, units: &[bool], i: u32) -> bool
     requires request { i < length (plan_records plan.now) }
     requires laws { IsPlan (shape_of (plan_records plan.now)) }
     requires statuses { length (tables.statuses table.now) ≡ length (plan_records plan.now) }
     requires units { known.AreUnits (plan_records plan.now) (tables.statuses table.now)
         (length (plan_records plan.now)) units.now }
-    ensures { result ≡ list_any (λ need. not (known.is_met (tables.statuses table.now) units.now need))
+    ensures { result ≡ list_any (λ need. not (known.is_satisfied (tables.statuses table.now) units.now need))
         (needs_at (plan_records plan.now) i) }
 {
     for need in plan.needs(i) {
-        if !is_met(table, units, *need) {
+        if !is_satisfied(table, units, *need) {
             return true;
         }
     }
     false
 }
 
-/// Whether a response has the group of a request.
+/// Returns whether a response has the group of a request.
 fn has_group(response: &Response<'_>, request: &Request<'_>) -> bool
     ensures { IsTrue result ↔ ((entry_of response.now).group ≡ (record_of request.now).group) }
 {
@@ -98,14 +98,14 @@ fn broken_rule(
     if !has_group(responses.entry(table.place(i)), plan.request(i)) {
         return Some(MatchRule::GroupDiffers);
     }
-    if is_success(table.status(i)) && has_unmet_need(plan, table, units, i) {
+    if is_success(table.status(i)) && has_failed_need(plan, table, units, i) {
         return Some(MatchRule::UnsoundSuccess);
     }
     None
 }
 
-/// Looks for the first request whose response has another group, or is a success though something
-/// that the request needs has failed.
+/// Looks for the first request whose response has another group, or is a success though a dependency
+/// of the request has failed.
 fn check_requests(
     plan: &Plan<'_>,
     responses: &Responses<'_>,
@@ -133,10 +133,9 @@ fn check_requests(
 }
 
 /// Checks that the responses of a service fit the batch of a plan (OData JSON Format 4.01, section
-/// 19.5; OData Protocol 4.01, section 11.7): each id has exactly one response and no response has
-/// another id, each response has the group of its request, and no response is a success (200 to 299)
-/// where something that its request needs is not: a request, or a member of a group. The order of the
-/// responses is free.
+/// 19.5; OData Protocol 4.01, section 11.7): every request is answered once and nothing else is, each
+/// response has the group of its request, and none is a success (200 to 299) if a dependency of its
+/// request is not: a request, or a member of a group. The responses may come in any order.
 ///
 /// Returns the place and the status of the response to each request. Allocates these, and a flag per
 /// unit. Takes O(responses + requests + dependencies), and a look-up in the plan for each response.

@@ -11,9 +11,9 @@ pub enum ResponseFault {
     /// F70: the document is not an object with an array `responses`.
     #[error("the document is not an object with an array `responses`")]
     Document,
-    /// F70: the element at this position, counted from 0, is not an object; `id` is absent or not a
-    /// string; `status` is absent or not a whole number from 100 to 599; or `atomicityGroup` is there,
-    /// is not null and is not a string.
+    /// F70: the element at this position, counted from 0, cannot be read as a response. It has no
+    /// string `id`, or no integer `status` between 100 and 599, or an `atomicityGroup` of another kind
+    /// than null and string.
     #[error("response {at}: it is not an object with `id` and `status`, and maybe `atomicityGroup`")]
     Response { at: usize },
     /// Out of memory. That says nothing about the document.

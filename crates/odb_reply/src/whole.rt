@@ -6,7 +6,7 @@ use crate::parts::body_of;
 use odb_doc::is_whole;
 use odb_sched::{Answer, Done};
 
-/// Whether each number in the body of an answer is whole.
+/// Returns whether each number in the body of an answer is whole.
 fn has_whole_body(answer: &Answer<'_>) -> bool
     ensures { IsTrue result ↔ HasWholeBody (shown answer.now) }
 {

@@ -4,10 +4,10 @@ use Rattle.odb_check.specs.declared.need.Need.{Need}
 use Rattle.odb_check.specs.declared.need.Need.TheVariants.{One}
 use Rattle.odb_check.specs.Plans.{plan_records}
 use Rattle.odb_reply.proofs.UnitLemmas.{need_within}
-use Rattle.odb_reply.proofs.matching.has_unmet_need.Goals as goal
+use Rattle.odb_reply.proofs.matching.has_failed_need.Goals as goal
 
-pub is_met-requires : goal.is_met-requires
-is_met-requires c =
+pub is_satisfied-requires : goal.is_satisfied-requires
+is_satisfied-requires c =
     let rs = plan_records c.args.plan.now in
     let items : List Need = c.needs-need-items.result.now in
     let need : Need = get_or items c.loop-need.need-index (One 0) in
