@@ -1,4 +1,4 @@
--- What is written of a batch document: the line of its least fault, or what a command says of its requests.
+-- What is written of a batch document: the line of its least fault, or what a command prints of its requests.
 use Rattle.std.specs.Prelude.{◌≡◌, ◌⊎◌, ℕ, List}
 use Rattle.serde_json.specs.Data.{Data}
 use Rattle.odb_doc.specs.declared.fault.Place.{Place}
@@ -23,7 +23,7 @@ Writes = Ended → List ℕ → Type 0
 abbrev pub Prints : List ℕ → Writes
 Prints text ended written = (ended ≡ Done) × (written ≡ text)
 
--- what is reported of a fault: its code, its name, and where it lies
+-- what is reported of a fault: its code, its name and its place
 pub record Refusal : Type 0 where
   pub code : List ℕ
   pub name : List ℕ
@@ -45,13 +45,13 @@ pub record RefusesBytes (place : Place) (bytes : List ℕ) (refusal : Refusal) :
   pub refuses : RefusesDocument fault bytes
   pub is : refusal ≡ record { code = document.fault_code fault; name = document.fault_name fault; place = place }
 
--- the bytes are a document whose value this is so of
+-- the bytes are a document whose value has this property
 pub record HasValue (bytes : List ℕ) (P : Data → Type 0) : Type 0 where
   pub value : Data
   pub document : IsDocument bytes value
   pub holds : P value
 
--- the value has no fault of shape, and says requests of which this is so
+-- the value has no fault of shape, and its requests have this property
 pub record SaysBatch (value : Data) (P : List Record → Type 0) : Type 0 where
   pub batch : List Record
   pub shape : IsWellShaped value
@@ -64,7 +64,7 @@ pub data IsLeast (bytes : List ℕ) (refusal : Refusal) : Type 0 where
   OfShape : (fault : DocFault) → document.IsNumbered fault → HasValue bytes (IsLeastFault fault) → refusal ≡ document_refusal fault → IsLeast bytes refusal
   OfNames : (fault : CheckFault) → names.IsNumbered fault → HasValue bytes (λ value. SaysBatch value (RefusesNames fault)) → refusal ≡ names_refusal fault → IsLeast bytes refusal
 
--- the bytes are a batch that the check accepts, and this is so of its requests
+-- the bytes are a batch that the check accepts, and its requests have this property
 pub record Accepts (bytes : List ℕ) (P : List Record → Type 0) : Type 0 where
   pub value : Data
   pub document : IsDocument bytes value
@@ -81,6 +81,6 @@ pub record Reports (Is : Refusal → Type 0) (ended : Ended) (text : List ℕ) :
   pub ends : ended ≡ Refused
   pub line : text ≡ line_of refusal
 
--- The cascade of every command: the line of the least fault of the batch document, or what P says of its requests.
+-- The cascade of every command: the line of the least fault of the batch document, or what P writes of its requests.
 abbrev pub Answers : (List Record → Writes) → List ℕ → Writes
 Answers P bytes ended text = Reports (IsLeast bytes) ended text ⊎ Accepts bytes (λ batch. P batch ended text)

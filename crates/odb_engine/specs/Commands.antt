@@ -1,4 +1,4 @@
--- What each command says of the requests of a batch that is accepted.
+-- What each command prints of the requests of a batch that is accepted.
 use Rattle.std.specs.Prelude.{◌≡◌, ◌++◌, ◌∷◌, ◌⊎◌, ℕ, List, [], Option, length}
 use Rattle.odb_doc.specs.declared.fault.TextFault.{TextFault}
 use Rattle.odb_doc.specs.declared.fault.TextFault.TheVariants.{NotWhole}

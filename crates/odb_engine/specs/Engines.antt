@@ -8,20 +8,20 @@ use Rattle.odb_engine.specs.declared.ending.EngineFault.{EngineFault}
 use Rattle.odb_engine.specs.declared.ending.EngineFault.TheVariants as faults
 use Rattle.odb_engine.specs.Cascade.{Writes}
 
--- the writer has gained such a text
+-- the writer has received such a text
 pub record WritesText (old new : Option (List ℕ)) (P : List ℕ → Type 0) : Type 0 where
   pub text : List ℕ
   pub so : P text
   pub written : Appends old new text
 
--- the writer has gained a prefix of the text of a command that ends somehow
+-- the writer has received a prefix of the text of a command that ends somehow
 pub record WritesPrefix (old new : Option (List ℕ)) (P : Writes) : Type 0 where
   pub ended : Ended
   pub text : List ℕ
   pub so : P ended text
   pub written : AppendsPrefix old new text
 
--- How an engine ends whose whole output is such. Read says exactly that an input failed, Write exactly that the output
+-- How an engine ends whose whole output is such. Read means exactly that an input failed, Write exactly that the output
 -- did. Out of memory nothing was written, or a prefix.
 pub record Ends {W : Type 0} (contents : W → Option (List ℕ)) (P : Writes) (ReadFailed : Type 0) (old new : Writing W) (result : Result Ended EngineFault) : Type 0 where
   pub ended : IfOk result (λ ended. WritesText (contents old.writer) (contents new.writer) (P ended))

@@ -35,7 +35,7 @@ abbrev pub Sent : {W : Type 0} → (W → Option (List ℕ)) → Writes → Writ
 Sent contents P old new (Ok result) = Ends contents P ⊥ old new result
 Sent contents P old new (Err stop) = (new ≡ old) × Refuses P stop
 
--- The writer has gained the text, or a prefix of it. Write says exactly that the output failed, and no input did.
+-- The writer has received the text, or a prefix of it. Write means exactly that the output failed, and no input did.
 pub record Sends {W : Type 0} (contents : W → Option (List ℕ)) (text : List ℕ) (old new : Writing W) (result : Result (Unit {0}) EngineFault) : Type 0 where
   pub whole : OnOk result (Appends (contents old.writer) (contents new.writer) text)
   pub part : OnErr result (AppendsPrefix (contents old.writer) (contents new.writer) text)

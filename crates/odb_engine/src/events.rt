@@ -18,7 +18,7 @@ use odb_sched::{Done, Policy, resolve, run};
 use std::alloc::Global;
 use std::io::Read;
 
-/// F66: all events may come, and the run is not finished.
+/// F66: no event is refused, but the run is unfinished after the last.
 const UNFINISHED: Stop = Stop::Refused {
     code: "F66",
     name: "Unfinished",
@@ -39,9 +39,9 @@ pub fn events_of<R: Read>(
     ensures input { ReadsFew R.remaining input.old input.new }
 {
     let value = value_of(alloc, input, Place::Events)?;
-    let (events, emptied) = Events::split(alloc, value)?;
+    let (events, rest) = Events::split(alloc, value)?;
     drop(Held {
-        value: emptied,
+        value: rest,
         remains,
     });
     Ok(events)
@@ -62,7 +62,7 @@ pub fn done_of<'a: 'p, 'p>(
         (Stopped (runs.IsLeastOfRun policy plan.now (entries events))) }
     ensures read { result ≢ Err stops.Read }
 {
-    // That recorded events are sound is known from a call on them alone.
+    // Only a call on the events states that they are sound.
     let _count = events.len();
     let resolved = resolve(alloc, plan, events)?;
     let scheduler = run(alloc, plan, policy, resolved)?;

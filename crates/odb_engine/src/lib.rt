@@ -1,12 +1,13 @@
 //! The commands as a library: one engine for each, over readers and a writer.
 //!
 //! An engine reads its documents, writes its result or the line of the least fault, and returns how
-//! it ended: [`check_batch`], [`plan_batch`], [`replay_batch`], [`run_batch`]. Its contract states what
-//! the writer has gained, whatever the readers and the writer do: the whole text, or after a fault
-//! nothing or a prefix of it. [`laws`] says that a text is determined. Opening files, buffering small
-//! writes and turning an end into an exit status are left to the caller.
+//! it ended: [`check_batch`], [`plan_batch`] and [`canon_batch`] over one document, [`match_batch`],
+//! [`replay_batch`] and [`run_batch`] over two. Its contract states what the writer has received,
+//! whatever the readers and the writer do: the whole text, or after a fault nothing or a prefix of
+//! it. [`laws`] states that a text is determined. Opening files, buffering small writes and turning
+//! an end into an exit status are left to the caller.
 //!
-//! A further command over one document is a relation in specs/Commands.antt, an `impl` of `Command`
+//! Another command over one document is a relation in specs/Commands.antt, an `impl` of `Command`
 //! that prints a plan, and a public function that passes it to `answer`.
 #![tactic(auto)]
 

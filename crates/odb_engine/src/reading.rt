@@ -51,7 +51,7 @@ impl From<AllocError> for ReadFault {
     }
 }
 
-/// Reads a document: all bytes of the input up to its end, or the first 16,777,217 of them.
+/// Reads a document: what the input gives until a read gives nothing, but 16,777,217 bytes at most.
 pub fn read_document<R: Read>(alloc: Global, input: &mut Input<R>) -> Result<Vec<u8>, ReadFault>
     requires works { input.old.failed ≡ false }
     requires fresh { input.old.reads ≡ 0 }

@@ -33,9 +33,9 @@ pub fn outcomes_of<R: Read>(
     ensures input { ReadsFew R.remaining input.old input.new }
 {
     let value = value_of(alloc, input, Place::Outcomes)?;
-    let (outcomes, emptied) = Outcomes::split(alloc, value)?;
+    let (outcomes, rest) = Outcomes::split(alloc, value)?;
     drop(Held {
-        value: emptied,
+        value: rest,
         remains,
     });
     Ok(outcomes)
@@ -60,7 +60,7 @@ pub fn run_of<'a: 'p, 'p>(
         (replays.LacksOutcome (allows chooser.old) policy plan.now (entries outcomes))) }
     ensures read { result ≢ Err stops.Read }
 {
-    // That recorded outcomes are sound is known from a call on them alone.
+    // Only a call on the outcomes states that they are sound.
     let _count = outcomes.len();
     let mut service = Held {
         value: Recorded::new(alloc, plan, outcomes)?,

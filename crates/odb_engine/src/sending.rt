@@ -43,7 +43,7 @@ fn send_trace<W: Write>(
     send_text(output, &text)
 }
 
-/// Writes the response to a run whose bodies hold whole numbers alone.
+/// Writes the response to a run whose bodies have only whole numbers.
 fn send_response<W: Write>(
     alloc: Global,
     output: &mut Output<W>,
@@ -61,7 +61,7 @@ fn send_response<W: Write>(
     }
 }
 
-/// Writes the response to a run whose bodies hold whole numbers alone, as a line.
+/// Writes the response to a run whose bodies have only whole numbers, as a line.
 fn send_line<W: Write>(
     alloc: Global,
     output: &mut Output<W>,

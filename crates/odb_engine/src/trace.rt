@@ -19,14 +19,14 @@ fn reported_status(done: &Done<'_>, i: u32) -> u16
     }
 }
 
-/// The line of the report of this request.
+/// Returns the line of the report of this request.
 fn report_line(alloc: Global, id: &str, status: u16) -> Result<String, AllocError>
     ensures { IfOk result (λ line. string_bytes line ≡ traces.report_line id.now status) }
 {
     format!(in alloc; "report {id} {status}\n")
 }
 
-/// The line of a step.
+/// Returns the line of a step.
 fn step_line(alloc: Global, done: &Done<'_>, step: Step) -> Result<String, AllocError>
     requires { position_in step < size done.now }
     ensures { IfOk result (λ line. string_bytes line ≡ traces.step_line done.now step) }
@@ -41,7 +41,7 @@ fn step_line(alloc: Global, done: &Done<'_>, step: Step) -> Result<String, Alloc
     }
 }
 
-/// The line of a request that has to be undone.
+/// Returns the line of a request that has to be undone.
 fn undo_line(alloc: Global, done: &Done<'_>, i: u32) -> Result<String, AllocError>
     requires { i < size done.now }
     ensures { IfOk result (λ line. string_bytes line ≡ traces.undo_line done.now i) }
@@ -49,7 +49,7 @@ fn undo_line(alloc: Global, done: &Done<'_>, i: u32) -> Result<String, AllocErro
     format!(in alloc; "undo {}\n", done.plan().request(i).id)
 }
 
-/// The lines of the steps.
+/// Returns the lines of the steps.
 fn step_lines(alloc: Global, done: &Done<'_>, steps: &[Step]) -> Result<String, AllocError>
     requires { All (λ step. position_in step < size done.now) steps.now }
     ensures { IfOk result (λ text. string_bytes text
@@ -62,7 +62,7 @@ fn step_lines(alloc: Global, done: &Done<'_>, steps: &[Step]) -> Result<String, 
     Ok(text)
 }
 
-/// The lines of the requests that have to be undone.
+/// Returns the lines of the requests that have to be undone.
 fn undo_lines(alloc: Global, done: &Done<'_>, positions: &[u32]) -> Result<String, AllocError>
     requires { All (λ i. i < size done.now) positions.now }
     ensures { IfOk result (λ text. string_bytes text
@@ -75,7 +75,7 @@ fn undo_lines(alloc: Global, done: &Done<'_>, positions: &[u32]) -> Result<Strin
     Ok(text)
 }
 
-/// The steps of an execution, a line each, and a line for each request that has to be undone.
+/// Returns the steps of an execution, a line each, and a line for each request that has to be undone.
 pub fn trace_text(alloc: Global, trace: &Trace<'_>) -> Result<String, AllocError>
     requires { All (λ step. position_in step < size trace.now.done) trace.now.steps.items }
     ensures { IfOk result (λ text. string_bytes text
