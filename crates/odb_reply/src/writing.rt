@@ -1,4 +1,4 @@
-ghost use Rattle.std.specs.Prelude.{◌≡◌, ◌↔◌, false, IsTrue, IsErr, OnOk, OnErr};
+ghost use Rattle.std.specs.Prelude.{◌≡◌, ◌↔◌, [], false, IsTrue, IsErr, OnOk, OnErr};
 ghost use Rattle.std.specs.Io.KnownBytes.{Appends};
 ghost use Rattle.odb_reply.specs.Outputs.{AppendsPrefix};
 
@@ -17,8 +17,8 @@ impl From<DeviceFault> for WriteFault {
     }
 }
 
-/// Writes a whole text to an output, in as many writes as its writer takes. The writer is not
-/// flushed.
+/// Writes a whole text to an output, in as many writes as its writer takes, none for the empty text.
+/// The writer is not flushed.
 ///
 /// # Errors
 ///
@@ -28,6 +28,7 @@ pub fn write_text<W: Write>(output: &mut Output<W>, text: &str) -> Result<(), Wr
     ensures fault { IsErr result ↔ IsTrue output.new.failed }
     ensures ok { OnOk result (Appends (W.contents output.old.writer) (W.contents output.new.writer)
         text.now) }
+    ensures empty { text.now ≡ [] → output.new ≡ output.old }
     ensures err { OnErr result (AppendsPrefix (W.contents output.old.writer)
         (W.contents output.new.writer) text.now) }
 {

@@ -1,13 +1,13 @@
-use Rattle.std.proofs.Common.{◌≡◌, [], rules, arith}
+use Rattle.std.proofs.Common.{◌≡◌, [], length, refl, ap, rules, arith}
 use Rattle.std.proofs.lemmas.List.{nil_from_length}
 use Rattle.std.proofs.lemmas.Bool.Decides.{nat_tests}
 use Rattle.odb_reply.specs.Outputs.{AppendsPrefix}
-use Rattle.odb_reply.proofs.WriteLemmas.{HasWritten-none, HasWritten-more, HasWritten-kept, HasWritten-all}
+use Rattle.odb_reply.proofs.WriteLemmas.{HasWritten-none, HasWritten-more, HasWritten-nil, HasWritten-kept, HasWritten-all}
 use Rattle.odb_reply.proofs.writing.write_text.Goals as goal
 
 pub loop-rest-init : goal.loop-rest-init
 loop-rest-init g c =
-    (c.requires, rw c.as_bytes-rest.ensures.value (HasWritten-none (g.W.Write.contents c.args.output.now.writer) c.args.text.now))
+    (c.requires, rw c.as_bytes-rest.ensures.value (HasWritten-none (g.W.Write.contents c.args.output.now.writer) c.args.text.now), λ _. refl)
 
 pub returns-in_err-count-clause-err : goal.returns-in_err-count-clause-err
 returns-in_err-count-clause-err g c =
@@ -19,7 +19,11 @@ returns-in_err-count-clause-err g c =
 pub loop-rest-preserved : goal.loop-rest-preserved
 loop-rest-preserved g c =
     let contents = g.W.Write.contents in
-    (search rules, HasWritten-more (contents c.args.output.now.writer) (contents c.loop-rest.output.writer) (contents c.put.new.self.writer) c.args.text.now c.loop-rest.rest.now _ c.loop-rest.invariant.1 c.in_ok-count.ensures.bytes)
+    let some : ¬ (c.args.text.now ≡ []) = λ none.
+        let nothing = HasWritten-nil (contents c.args.output.now.writer) (contents c.loop-rest.output.writer) c.args.text.now c.loop-rest.rest.now c.loop-rest.invariant.1 none in
+        grind (arith, nat_tests, ap length nothing) in
+    (search rules, HasWritten-more (contents c.args.output.now.writer) (contents c.loop-rest.output.writer) (contents c.put.new.self.writer) c.args.text.now c.loop-rest.rest.now _ c.loop-rest.invariant.1 c.in_ok-count.ensures.bytes,
+      λ none. absurd (some none))
 
 pub returns-clause-ok : goal.returns-clause-ok
 returns-clause-ok g c =
