@@ -4,6 +4,7 @@ ghost use Rattle.serde_json.specs.Data.{string, unsigned};
 ghost use Rattle.serde_json.specs.Find.{as_str};
 ghost use Rattle.serde_json.specs.View.{view};
 ghost use Rattle.odb_doc.specs.Outcomes as members;
+ghost use Rattle.odb_reply.specs.declared.response_fault.ResponseFault.TheVariants as faults;
 ghost use Rattle.odb_reply.specs.Elements.{RefusesElements};
 ghost use Rattle.odb_reply.specs.ResponseDocuments as documents;
 
@@ -106,6 +107,7 @@ fn responses_from<'a>(
         (map documents.entry_of found.items)) }
     ensures first { IfErr result (λ fault. RefusesElements fault
         (map view elements.now)) }
+    ensures some { OnErr result (0 < length elements.now) }
 {
     let mut list = Vec::with_capacity(alloc, elements.len())?;
     for (at, element) in elements.iter().enumerate() {
@@ -118,7 +120,7 @@ fn responses_from<'a>(
 }
 
 impl<'a> Responses<'a> {
-    ghost use Rattle.odb_reply.specs.ResponseDocuments.{entries, entry_of, IsResponseDocument, RefusesResponses, Says, responses_in};
+    ghost use Rattle.odb_reply.specs.ResponseDocuments.{array_in, entries, entry_of, IsResponseDocument, RefusesResponses, Says, responses_in};
 
     /// Reads the responses of a document: an object with `responses`, an array of objects with an
     /// `id`, a `status` and maybe an `atomicityGroup` (OData JSON Format 4.01, section 19.5).
@@ -130,12 +132,15 @@ impl<'a> Responses<'a> {
     /// # Errors
     ///
     /// `Document` if the document is not such an object, else `Response` at the first element that
-    /// is not a response: both are F70. `OutOfMemory` if an allocation fails.
+    /// is not a response: both are F70. `OutOfMemory` if an allocation fails, in place of the fault of
+    /// an element or of responses.
     pub fn read(alloc: Global, document: &'a Value) -> Result<Responses<'a>, ResponseFault>
         ensures good { OnOk result (IsResponseDocument (view document.now)) }
         ensures responses { IfOk result (λ responses. AllZip Says
             (responses_in (view document.now)) (entries responses)) }
         ensures least { IfErr result (λ fault. RefusesResponses fault (view document.now)) }
+        ensures memory { IfErr result (λ fault. fault ≡ faults.OutOfMemory
+            → IsSome (array_in (view document.now)) × (0 < length (responses_in (view document.now)))) }
     {
         let Some(elements) = elements_of(document) else {
             return Err(ResponseFault::Document);
