@@ -1,6 +1,6 @@
 -- A text that is written in several calls.
-use Rattle.std.proofs.Common.{◌≡◌, ◌∙◌, ℕ, ◌-◌, List, [], ◌++◌, length, take, drop, Option, refl, ap, sym, append_assoc, append-nil, take-append-drop, length-append, arith}
-use Rattle.std.proofs.lemmas.List.{nil_from_length, take_rest}
+use Rattle.std.proofs.Common.{◌≡◌, ◌∙◌, ◌<◌, ℕ, ◌-◌, List, [], ◌++◌, length, take, drop, Option, refl, ap, sym, append_assoc, append-nil, take-append-drop, length-append, arith}
+use Rattle.std.proofs.lemmas.List.{take_rest}
 use Rattle.std.specs.Io.KnownBytes.{Appends, Keeps}
 use Rattle.std.proofs.KnownBytes.{Appends-nil, Appends-trans, Appends-kept}
 use Rattle.odb_reply.specs.Outputs.{HasWritten, AppendsPrefix}
@@ -18,10 +18,10 @@ HasWritten-more old mid new text rest n before took = record {
   written = Appends-trans old mid new before.prefix (take n rest) before.written took;
 }
 
--- of the empty text nothing is left
-pub HasWritten-nil : (old new : Option (List ℕ)) (text rest : List ℕ) → HasWritten old new text rest → text ≡ [] → rest ≡ []
-HasWritten-nil old new text rest before none =
-    nil_from_length rest (omega (arith, ap length (sym before.whole ∙ none), length-append before.prefix rest))
+-- a text of which something is left is not empty
+pub HasWritten-some : (old new : Option (List ℕ)) (text rest : List ℕ) → HasWritten old new text rest → 0 < length rest → ¬ (text ≡ [])
+HasWritten-some old new text rest before some none =
+    omega (arith, ap length (sym before.whole ∙ none), length-append before.prefix rest, some)
 
 -- one call took nothing
 pub HasWritten-kept : (old mid new : Option (List ℕ)) (text rest : List ℕ) → HasWritten old mid text rest → Keeps mid new → HasWritten old new text rest

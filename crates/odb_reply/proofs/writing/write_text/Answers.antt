@@ -1,8 +1,8 @@
-use Rattle.std.proofs.Common.{◌≡◌, [], length, refl, ap, rules, arith}
+use Rattle.std.proofs.Common.{◌≡◌, [], refl, rules, arith}
 use Rattle.std.proofs.lemmas.List.{nil_from_length}
 use Rattle.std.proofs.lemmas.Bool.Decides.{nat_tests}
 use Rattle.odb_reply.specs.Outputs.{AppendsPrefix}
-use Rattle.odb_reply.proofs.WriteLemmas.{HasWritten-none, HasWritten-more, HasWritten-nil, HasWritten-kept, HasWritten-all}
+use Rattle.odb_reply.proofs.WriteLemmas.{HasWritten-none, HasWritten-more, HasWritten-some, HasWritten-kept, HasWritten-all}
 use Rattle.odb_reply.proofs.writing.write_text.Goals as goal
 
 pub loop-rest-init : goal.loop-rest-init
@@ -19,11 +19,12 @@ returns-in_err-count-clause-err g c =
 pub loop-rest-preserved : goal.loop-rest-preserved
 loop-rest-preserved g c =
     let contents = g.W.Write.contents in
-    let some : ¬ (c.args.text.now ≡ []) = λ none.
-        let nothing = HasWritten-nil (contents c.args.output.now.writer) (contents c.loop-rest.output.writer) c.args.text.now c.loop-rest.rest.now c.loop-rest.invariant.1 none in
-        grind (arith, nat_tests, ap length nothing) in
-    (search rules, HasWritten-more (contents c.args.output.now.writer) (contents c.loop-rest.output.writer) (contents c.put.new.self.writer) c.args.text.now c.loop-rest.rest.now _ c.loop-rest.invariant.1 c.in_ok-count.ensures.bytes,
-      λ none. absurd (some none))
+    let old = contents c.args.output.now.writer in
+    let mid = contents c.loop-rest.output.writer in (
+      search rules,
+      HasWritten-more old mid (contents c.put.new.self.writer) c.args.text.now c.loop-rest.rest.now _ c.loop-rest.invariant.1 c.in_ok-count.ensures.bytes,
+      λ none. absurd (HasWritten-some old mid c.args.text.now c.loop-rest.rest.now c.loop-rest.invariant.1 (grind (arith, nat_tests)) none),
+    )
 
 pub returns-clause-ok : goal.returns-clause-ok
 returns-clause-ok g c =
