@@ -18,10 +18,17 @@ use odb_sched::{Done, Policy, resolve, run};
 use std::alloc::Global;
 use std::io::Read;
 
+/// The code of the fault that [`crate::run_batch`] writes if each event may come and the run is not
+/// finished.
+pub const UNFINISHED_CODE: &str = "F66";
+
+/// The name of that fault.
+pub const UNFINISHED_NAME: &str = "Unfinished";
+
 /// F66: no event is refused, but the run is unfinished after the last.
 const UNFINISHED: Stop = Stop::Refused {
-    code: "F66",
-    name: "Unfinished",
+    code: UNFINISHED_CODE,
+    name: UNFINISHED_NAME,
     place: Place::Events,
 };
 

@@ -32,6 +32,7 @@ mod trace;
 pub use canonical::canon_batch;
 pub use checking::{check_batch, plan_batch};
 pub use ending::{Ended, EngineFault};
+pub use events::{UNFINISHED_CODE, UNFINISHED_NAME};
 pub use held::Remains;
 pub use matching::match_batch;
 pub use recorded_run::run_batch;
