@@ -1,7 +1,8 @@
 """Runs what has to pass before a change lands, and reports the processor time of each part.
 
 The parts are `rt ci` (the proofs, the tests, the must-fail edits), the questions that the edits say
-they ask, the commands of README.md against the output that it shows, the worked cases, random
+they ask, the commands of README.md against the output that it shows, the faults of docs/faults.md
+against the program, the worked cases, the manual page and the completions against the help, random
 documents against plain rules, allocations that fail, and the short form of the benchmark, which
 compares answers and judges no time. The exit status is 0 where all of them pass.
 """
@@ -117,7 +118,9 @@ def main():
     for title, quiet, words in [
         ("the questions of the edits", False, [".ci/edits.py"]),
         ("README.md", False, [".ci/readme.py", "README.md"]),
+        ("docs/faults.md", False, [".ci/faults.py"]),
         ("worked cases", False, ["cases/run.py"]),
+        ("manual page and completions", False, ["cases/manual.py"]),
         ("random documents", False, ["cases/fuzz.py", "--mistakes"]),
         ("commands against each other", False, ["cases/agree.py"]),
         ("allocations that fail", False, ["hostile/memory.py"]),

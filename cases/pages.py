@@ -10,7 +10,7 @@ import re
 import shlex
 from dataclasses import dataclass, field
 
-COMMANDS = ("check", "plan", "replay", "canon", "match", "run")
+COMMANDS = ("check", "plan", "replay", "canon", "match", "run", "explain", "completions", "man")
 SOMETHING = "..."
 STREAMS = ("input", "output", "errors")
 
@@ -43,6 +43,7 @@ class Run:
     to: str = None
     closed: str = None
     memory: int = None
+    terminal: bool = False
     out: list = field(default_factory=list)
     errors: list = field(default_factory=list)
     status: int = None
@@ -193,6 +194,9 @@ class Reader:
     def limit(self, value):
         self.last().memory = int(value)
 
+    def watch(self, value):
+        self.last().terminal = True
+
     def out(self, value):
         self.last().out.append(plain(value + "\n"))
 
@@ -224,6 +228,7 @@ HANDLERS = {
     "to": Reader.to,
     "closed": Reader.close,
     "memory": Reader.limit,
+    "terminal": Reader.watch,
     "out": Reader.out,
     "output": Reader.output,
     "outs": Reader.outs,

@@ -7,6 +7,7 @@ exit status have to be the ones that the case shows. The last line is `N passed,
 
 import argparse
 import os
+import pty
 import subprocess
 import sys
 import tempfile
@@ -74,19 +75,40 @@ def input_of(run, folder):
     return {"stdin": os.open(os.path.join(folder, run.source), os.O_RDONLY)}
 
 
+def read_terminal(reader, writer):
+    """The bytes that a terminal has received, which nobody else has open."""
+    os.close(writer)
+    found = b""
+    try:
+        while piece := os.read(reader, SHOWN):
+            found += piece
+    except OSError:
+        pass  # how Linux says that a terminal has come to its end
+    os.close(reader)
+    return found.replace(b"\r\n", b"\n")
+
+
+def errors_of(run):
+    """Where standard error goes, a pipe or a terminal, and what gives its bytes after the call."""
+    if not run.terminal:
+        return subprocess.PIPE, lambda done: done.stderr
+    reader, writer = pty.openpty()
+    return writer, lambda done: read_terminal(reader, writer)
+
+
 def call(run, binary, folder):
     """Calls the program in this folder; returns its output, its messages and its status."""
     program, words = command_line(run, binary)
-    given = input_of(run, folder)
+    given, (errors, messages) = input_of(run, folder), errors_of(run)
     try:
         with output_of(run) as output:
             done = subprocess.run(
-                words, executable=program, cwd=folder, stdout=output, stderr=subprocess.PIPE, timeout=SECONDS, **given
+                words, executable=program, cwd=folder, stdout=output, stderr=errors, timeout=SECONDS, **given
             )
     finally:
         if "stdin" in given:
             os.close(given["stdin"])
-    return done.stdout or b"", done.stderr, done.returncode
+    return done.stdout or b"", messages(done), done.returncode
 
 
 def shown(data):

@@ -5,7 +5,7 @@ use std::alloc::{AllocError, Global};
 use std::test::Fail;
 
 /// Arguments, and what is read from them.
-const READINGS: [(&str, &str); 80] = [
+const READINGS: [(&str, &str); 93] = [
     ("", "check -"),
     (" check", "check -"),
     (" check F", "check F"),
@@ -111,6 +111,19 @@ const READINGS: [(&str, &str); 80] = [
     (" run F G --order last", "rejected"),
     (" run F G --trace", "rejected"),
     (" run -h", "help"),
+    (" explain", "explain -"),
+    (" explain F41", "explain F41"),
+    (" explain forwardname", "explain forwardname"),
+    (" explain F41 F42", "rejected"),
+    (" explain F41 --stop", "rejected"),
+    (" completions", "rejected"),
+    (" completions bash", "completions Bash"),
+    (" completions zsh", "completions Zsh"),
+    (" completions fish", "completions Fish"),
+    (" completions Bash", "rejected"),
+    (" completions bash zsh", "rejected"),
+    (" man", "man"),
+    (" man page", "rejected"),
     (" other", "rejected"),
     (" --stop", "rejected"),
     (" help", "rejected"),
@@ -149,6 +162,9 @@ fn described(alloc: Global, task: Result<Task<'_>, Misuse>) -> Result<String, Al
                 policy,
             },
         ) => described_run(alloc, file, events, policy),
+        Ok(Task::Explain { code }) => format!(in alloc; "explain {}", code.unwrap_or("-")),
+        Ok(Task::Completions(shell)) => format!(in alloc; "completions {shell:?}"),
+        Ok(Task::Man) => String::from_str(alloc, "man"),
         Ok(Task::Replay(replay)) => described_replay(alloc, &replay),
         Err(Misuse::Width) => String::from_str(alloc, "width"),
         Err(Misuse::Arguments(error)) => String::from_str(alloc, kind_of(error.kind())),

@@ -1,0 +1,200 @@
+"""Compares docs/faults.md with what the program prints of each fault, and its documents with what they claim.
+
+A fault has a section `### CODE NAME, PLACES`: a paragraph, and two items, `refused` and `accepted`,
+each with a document or with words. `odb_batch explain CODE` has to print just that, without back
+quotes; and a document in back quotes has to be refused by this fault, or not by it. A second document
+is read with the batch that the page shows above the first fault. With `--write` the texts of the
+program are made of the page; `rt fmt` lays them out.
+"""
+
+import argparse
+import json
+import os
+import re
+import subprocess
+import sys
+import tempfile
+from dataclasses import dataclass
+
+ROOT = os.path.dirname(os.path.dirname(os.path.realpath(__file__)))
+PAGE = os.path.join(ROOT, "docs", "faults.md")
+CRATE = os.path.join(ROOT, "crates", "odb_batch")
+PROGRAM = os.path.join(CRATE, "out", "odb_batch")
+TEXTS = os.path.join(CRATE, "src", "explain")
+
+# The files of texts: which codes stand in them, and what they are about.
+FILES = {
+    "documents": (r"F[012]\d", "the document and the form of its requests"),
+    "names": (r"F[34]\d", "ids, groups, names and references"),
+    "records": (r"F[56]\d", "texts, recorded outcomes and recorded events"),
+    "responses": (r"F7\d", "the responses of a service"),
+    "runs": (r"F8\d|[SP]\d", "executions, and events that may not come"),
+}
+
+# How the program names a fault, by its code; NAME stands for the name of the page.
+FAULTS = [
+    (r"F0\d", "Fault::Document(DocumentRule::NAME)"),
+    (r"F[12]\d", "Fault::Request(RequestRule::NAME)"),
+    (r"F[34]\d", "Fault::Name(NameRule::NAME)"),
+    (r"F50", "Fault::Text"),
+    (r"F6[0-3]", "Fault::Outcome(OutcomeRule::NAME)"),
+    (r"F64", "Fault::Event(EventRule::NAME)"),
+    (r"F65", "Fault::UnknownEvent"),
+    (r"F66", "Fault::Unfinished"),
+    (r"F70", "Fault::Responses"),
+    (r"F7\d", "Fault::Match(MatchRule::NAME)"),
+    (r"F80", "Fault::NoOutcome"),
+    (r"F81", "Fault::Service"),
+    (r"F82", "Fault::ServedStatus"),
+    (r"S4", "Fault::Start(StartRefusal::Waiting(Need::One(0)))"),
+    (r"S\d", "Fault::Start(StartRefusal::NAME)"),
+    (r"P\d", "Fault::Report(ReportRefusal::NAME)"),
+]
+
+USES = {
+    "DocumentRule": "use odb_doc::DocumentRule;",
+    "EventRule": "use odb_doc::EventRule;",
+    "OutcomeRule": "use odb_doc::OutcomeRule;",
+    "RequestRule": "use odb_doc::RequestRule;",
+    "NameRule": "use odb_check::NameRule;",
+    "Need": "use odb_check::Need;",
+    "MatchRule": "use odb_reply::MatchRule;",
+    "StartRefusal": "use odb_sched::StartRefusal;",
+    "ReportRefusal": "use odb_sched::ReportRefusal;",
+}
+
+
+@dataclass
+class Fault:
+    """A section of the page."""
+
+    code: str
+    name: str
+    places: str
+    meaning: str
+    refused: str
+    accepted: str
+
+    @property
+    def heading(self):
+        return f"{self.code} {self.name} {self.places}"
+
+    @property
+    def printed(self):
+        """What `explain` has to print."""
+        return plain(f"{self.heading}\n{self.meaning}\nrefused: {self.refused}\naccepted: {self.accepted}\n")
+
+
+def plain(text):
+    return text.replace("`", "")
+
+
+def read_fault(section):
+    """The fault of a section, whose first line is its heading."""
+    heading, _, body = section.partition("\n")
+    title, _, places = heading.partition(", ")
+    code, name = title.split(" ")
+    paragraphs = body.strip().split("\n\n")
+    items = dict(line[2:].split(": ", 1) for line in paragraphs[1].split("\n"))
+    return Fault(code, name, places, paragraphs[0], items["refused"], items["accepted"])
+
+
+def read_page():
+    """The faults of the page, and its batch for second documents."""
+    with open(PAGE, encoding="utf-8") as file:
+        page = file.read()
+    batch = re.search(r"```json\n(.*?)\n```", page, re.DOTALL)[1]
+    sections = re.split(r"(?m)^### ", page)[1:]
+    return [read_fault(re.split(r"(?m)^## ", section)[0]) for section in sections], batch
+
+
+def literal(text):
+    """A string of the program, a line of the text on each of its lines."""
+    escaped = text.replace("\\", "\\\\").replace('"', '\\"').replace("\n", "\\n\\\n")
+    return f'"{escaped}"'
+
+
+def row(fault):
+    variant = next(form for code, form in FAULTS if re.fullmatch(code, fault.code)).replace("NAME", fault.name)
+    return (
+        f"Explanation {{ fault: {variant}, places: {literal(fault.places)},\n"
+        f"meaning: {literal(plain(fault.meaning))},\n"
+        f"refused: {literal(plain(fault.refused))},\n"
+        f"accepted: {literal(plain(fault.accepted))} }},\n"
+    )
+
+
+def write(faults):
+    """Makes the texts of the program."""
+    for name, (codes, subject) in FILES.items():
+        chosen = [it for it in faults if re.fullmatch(codes, it.code)]
+        rows = "".join(map(row, chosen))
+        uses = [use for word, use in USES.items() if word + "::" in rows]
+        with open(os.path.join(TEXTS, name + ".rt"), "w", encoding="utf-8") as file:
+            file.write(f"//! The faults of {subject}. The texts are those of docs/faults.md.\n\n")
+            file.write("\n".join(["use super::fault::{Explanation, Fault};", *uses]) + "\n\n")
+            file.write(f"pub const FAULTS: [Explanation; {len(chosen)}] = [{rows}];\n")
+
+
+def call(binary, folder, *words):
+    """What the program prints and its exit status."""
+    done = subprocess.run([binary, *words], cwd=folder, capture_output=True, text=True, timeout=60)
+    return done.stdout, done.returncode
+
+
+def command_for(fault, document):
+    """The command that reads a document of this fault, with the options that the fault needs."""
+    second = next(iter(json.loads(document)), "") if not fault.code.startswith("F0") else ""
+    if second == "outcomes":
+        return ["replay", "batch", "document"]
+    if second == "responses":
+        return ["match", "batch", "document"]
+    if second == "events":
+        return ["run", "batch", "document", *(["--stop"] if fault.code == "S2" else [])]
+    return ["canon" if fault.code == "F50" else "check", "document"]
+
+
+def has_fault(binary, batch, fault, document):
+    """Whether the program reports the fault of this document."""
+    with tempfile.TemporaryDirectory(prefix="faults-") as folder:
+        for name, text in (("batch", batch), ("document", document)):
+            with open(os.path.join(folder, name), "w", encoding="utf-8") as file:
+                file.write(text)
+        out, _ = call(binary, folder, *command_for(fault, document))
+    return out.startswith(f"fault {fault.code} {fault.name} ")
+
+
+def differences(binary, batch, fault):
+    """How the program differs from this section of the page, a line each."""
+    wanted = (fault.printed, 0)
+    for word in (fault.code, fault.code.lower()):
+        if call(binary, ROOT, "explain", word) != wanted:
+            yield f"explain {word} prints something else"
+    for word in (fault.name, fault.name.upper()):
+        if fault.printed not in call(binary, ROOT, "explain", word)[0]:
+            yield f"explain {word} does not print it"
+    for text, refused in ((fault.refused, True), (fault.accepted, False)):
+        document = re.fullmatch("`(.*)`", text)
+        if document and document[1][0] in "{[" and has_fault(binary, batch, fault, document[1]) != refused:
+            yield f"it is {'not ' if refused else ''}reported of {document[1]}"
+
+
+def main():
+    parser = argparse.ArgumentParser(description="Compares docs/faults.md with the program.")
+    parser.add_argument("--binary", default=PROGRAM, metavar="PATH", help="the program; else the one built here")
+    parser.add_argument("--write", action="store_true", help="make the texts of the program")
+    options = parser.parse_args()
+    faults, batch = read_page()
+    if options.write:
+        return write(faults)
+    binary = os.path.abspath(options.binary)
+    table = "".join(it.heading + "\n" for it in faults)
+    found = [] if call(binary, ROOT, "explain") == (table, 0) else ["explain: the table differs from the page"]
+    found += [f"{it.code} {it.name}: {line}" for it in faults for line in differences(binary, batch, it)]
+    print(*found, sep="\n", end="\n" if found else "")
+    print(f"docs/faults.md: {len(faults)} faults, {len(found)} differences")
+    return 1 if found else 0
+
+
+if __name__ == "__main__":
+    sys.exit(main())

@@ -1,0 +1,62 @@
+//! A text that is put together piece by piece.
+
+use std::alloc::{AllocError, Global};
+
+/// A text to which pieces are added. That memory ran out is noticed at the end.
+#[derive(Debug, Drop)]
+pub struct Page {
+    text: String,
+    is_whole: bool,
+}
+
+impl Page {
+    /// Returns a page without a text.
+    pub fn new(alloc: Global) -> Page {
+        Page {
+            text: String::new(alloc),
+            is_whole: true,
+        }
+    }
+
+    /// Adds a text.
+    pub fn add(&mut self, piece: &str) {
+        if self.text.push_str(piece).is_err() {
+            self.is_whole = false;
+        }
+    }
+
+    /// Adds a character.
+    pub fn add_char(&mut self, piece: char) {
+        if self.text.push(piece).is_err() {
+            self.is_whole = false;
+        }
+    }
+
+    /// Adds texts, one after another.
+    pub fn add_all(&mut self, pieces: &[&str]) {
+        for piece in pieces {
+            self.add(piece);
+        }
+    }
+
+    /// Adds words, with a space before each.
+    pub fn add_words(&mut self, words: &[&str]) {
+        for word in words {
+            self.add_all(&[" ", word]);
+        }
+    }
+
+    /// Tests whether nothing was added.
+    pub fn is_empty(&self) -> bool {
+        self.is_whole && self.text.is_empty()
+    }
+
+    /// Returns the text, unless memory ran out.
+    pub fn into_text(self) -> Result<String, AllocError> {
+        if self.is_whole {
+            Ok(self.text)
+        } else {
+            Err(AllocError)
+        }
+    }
+}
