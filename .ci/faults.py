@@ -64,6 +64,9 @@ USES = {
 }
 
 
+INDENT = " " * 12
+
+
 @dataclass
 class Fault:
     """A section of the page."""
@@ -110,8 +113,10 @@ def read_page():
 
 def literal(text):
     """A string of the program, a line of the text on each of its lines."""
-    escaped = text.replace("\\", "\\\\").replace('"', '\\"').replace("\n", "\\n\\\n")
-    return f'"{escaped}"'
+    if '"' in text:
+        return f'r#"{text}"#'
+    lines = text.split("\n")
+    return '"' + f"\\n\\\n{INDENT}".join(lines) + '"'
 
 
 def row(fault):
@@ -154,14 +159,13 @@ def command_for(fault, document):
     return ["canon" if fault.code == "F50" else "check", "document"]
 
 
-def has_fault(binary, batch, fault, document):
-    """Whether the program reports the fault of this document."""
+def verdict(binary, batch, fault, document):
+    """What the program prints of this document, and its exit status."""
     with tempfile.TemporaryDirectory(prefix="faults-") as folder:
         for name, text in (("batch", batch), ("document", document)):
             with open(os.path.join(folder, name), "w", encoding="utf-8") as file:
                 file.write(text)
-        out, _ = call(binary, folder, *command_for(fault, document))
-    return out.startswith(f"fault {fault.code} {fault.name} ")
+        return call(binary, folder, *command_for(fault, document))
 
 
 def differences(binary, batch, fault):
@@ -173,10 +177,12 @@ def differences(binary, batch, fault):
     for word in (fault.name, fault.name.upper()):
         if fault.printed not in call(binary, ROOT, "explain", word)[0]:
             yield f"explain {word} does not print it"
-    for text, refused in ((fault.refused, True), (fault.accepted, False)):
-        document = re.fullmatch("`(.*)`", text)
-        if document and document[1][0] in "{[" and has_fault(binary, batch, fault, document[1]) != refused:
-            yield f"it is {'not ' if refused else ''}reported of {document[1]}"
+    for text, wanted, status in ((fault.refused, f"fault {fault.code} {fault.name} ", 1), (fault.accepted, "", 0)):
+        document = re.fullmatch(r"`([{\[].*)`", text)
+        if document:
+            out, ended = verdict(binary, batch, fault, document[1])
+            if ended != status or not out.startswith(wanted):
+                yield f"of {document[1]} the program prints {out}"
 
 
 def main():

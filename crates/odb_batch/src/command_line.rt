@@ -44,6 +44,19 @@ fn shell_of(name: Option<&str>) -> Shell {
     }
 }
 
+/// A text that depends on no document.
+#[derive(Clone, Copy, Debug)]
+pub enum Text<'a> {
+    /// The list of all faults.
+    Faults,
+    /// The explanation of the faults of this code or name.
+    Explanation(&'a str),
+    /// The completions for a shell.
+    Completions(Shell),
+    /// The manual page.
+    Manual,
+}
+
 /// What the command line asks for.
 #[derive(Clone, Copy, Debug)]
 pub enum Task<'a> {
@@ -72,14 +85,8 @@ pub enum Task<'a> {
         events: &'a str,
         policy: Policy,
     },
-    /// Explain the fault of this code or name, or list all.
-    Explain {
-        code: Option<&'a str>,
-    },
-    /// Print the completions for a shell.
-    Completions(Shell),
-    /// Print the manual page.
-    Man,
+    /// Print a text that depends on no document.
+    Print(Text<'a>),
 }
 
 /// Why the command line was rejected.
@@ -158,6 +165,14 @@ fn match_of<'a>(words: &ArgMatches<'a>) -> Task<'a> {
     }
 }
 
+/// Returns the explanations that their command asks for.
+fn explanation_of<'a>(words: &ArgMatches<'a>) -> Text<'a> {
+    match words.get_str("CODE") {
+        Some(code) => Text::Explanation(code),
+        None => Text::Faults,
+    }
+}
+
 /// Returns the task of the command of this name, or `None` if a width is not valid.
 fn task_named<'a>(name: &str, words: &ArgMatches<'a>) -> Option<Task<'a>> {
     match name {
@@ -170,11 +185,9 @@ fn task_named<'a>(name: &str, words: &ArgMatches<'a>) -> Option<Task<'a>> {
         "replay" => replay_of(words),
         "match" => Some(match_of(words)),
         "run" => run_of(words),
-        "explain" => Some(Task::Explain {
-            code: words.get_str("CODE"),
-        }),
-        "completions" => Some(Task::Completions(shell_of(words.get_str("SHELL")))),
-        "man" => Some(Task::Man),
+        "explain" => Some(Task::Print(explanation_of(words))),
+        "completions" => Some(Task::Print(Text::Completions(shell_of(words.get_str("SHELL"))))),
+        "man" => Some(Task::Print(Text::Manual)),
         _ => Some(Task::Check {
             file: words.get_str("FILE"),
         }),

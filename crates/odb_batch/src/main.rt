@@ -16,7 +16,7 @@ mod page;
 mod texts;
 
 use clap::error::ErrorKind;
-use command_line::{Misuse, Task};
+use command_line::{Misuse, Task, Text};
 use ending::{Status, failed};
 use engines::{Surroundings, canon, check, fit, plan, replay, run_events};
 use odb_check::Seed;
@@ -53,6 +53,14 @@ fn reject<R: Runtime>(rt: &R, misuse: &Misuse) -> Status {
     }
 }
 
+/// Prints a text, or why there is none.
+fn print_text<R: Runtime + AllocGlobal>(rt: &R, text: Text<'_>) -> Status {
+    match texts::print(rt, text) {
+        Ok(status) => status,
+        Err(misuse) => reject(rt, &misuse),
+    }
+}
+
 /// Performs a task.
 fn perform<R: Runtime + AllocGlobal>(rt: &R, around: Surroundings, task: Task<'_>) -> Status {
     match task {
@@ -66,13 +74,7 @@ fn perform<R: Runtime + AllocGlobal>(rt: &R, around: Surroundings, task: Task<'_
             events,
             policy,
         } => run_events(rt, around, file, events, policy),
-        Task::Explain { code: None } => texts::print_table(rt),
-        Task::Explain { code: Some(code) } => match texts::print_explanations(rt, code) {
-            Ok(status) => status,
-            Err(misuse) => reject(rt, &misuse),
-        },
-        Task::Completions(shell) => texts::print_completions(rt, shell),
-        Task::Man => texts::print_manual(rt),
+        Task::Print(text) => print_text(rt, text),
     }
 }
 

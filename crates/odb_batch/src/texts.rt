@@ -1,6 +1,6 @@
 //! The commands that read no document: each prints a text.
 
-use crate::command_line::{Misuse, Shell};
+use crate::command_line::{Misuse, Shell, Text};
 use crate::commands::{explain_command, program};
 use crate::completions::add_script;
 use crate::ending::{Status, finish};
@@ -28,7 +28,7 @@ fn print_page<R: Runtime>(rt: &R, page: Page) -> Status {
 }
 
 /// Prints the code, the name and the places of every fault.
-pub fn print_table<R: Runtime + AllocGlobal>(rt: &R) -> Status {
+fn print_table<R: Runtime + AllocGlobal>(rt: &R) -> Status {
     let mut page = Page::new(rt.alloc());
     add_table(&mut page);
     print_page(rt, page)
@@ -51,11 +51,7 @@ fn unknown(alloc: Global, code: &str) -> Result<clap::Error, AllocError> {
 }
 
 /// Prints what is explained of the faults of this code or name.
-///
-/// # Errors
-///
-/// If there is no such fault, or out of memory.
-pub fn print_explanations<R: Runtime + AllocGlobal>(rt: &R, code: &str) -> Result<Status, Misuse> {
+fn print_explanations<R: Runtime + AllocGlobal>(rt: &R, code: &str) -> Result<Status, Misuse> {
     let mut page = Page::new(rt.alloc());
     add_explanations(&mut page, code);
     if page.is_empty() {
@@ -80,7 +76,7 @@ fn completions(alloc: Global, shell: Shell) -> Result<String, AllocError> {
 }
 
 /// Prints the completions for a shell.
-pub fn print_completions<R: Runtime + AllocGlobal>(rt: &R, shell: Shell) -> Status {
+fn print_completions<R: Runtime + AllocGlobal>(rt: &R, shell: Shell) -> Status {
     finish(rt, written(rt, completions(rt.alloc(), shell)))
 }
 
@@ -93,6 +89,20 @@ fn manual(alloc: Global) -> Result<String, AllocError> {
 }
 
 /// Prints the manual page.
-pub fn print_manual<R: Runtime + AllocGlobal>(rt: &R) -> Status {
+fn print_manual<R: Runtime + AllocGlobal>(rt: &R) -> Status {
     finish(rt, written(rt, manual(rt.alloc())))
+}
+
+/// Prints a text.
+///
+/// # Errors
+///
+/// If there is no fault to explain, or out of memory.
+pub fn print<R: Runtime + AllocGlobal>(rt: &R, text: Text<'_>) -> Result<Status, Misuse> {
+    match text {
+        Text::Faults => Ok(print_table(rt)),
+        Text::Explanation(code) => print_explanations(rt, code),
+        Text::Completions(shell) => Ok(print_completions(rt, shell)),
+        Text::Manual => Ok(print_manual(rt)),
+    }
 }

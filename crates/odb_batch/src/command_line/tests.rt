@@ -1,4 +1,4 @@
-use super::{Misuse, Replay, Task};
+use super::{Misuse, Replay, Task, Text};
 use clap::error::ErrorKind;
 use odb_sched::Policy;
 use std::alloc::{AllocError, Global};
@@ -162,12 +162,19 @@ fn described(alloc: Global, task: Result<Task<'_>, Misuse>) -> Result<String, Al
                 policy,
             },
         ) => described_run(alloc, file, events, policy),
-        Ok(Task::Explain { code }) => format!(in alloc; "explain {}", code.unwrap_or("-")),
-        Ok(Task::Completions(shell)) => format!(in alloc; "completions {shell:?}"),
-        Ok(Task::Man) => String::from_str(alloc, "man"),
+        Ok(Task::Print(text)) => described_text(alloc, text),
         Ok(Task::Replay(replay)) => described_replay(alloc, &replay),
         Err(Misuse::Width) => String::from_str(alloc, "width"),
         Err(Misuse::Arguments(error)) => String::from_str(alloc, kind_of(error.kind())),
+    }
+}
+
+fn described_text(alloc: Global, text: Text<'_>) -> Result<String, AllocError> {
+    match text {
+        Text::Faults => String::from_str(alloc, "explain -"),
+        Text::Explanation(code) => format!(in alloc; "explain {code}"),
+        Text::Completions(shell) => format!(in alloc; "completions {shell:?}"),
+        Text::Manual => String::from_str(alloc, "man"),
     }
 }
 

@@ -8,7 +8,7 @@ pub const FAULTS: [Explanation; 20] = [
         fault: Fault::Document(DocumentRule::TooLong),
         places: "batch outcomes responses events",
         meaning: "The document has more than 16,777,216 bytes. It is read into memory as a whole, so there is a limit;\n\
-the rest of the input is not read. Split the batch, or give large bodies a request outside of it.",
+            the rest of the input is not read. Split the batch, or give large bodies a request outside of it.",
         refused: "a document of 16,777,217 bytes",
         accepted: "a document of 16,777,216 bytes",
     },
@@ -16,35 +16,35 @@ the rest of the input is not read. Split the batch, or give large bodies a reque
         fault: Fault::Document(DocumentRule::NotJson),
         places: "batch outcomes responses events",
         meaning: "The document is not JSON: it is malformed, or not UTF-8, or nested more than 127 levels deep, or it\n\
-has a number beyond the range of a float. A byte order mark is not JSON either. Nothing can be told\n\
-of a text that cannot be parsed. Check where the text was made or cut.",
-        refused: "{\"requests\":[]",
-        accepted: "{\"requests\":[]}",
+            has a number beyond the range of a float. A byte order mark is not JSON either. Nothing can be told\n\
+            of a text that cannot be parsed. Check where the text was made or cut.",
+        refused: r#"{"requests":[]"#,
+        accepted: r#"{"requests":[]}"#,
     },
     Explanation {
         fault: Fault::Document(DocumentRule::NotObject),
         places: "batch",
         meaning: "The document is JSON, but not an object. A batch is an object with the member requests (OData JSON\n\
-Format 4.01, section 19.1). Put the array of requests into such an object.",
+            Format 4.01, section 19.1). Put the array of requests into such an object.",
         refused: "[]",
-        accepted: "{\"requests\":[]}",
+        accepted: r#"{"requests":[]}"#,
     },
     Explanation {
         fault: Fault::Document(DocumentRule::NoRequests),
         places: "batch",
         meaning: "The object has no member requests, or it is not an array. A batch lists its requests there, even if\n\
-there are none (OData JSON Format 4.01, section 19.1). Add the array.",
-        refused: "{\"requests\":null}",
-        accepted: "{\"requests\":[]}",
+            there are none (OData JSON Format 4.01, section 19.1). Add the array.",
+        refused: r#"{"requests":null}"#,
+        accepted: r#"{"requests":[]}"#,
     },
     Explanation {
         fault: Fault::Document(DocumentRule::UnknownMember),
         places: "batch",
         meaning: "The object has another member beside requests. Only annotations, whose names have an @, may stand\n\
-there; a member that nobody reads is more likely a mistake (a choice of this product). Drop it, or\n\
-make it an annotation.",
-        refused: "{\"requests\":[],\"next\":1}",
-        accepted: "{\"requests\":[],\"@next\":1}",
+            there; a member that nobody reads is more likely a mistake (a choice of this product). Drop it, or\n\
+            make it an annotation.",
+        refused: r#"{"requests":[],"next":1}"#,
+        accepted: r#"{"requests":[],"@next":1}"#,
     },
     Explanation {
         fault: Fault::Document(DocumentRule::TooMany),
@@ -57,118 +57,118 @@ make it an annotation.",
         fault: Fault::Request(RequestRule::NotRequestObject),
         places: "/requests/N",
         meaning: "The element of requests is not an object. Each request is one (OData JSON Format 4.01, section\n\
-19.1). Write the request as an object with id, method and url. No other fault of its form is\n\
-reported for such an element.",
-        refused: "{\"requests\":[1]}",
-        accepted: "{\"requests\":[{\"id\":\"1\",\"method\":\"get\",\"url\":\"A\"}]}",
+            19.1). Write the request as an object with id, method and url. No other fault of its form is\n\
+            reported for such an element.",
+        refused: r#"{"requests":[1]}"#,
+        accepted: r#"{"requests":[{"id":"1","method":"get","url":"A"}]}"#,
     },
     Explanation {
         fault: Fault::Request(RequestRule::IfMember),
         places: "/requests/N",
         meaning: "The request has the member if, with any value, null too. Its condition is an expression over earlier\n\
-responses, which this product does not evaluate; to ignore it would run what must not run. Send\n\
-the request in a later batch.",
-        refused: "{\"requests\":[{\"id\":\"1\",\"method\":\"get\",\"url\":\"A\",\"if\":\"true\"}]}",
-        accepted: "{\"requests\":[{\"id\":\"1\",\"method\":\"get\",\"url\":\"A\",\"if@x\":\"true\"}]}",
+            responses, which this product does not evaluate; to ignore it would run what must not run. Send\n\
+            the request in a later batch.",
+        refused: r#"{"requests":[{"id":"1","method":"get","url":"A","if":"true"}]}"#,
+        accepted: r#"{"requests":[{"id":"1","method":"get","url":"A","if@x":"true"}]}"#,
     },
     Explanation {
         fault: Fault::Request(RequestRule::UnknownRequestMember),
         places: "/requests/N",
         meaning: "The request has a member that the standard does not list and that is not an annotation. It may well\n\
-be a misspelled one, as dependson (a choice of this product). Correct the name, or put an @\n\
-into it.",
-        refused: "{\"requests\":[{\"id\":\"1\",\"method\":\"get\",\"url\":\"A\",\"dependson\":[]}]}",
-        accepted: "{\"requests\":[{\"id\":\"1\",\"method\":\"get\",\"url\":\"A\",\"dependsOn\":[]}]}",
+            be a misspelled one, as dependson (a choice of this product). Correct the name, or put an @\n\
+            into it.",
+        refused: r#"{"requests":[{"id":"1","method":"get","url":"A","dependson":[]}]}"#,
+        accepted: r#"{"requests":[{"id":"1","method":"get","url":"A","dependsOn":[]}]}"#,
     },
     Explanation {
         fault: Fault::Request(RequestRule::BadId),
         places: "/requests/N",
         meaning: "The request has no id, or it is not an identifier: a text of one or more ASCII letters, digits, -,\n\
-., _ and ~ (OData ABNF 4.01, request-id). Its response is found by the id, and URLs refer to\n\
-it. Give the request such a text.",
-        refused: "{\"requests\":[{\"id\":\"a b\",\"method\":\"get\",\"url\":\"A\"}]}",
-        accepted: "{\"requests\":[{\"id\":\"a_b\",\"method\":\"get\",\"url\":\"A\"}]}",
+            ., _ and ~ (OData ABNF 4.01, request-id). Its response is found by the id, and URLs refer to\n\
+            it. Give the request such a text.",
+        refused: r#"{"requests":[{"id":"a b","method":"get","url":"A"}]}"#,
+        accepted: r#"{"requests":[{"id":"a_b","method":"get","url":"A"}]}"#,
     },
     Explanation {
         fault: Fault::Request(RequestRule::BadMethod),
         places: "/requests/N",
         meaning: "The request has no method, or it is not one of delete, get, patch, post and put, in upper or lower\n\
-case (OData JSON Format 4.01, section 19.1). Name one of these.",
-        refused: "{\"requests\":[{\"id\":\"1\",\"method\":\"head\",\"url\":\"A\"}]}",
-        accepted: "{\"requests\":[{\"id\":\"1\",\"method\":\"GET\",\"url\":\"A\"}]}",
+            case (OData JSON Format 4.01, section 19.1). Name one of these.",
+        refused: r#"{"requests":[{"id":"1","method":"head","url":"A"}]}"#,
+        accepted: r#"{"requests":[{"id":"1","method":"GET","url":"A"}]}"#,
     },
     Explanation {
         fault: Fault::Request(RequestRule::BadUrl),
         places: "/requests/N",
         meaning: "The request has no url, or it is not a string (OData JSON Format 4.01, section 19.1). Any string\n\
-will do, also a relative path and the empty text.",
-        refused: "{\"requests\":[{\"id\":\"1\",\"method\":\"get\",\"url\":null}]}",
-        accepted: "{\"requests\":[{\"id\":\"1\",\"method\":\"get\",\"url\":\"\"}]}",
+            will do, also a relative path and the empty text.",
+        refused: r#"{"requests":[{"id":"1","method":"get","url":null}]}"#,
+        accepted: r#"{"requests":[{"id":"1","method":"get","url":""}]}"#,
     },
     Explanation {
         fault: Fault::Request(RequestRule::BadGroup),
         places: "/requests/N",
         meaning: "atomicityGroup is neither null nor an identifier, which has the form of an id (F13). Other requests\n\
-refer to the group by this name. Give the group such a name.",
-        refused: "{\"requests\":[{\"id\":\"1\",\"method\":\"get\",\"url\":\"A\",\"atomicityGroup\":\"\"}]}",
-        accepted: "{\"requests\":[{\"id\":\"1\",\"method\":\"get\",\"url\":\"A\",\"atomicityGroup\":null}]}",
+            refer to the group by this name. Give the group such a name.",
+        refused: r#"{"requests":[{"id":"1","method":"get","url":"A","atomicityGroup":""}]}"#,
+        accepted: r#"{"requests":[{"id":"1","method":"get","url":"A","atomicityGroup":null}]}"#,
     },
     Explanation {
         fault: Fault::Request(RequestRule::BadDependsOn),
         places: "/requests/N",
         meaning: "dependsOn is neither null nor an array in which each element is a string (OData JSON Format 4.01,\n\
-section 19.1). Put the names into an array, also a single one.",
-        refused: "{\"requests\":[{\"id\":\"1\",\"method\":\"get\",\"url\":\"A\",\"dependsOn\":\"\"}]}",
-        accepted: "{\"requests\":[{\"id\":\"1\",\"method\":\"get\",\"url\":\"A\",\"dependsOn\":[]}]}",
+            section 19.1). Put the names into an array, also a single one.",
+        refused: r#"{"requests":[{"id":"1","method":"get","url":"A","dependsOn":""}]}"#,
+        accepted: r#"{"requests":[{"id":"1","method":"get","url":"A","dependsOn":[]}]}"#,
     },
     Explanation {
         fault: Fault::Request(RequestRule::BadHeaders),
         places: "/requests/N",
         meaning: "headers is neither null nor an object in which each value is a string (OData JSON Format 4.01,\n\
-section 19.1). Write numbers as strings, and repeated headers as one value with commas.",
-        refused: "{\"requests\":[{\"id\":\"1\",\"method\":\"get\",\"url\":\"A\",\"headers\":{\"Age\":1}}]}",
-        accepted: "{\"requests\":[{\"id\":\"1\",\"method\":\"get\",\"url\":\"A\",\"headers\":{\"Age\":\"1\"}}]}",
+            section 19.1). Write numbers as strings, and repeated headers as one value with commas.",
+        refused: r#"{"requests":[{"id":"1","method":"get","url":"A","headers":{"Age":1}}]}"#,
+        accepted: r#"{"requests":[{"id":"1","method":"get","url":"A","headers":{"Age":"1"}}]}"#,
     },
     Explanation {
         fault: Fault::Request(RequestRule::HeaderTwice),
         places: "/requests/N",
         meaning: "Two names in headers differ only in the case of ASCII letters. Both name the same field of HTTP\n\
-(RFC 9110, section 5.1), and nothing says which value counts. Keep one of them.",
-        refused: "{\"requests\":[{\"id\":\"1\",\"method\":\"get\",\"url\":\"A\",\"headers\":{\"Age\":\"1\",\"age\":\"1\"}}]}",
-        accepted: "{\"requests\":[{\"id\":\"1\",\"method\":\"get\",\"url\":\"A\",\"headers\":{\"Age\":\"1\"}}]}",
+            (RFC 9110, section 5.1), and nothing says which value counts. Keep one of them.",
+        refused: r#"{"requests":[{"id":"1","method":"get","url":"A","headers":{"Age":"1","age":"1"}}]}"#,
+        accepted: r#"{"requests":[{"id":"1","method":"get","url":"A","headers":{"Age":"1"}}]}"#,
     },
     Explanation {
         fault: Fault::Request(RequestRule::BodyNotAllowed),
         places: "/requests/N",
         meaning: "A delete or a get has a body. Only patch, post and put may have one (OData JSON Format 4.01, section\n\
-19.1). Drop the body, or use another method.",
-        refused: "{\"requests\":[{\"id\":\"1\",\"method\":\"get\",\"url\":\"A\",\"body\":1}]}",
-        accepted: "{\"requests\":[{\"id\":\"1\",\"method\":\"put\",\"url\":\"A\",\"body\":1}]}",
+            19.1). Drop the body, or use another method.",
+        refused: r#"{"requests":[{"id":"1","method":"get","url":"A","body":1}]}"#,
+        accepted: r#"{"requests":[{"id":"1","method":"put","url":"A","body":1}]}"#,
     },
     Explanation {
         fault: Fault::Request(RequestRule::BadBody),
         places: "/requests/N",
         meaning: "The body does not suit the header content-type. For a type that begins with text/ it has to be a\n\
-string, for any other that is not JSON a string in base64url (OData JSON Format 4.01, section\n\
-19.1). It is asked only if the headers can be read. Correct the type, or encode the body.",
-        refused: "{\"requests\":[{\"id\":\"1\",\"method\":\"put\",\"url\":\"A\",\"headers\":{\"content-type\":\"text/plain\"},\"body\":1}]}",
-        accepted: "{\"requests\":[{\"id\":\"1\",\"method\":\"put\",\"url\":\"A\",\"headers\":{\"content-type\":\"text/plain\"},\"body\":\"1\"}]}",
+            string, for any other that is not JSON a string in base64url (OData JSON Format 4.01, section\n\
+            19.1). It is asked only if the headers can be read. Correct the type, or encode the body.",
+        refused: r#"{"requests":[{"id":"1","method":"put","url":"A","headers":{"content-type":"text/plain"},"body":1}]}"#,
+        accepted: r#"{"requests":[{"id":"1","method":"put","url":"A","headers":{"content-type":"text/plain"},"body":"1"}]}"#,
     },
     Explanation {
         fault: Fault::Request(RequestRule::NestedBatch),
         places: "/requests/N",
         meaning: "The URL leads to another batch: the last segment of its path, percent-decoded, is $batch. A batch\n\
-may not contain a batch (OData Protocol 4.01, section 11.7). Move its requests into this one.",
-        refused: "{\"requests\":[{\"id\":\"1\",\"method\":\"get\",\"url\":\"A/$batch\"}]}",
-        accepted: "{\"requests\":[{\"id\":\"1\",\"method\":\"get\",\"url\":\"A/batch\"}]}",
+            may not contain a batch (OData Protocol 4.01, section 11.7). Move its requests into this one.",
+        refused: r#"{"requests":[{"id":"1","method":"get","url":"A/$batch"}]}"#,
+        accepted: r#"{"requests":[{"id":"1","method":"get","url":"A/batch"}]}"#,
     },
     Explanation {
         fault: Fault::Request(RequestRule::BadReference),
         places: "/requests/N",
         meaning: "The URL begins with $, but its first segment is neither one of the reserved names, as $metadata,\n\
-nor $ and the id of a request (OData JSON Format 4.01, section 19.2). Write the id alone after\n\
-the $, and the rest after a /.",
-        refused: "{\"requests\":[{\"id\":\"1\",\"method\":\"get\",\"url\":\"$meta(data)\"}]}",
-        accepted: "{\"requests\":[{\"id\":\"1\",\"method\":\"get\",\"url\":\"$metadata\"}]}",
+            nor $ and the id of a request (OData JSON Format 4.01, section 19.2). Write the id alone after\n\
+            the $, and the rest after a /.",
+        refused: r#"{"requests":[{"id":"1","method":"get","url":"$meta(data)"}]}"#,
+        accepted: r#"{"requests":[{"id":"1","method":"get","url":"$metadata"}]}"#,
     },
 ];
