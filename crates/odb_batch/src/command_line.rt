@@ -18,7 +18,7 @@ fn order_of(name: Option<&str>) -> Order {
 }
 
 /// How a batch is replayed.
-#[derive(Clone, Copy, Debug)]
+#[derive(Clone, Copy)]
 pub struct Replay<'a> {
     pub file: &'a str,
     pub outcomes: &'a str,
@@ -45,7 +45,7 @@ fn shell_of(name: Option<&str>) -> Shell {
 }
 
 /// A text that depends on no document.
-#[derive(Clone, Copy, Debug)]
+#[derive(Clone, Copy)]
 pub enum Text<'a> {
     /// The list of all faults.
     Faults,
@@ -58,7 +58,7 @@ pub enum Text<'a> {
 }
 
 /// What the command line asks for.
-#[derive(Clone, Copy, Debug)]
+#[derive(Clone, Copy)]
 pub enum Task<'a> {
     /// Check the batch in the file, or the one on standard input where none is named.
     Check {

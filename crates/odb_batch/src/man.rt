@@ -3,7 +3,7 @@
 use crate::commands::PROGRAM_NOTES;
 use crate::completions::{add_values, takes_value, values_of};
 use crate::page::Page;
-use clap::{Arg, Command};
+use clap::{Arg, ArgAction, Command};
 
 const HEAD: &str = ".TH ODB_BATCH 1\n\
     .SH NAME\n\
@@ -91,13 +91,20 @@ fn add_use(page: &mut Page, arg: &Arg<'_>) {
     page.add("]");
 }
 
-/// Adds the section of a command.
-fn add_command(page: &mut Page, command: &Command<'_>) {
+/// Adds the heading of a command: its arguments, without the help option that each has.
+fn add_heading(page: &mut Page, command: &Command<'_>) {
     page.add_all(&[".SS ", command.get_name()]);
     for arg in command.get_arguments() {
-        add_use(page, arg);
+        if arg.get_action() != ArgAction::Help {
+            add_use(page, arg);
+        }
     }
     page.add("\n");
+}
+
+/// Adds the section of a command.
+fn add_command(page: &mut Page, command: &Command<'_>) {
+    add_heading(page, command);
     add_line(page, command.get_about().unwrap_or(""));
     add_arguments(page, command);
 }

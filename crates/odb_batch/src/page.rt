@@ -3,7 +3,7 @@
 use std::alloc::{AllocError, Global};
 
 /// A text to which pieces are added. That memory ran out is noticed at the end.
-#[derive(Debug, Drop)]
+#[derive(Drop)]
 pub struct Page {
     text: String,
     is_whole: bool,

@@ -10,7 +10,7 @@ use odb_reply::{MatchFault, MatchRule, ResponseFault};
 use odb_sched::{ExecFault, ReportRefusal, ResolveFault, StartRefusal};
 
 /// A fault that is printed, without its place.
-#[derive(Clone, Copy, Debug)]
+#[derive(Clone, Copy)]
 pub enum Fault {
     Document(DocumentRule),
     Request(RequestRule),
@@ -81,7 +81,7 @@ impl Fault {
 }
 
 /// What is printed of a fault.
-#[derive(Clone, Copy, Debug)]
+#[derive(Clone, Copy)]
 pub struct Explanation {
     pub fault: Fault,
     /// Where it may be.
