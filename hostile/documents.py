@@ -23,6 +23,9 @@ USUAL_RESPONSES = [
 ]
 
 
+COMMANDS = ("check", "plan", "canon", "replay", "match", "run", "explain", "completions", "man")
+
+
 @dataclass
 class Trial:
     """A call of the program, and its status; of a large one only some allocations are tried."""
@@ -116,6 +119,13 @@ def trials(commands):
         trial("match usual.json lent.json", 1),
         trial("run usual.json usual_events.json"),
         trial("run usual.json usual_events.json --stop --width 1", 1),
+        trial("explain NotWhole"),
+        trial("explain"),
+        trial("explain F99", 2),
+        trial("completions bash"),
+        trial("completions zsh"),
+        trial("completions fish"),
+        trial("man"),
         trial("check many.json", large=True),
         trial("plan many.json", large=True),
         trial("canon many.json", large=True),

@@ -133,7 +133,7 @@ def read_arguments():
     parser = argparse.ArgumentParser(description="Lets allocations of the program fail.")
     option = parser.add_argument
     option("--binary", default=PROGRAM, metavar="PATH", help="the program; else the one built here")
-    option("--commands", default="check,plan,canon,replay,match,run", metavar="NAME,..", help="only these commands")
+    option("--commands", default=",".join(documents.COMMANDS), metavar="NAME,..", help="only these commands")
     option("--seed", type=int, default=1, metavar="S", help="which allocations of the large trials; 1")
     option("--jobs", type=int, default=4, metavar="N", help="how many runs at once; 4")
     option("--only", default="", metavar="WORD", help="only the trials with WORD in their title")
