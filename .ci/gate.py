@@ -2,9 +2,10 @@
 
 The parts are `rt ci` (the proofs, the tests, the must-fail edits), the questions that the edits say
 they ask, the commands of README.md against the output that it shows, the faults of docs/faults.md
-against the program, the worked cases, the manual page and the completions against the help, random
-documents against plain rules, allocations that fail, and the short form of the benchmark, which
-compares answers and judges no time. The exit status is 0 where all of them pass.
+against the program, the worked cases, the manual page and the completions against the help,
+documents that are cut and documents as long as the program takes, random documents against plain
+rules, allocations that fail, and the short form of the benchmark, which compares answers and judges
+no time. The exit status is 0 where all of them pass.
 """
 
 import os
@@ -121,6 +122,8 @@ def main():
         ("docs/faults.md", False, [".ci/faults.py"]),
         ("worked cases", False, ["cases/run.py"]),
         ("manual page and completions", False, ["cases/manual.py"]),
+        ("documents that are cut", False, ["cases/cut.py"]),
+        ("documents as long as it takes", False, ["cases/sizes.py"]),
         ("random documents", False, ["cases/fuzz.py", "--mistakes"]),
         ("commands against each other", False, ["cases/agree.py"]),
         ("allocations that fail", False, ["hostile/memory.py"]),

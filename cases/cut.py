@@ -1,0 +1,102 @@
+#!/usr/bin/env python3
+"""Cuts the documents of examples/ after each of their bytes and gives each part to the program.
+
+No part of a JSON object is JSON, so each has to be refused by F02 at the place of its document. A
+batch is given to each command in turn, and a second document to the command that reads it. The last
+line is `N passed, M failed`.
+"""
+
+import argparse
+import os
+import subprocess
+import sys
+import tempfile
+from concurrent.futures import ThreadPoolExecutor
+from dataclasses import dataclass
+
+sys.dont_write_bytecode = True
+
+from pages import COMMANDS
+from run import HERE, PROGRAM
+
+EXAMPLES = os.path.join(os.path.dirname(HERE), "examples")
+BATCH = "usual.json"
+BATCHES = (BATCH, "references.json")
+SECONDS = {"replay": ("outcomes", "lent.json"), "match": ("responses", "served.json"), "run": ("events", "recorded.json")}
+LIMIT = 60
+SHOWN = 5
+
+
+@dataclass
+class Part:
+    """A part of an example, and the command that reads it as its batch or as its second document."""
+
+    name: str
+    data: bytes
+    command: str
+    place: str
+
+    def fault(self):
+        return f"fault F02 NotJson {self.place}\n".encode()
+
+    def arguments(self, path):
+        """The arguments of a call in which this part is the file at a path; `check` has no file."""
+        if self.command == "check":
+            return []
+        if self.place != "batch":
+            return [self.command, BATCH, path]
+        return [self.command, path, *SECONDS.get(self.command, ())[1:]]
+
+
+def parts_of(name):
+    """Each proper part of an example, the empty one too; the newline at its end belongs to none."""
+    with open(os.path.join(EXAMPLES, name), "rb") as file:
+        data = file.read().rstrip()
+    return [data[:n] for n in range(len(data))]
+
+
+def parts():
+    found = []
+    for name in BATCHES:
+        found += [Part(name, data, COMMANDS[len(data) % len(COMMANDS)], "batch") for data in parts_of(name)]
+    for command, (place, name) in SECONDS.items():
+        found += [Part(name, data, command, place) for data in parts_of(name)]
+    return found
+
+
+def call(part, binary, folder):
+    """What the program prints of this part, and its exit status."""
+    path = os.path.join(folder, f"{part.place}-{len(part.data)}-{part.name}")
+    with open(path, "wb") as file:
+        file.write(part.data)
+    words = [binary, *part.arguments(path)]
+    done = subprocess.run(words, cwd=EXAMPLES, input=part.data, capture_output=True, timeout=LIMIT)
+    os.remove(path)
+    return done.stdout, done.stderr, done.returncode
+
+
+def read_arguments():
+    parser = argparse.ArgumentParser(description="Gives the program documents that were cut.")
+    option = parser.add_argument
+    option("--binary", default=PROGRAM, metavar="PATH", help="the program; else the one built here")
+    option("--jobs", type=int, default=4, metavar="N", help="how many run at once; 4")
+    return parser.parse_args()
+
+
+def main():
+    options = read_arguments()
+    binary = os.path.abspath(options.binary)
+    if not os.access(binary, os.X_OK):
+        sys.exit(f"{binary} is not there: build it first, as bin/odb_batch does")
+    chosen = parts()
+    with tempfile.TemporaryDirectory(prefix="cut-") as folder, ThreadPoolExecutor(options.jobs) as pool:
+        got = list(pool.map(lambda part: call(part, binary, folder), chosen))
+    wrong = [(part, it) for part, it in zip(chosen, got) if it != (part.fault(), b"", 1)]
+    for part, (out, err, status) in wrong[:SHOWN]:
+        print(f"{part.command}, {part.name} cut after {len(part.data)} bytes: status {status}, {out!r} {err!r}")
+    print(f"{len(chosen) - len(wrong)} passed, {len(wrong)} failed")
+    return 1 if wrong else 0
+
+
+if __name__ == "__main__":
+    sys.exit(main())
