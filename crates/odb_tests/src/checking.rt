@@ -1,76 +1,140 @@
-//! Batches with the plan, or the fault that is reported for their names.
+//! What a library is given of the check of a batch: the parts of its plan, or its least fault.
 
-mod faults;
-mod flooded;
-mod plans;
-
-use odb_check::{CheckFault, Plan, Seed, check, check_with};
-use odb_doc::{Batch, Place, parse};
+use odb_check::{CheckFault, Need, Plan, Seed, check, check_with};
+use odb_doc::{Batch, parse};
 use std::alloc::{AllocError, Global};
 use std::test::Fail;
 
-/// A request of a test: its identifier, and the members that follow it.
-type Written = (&'static str, &'static str);
+/// Two groups, of which the second needs the first, and a request that needs both and a member.
+const GROUPS: &str = r#"{"requests":[
+    {"id":"a","method":"post","url":"X","atomicityGroup":"g"},
+    {"id":"b","method":"get","url":"$a/Y","atomicityGroup":"g"},
+    {"id":"c","method":"get","url":"X","atomicityGroup":"h","dependsOn":["g"]},
+    {"id":"d","method":"get","url":"X","atomicityGroup":"h"},
+    {"id":"e","method":"get","url":"$b/Y","dependsOn":["h","c","h","g"]}]}"#;
 
-const X: &str = r#","url":"X""#;
+/// For each request of `GROUPS` its unit, its level and what it needs; then the members of each unit.
+const PARTS: &str = "a 0 0 [] b 0 1 [One(0)] c 1 2 [Group(0)] d 1 0 [] \
+    e 2 3 [Group(1), One(2), Group(0), One(1)] 0..2 2..4 4..5 2 groups";
 
-const X_IN_G: &str = r#","url":"X","atomicityGroup":"g""#;
+/// Texts, and where they are ids of `GROUPS`.
+const POSITIONS: &[(&str, Option<u32>)] = &[
+    ("a", Some(0)),
+    ("e", Some(4)),
+    ("g", None),
+    ("A", None),
+    ("", None),
+];
 
-/// Appends a request to the text of a document.
-fn push_request(text: &mut String, id: &str, members: &str) -> Result<(), AllocError> {
-    if !text.ends_with("[") {
-        text.push_str(",")?;
+/// Batches, and the text of the plan or the fault.
+const BATCHES: &[(&str, &str)] = &[
+    (r#"{"requests":[]}"#, ""),
+    (
+        GROUPS,
+        "0 a level 0 group g needs *\n\
+         1 b level 1 group g needs a\n\
+         2 c level 2 group h needs g\n\
+         3 d level 0 group h needs *\n\
+         4 e level 3 group * needs h,c,g,b\n",
+    ),
+    (
+        r#"{"requests":[{"id":"a","method":"get","url":"X"},{"id":"a","method":"get","url":"X"}]}"#,
+        "request 1: an earlier request has the same `id`",
+    ),
+    (
+        r#"{"requests":[{"id":"a","method":"get","url":"X"},
+            {"id":"b","method":"get","url":"X","dependsOn":["b"]}]}"#,
+        "request 1: `dependsOn` names a request or a group that does not precede",
+    ),
+];
+
+/// The text of the plan, or of the fault.
+fn text_of(alloc: Global, found: Result<Plan<'_>, CheckFault>) -> Result<String, AllocError> {
+    match found {
+        Ok(plan) => plan.text(alloc),
+        Err(CheckFault::OutOfMemory) => Err(AllocError),
+        Err(fault) => format!(in alloc; "{fault}"),
     }
-    for part in [r#"{"id":""#, id, r#"","method":"get""#, members, "}"] {
-        text.push_str(part)?;
+}
+
+/// Whether what is found of a batch has this text, with and without a seed.
+fn is_found(alloc: Global, batch: &Batch<'_>, want: &str) -> Result<bool, AllocError> {
+    let sorted = text_of(alloc, check(alloc, batch))?;
+    let hashed = text_of(alloc, check_with(alloc, Seed::new(7), batch))?;
+    Ok(sorted.as_str() == want && hashed.as_str() == want)
+}
+
+fn is_document_found(alloc: Global, document: &str, want: &str) -> Result<bool, Fail> {
+    let value = parse(alloc, document.as_bytes())?;
+    let batch = Batch::read(alloc, &value)?;
+    Ok(is_found(alloc, &batch, want)?)
+}
+
+/// Adds what a plan has of one request.
+fn push_request(
+    alloc: Global,
+    notes: &mut String,
+    id: &str,
+    (unit, level): (u32, u32),
+    needs: &[Need],
+) -> Result<(), AllocError> {
+    notes.push_str(&format!(in alloc; "{id} {unit} {level} {needs:?} ")?)
+}
+
+fn push_requests(alloc: Global, plan: &Plan<'_>, notes: &mut String) -> Result<(), AllocError> {
+    for i in 0..plan.len() {
+        let numbers = (plan.unit_of(i), plan.level(i));
+        push_request(alloc, notes, plan.request(i).id, numbers, plan.needs(i))?;
     }
     Ok(())
 }
 
-/// A document with these requests.
-fn document_of(alloc: Global, requests: &[Written]) -> Result<String, AllocError> {
-    let mut text = String::from_str(alloc, r#"{"requests":["#)?;
-    for (id, members) in requests {
-        push_request(&mut text, id, members)?;
+fn push_members(alloc: Global, plan: &Plan<'_>, notes: &mut String) -> Result<(), AllocError> {
+    for u in 0..plan.unit_count() {
+        let members = plan.members(u);
+        notes.push_str(&format!(in alloc; "{}..{} ", members.start, members.end)?)?;
     }
-    text.push_str("]}")?;
-    Ok(text)
+    let count = plan.group_count();
+    notes.push_str(&format!(in alloc; "{count} groups")?)
 }
 
-/// The line of a fault, as `F41 ForwardName 0`.
-fn fault_line(alloc: Global, fault: CheckFault) -> Result<String, AllocError> {
-    match fault {
-        CheckFault::Request { .. } => match fault.place() {
-            Place::Request(at) => format!(in alloc; "{} {} {at}", fault.code(), fault.name()),
-            place => format!(in alloc; "{} {} {place:?}", fault.code(), fault.name()),
-        },
-        CheckFault::OutOfMemory => Err(AllocError),
+/// Whether each text is found at its position.
+fn are_found(plan: &Plan<'_>) -> bool {
+    for (id, position) in POSITIONS {
+        if plan.position_of(id) != *position {
+            return false;
+        }
     }
+    true
 }
 
-/// The text of the plan, or the line of the fault.
-fn text_of(alloc: Global, found: Result<Plan<'_>, CheckFault>) -> Result<String, AllocError> {
-    match found {
-        Ok(plan) => plan.text(alloc),
-        Err(fault) => fault_line(alloc, fault),
+/// Whether a plan has the parts of `GROUPS`.
+fn has_parts(alloc: Global, plan: &Plan<'_>) -> Result<bool, AllocError> {
+    let mut notes = String::new(alloc);
+    push_requests(alloc, plan, &mut notes)?;
+    push_members(alloc, plan, &mut notes)?;
+    Ok(notes.as_str() == PARTS && are_found(plan))
+}
+
+#[test]
+fn plans_or_refuses_alike_with_and_without_a_seed(rt: HostRuntime) -> Result<(), Fail> {
+    for (document, want) in BATCHES {
+        assert!(rt; is_document_found(rt.alloc(), document, want)?, "{want}");
     }
+    Ok(())
 }
 
-/// What is reported of a document: by [`check`], or by [`check_with`] where there is a seed.
-fn report(alloc: Global, seed: Option<u64>, document: &str) -> Result<String, Fail> {
-    let value = parse(alloc, document.as_bytes())?;
-    let batch = Batch::read(alloc, &value)?;
-    let found = match seed {
-        Some(number) => check_with(alloc, Seed::new(number), &batch),
-        None => check(alloc, &batch),
-    };
-    Ok(text_of(alloc, found)?)
+#[test]
+fn gives_units_needs_and_levels(rt: HostRuntime) -> Result<(), Fail> {
+    let value = parse(rt.alloc(), GROUPS.as_bytes())?;
+    let batch = Batch::read(rt.alloc(), &value)?;
+    let plan = check(rt.alloc(), &batch)?;
+    assert!(rt; has_parts(rt.alloc(), &plan)?);
+    Ok(())
 }
 
-/// Whether what is reported of these requests ends with the text, with and without a seed.
-fn reports(alloc: Global, requests: &[Written], end: &str) -> Result<bool, Fail> {
-    let document = document_of(alloc, requests)?;
-    let sorted = report(alloc, None, document.as_str())?;
-    let hashed = report(alloc, Some(7), document.as_str())?;
-    Ok(sorted.as_str().ends_with(end) && sorted == hashed)
+#[test]
+fn makes_a_seed_of_random_bytes(rt: HostRuntime) -> Result<(), Fail> {
+    let _seed = Seed::random(&rt)?;
+    Ok(())
 }

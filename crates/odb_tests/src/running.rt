@@ -1,19 +1,15 @@
 //! Runs of plans: what each event may do, which requests are ready and which run after it, and what
 //! each request is answered in the end.
 
-mod batches;
 mod calls;
-mod draws;
 mod embedding;
 mod events;
 mod executions;
-mod large;
 mod lists;
 mod notes;
 mod orders;
 mod picks;
 mod plain;
-mod random;
 mod recordings;
 
 ghost use Rattle.std.specs.Prelude.{◌≡◌, ◌<◌};

@@ -1,33 +1,38 @@
-//! Devices that fail.
+//! Devices that fail: what a take and a put return, and that each calls its device once.
 
 use odb_doc::{DeviceFault, Input, Output};
 use std::io::{self, Error, ErrorKind, Read, Write};
 
-/// A reader that fails at its first read and then gives an end.
+/// A reader that gives a byte a call and fails at its third call.
 #[derive(Drop)]
-struct Broken {
-    tried: bool,
+struct Failing {
+    calls: usize,
 }
 
-impl Read for Broken {
-    fn read(&mut self, _buffer: &mut [u8]) -> io::Result<usize> {
-        if self.tried {
-            return Ok(0);
+impl Read for Failing {
+    fn read(&mut self, buffer: &mut [u8]) -> io::Result<usize> {
+        self.calls = self.calls.saturating_add(1);
+        if self.calls == 3 {
+            return Err(Error::from(ErrorKind::BrokenPipe));
         }
-        self.tried = true;
-        Err(Error::from(ErrorKind::BrokenPipe))
+        let count = buffer.len().min(1);
+        buffer[..count].fill(b'a');
+        Ok(count)
     }
 }
 
-/// A writer that takes as many bytes as it has room for, and then fails.
+/// A writer that takes as many bytes as it has room for; then it fails, or takes none if it is deaf.
 #[derive(Drop)]
 struct Full {
     room: usize,
+    is_deaf: bool,
+    calls: usize,
 }
 
 impl Write for Full {
     fn write(&mut self, bytes: &[u8]) -> io::Result<usize> {
-        if self.room == 0 {
+        self.calls = self.calls.saturating_add(1);
+        if self.room == 0 && !self.is_deaf {
             return Err(Error::from(ErrorKind::StorageFull));
         }
         let taken = bytes.len().min(self.room);
@@ -40,61 +45,57 @@ impl Write for Full {
     }
 }
 
-/// A writer that takes nothing.
-#[derive(Drop)]
-struct Deaf;
+/// What the takes of a failing input return, in order.
+const TAKES: &[Result<usize, DeviceFault>] = &[Ok(1), Ok(1), Err(DeviceFault)];
 
-impl Write for Deaf {
-    fn write(&mut self, _bytes: &[u8]) -> io::Result<usize> {
-        Ok(0)
-    }
+/// What is put into an output with room for 10 bytes, and what each put returns.
+const PUTS: &[(&[u8], Result<usize, DeviceFault>)] = &[
+    (b"0123456", Ok(7)),
+    (b"", Ok(0)),
+    (b"0123456", Ok(3)),
+    (b"0", Err(DeviceFault)),
+];
 
-    fn flush(&mut self) -> io::Result<()> {
-        Ok(())
+/// Whether the takes return what is listed, and the input has failed after the last one alone.
+fn takes_as_listed(input: &mut Input<Failing>) -> bool {
+    for want in TAKES {
+        if input.failed() || input.reads() >= 3 || input.take(&mut [0; 4]) != *want {
+            return false;
+        }
     }
+    input.failed() && input.reads() == 3
+}
+
+/// Whether the puts return what is listed, and the output has failed after the last one alone.
+fn puts_as_listed(output: &mut Output<Full>) -> bool {
+    for (bytes, want) in PUTS {
+        if output.failed() || output.put(bytes) != *want {
+            return false;
+        }
+    }
+    output.failed()
+}
+
+fn is_read_once_a_take() -> bool {
+    let mut input = Input::new(Failing { calls: 0 });
+    takes_as_listed(&mut input) && input.into_inner().calls == 3
+}
+
+fn is_written_once_a_put(is_deaf: bool) -> bool {
+    let mut output = Output::new(Full {
+        room: 10,
+        is_deaf,
+        calls: 0,
+    });
+    puts_as_listed(&mut output) && output.into_inner().calls == 4
 }
 
 #[test]
 fn remembers_a_read_that_failed(rt: HostRuntime) {
-    let mut input = Input::new(Broken { tried: false });
-    assert!(rt; !input.failed());
-    assert_eq!(rt; input.reads(), 0);
-    assert_eq!(rt; input.take(&mut [0; 4]), Err(DeviceFault));
-    assert!(rt; input.failed());
-    assert_eq!(rt; input.reads(), 1);
-    assert!(rt; input.into_inner().tried);
+    assert!(rt; is_read_once_a_take());
 }
 
 #[test]
-fn counts_reads(rt: HostRuntime) {
-    let mut input = Input::new(b"abc".as_slice());
-    let mut buffer = [0; 2];
-    for (reads, count) in [(1, 2), (2, 1), (3, 0)] {
-        assert!(rt; !input.failed() && input.reads() < 3);
-        assert_eq!(rt; input.take(&mut buffer), Ok(count));
-        assert_eq!(rt; input.reads(), reads);
-    }
-    assert_eq!(rt; buffer, *b"cb");
-}
-
-#[test]
-fn remembers_a_write_that_failed(rt: HostRuntime) {
-    let mut output = Output::new(Full { room: 10 });
-    assert!(rt; !output.failed());
-    assert_eq!(rt; output.put(b"0123456"), Ok(7));
-    assert!(rt; !output.failed());
-    assert_eq!(rt; output.put(b"0123456"), Ok(3));
-    assert!(rt; !output.failed());
-    assert_eq!(rt; output.put(b"0"), Err(DeviceFault));
-    assert!(rt; output.failed());
-    assert_eq!(rt; output.into_inner().room, 0);
-}
-
-#[test]
-fn takes_no_progress_for_a_fault(rt: HostRuntime) {
-    let mut output = Output::new(Deaf);
-    assert_eq!(rt; output.put(b""), Ok(0));
-    assert!(rt; !output.failed());
-    assert_eq!(rt; output.put(b"a"), Err(DeviceFault));
-    assert!(rt; output.failed());
+fn remembers_a_write_that_failed_or_took_nothing(rt: HostRuntime) {
+    assert!(rt; is_written_once_a_put(false) && is_written_once_a_put(true));
 }

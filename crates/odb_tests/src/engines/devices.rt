@@ -1,24 +1,44 @@
-//! Readers and writers that are slow, fail, or have no end.
+//! Readers and writers that are slow, fail, or have no end, and count their calls.
 
 use std::alloc::Global;
 use std::io;
 use std::io::{ErrorKind, Read, Write};
 
-/// Gives its bytes some at a time, and fails at the call after `fails_after` of them.
+/// How a device works: how many bytes it gives or takes at each call, in turns of three, and how
+/// many calls go well before one fails.
+#[derive(Clone, Copy, Debug)]
+pub struct Pace {
+    pub turns: [usize; 3],
+    pub calls: usize,
+}
+
+/// Gives its bytes at a pace.
 #[derive(Drop)]
 pub struct Slow<'a> {
-    pub left: &'a [u8],
-    pub at_once: usize,
-    pub fails_after: usize,
+    left: &'a [u8],
+    pace: Pace,
+    pub calls: usize,
+}
+
+impl<'a> Slow<'a> {
+    pub fn new(left: &'a [u8], pace: Pace) -> Self {
+        Slow {
+            left,
+            pace,
+            calls: 0,
+        }
+    }
 }
 
 impl Read for Slow<'_> {
     fn read(&mut self, buffer: &mut [u8]) -> io::Result<usize> {
-        if self.fails_after == 0 {
+        let call = self.calls;
+        self.calls = call.saturating_add(1);
+        if call >= self.pace.calls {
             return Err(io::Error::from(ErrorKind::Other));
         }
-        self.fails_after -= 1;
-        let count = self.at_once.min(buffer.len()).min(self.left.len());
+        let turn = self.pace.turns[call % 3];
+        let count = turn.min(buffer.len()).min(self.left.len());
         let (given, left) = self.left.split_at(count);
         buffer[..count].copy_from_slice(given);
         self.left = left;
@@ -26,43 +46,48 @@ impl Read for Slow<'_> {
     }
 }
 
-/// Gives spaces without an end.
+/// Gives spaces without an end, and counts them.
 #[derive(Drop)]
-pub struct Endless;
+pub struct Endless {
+    pub given: usize,
+}
 
 impl Read for Endless {
     fn read(&mut self, buffer: &mut [u8]) -> io::Result<usize> {
         buffer.fill(b' ');
+        self.given = self.given.saturating_add(buffer.len());
         Ok(buffer.len())
     }
 }
 
-/// Takes a few bytes at a time, and fails once it has `room` of them.
+/// Takes bytes at a pace.
 #[derive(Drop)]
 pub struct Narrow {
     pub bytes: Vec<u8>,
-    at_once: usize,
-    room: usize,
+    pace: Pace,
+    pub calls: usize,
 }
 
 impl Narrow {
-    pub fn new(alloc: Global, at_once: usize, room: usize) -> Self {
+    pub fn new(alloc: Global, pace: Pace) -> Self {
         Narrow {
             bytes: Vec::new(alloc),
-            at_once,
-            room,
+            pace,
+            calls: 0,
         }
     }
 }
 
 impl Write for Narrow {
     fn write(&mut self, bytes: &[u8]) -> io::Result<usize> {
-        let count = self.at_once.min(self.room).min(bytes.len());
-        if count == 0 && !bytes.is_empty() {
+        let call = self.calls;
+        self.calls = call.saturating_add(1);
+        if call >= self.pace.calls {
             return Err(io::Error::from(ErrorKind::Other));
         }
+        let turn = self.pace.turns[call % 3];
+        let count = turn.min(bytes.len());
         self.bytes.extend_from_slice(&bytes[..count])?;
-        self.room -= count;
         Ok(count)
     }
 

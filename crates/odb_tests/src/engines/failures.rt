@@ -1,187 +1,160 @@
-//! Readers and writers that fail: an engine reports which it was, and has written a prefix of its
-//! text or nothing.
+//! Devices that are slow or fail: an engine writes its whole text, or reports which of them failed
+//! and has written nothing, or a prefix of its text where the output failed.
 
-ghost use Rattle.odb_engine.specs.Inputs.{IsFresh};
-
-use super::devices::{Narrow, Slow};
-use super::{LENDING, LENT, LENT_RESPONSE, NOT_LENT, NOT_LENT_RESPONSE, TWO_REQUESTS, replay};
-use odb_check::Seed;
+use super::devices::{Narrow, Pace, Slow};
+use super::{EXAMPLES, Example, PAIR, called};
 use odb_doc::{Input, Output};
-use odb_engine::{Ended, EngineFault, Remains, check_batch, plan_batch};
-use odb_sched::{Mode, Order, Policy};
+use odb_engine::{Ended, EngineFault, Remains};
 use std::alloc::Global;
-use std::io::Read;
 
-/// The line of a check of `TWO_REQUESTS`, and the text of its plan.
-const COUNTS: &str = "ok 2 requests 0 groups\n";
+/// Turns of a byte, of three, of uneven numbers, and of more than a text has.
+const TURNS: [[usize; 3]; 4] = [[1, 1, 1], [3, 3, 3], [1, 7, 2], [1_000, 1_000, 1_000]];
 
-const PLAN: &str = "0 1 level 0 group * needs *\n1 2 level 1 group * needs 1\n";
+/// More calls than any device of the examples is called.
+const ENOUGH: usize = 1_000;
 
-/// The inputs of a replay with a trace, which fail after so many reads of 100 bytes.
-#[derive(Clone, Copy)]
-struct Turns {
-    batch: usize,
-    outcomes: usize,
+/// The devices: the batch, the second document and the output.
+const OUTPUT: usize = 2;
+
+/// How an engine ended, what it wrote, and how often each device was called.
+#[derive(Drop)]
+struct Calls {
+    ended: Result<Ended, EngineFault>,
+    written: Vec<u8>,
+    counts: [usize; 3],
+    /// Whether the inputs counted as many reads as their readers did.
+    are_counted: bool,
 }
 
-fn slow(text: &str, at_once: usize, fails_after: usize) -> Input<Slow<'_>>
-    ensures { IsFresh result }
-{
-    Input::new(Slow {
-        left: text.as_bytes(),
-        at_once,
-        fails_after,
-    })
+impl Calls {
+    fn are_whole(&self, text: &str) -> bool {
+        self.ended == Ok(Ended::Done)
+            && self.written.as_slice() == text.as_bytes()
+            && self.are_counted
+    }
+
+    /// Whether an input failed and nothing was written.
+    fn are_cut_in_reading(&self) -> bool {
+        self.ended == Err(EngineFault::Read) && self.written.is_empty() && self.are_counted
+    }
+
+    /// Whether the output failed and has received a prefix of the text.
+    fn are_cut_in_writing(&self, text: &str) -> bool {
+        self.ended == Err(EngineFault::Write)
+            && self.written.len() < text.len()
+            && text.as_bytes().starts_with(&self.written)
+    }
 }
 
-/// Whether a check and a plan that read so report the failed input and write nothing.
-fn leaves_nothing(alloc: Global, fails_after: usize) -> bool {
-    let mut input = slow(TWO_REQUESTS, 5, fails_after);
-    let mut output = Output::new(Vec::new(alloc));
-    let checked = check_batch(
+/// Calls an engine whose devices work at these paces.
+fn calls_of(alloc: Global, example: Example, paces: [Pace; 3], remains: Remains) -> Calls {
+    let (command, document, _text) = example;
+    let mut batch = Input::new(Slow::new(PAIR.as_bytes(), paces[0]));
+    let mut second = Input::new(Slow::new(document.as_bytes(), paces[1]));
+    let mut output = Output::new(Narrow::new(alloc, paces[OUTPUT]));
+    let ended = called(
         alloc,
-        &mut input,
+        (command, remains),
+        &mut batch,
+        &mut second,
         &mut output,
-        Seed::none(),
-        Remains::Dropped,
     );
-    let mut other = slow(TWO_REQUESTS, 5, fails_after);
-    let planned = plan_batch_into(alloc, &mut other);
-    checked == Err(EngineFault::Read)
-        && planned == Err(EngineFault::Read)
-        && input.failed()
-        && output.into_inner().is_empty()
+    let reads = [batch.reads() as usize, second.reads() as usize];
+    let counts = [batch.into_inner().calls, second.into_inner().calls];
+    let Narrow { bytes, calls, .. } = output.into_inner();
+    Calls {
+        ended,
+        written: bytes,
+        counts: [counts[0], counts[1], calls],
+        are_counted: reads == counts,
+    }
 }
 
-/// How a plan of this input ends.
-fn plan_batch_into<R: Read>(alloc: Global, input: &mut Input<R>) -> Result<Ended, EngineFault>
-    requires { IsFresh input.old }
-{
-    let mut output = Output::new(Vec::new(alloc));
-    plan_batch(alloc, input, &mut output, Seed::none(), Remains::Dropped)
+/// How many calls it takes to move so many bytes at these turns.
+fn calls_for(bytes: usize, turns: [usize; 3]) -> usize {
+    let mut left = bytes;
+    for calls in 0..bytes {
+        if left == 0 {
+            return calls;
+        }
+        left = left.saturating_sub(turns[calls % 3]);
+    }
+    bytes
 }
 
-/// Whether a replay of `LENDING` reports a failed input, and whether it writes nothing.
-fn replay_by_turns(alloc: Global, turns: Turns) -> (bool, bool) {
-    let mut output = Output::new(Vec::new(alloc));
-    let ended = replay(
+/// How often the reader of a document is called: also for its end, and of no document not at all.
+fn reads_of(document: &str, turns: [usize; 3]) -> usize {
+    if document.is_empty() {
+        return 0;
+    }
+    calls_for(document.len(), turns).saturating_add(1)
+}
+
+/// How often each device is called at these turns where none fails, if the engine writes its text.
+fn counts_of(
+    alloc: Global,
+    example: Example,
+    turns: [usize; 3],
+    remains: Remains,
+) -> Option<[usize; 3]> {
+    let (_command, document, text) = example;
+    let calls = calls_of(
         alloc,
-        &mut slow(LENDING, 100, turns.batch),
-        &mut slow(LENT, 100, turns.outcomes),
-        &mut output,
-        Order::Wide,
-        Policy::free(Mode::Continue),
-        true,
+        example,
+        [Pace {
+            turns,
+            calls: ENOUGH,
+        }; 3],
+        remains,
     );
-    (
-        ended == Err(EngineFault::Read),
-        output.into_inner().is_empty(),
-    )
+    let [batch, second, output] = calls.counts;
+    let are_read = batch == reads_of(PAIR, turns) && second == reads_of(document, turns);
+    let are_right = are_read && (turns != [1, 1, 1] || output == text.len());
+    (are_right && calls.are_whole(text)).then_some(calls.counts)
 }
 
-/// Whether a check with this room ends so and has written this many bytes of its line.
-fn check_fills(alloc: Global, at_once: usize, room: usize) -> bool {
-    let mut output = Output::new(Narrow::new(alloc, at_once, room));
-    let mut input = Input::new(TWO_REQUESTS.as_bytes());
-    let ended = check_batch(
-        alloc,
-        &mut input,
-        &mut output,
-        Seed::none(),
-        Remains::Dropped,
-    );
-    fills(ended, &output.into_inner().bytes, room, COUNTS)
-}
-
-/// Whether a plan with this room ends so and has written this many bytes of its text.
-fn plan_fills(alloc: Global, at_once: usize, room: usize) -> bool {
-    let mut output = Output::new(Narrow::new(alloc, at_once, room));
-    let mut input = Input::new(TWO_REQUESTS.as_bytes());
-    let ended = plan_batch(
-        alloc,
-        &mut input,
-        &mut output,
-        Seed::none(),
-        Remains::Dropped,
-    );
-    fills(ended, &output.into_inner().bytes, room, PLAN)
-}
-
-/// Whether a replay of `LENDING` with this room ends so and has written this many bytes of its
-/// response.
-fn replay_fills(alloc: Global, at_once: usize, room: usize, outcomes: &str, text: &str) -> bool {
-    let mut output = Output::new(Narrow::new(alloc, at_once, room));
-    let ended = replay(
-        alloc,
-        &mut Input::new(LENDING.as_bytes()),
-        &mut Input::new(outcomes.as_bytes()),
-        &mut output,
-        Order::Last,
-        Policy::free(Mode::Continue),
-        false,
-    );
-    fills(ended, &output.into_inner().bytes, room, text)
-}
-
-/// Whether an engine that had this room for its text ended so and wrote a prefix of the text.
-fn fills(ended: Result<Ended, EngineFault>, written: &[u8], room: usize, text: &str) -> bool {
-    if room < text.len() {
-        ended == Err(EngineFault::Write) && written == &text.as_bytes()[..room]
+/// Whether an engine ends as it may where this call of a device fails.
+fn may_fail(
+    alloc: Global,
+    example: Example,
+    turns: [usize; 3],
+    (device, calls): (usize, usize),
+) -> bool {
+    let mut paces = [Pace {
+        turns,
+        calls: ENOUGH,
+    }; 3];
+    if let Some(pace) = paces.get_mut(device) {
+        pace.calls = calls;
+    }
+    let calls = calls_of(alloc, example, paces, Remains::Dropped);
+    if device == OUTPUT {
+        calls.are_cut_in_writing(example.2)
     } else {
-        ended == Ok(Ended::Done) && written == text.as_bytes()
+        calls.are_cut_in_reading()
     }
 }
 
-#[test]
-fn a_read_that_fails_leaves_nothing_written(rt: HostRuntime) {
-    for fails_after in 0..TWO_REQUESTS.len() / 5 {
-        assert!(rt; leaves_nothing(rt.alloc(), fails_after));
-    }
-}
-
-#[test]
-fn a_read_of_a_replay_that_fails_leaves_nothing_written(rt: HostRuntime) {
-    for reads in 0..6 {
-        let turns = Turns {
-            batch: reads,
-            outcomes: 100,
-        };
-        assert!(rt; replay_by_turns(rt.alloc(), turns) == (true, true));
-    }
-    for reads in 0..4 {
-        let turns = Turns {
-            batch: 100,
-            outcomes: reads,
-        };
-        assert!(rt; replay_by_turns(rt.alloc(), turns) == (true, true));
-    }
-    let turns = Turns {
-        batch: 100,
-        outcomes: 100,
+/// Whether an engine ends as it may at these turns, and where each call of each device fails.
+fn ends_as_it_may(alloc: Global, example: Example, turns: [usize; 3]) -> bool {
+    let Some(counts) = counts_of(alloc, example, turns, Remains::Dropped) else {
+        return false;
     };
-    assert!(rt; replay_by_turns(rt.alloc(), turns) == (false, false));
+    for (device, count) in counts.iter().enumerate() {
+        for calls in 0..*count {
+            if !may_fail(alloc, example, turns, (device, calls)) {
+                return false;
+            }
+        }
+    }
+    counts_of(alloc, example, turns, Remains::Left) == Some(counts)
 }
 
 #[test]
-fn a_write_that_fails_leaves_a_prefix(rt: HostRuntime) {
-    let alloc = rt.alloc();
-    for at_once in [1, 3, 100] {
-        for room in 0..COUNTS.len() + 1 {
-            assert!(rt; check_fills(alloc, at_once, room));
+fn each_call_of_a_device_may_fail(rt: HostRuntime) {
+    for example in &EXAMPLES {
+        for turns in &TURNS {
+            assert!(rt; ends_as_it_may(rt.alloc(), *example, *turns));
         }
-        for room in 0..PLAN.len() + 1 {
-            assert!(rt; plan_fills(alloc, at_once, room));
-        }
-    }
-}
-
-#[test]
-fn a_write_of_a_replay_that_fails_leaves_a_prefix(rt: HostRuntime) {
-    let alloc = rt.alloc();
-    for room in 0..NOT_LENT_RESPONSE.len() + 1 {
-        assert!(rt; replay_fills(alloc, 1, room, NOT_LENT, NOT_LENT_RESPONSE));
-    }
-    for (at_once, room) in [(100, 10), (1, 10), (3, 23), (1, 0), (1, 1000)] {
-        assert!(rt; replay_fills(alloc, at_once, room, LENT, LENT_RESPONSE));
     }
 }

@@ -1,114 +1,28 @@
-//! Writers that take few bytes at a time, or fail; and long texts.
+//! Long bodies: how much is written at once.
 
 use super::{Ending, USUAL, replies_to};
 use odb_doc::Output;
-use odb_reply::{ReplyFault, WriteFault, write_text};
 use std::alloc::{AllocError, Global};
-use std::io::{self, Error, ErrorKind, Write};
+use std::io::{self, Write};
 use std::test::Fail;
 
-/// Takes a few bytes at a time, and fails once it has been called so often, or has no room.
+/// Takes all bytes and remembers how many came in the longest call.
 #[derive(Drop)]
-struct Narrow {
+struct Longest {
     bytes: Vec<u8>,
-    at_once: usize,
-    room: usize,
-    calls_left: usize,
     longest: usize,
 }
 
-impl Narrow {
-    fn new(alloc: Global, at_once: usize, room: usize, calls_left: usize) -> Self {
-        Narrow {
-            bytes: Vec::new(alloc),
-            at_once,
-            room,
-            calls_left,
-            longest: 0,
-        }
-    }
-}
-
-impl Write for Narrow {
+impl Write for Longest {
     fn write(&mut self, bytes: &[u8]) -> io::Result<usize> {
-        if self.calls_left == 0 || self.room == 0 {
-            return Err(Error::from(ErrorKind::StorageFull));
-        }
-        self.calls_left -= 1;
         self.longest = self.longest.max(bytes.len());
-        let count = self.at_once.min(self.room).min(bytes.len());
-        self.bytes.extend_from_slice(&bytes[..count])?;
-        self.room -= count;
-        Ok(count)
+        self.bytes.extend_from_slice(bytes)?;
+        Ok(bytes.len())
     }
 
     fn flush(&mut self) -> io::Result<()> {
         Ok(())
     }
-}
-
-const ENDINGS: &[Ending<'static>] = &[
-    (0, 200, &[], r#"{"Name":"Z"}"#),
-    (1, 204, &[], ""),
-    (2, 201, &[("location", "Customers('7')")], ""),
-    (3, 200, &[], ""),
-];
-
-/// The text of the response to the usual batch, after these endings.
-const TEXT: &str =
-    r#"{"responses":[{"body":{"Name":"Z"},"id":"0","status":200},{"atomicityGroup":"group1","id":"1","status":204},{"atomicityGroup":"group1","headers":{"location":"Customers('7')"},"id":"2","status":201},{"id":"3","status":200}]}"#;
-
-/// Whether a writer receives so many bytes of the text, or all of it where that is less; and whether
-/// a failure is reported exactly if it does not receive all.
-fn receives(alloc: Global, writer: Narrow, count: usize) -> Result<bool, Fail> {
-    let mut output = Output::new(writer);
-    let (_text, written) = replies_to(alloc, USUAL, ENDINGS, &mut output)?;
-    let (want, end) = if count < TEXT.len() {
-        (&TEXT.as_bytes()[..count], Err(ReplyFault::Write))
-    } else {
-        (TEXT.as_bytes(), Ok(()))
-    };
-    let is_reported = written == end && output.failed() == end.is_err();
-    Ok(is_reported && output.into_inner().bytes.as_slice() == want)
-}
-
-/// How many bytes a writer takes at once, how many in all, how many calls, and how many bytes of the
-/// text it receives.
-const NARROW: &[(usize, usize, usize, usize)] = &[
-    (1, 1000, 1000, 1000),
-    (7, 1000, 1000, 1000),
-    (1000, 1000, 1000, 1000),
-    (1000, 1000, 1, 1000),
-    (1000, 0, 1000, 0),
-    (1000, 1, 1000, 1),
-    (1000, 10, 1000, 10),
-    (1000, 1000, 0, 0),
-    (100, 1000, 1, 100),
-    (100, 1000, 2, 200),
-    (3, 10, 1000, 10),
-];
-
-#[test]
-fn a_writer_may_take_few_bytes_or_fail(rt: HostRuntime) -> Result<(), Fail> {
-    let alloc = rt.alloc();
-    for (at_once, room, calls, count) in NARROW {
-        let writer = Narrow::new(alloc, *at_once, *room, *calls);
-        assert!(rt;
-            receives(alloc, writer, *count)?,
-            "{at_once} {room} {calls}"
-        );
-    }
-    Ok(())
-}
-
-#[test]
-fn a_writer_may_fail_at_each_call(rt: HostRuntime) -> Result<(), Fail> {
-    let alloc = rt.alloc();
-    for calls in 0..40 {
-        let writer = Narrow::new(alloc, 7, 1000, calls);
-        assert!(rt; receives(alloc, writer, 7 * calls)?, "{calls}");
-    }
-    Ok(())
 }
 
 /// A JSON string of as many letters.
@@ -138,7 +52,10 @@ fn endings_with<'a>(first: &'a str, second: &'a str) -> [Ending<'a>; 4] {
 /// that is longer than this.
 fn gives_bodies(alloc: Global, first: &str, second: &str, longest: usize) -> Result<bool, Fail> {
     let want = long_text(alloc, first, second)?;
-    let mut output = Output::new(Narrow::new(alloc, usize::MAX, usize::MAX, 1000));
+    let mut output = Output::new(Longest {
+        bytes: Vec::new(alloc),
+        longest: 0,
+    });
     let (text, written) = replies_to(alloc, USUAL, &endings_with(first, second), &mut output)?;
     let is_text = text.is_ok_and(|text| text.as_str() == want.as_str());
     let writer = output.into_inner();
@@ -168,26 +85,4 @@ fn long_bodies_are_written_whole(rt: HostRuntime) -> Result<(), Fail> {
         assert!(rt; gives_bodies(alloc, &first, &second, *longest)?);
     }
     Ok(())
-}
-
-/// How texts end at an output with room for so many bytes.
-const ROOMS: &[(usize, Result<(), WriteFault>, &[u8])] = &[
-    (100, Ok(()), b"short"),
-    (5, Ok(()), b"short"),
-    (4, Err(WriteFault), b"shor"),
-    (0, Err(WriteFault), b""),
-];
-
-#[test]
-fn a_text_is_written_whole_or_in_part(rt: HostRuntime) {
-    let alloc = rt.alloc();
-    for (room, end, want) in ROOMS {
-        let mut output = Output::new(Narrow::new(alloc, 2, *room, 100));
-        let written = write_text(&mut output, "short");
-        let is_reported = written == *end && output.failed() == end.is_err();
-        assert!(rt;
-            is_reported && output.into_inner().bytes.as_slice() == *want,
-            "{room}"
-        );
-    }
 }

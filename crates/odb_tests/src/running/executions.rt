@@ -1,8 +1,9 @@
-//! Executions by recorded statuses: the steps in each order, and the answers.
+//! Executions by a chooser and a service of a library: the steps, the answers, and the faults. Those by
+//! recorded outcomes in the orders of the program are shown on the built program.
 
 use super::notes::{note_fault, note_trace};
 use super::picks::Picks;
-use super::{GROUP, OnPlan, PASSED_ON, THREE, on_document, outcome, policy};
+use super::{OnPlan, PASSED_ON, THREE, on_document, outcome, policy};
 use odb_check::Plan;
 use odb_doc::{Outcome, Request};
 use odb_sched::Mode::{Continue, Stop};
@@ -113,173 +114,6 @@ const LAST: Picks = Picks::Named(Order::Last);
 
 const WIDE: Picks = Picks::Named(Order::Wide);
 
-const REPORTS_FIRST: &[Row] = &[
-    (
-        USUAL,
-        FIRST,
-        Continue,
-        0,
-        &[200, 204, 201, 200],
-        "+0 -0 +1 -1 +2 -2 +3 -3 | 200 204 201 200 []",
-    ),
-    (
-        USUAL,
-        LAST,
-        Continue,
-        0,
-        &[200, 204, 201, 200],
-        "+0 -0 +2 -2 +1 -1 +3 -3 | 200 204 201 200 []",
-    ),
-    (
-        USUAL,
-        FIRST,
-        Continue,
-        0,
-        &[200, 204, 409, 200],
-        "+0 -0 +1 -1 +2 -2 | 200 424 409 424 [ 1:204]",
-    ),
-    (
-        USUAL,
-        LAST,
-        Continue,
-        0,
-        &[200, 204, 409, 200],
-        "+0 -0 +2 -2 | 200 424 409 424 []",
-    ),
-    (
-        GROUP,
-        FIRST,
-        Continue,
-        0,
-        &[201, 201, 409],
-        "+0 -0 +1 -1 +2 -2 | 424 424 409 [ 1:201 0:201]",
-    ),
-    (
-        GROUP,
-        LAST,
-        Continue,
-        0,
-        &[201, 201, 409],
-        "+2 -2 | 424 424 409 []",
-    ),
-    (
-        PASSED_ON,
-        FIRST,
-        Continue,
-        0,
-        &[500, 201, 200, 200],
-        "+0 -0 | 500 424 424 424 []",
-    ),
-    (
-        PASSED_ON,
-        LAST,
-        Continue,
-        0,
-        &[500, 201, 200, 200],
-        "+1 -1 +0 -0 | 500 424 424 424 [ 1:201]",
-    ),
-    (
-        BOTH,
-        FIRST,
-        Continue,
-        0,
-        &[200, 409, 201, 200, 204],
-        "+0 -0 +1 -1 +4 -4 | 200 409 424 424 204 []",
-    ),
-    (
-        BOTH,
-        LAST,
-        Continue,
-        0,
-        &[200, 409, 201, 200, 204],
-        "+1 -1 +0 -0 +4 -4 | 200 409 424 424 204 []",
-    ),
-    (
-        THREE,
-        FIRST,
-        Stop,
-        0,
-        &[200, 503, 201],
-        "+0 -0 +1 -1 | 200 503 424 []",
-    ),
-    (
-        THREE,
-        LAST,
-        Stop,
-        0,
-        &[200, 503, 201],
-        "+1 -1 | 424 503 424 []",
-    ),
-];
-
-const STARTS_FIRST: &[Row] = &[
-    (r#"{"requests":[]}"#, WIDE, Continue, 0, &[], "| []"),
-    (
-        USUAL,
-        WIDE,
-        Continue,
-        0,
-        &[200, 204, 201, 200],
-        "+0 -0 +1 +2 -1 -2 +3 -3 | 200 204 201 200 []",
-    ),
-    (
-        USUAL,
-        WIDE,
-        Continue,
-        0,
-        &[200, 500, 201, 200],
-        "+0 -0 +1 +2 -1 -2 | 200 500 424 424 [ 2:201]",
-    ),
-    (
-        PASSED_ON,
-        WIDE,
-        Continue,
-        0,
-        &[500, 201, 200, 200],
-        "+0 +1 -0 -1 | 500 424 424 424 [ 1:201]",
-    ),
-    (
-        BOTH,
-        WIDE,
-        Continue,
-        0,
-        &[200, 409, 201, 200, 204],
-        "+0 +1 -0 +2 +4 -1 -2 -4 | 200 409 424 424 204 [ 2:201]",
-    ),
-    (
-        BOTH,
-        WIDE,
-        Continue,
-        0,
-        &[200, 409, 500, 200, 204],
-        "+0 +1 -0 +2 +4 -1 -2 -4 | 200 409 500 424 204 []",
-    ),
-    (
-        THREE,
-        WIDE,
-        Stop,
-        0,
-        &[200, 503, 201],
-        "+0 +1 -0 +2 -1 -2 | 200 503 201 []",
-    ),
-    (
-        APART,
-        WIDE,
-        Continue,
-        2,
-        &[200, 200, 200],
-        "+0 +1 -0 +2 -1 -2 | 200 200 200 []",
-    ),
-    (
-        APART,
-        WIDE,
-        Continue,
-        1,
-        &[200, 200, 200],
-        "+0 -0 +1 -1 +2 -2 | 200 200 200 []",
-    ),
-];
-
 const OTHER_CHOOSERS: &[Row] = &[
     (
         USUAL,
@@ -312,6 +146,22 @@ const OTHER_CHOOSERS: &[Row] = &[
         0,
         &[200, 409, 201, 200, 204],
         "+0 -0 +1 -1 +4 -4 | 200 409 424 424 204 []",
+    ),
+    (
+        APART,
+        Picks::WideLast,
+        Continue,
+        2,
+        &[200, 200, 200],
+        "+2 +1 -2 +0 -1 -0 | 200 200 200 []",
+    ),
+    (
+        THREE,
+        Picks::WideLast,
+        Stop,
+        0,
+        &[200, 503, 201],
+        "+1 +0 -1 -0 | 200 503 424 []",
     ),
     (
         BOTH,
@@ -373,24 +223,6 @@ const FAULTS: &[Row] = &[
         "+0 -0 +1 -1 +2 -2 | 599 200 200 []",
     ),
 ];
-
-#[test]
-fn reports_before_it_starts(rt: HostRuntime) -> Result<(), Fail> {
-    for row in REPORTS_FIRST {
-        let found = traced(rt.alloc(), *row)?;
-        assert_eq!(rt; found.as_str(), row.5);
-    }
-    Ok(())
-}
-
-#[test]
-fn starts_all_before_it_reports(rt: HostRuntime) -> Result<(), Fail> {
-    for row in STARTS_FIRST {
-        let found = traced(rt.alloc(), *row)?;
-        assert_eq!(rt; found.as_str(), row.5);
-    }
-    Ok(())
-}
 
 #[test]
 fn asks_any_other_chooser(rt: HostRuntime) -> Result<(), Fail> {

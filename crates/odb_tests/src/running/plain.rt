@@ -253,16 +253,6 @@ impl<'a> Plain<'a> {
         self.has_succeeded(i) && self.answer(i) == 424
     }
 
-    /// Whether a request has to be undone.
-    pub fn undoes_some(&self) -> bool {
-        for i in 0..self.count() {
-            if self.is_undone(i) {
-                return true;
-            }
-        }
-        false
-    }
-
     /// Whether a list has the undone requests, from the last to the first.
     fn are_undone(&self, undone: &[u32]) -> bool {
         let mut place: usize = 0;
