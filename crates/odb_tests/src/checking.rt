@@ -13,29 +13,23 @@ const GROUPS: &str = r#"{"requests":[
     {"id":"d","method":"get","url":"X","atomicityGroup":"h"},
     {"id":"e","method":"get","url":"$b/Y","dependsOn":["h","c","h","g"]}]}"#;
 
-/// For each request of `GROUPS` its unit, its level and what it needs; then the members of each unit.
-const PARTS: &str = "a 0 0 [] b 0 1 [One(0)] c 1 2 [Group(0)] d 1 0 [] \
-    e 2 3 [Group(1), One(2), Group(0), One(1)] 0..2 2..4 4..5 2 groups";
+/// Texts that are ids or groups of `GROUPS`, or neither.
+const TEXTS: &[&str] = &["a", "e", "g", "A", ""];
 
-/// Texts, and where they are ids of `GROUPS`.
-const POSITIONS: &[(&str, Option<u32>)] = &[
-    ("a", Some(0)),
-    ("e", Some(4)),
-    ("g", None),
-    ("A", None),
-    ("", None),
-];
-
-/// Batches, and the text of the plan or the fault.
+/// Batches, and the fault, or the plan: its text; for each request its unit, its level and what it
+/// needs; the members of each unit; how many groups there are; and where each of `TEXTS` is an id.
 const BATCHES: &[(&str, &str)] = &[
-    (r#"{"requests":[]}"#, ""),
+    (r#"{"requests":[]}"#, "0 groups None None None None None "),
     (
         GROUPS,
         "0 a level 0 group g needs *\n\
          1 b level 1 group g needs a\n\
          2 c level 2 group h needs g\n\
          3 d level 0 group h needs *\n\
-         4 e level 3 group * needs h,c,g,b\n",
+         4 e level 3 group * needs h,c,g,b\n\
+         a 0 0 [] b 0 1 [One(0)] c 1 2 [Group(0)] d 1 0 [] \
+         e 2 3 [Group(1), One(2), Group(0), One(1)] 0..2 2..4 4..5 2 groups \
+         Some(0) Some(4) None None None ",
     ),
     (
         r#"{"requests":[{"id":"a","method":"get","url":"X"},{"id":"a","method":"get","url":"X"}]}"#,
@@ -48,10 +42,56 @@ const BATCHES: &[(&str, &str)] = &[
     ),
 ];
 
-/// The text of the plan, or of the fault.
+/// Adds what a plan has of one request.
+fn push_request(
+    alloc: Global,
+    notes: &mut String,
+    id: &str,
+    numbers: (u32, u32),
+    needs: &[Need],
+) -> Result<(), AllocError> {
+    let (unit, level) = numbers;
+    notes.push_str(&format!(in alloc; "{id} {unit} {level} {needs:?} ")?)
+}
+
+fn push_requests(alloc: Global, plan: &Plan<'_>, notes: &mut String) -> Result<(), AllocError> {
+    for i in 0..plan.len() {
+        let numbers = (plan.unit_of(i), plan.level(i));
+        push_request(alloc, notes, plan.request(i).id, numbers, plan.needs(i))?;
+    }
+    Ok(())
+}
+
+fn push_members(alloc: Global, plan: &Plan<'_>, notes: &mut String) -> Result<(), AllocError> {
+    for u in 0..plan.unit_count() {
+        let members = plan.members(u);
+        notes.push_str(&format!(in alloc; "{}..{} ", members.start, members.end)?)?;
+    }
+    Ok(())
+}
+
+fn push_positions(alloc: Global, plan: &Plan<'_>, notes: &mut String) -> Result<(), AllocError> {
+    for text in TEXTS {
+        let position = plan.position_of(text);
+        notes.push_str(&format!(in alloc; "{position:?} ")?)?;
+    }
+    Ok(())
+}
+
+/// The text of a plan and its parts.
+fn parts_of(alloc: Global, plan: &Plan<'_>) -> Result<String, AllocError> {
+    let mut notes = plan.text(alloc)?;
+    push_requests(alloc, plan, &mut notes)?;
+    push_members(alloc, plan, &mut notes)?;
+    notes.push_str(&format!(in alloc; "{} groups ", plan.group_count())?)?;
+    push_positions(alloc, plan, &mut notes)?;
+    Ok(notes)
+}
+
+/// What a plan has, or the fault in words.
 fn text_of(alloc: Global, found: Result<Plan<'_>, CheckFault>) -> Result<String, AllocError> {
     match found {
-        Ok(plan) => plan.text(alloc),
+        Ok(plan) => parts_of(alloc, &plan),
         Err(CheckFault::OutOfMemory) => Err(AllocError),
         Err(fault) => format!(in alloc; "{fault}"),
     }
@@ -70,66 +110,11 @@ fn is_document_found(alloc: Global, document: &str, want: &str) -> Result<bool, 
     Ok(is_found(alloc, &batch, want)?)
 }
 
-/// Adds what a plan has of one request.
-fn push_request(
-    alloc: Global,
-    notes: &mut String,
-    id: &str,
-    (unit, level): (u32, u32),
-    needs: &[Need],
-) -> Result<(), AllocError> {
-    notes.push_str(&format!(in alloc; "{id} {unit} {level} {needs:?} ")?)
-}
-
-fn push_requests(alloc: Global, plan: &Plan<'_>, notes: &mut String) -> Result<(), AllocError> {
-    for i in 0..plan.len() {
-        let numbers = (plan.unit_of(i), plan.level(i));
-        push_request(alloc, notes, plan.request(i).id, numbers, plan.needs(i))?;
-    }
-    Ok(())
-}
-
-fn push_members(alloc: Global, plan: &Plan<'_>, notes: &mut String) -> Result<(), AllocError> {
-    for u in 0..plan.unit_count() {
-        let members = plan.members(u);
-        notes.push_str(&format!(in alloc; "{}..{} ", members.start, members.end)?)?;
-    }
-    let count = plan.group_count();
-    notes.push_str(&format!(in alloc; "{count} groups")?)
-}
-
-/// Whether each text is found at its position.
-fn are_found(plan: &Plan<'_>) -> bool {
-    for (id, position) in POSITIONS {
-        if plan.position_of(id) != *position {
-            return false;
-        }
-    }
-    true
-}
-
-/// Whether a plan has the parts of `GROUPS`.
-fn has_parts(alloc: Global, plan: &Plan<'_>) -> Result<bool, AllocError> {
-    let mut notes = String::new(alloc);
-    push_requests(alloc, plan, &mut notes)?;
-    push_members(alloc, plan, &mut notes)?;
-    Ok(notes.as_str() == PARTS && are_found(plan))
-}
-
 #[test]
 fn plans_or_refuses_alike_with_and_without_a_seed(rt: HostRuntime) -> Result<(), Fail> {
     for (document, want) in BATCHES {
         assert!(rt; is_document_found(rt.alloc(), document, want)?, "{want}");
     }
-    Ok(())
-}
-
-#[test]
-fn gives_units_needs_and_levels(rt: HostRuntime) -> Result<(), Fail> {
-    let value = parse(rt.alloc(), GROUPS.as_bytes())?;
-    let batch = Batch::read(rt.alloc(), &value)?;
-    let plan = check(rt.alloc(), &batch)?;
-    assert!(rt; has_parts(rt.alloc(), &plan)?);
     Ok(())
 }
 

@@ -1,4 +1,4 @@
 //! What a library reads from documents, and the devices below them.
 
 mod devices;
-mod records;
+pub mod records;

@@ -1,21 +1,22 @@
-//! Responses of finished runs: their text, and what a writer receives of it.
+//! Responses of finished runs to a library: their text, and what a writer receives of it.
 
 mod refusals;
 mod texts;
 mod writers;
 
-ghost use Rattle.std.specs.Prelude.{◌≡◌, false, length};
+ghost use Rattle.std.specs.Prelude.{◌≡◌, length};
 ghost use Rattle.odb_check.specs.Plans.{plan_records};
 ghost use Rattle.odb_sched.specs.State.{size};
 
-use odb_check::{Plan, check};
-use odb_doc::{Batch, Outcome, Output, TextFault, parse};
+use crate::running::{OnPlan, on_document};
+use odb_check::Plan;
+use odb_doc::{Outcome, Output, TextFault};
 use odb_reply::{ReplyFault, response_text, write_responses};
 use odb_sched::{Done, Mode, Policy, Scheduler};
 use serde_json::Value;
 use std::alloc::Global;
 use std::collections::BTreeMap;
-use std::io::Write;
+use std::io::{self, Write};
 use std::test::Fail;
 
 /// Four requests: the second and the third are a group that depends on the first, and the last
@@ -35,6 +36,25 @@ const TWO: &str = r#"{"requests":[{"id":"a","method":"get","url":"X"},
 /// What a request ends with: its position, the status, the headers, and the JSON text of the body,
 /// which is empty for none.
 type Ending<'a> = (u32, u16, &'a [(&'a str, &'a str)], &'a str);
+
+/// Takes all bytes and remembers how many came in the longest call.
+#[derive(Drop)]
+struct Longest {
+    bytes: Vec<u8>,
+    longest: usize,
+}
+
+impl Write for Longest {
+    fn write(&mut self, bytes: &[u8]) -> io::Result<usize> {
+        self.longest = self.longest.max(bytes.len());
+        self.bytes.extend_from_slice(bytes)?;
+        Ok(bytes.len())
+    }
+
+    fn flush(&mut self) -> io::Result<()> {
+        Ok(())
+    }
+}
 
 fn headers_of(alloc: Global, listed: &[(&str, &str)]) -> Result<BTreeMap<String, String>, Fail> {
     let mut headers = BTreeMap::new(alloc);
@@ -92,87 +112,76 @@ fn play_all(
     Ok(())
 }
 
-/// The text of the response to a run, and whether it was written to the output.
-type Replies = (Result<String, TextFault>, Result<(), ReplyFault>);
-
-fn replies_of<W: Write>(alloc: Global, done: &Done<'_>, output: &mut Output<W>) -> Replies
-    requires { output.old.failed ≡ false }
-{
-    let text = response_text(alloc, done);
-    let written = write_responses(alloc, output, done);
-    (text, written)
+/// The text of the response to a run; and how writing it ended, and what was written.
+#[derive(Drop)]
+struct Reply {
+    text: Result<String, TextFault>,
+    written: Result<(), ReplyFault>,
+    writer: Longest,
 }
 
-fn replies_after<W: Write>(
-    alloc: Global,
-    scheduler: Scheduler<'_>,
-    output: &mut Output<W>,
-) -> Result<Replies, Fail>
-    requires { output.old.failed ≡ false }
-{
-    if scheduler.is_finished() {
-        Ok(replies_of(alloc, &scheduler.close(), output))
-    } else {
-        Err(Fail::new("the run is not finished"))
+impl Reply {
+    fn of(alloc: Global, done: &Done<'_>) -> Reply {
+        let mut output = Output::new(Longest {
+            bytes: Vec::new(alloc),
+            longest: 0,
+        });
+        let text = response_text(alloc, done);
+        let written = write_responses(alloc, &mut output, done);
+        Reply {
+            text,
+            written,
+            writer: output.into_inner(),
+        }
+    }
+
+    /// Whether both calls gave this text.
+    fn is_text(&self, want: &str) -> bool {
+        let is_text = match &self.text {
+            Ok(text) => text.as_str() == want,
+            Err(_) => false,
+        };
+        is_text && self.written == Ok(()) && self.writer.bytes.as_slice() == want.as_bytes()
+    }
+
+    /// Whether both calls refused the body of this request, and the second wrote nothing.
+    fn is_refused(&self, at: usize) -> bool {
+        let is_refused = match &self.text {
+            Err(fault) => *fault == TextFault::NotWhole { at },
+            Ok(_) => false,
+        };
+        is_refused
+            && self.written == Err(ReplyFault::NotWhole { at })
+            && self.writer.bytes.is_empty()
     }
 }
 
-/// Returns the replies after a run of a plan in which each request starts and ends in turn.
-fn replies_to_plan<W: Write>(
-    alloc: Global,
-    plan: &Plan<'_>,
-    endings: &[Ending<'_>],
-    output: &mut Output<W>,
-) -> Result<Replies, Fail>
-    requires { output.old.failed ≡ false }
-{
-    let mut scheduler = Scheduler::new(alloc, plan, Policy::free(Mode::Continue))?;
-    play_all(alloc, plan, &mut scheduler, endings)?;
-    replies_after(alloc, scheduler, output)
+/// Starts and ends each request in turn.
+#[derive(Clone, Copy)]
+struct Playing<'a> {
+    endings: &'a [Ending<'a>],
 }
 
-fn replies_to_batch<W: Write>(
-    alloc: Global,
-    batch: &Batch<'_>,
-    endings: &[Ending<'_>],
-    output: &mut Output<W>,
-) -> Result<Replies, Fail>
-    requires { output.old.failed ≡ false }
-{
-    let plan = check(alloc, batch)?;
-    replies_to_plan(alloc, &plan, endings, output)
+impl OnPlan for Playing<'_> {
+    type Found = Reply;
+
+    fn on_plan(&mut self, alloc: Global, plan: &Plan<'_>) -> Result<Reply, Fail> {
+        let mut scheduler = Scheduler::new(alloc, plan, Policy::free(Mode::Continue))?;
+        play_all(alloc, plan, &mut scheduler, self.endings)?;
+        if scheduler.is_finished() {
+            Ok(Reply::of(alloc, &scheduler.close()))
+        } else {
+            Err(Fail::new("the run is not finished"))
+        }
+    }
 }
 
-fn replies_to_value<W: Write>(
-    alloc: Global,
-    value: &Value,
-    endings: &[Ending<'_>],
-    output: &mut Output<W>,
-) -> Result<Replies, Fail>
-    requires { output.old.failed ≡ false }
-{
-    let batch = Batch::read(alloc, value)?;
-    replies_to_batch(alloc, &batch, endings, output)
+/// The reply to a batch whose requests end so.
+fn reply_to(alloc: Global, document: &str, endings: &[Ending<'_>]) -> Result<Reply, Fail> {
+    on_document(alloc, document, &mut Playing { endings })
 }
 
-/// Returns the replies to the batch in a document.
-fn replies_to<W: Write>(
-    alloc: Global,
-    document: &str,
-    endings: &[Ending<'_>],
-    output: &mut Output<W>,
-) -> Result<Replies, Fail>
-    requires { output.old.failed ≡ false }
-{
-    let value = parse(alloc, document.as_bytes())?;
-    replies_to_value(alloc, &value, endings, output)
-}
-
-/// Whether both calls give this text, the second to a writer that takes all.
+/// Whether the reply to a batch whose requests end so has this text.
 fn gives(alloc: Global, document: &str, endings: &[Ending<'_>], want: &str) -> Result<bool, Fail> {
-    let mut output = Output::new(Vec::new(alloc));
-    let (text, written) = replies_to(alloc, document, endings, &mut output)?;
-    let is_text = text.is_ok_and(|text| text.as_str() == want);
-    let bytes = output.into_inner();
-    Ok(is_text && written == Ok(()) && bytes.as_slice() == want.as_bytes())
+    Ok(reply_to(alloc, document, endings)?.is_text(want))
 }

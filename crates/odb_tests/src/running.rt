@@ -45,7 +45,7 @@ const PASSED_ON: &str = r#"{"requests":[{"id":"a","method":"get","url":"X"},
     {"id":"r","method":"get","url":"X","dependsOn":["g"]}]}"#;
 
 /// What a test does with the plan of a document.
-trait OnPlan {
+pub trait OnPlan {
     /// What it finds out.
     type Found;
 
@@ -63,7 +63,11 @@ fn on_value<T: OnPlan>(alloc: Global, value: &Value, task: &mut T) -> Result<T::
 }
 
 /// What a task finds out of the plan of a document.
-fn on_document<T: OnPlan>(alloc: Global, document: &str, task: &mut T) -> Result<T::Found, Fail> {
+pub fn on_document<T: OnPlan>(
+    alloc: Global,
+    document: &str,
+    task: &mut T,
+) -> Result<T::Found, Fail> {
     let value = parse(alloc, document.as_bytes())?;
     on_value(alloc, &value, task)
 }

@@ -30,7 +30,8 @@ fn body_text(alloc: Global, outcome: &Outcome) -> Result<String, AllocError> {
     }
 }
 
-fn push_outcome(
+/// Adds an outcome with its id.
+pub fn push_outcome(
     alloc: Global,
     notes: &mut String,
     id: &str,
@@ -75,63 +76,55 @@ fn push_events(alloc: Global, notes: &mut String, events: &[NamedEvent]) -> Resu
     Ok(())
 }
 
-/// What `read` gives, looked at one by one.
-fn read_outcomes(alloc: Global, notes: &mut String) -> Result<(), Fail> {
+/// Whether `read` gives the outcomes, looked at one by one.
+fn are_outcomes_read(alloc: Global) -> Result<bool, Fail> {
     let outcomes = Outcomes::read(alloc, parse(alloc, OUTCOMES)?)?;
-    Ok(push_entries(alloc, notes, &outcomes)?)
+    let mut notes = String::new(alloc);
+    push_entries(alloc, &mut notes, &outcomes)?;
+    Ok(notes.as_str() == READ_OUTCOMES)
 }
 
-/// What `split` gives, as a list.
-fn split_outcomes(alloc: Global, notes: &mut String) -> Result<(), Fail> {
+/// Whether `split` gives them, as a list.
+fn are_outcomes_split(alloc: Global) -> Result<bool, Fail> {
     let (outcomes, _emptied) = Outcomes::split(alloc, parse(alloc, OUTCOMES)?)?;
-    Ok(push_outcomes(alloc, notes, &outcomes.into_vec())?)
+    let mut notes = String::new(alloc);
+    push_outcomes(alloc, &mut notes, &outcomes.into_vec())?;
+    Ok(notes.as_str() == READ_OUTCOMES)
 }
 
-fn read_events(alloc: Global, notes: &mut String) -> Result<(), Fail> {
+fn are_events_read(alloc: Global) -> Result<bool, Fail> {
     let events = Events::read(alloc, parse(alloc, EVENTS)?)?;
-    Ok(push_events(alloc, notes, &events.into_vec())?)
+    let mut notes = String::new(alloc);
+    push_events(alloc, &mut notes, &events.into_vec())?;
+    Ok(notes.as_str() == READ_EVENTS)
 }
 
-fn outcome_fault(alloc: Global, document: &[u8]) -> Result<Option<OutcomeFault>, Fail> {
-    Ok(Outcomes::read(alloc, parse(alloc, document)?).err())
-}
-
-fn event_fault(alloc: Global, document: &[u8]) -> Result<Option<EventFault>, Fail> {
-    Ok(Events::read(alloc, parse(alloc, document)?).err())
-}
-
-#[test]
-fn reads_outcomes(rt: HostRuntime) -> Result<(), Fail> {
-    let mut notes = String::new(rt.alloc());
-    read_outcomes(rt.alloc(), &mut notes)?;
-    assert!(rt; notes.as_str() == READ_OUTCOMES);
-    Ok(())
-}
-
-#[test]
-fn splits_outcomes_from_what_remains(rt: HostRuntime) -> Result<(), Fail> {
-    let mut notes = String::new(rt.alloc());
-    split_outcomes(rt.alloc(), &mut notes)?;
-    assert!(rt; notes.as_str() == READ_OUTCOMES);
-    Ok(())
-}
-
-#[test]
-fn reads_events(rt: HostRuntime) -> Result<(), Fail> {
-    let mut notes = String::new(rt.alloc());
-    read_events(rt.alloc(), &mut notes)?;
-    assert!(rt; notes.as_str() == READ_EVENTS);
-    Ok(())
-}
-
-#[test]
-fn a_library_is_given_the_least_fault(rt: HostRuntime) -> Result<(), Fail> {
-    let twice = br#"{"outcomes":[{"id":"a","status":200},{"id":"a","status":600}]}"#;
-    let found = outcome_fault(rt.alloc(), twice)?;
+/// Whether the least fault of outcomes is given.
+fn are_outcomes_refused(alloc: Global) -> Result<bool, Fail> {
+    let document = br#"{"outcomes":[{"id":"a","status":200},{"id":"a","status":600}]}"#;
+    let found = Outcomes::read(alloc, parse(alloc, document)?).err();
     let rule = OutcomeRule::OutcomeTwice;
-    assert!(rt; found == Some(OutcomeFault::Outcome { at: 1, rule }));
-    let found = event_fault(rt.alloc(), br#"{"events":[{"start":"a"},{"start":1}]}"#)?;
+    Ok(found == Some(OutcomeFault::Outcome { at: 1, rule }))
+}
+
+fn are_events_refused(alloc: Global) -> Result<bool, Fail> {
+    let document = br#"{"events":[{"start":"a"},{"start":1}]}"#;
+    let found = Events::read(alloc, parse(alloc, document)?).err();
     let rule = EventRule::BadEvents;
-    assert!(rt; found == Some(EventFault::Event { at: 1, rule }));
+    Ok(found == Some(EventFault::Event { at: 1, rule }))
+}
+
+#[test]
+fn reads_outcomes_and_events(rt: HostRuntime) -> Result<(), Fail> {
+    assert!(rt; are_outcomes_read(rt.alloc())?);
+    assert!(rt; are_outcomes_split(rt.alloc())?);
+    assert!(rt; are_events_read(rt.alloc())?);
+    Ok(())
+}
+
+#[test]
+fn refuses_outcomes_and_events(rt: HostRuntime) -> Result<(), Fail> {
+    assert!(rt; are_outcomes_refused(rt.alloc())?);
+    assert!(rt; are_events_refused(rt.alloc())?);
     Ok(())
 }

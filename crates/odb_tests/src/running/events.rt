@@ -14,19 +14,19 @@ use std::alloc::{AllocError, Global};
 use std::test::Fail;
 
 /// A document, the mode and the width of its run (0 where it is free), the events by position and
-/// status (0 for a start), and what they lead to.
-type Row = (&'static str, Mode, u32, &'static [(u32, u16)], &'static str);
+/// status (0 for a start), what they lead to one by one, and what they are as a list.
+type Row = (
+    &'static str,
+    Mode,
+    u32,
+    &'static [(u32, u16)],
+    &'static str,
+    &'static str,
+);
 
-/// Takes the events one by one.
+/// Takes the events one by one, and then as a list.
 #[derive(Clone, Copy)]
-struct ByHand {
-    policy: Policy,
-    events: &'static [(u32, u16)],
-}
-
-/// Takes the events as a list.
-#[derive(Clone, Copy)]
-struct AsList {
+struct Events {
     policy: Policy,
     events: &'static [(u32, u16)],
 }
@@ -50,7 +50,7 @@ fn note_event(
     notes.push_str(" ")
 }
 
-/// Adds the codes of the events.
+/// Adds the codes of the events, and then the ready requests and the running ones.
 fn note_events(
     alloc: Global,
     plan: &Plan<'_>,
@@ -63,7 +63,7 @@ fn note_events(
     for event in events {
         note_event(alloc, plan, scheduler, notes, *event)?;
     }
-    Ok(())
+    note_views(alloc, scheduler, notes)
 }
 
 /// Adds positions in ascending order.
@@ -120,20 +120,7 @@ fn note_run(
 ) -> Result<(), AllocError> {
     let mut scheduler = Scheduler::new(alloc, plan, policy)?;
     note_events(alloc, plan, &mut scheduler, notes, events)?;
-    note_views(alloc, &scheduler, notes)?;
     note_end(alloc, scheduler, notes)
-}
-
-impl OnPlan for ByHand {
-    type Found = String;
-
-    /// The codes of the events; then the ready and the running positions; and where the
-    /// run is finished, the statuses of the answers and the undone positions.
-    fn on_plan(&mut self, alloc: Global, plan: &Plan<'_>) -> Result<String, Fail> {
-        let mut notes = String::new(alloc);
-        note_run(alloc, plan, self.policy, self.events, &mut notes)?;
-        Ok(notes)
-    }
 }
 
 /// An event of the request at a position.
@@ -165,49 +152,89 @@ fn events_of(
     Ok(list)
 }
 
-/// A refusal with its code and its name.
-fn refusal_text(
-    alloc: Global,
-    code: &str,
-    name: &str,
-    refusal: RunRefusal,
-) -> Result<String, AllocError> {
-    format!(in alloc; "{code} {name} {refusal:?}")
+/// Adds a refusal with its code and its name.
+fn note_refusal(alloc: Global, refusal: RunRefusal, notes: &mut String) -> Result<(), AllocError> {
+    if refusal == RunRefusal::OutOfMemory {
+        return Err(AllocError);
+    }
+    let (code, name) = (refusal.code(), refusal.name());
+    notes.push_str(&format!(in alloc; "{code} {name} {refusal:?}")?)
 }
 
-/// What a list of events is: a run, a finished run, or refused.
-fn verdict(
+/// Adds what a list of events is: a run, a finished run, or refused.
+fn note_verdict(
     alloc: Global,
     plan: &Plan<'_>,
     policy: Policy,
     events: &[(u32, u16)],
-) -> Result<String, AllocError> {
+    notes: &mut String,
+) -> Result<(), AllocError> {
     let events = events_of(alloc, plan, events)?;
     match run(alloc, plan, policy, events).map(|scheduler| scheduler.is_finished()) {
-        Ok(true) => String::from_str(alloc, "a finished run"),
-        Ok(false) => String::from_str(alloc, "a run"),
-        Err(RunRefusal::OutOfMemory) => Err(AllocError),
-        Err(refusal) => refusal_text(alloc, refusal.code(), refusal.name(), refusal),
+        Ok(true) => notes.push_str("a finished run"),
+        Ok(false) => notes.push_str("a run"),
+        Err(refusal) => note_refusal(alloc, refusal, notes),
     }
 }
 
-impl OnPlan for AsList {
-    type Found = String;
+/// What the events lead to one by one, and what they are as a list.
+#[derive(Drop)]
+struct Noted {
+    by_hand: String,
+    as_list: String,
+}
 
-    fn on_plan(&mut self, alloc: Global, plan: &Plan<'_>) -> Result<String, Fail> {
-        Ok(verdict(alloc, plan, self.policy, self.events)?)
+impl OnPlan for Events {
+    type Found = Noted;
+
+    fn on_plan(&mut self, alloc: Global, plan: &Plan<'_>) -> Result<Noted, Fail> {
+        let mut noted = Noted {
+            by_hand: String::new(alloc),
+            as_list: String::new(alloc),
+        };
+        note_run(alloc, plan, self.policy, self.events, &mut noted.by_hand)?;
+        note_verdict(alloc, plan, self.policy, self.events, &mut noted.as_list)?;
+        Ok(noted)
     }
 }
 
-const BY_HAND: &[Row] = &[
+/// Whether the events of a row lead to what it says.
+fn is_noted(alloc: Global, row: &Row) -> Result<bool, Fail> {
+    let (document, mode, width, events, by_hand, as_list) = *row;
+    let mut task = Events {
+        policy: policy(mode, width),
+        events,
+    };
+    let noted = on_document(alloc, document, &mut task)?;
+    Ok(noted.by_hand.as_str() == by_hand && noted.as_list.as_str() == as_list)
+}
+
+const ROWS: &[Row] = &[
     (
         r#"{"requests":[]}"#,
         Continue,
         0,
         &[],
         "ready [] running [] answers undone []",
+        "a finished run",
     ),
-    (REFERENCE, Continue, 0, &[(1, 0)], "S4 ready [0] running []"),
+    (THREE, Continue, 0, &[], "ready [0, 1] running []", "a run"),
+    (
+        THREE,
+        Continue,
+        0,
+        &[(2, 0)],
+        "S4 ready [0, 1] running []",
+        "S4 Waiting Start { at: 0, cause: Waiting(One(0)) }",
+    ),
+    (
+        REFERENCE,
+        Continue,
+        0,
+        &[(1, 0)],
+        "S4 ready [0] running []",
+        "S4 Waiting Start { at: 0, cause: Waiting(One(0)) }",
+    ),
     (
         REFERENCE,
         Continue,
@@ -222,113 +249,6 @@ const BY_HAND: &[Row] = &[
             (0, 200),
         ],
         "P1 ok S1 P2 P2 ok P1 ready [] running [] answers 599 424 undone []",
-    ),
-    (
-        THREE,
-        Continue,
-        0,
-        &[(0, 0), (0, 200), (1, 0)],
-        "ok ok ok ready [2] running [1]",
-    ),
-    (
-        THREE,
-        Continue,
-        0,
-        &[(0, 0), (0, 304), (2, 0), (1, 0), (1, 200)],
-        "ok ok S3 ok ok ready [] running [] answers 304 200 424 undone []",
-    ),
-    (
-        THREE,
-        Stop,
-        0,
-        &[(0, 0), (0, 304), (2, 0), (1, 0), (1, 200)],
-        "ok ok S3 ok ok ready [] running [] answers 304 200 424 undone []",
-    ),
-    (
-        THREE,
-        Stop,
-        0,
-        &[(0, 0), (0, 404), (0, 0), (2, 0), (1, 0)],
-        "ok ok S1 S2 S2 ready [] running [] answers 404 424 424 undone []",
-    ),
-    (
-        THREE,
-        Continue,
-        1,
-        &[(0, 0), (2, 0), (1, 0)],
-        "ok S4 S5 ready [] running [0]",
-    ),
-    (
-        THREE,
-        Continue,
-        1,
-        &[(0, 0), (0, 200), (1, 0)],
-        "ok ok ok ready [] running [1]",
-    ),
-    (
-        GROUP,
-        Continue,
-        0,
-        &[(0, 0), (0, 201), (1, 0), (1, 201), (2, 0), (2, 409)],
-        "ok ok ok ok ok ok ready [] running [] answers 424 424 409 undone [1, 0]",
-    ),
-    (
-        PASSED_ON,
-        Continue,
-        0,
-        &[(0, 0), (1, 0), (0, 500), (2, 0), (3, 0), (1, 201)],
-        "ok ok ok S3 S3 ok ready [] running [] answers 500 424 424 424 undone [1]",
-    ),
-    (
-        PASSED_ON,
-        Continue,
-        0,
-        &[(0, 0), (0, 500), (1, 0)],
-        "ok ok S3 ready [] running [] answers 500 424 424 424 undone []",
-    ),
-];
-
-#[test]
-fn codes_each_event_and_answers_each_request(rt: HostRuntime) -> Result<(), Fail> {
-    for (document, mode, width, events, want) in BY_HAND {
-        let mut task = ByHand {
-            policy: policy(*mode, *width),
-            events,
-        };
-        let found = on_document(rt.alloc(), document, &mut task)?;
-        assert_eq!(rt; found.as_str(), *want);
-    }
-    Ok(())
-}
-
-const AS_LISTS: &[Row] = &[
-    (THREE, Continue, 0, &[], "a run"),
-    (
-        THREE,
-        Continue,
-        0,
-        &[(2, 0)],
-        "S4 Waiting Start { at: 0, cause: Waiting(One(0)) }",
-    ),
-    (
-        REFERENCE,
-        Continue,
-        0,
-        &[(1, 0)],
-        "S4 Waiting Start { at: 0, cause: Waiting(One(0)) }",
-    ),
-    (
-        PASSED_ON,
-        Continue,
-        0,
-        &[(0, 0), (0, 200), (1, 0), (2, 0), (1, 200), (3, 0)],
-        "S4 Waiting Start { at: 5, cause: Waiting(Group(1)) }",
-    ),
-    (
-        THREE,
-        Continue,
-        0,
-        &[(0, 200)],
         "P1 NotRunning Report { at: 0, cause: NotRunning }",
     ),
     (
@@ -336,39 +256,108 @@ const AS_LISTS: &[Row] = &[
         Continue,
         0,
         &[(0, 0), (0, 700)],
+        "ok P2 ready [1] running [0]",
         "P2 BadStatus Report { at: 1, cause: BadStatus }",
-    ),
-    (
-        THREE,
-        Stop,
-        0,
-        &[(0, 0), (0, 404), (1, 0)],
-        "S2 Stopped Start { at: 2, cause: Stopped }",
     ),
     (
         THREE,
         Continue,
         0,
-        &[(0, 0), (0, 404), (1, 0), (1, 200)],
+        &[(0, 0), (0, 200), (1, 0)],
+        "ok ok ok ready [2] running [1]",
+        "a run",
+    ),
+    (
+        THREE,
+        Continue,
+        0,
+        &[(0, 0), (0, 304), (2, 0), (1, 0), (1, 200)],
+        "ok ok S3 ok ok ready [] running [] answers 304 200 424 undone []",
+        "S3 UnitFailed Start { at: 2, cause: UnitFailed }",
+    ),
+    (
+        THREE,
+        Stop,
+        0,
+        &[(0, 0), (0, 304), (1, 0), (1, 200)],
+        "ok ok ok ok ready [] running [] answers 304 200 424 undone []",
         "a finished run",
+    ),
+    (
+        THREE,
+        Stop,
+        0,
+        &[(0, 0), (0, 404), (1, 0), (2, 0)],
+        "ok ok S2 S2 ready [] running [] answers 404 424 424 undone []",
+        "S2 Stopped Start { at: 2, cause: Stopped }",
+    ),
+    (
+        THREE,
+        Stop,
+        0,
+        &[(0, 0), (0, 404), (0, 0)],
+        "ok ok S1 ready [] running [] answers 404 424 424 undone []",
+        "S1 AlreadyStarted Start { at: 2, cause: AlreadyStarted }",
+    ),
+    (
+        THREE,
+        Continue,
+        1,
+        &[(0, 0), (2, 0), (1, 0)],
+        "ok S4 S5 ready [] running [0]",
+        "S4 Waiting Start { at: 1, cause: Waiting(One(0)) }",
+    ),
+    (
+        THREE,
+        Continue,
+        1,
+        &[(0, 0), (1, 0), (0, 200), (1, 0)],
+        "ok S5 ok ok ready [] running [1]",
+        "S5 WidthReached Start { at: 1, cause: WidthReached }",
+    ),
+    (
+        GROUP,
+        Continue,
+        0,
+        &[(0, 0), (0, 201), (1, 0), (1, 201), (2, 0), (2, 409)],
+        "ok ok ok ok ok ok ready [] running [] answers 424 424 409 undone [1, 0]",
+        "a finished run",
+    ),
+    (
+        PASSED_ON,
+        Continue,
+        0,
+        &[(0, 0), (0, 200), (1, 0), (2, 0), (1, 200), (3, 0)],
+        "ok ok ok ok ok S4 ready [] running [2]",
+        "S4 Waiting Start { at: 5, cause: Waiting(Group(1)) }",
+    ),
+    (
+        PASSED_ON,
+        Continue,
+        0,
+        &[(0, 0), (1, 0), (0, 500), (2, 0), (3, 0), (1, 201)],
+        "ok ok ok S3 S3 ok ready [] running [] answers 500 424 424 424 undone [1]",
+        "S3 UnitFailed Start { at: 3, cause: UnitFailed }",
+    ),
+    (
+        PASSED_ON,
+        Continue,
+        0,
+        &[(0, 0), (0, 500), (1, 0)],
+        "ok ok S3 ready [] running [] answers 500 424 424 424 undone []",
+        "S3 UnitFailed Start { at: 2, cause: UnitFailed }",
     ),
 ];
 
 #[test]
-fn refuses_the_first_event_that_may_not_come(rt: HostRuntime) -> Result<(), Fail> {
-    for (document, mode, width, events, want) in AS_LISTS {
-        let mut task = AsList {
-            policy: policy(*mode, *width),
-            events,
-        };
-        let found = on_document(rt.alloc(), document, &mut task)?;
-        assert_eq!(rt; found.as_str(), *want);
+fn takes_events_one_by_one_and_as_a_list(rt: HostRuntime) -> Result<(), Fail> {
+    for row in ROWS {
+        assert!(rt; is_noted(rt.alloc(), row)?, "{}", row.4);
     }
     Ok(())
 }
 
 #[test]
 fn takes_no_width_of_0(rt: HostRuntime) {
-    assert!(rt; Policy::new(Continue, 0).is_none());
-    assert!(rt; Policy::new(Stop, 1).is_some());
+    assert!(rt; Policy::new(Continue, 0).is_none() && Policy::new(Stop, 1).is_some());
 }

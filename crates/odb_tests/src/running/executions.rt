@@ -98,14 +98,27 @@ impl OnPlan for Execution {
 /// request, and the trace or the fault.
 type Row = (&'static str, Picks, Mode, u32, &'static [u16], &'static str);
 
-fn traced(alloc: Global, row: Row) -> Result<String, Fail> {
-    let (document, picks, mode, width, statuses, _want) = row;
+/// The trace or the fault of an execution of a document.
+fn traced(
+    alloc: Global,
+    document: &str,
+    picks: Picks,
+    policy: Policy,
+    statuses: &'static [u16],
+) -> Result<String, Fail> {
     let mut execution = Execution {
         picks,
-        policy: policy(mode, width),
+        policy,
         statuses,
     };
     on_document(alloc, document, &mut execution)
+}
+
+/// Whether an execution leads to what its row says.
+fn is_traced(alloc: Global, row: &Row) -> Result<bool, Fail> {
+    let (document, picks, mode, width, statuses, want) = *row;
+    let found = traced(alloc, document, picks, policy(mode, width), statuses)?;
+    Ok(found.as_str() == want)
 }
 
 const FIRST: Picks = Picks::Named(Order::First);
@@ -114,7 +127,7 @@ const LAST: Picks = Picks::Named(Order::Last);
 
 const WIDE: Picks = Picks::Named(Order::Wide);
 
-const OTHER_CHOOSERS: &[Row] = &[
+const ROWS: &[Row] = &[
     (
         USUAL,
         Picks::WideLast,
@@ -179,9 +192,7 @@ const OTHER_CHOOSERS: &[Row] = &[
         &[200, 409, 201, 200, 204],
         "+0 +1 -0 +2 +4 -1 -2 -4 | 200 409 424 424 204 [ 2:201]",
     ),
-];
-
-const FAULTS: &[Row] = &[
+    // what the service answers
     (
         APART,
         FIRST,
@@ -225,19 +236,9 @@ const FAULTS: &[Row] = &[
 ];
 
 #[test]
-fn asks_any_other_chooser(rt: HostRuntime) -> Result<(), Fail> {
-    for row in OTHER_CHOOSERS {
-        let found = traced(rt.alloc(), *row)?;
-        assert_eq!(rt; found.as_str(), row.5);
-    }
-    Ok(())
-}
-
-#[test]
-fn reports_what_the_service_answered(rt: HostRuntime) -> Result<(), Fail> {
-    for row in FAULTS {
-        let found = traced(rt.alloc(), *row)?;
-        assert_eq!(rt; found.as_str(), row.5);
+fn asks_a_chooser_and_a_service(rt: HostRuntime) -> Result<(), Fail> {
+    for row in ROWS {
+        assert!(rt; is_traced(rt.alloc(), row)?, "{}", row.5);
     }
     Ok(())
 }
@@ -270,13 +271,26 @@ const ORDERS: &[Picks] = &[
     Picks::Listed(2, 0),
 ];
 
+/// Whether the answers are these in an order.
+fn is_answered(
+    alloc: Global,
+    document: &str,
+    picks: Picks,
+    statuses: &'static [u16],
+    want: &str,
+) -> Result<bool, Fail> {
+    let found = traced(alloc, document, picks, policy(Continue, 0), statuses)?;
+    Ok(answers_in(&found) == want)
+}
+
 #[test]
 fn answers_the_same_in_each_order(rt: HostRuntime) -> Result<(), Fail> {
     for (document, statuses, want) in ANSWERS {
         for picks in ORDERS {
-            let row = (*document, *picks, Continue, 0, *statuses, *want);
-            let found = traced(rt.alloc(), row)?;
-            assert_eq!(rt; answers_in(&found), *want);
+            assert!(rt;
+                is_answered(rt.alloc(), document, *picks, statuses, want)?,
+                "{want}"
+            );
         }
     }
     Ok(())

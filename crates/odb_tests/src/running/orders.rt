@@ -19,9 +19,10 @@ impl Chooser for Front {
 
 #[test]
 fn names_the_order_of_each_chooser(rt: HostRuntime) {
-    assert!(rt; First.order() == Some(Order::First));
-    assert!(rt; Last.order() == Some(Order::Last));
-    assert!(rt; Wide.order() == Some(Order::Wide));
-    assert!(rt; Order::Last.order() == Some(Order::Last));
-    assert!(rt; Front.order() == None);
+    let own = [First.order(), Last.order(), Wide.order()];
+    assert!(rt;
+        own == [Some(Order::First), Some(Order::Last), Some(Order::Wide)]
+            && Order::Last.order() == Some(Order::Last)
+            && Front.order() == None
+    );
 }
