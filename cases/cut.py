@@ -22,7 +22,11 @@ from run import HERE, PROGRAM
 EXAMPLES = os.path.join(os.path.dirname(HERE), "examples")
 BATCH = "usual.json"
 BATCHES = (BATCH, "references.json")
-SECONDS = {"replay": ("outcomes", "lent.json"), "match": ("responses", "served.json"), "run": ("events", "recorded.json")}
+SECONDS = {
+    "replay": ("outcomes", "lent.json"),
+    "match": ("responses", "served.json"),
+    "run": ("events", "recorded.json"),
+}
 LIMIT = 60
 SHOWN = 5
 

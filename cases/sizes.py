@@ -27,7 +27,8 @@ ONE = '{"requests":[{"id":"a","method":"get","url":"X"}]}'
 
 @dataclass
 class Trial:
-    """A call of the program: its documents, what it has to print, and its exit status."""
+    """A call of the program: the command with its options, its documents, what it has to print, and its
+    exit status."""
 
     title: str
     command: str
@@ -77,6 +78,29 @@ def dense():
     yield Trial(f"10,000 requests, each of which names {NAMED}", "plan", [document], "".join(lines))
 
 
+def runs():
+    numbers = range(MOST_REQUESTS)
+    last = MOST_REQUESTS - 1
+    listed = lambda of: ",".join(of(n) for n in numbers)
+    outcomes = '{"outcomes":[' + listed(lambda n: f'{{"id":"{n}","status":{409 if n == last else 201}}}') + "]}"
+
+    def replayed(title, options, member, steps, statuses):
+        request = lambda n: f'{{"id":"{n}","method":"post","url":"X"{member}}}'
+        group = '"atomicityGroup":"g",' if member else ""
+        response = '{"responses":[' + listed(lambda n: f'{{{group}"id":"{n}","status":{statuses(n)}}}') + "]}\n"
+        documents = ['{"requests":[' + listed(request) + "]}", outcomes]
+        return Trial(title, f"replay --trace {options}", documents, "".join(steps) + response)
+
+    turn = lambda n: f"start {n}\nreport {n} {409 if n == last else 201}\n"
+    undone = [f"undo {n}\n" for n in reversed(numbers) if n != last]
+    steps = [turn(n) for n in numbers] + undone
+    failed = lambda n: 409 if n == last else 424
+    yield replayed("a group whose last request fails", "--order first", ',"atomicityGroup":"g"', steps, failed)
+    steps = [turn(n) for n in reversed(numbers)]
+    apart = lambda n: 409 if n == last else 201
+    yield replayed("requests apart, from the last on", "--order last", "", steps, apart)
+
+
 def members():
     before, after = request("")
     many, _ = filled(before, lambda n: f'"@{n:07}":{n % 10}', after)
@@ -107,7 +131,8 @@ def headers():
 def seconds():
     outcome = lambda n: f'{{"id":"{n:07}","status":200}}'
     many, _ = filled('{"outcomes":[', outcome, ',{"id":"a","status":201}]}')
-    yield Trial("outcomes that are not used, and one that is", "replay", [ONE, many], '{"responses":[{"id":"a","status":201}]}\n')
+    response = '{"responses":[{"id":"a","status":201}]}\n'
+    yield Trial("outcomes that are not used, and one that is", "replay", [ONE, many], response)
     many, _ = filled('{"outcomes":[', outcome, "]}")
     yield refused("outcomes that are not used", "replay", [ONE, many], "F80 NoOutcome /requests/0")
     many, count = filled('{"outcomes":[', outcome, ',{"id":"0000000","status":200}]}')
@@ -161,7 +186,7 @@ def call(trial, binary, folder):
         paths.append(os.path.join(folder, f"{trial.title}-{at}"))
         with open(paths[-1], "w", encoding="utf-8") as file:
             file.write(document)
-    done = subprocess.run([binary, trial.command, *paths], capture_output=True, timeout=LIMIT)
+    done = subprocess.run([binary, *trial.command.split(), *paths], capture_output=True, timeout=LIMIT)
     for path in paths:
         os.remove(path)
     return done.stdout, done.stderr, done.returncode
@@ -195,7 +220,7 @@ def main():
     binary = os.path.abspath(options.binary)
     if not os.access(binary, os.X_OK):
         sys.exit(f"{binary} is not there: build it first, as bin/odb_batch does")
-    kinds = [dense, seconds, members, headers, names, urls, escapes]
+    kinds = [dense, seconds, members, headers, names, urls, escapes, runs]
     with tempfile.TemporaryDirectory(prefix="sizes-") as folder, ThreadPoolExecutor(options.jobs) as pool:
         passed = [it for found in pool.map(lambda kind: tried(kind, binary, folder), kinds) for it in found]
     print(f"{sum(passed)} passed, {len(passed) - sum(passed)} failed")
