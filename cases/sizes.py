@@ -2,10 +2,12 @@
 """Gives the program documents as long as it takes, of as many parts of one kind as they hold.
 
 Each answer is compared with the one that the rules give; no time is judged (bench/ measures). The
-last line is `N passed, M failed`.
+names that crowd a table are made by bench/collide.c, which `cc` compiles. The last line is
+`N passed, M failed`.
 """
 
 import argparse
+import json
 import os
 import subprocess
 import sys
@@ -15,7 +17,13 @@ from dataclasses import dataclass
 
 sys.dont_write_bytecode = True
 
-from run import PROGRAM, shown
+from run import HERE, PROGRAM, shown
+
+sys.path.append(os.path.join(os.path.dirname(HERE), "bench"))
+
+import answers
+import floods
+import workloads
 
 MOST_BYTES = 16_777_216
 LONG = 15_728_640
@@ -99,6 +107,25 @@ def runs():
     steps = [turn(n) for n in reversed(numbers)]
     apart = lambda n: 409 if n == last else 201
     yield replayed("requests apart, from the last on", "--order last", "", steps, apart)
+
+
+def crowded():
+    """The batch of the benchmark whose ids and groups would crowd a table without a seed, to each command."""
+    with tempfile.TemporaryDirectory(prefix="crowded-") as folder:
+        names = floods.colliding_names(folder, MOST_REQUESTS + MOST_REQUESTS // floods.MEMBERS)
+    requests = floods.lookup_requests(names, MOST_REQUESTS)
+    outcomes = [{"id": it["id"], "status": 200} for it in requests]
+    events = workloads.events_of(workloads.Content(requests, outcomes))
+    batch, responses = json.dumps({"requests": requests}), answers.responses(requests, outcomes)
+    response = floods.response_text(requests, [200] * len(requests))
+    canonical = json.dumps(answers.canonical(requests), separators=(",", ":"), sort_keys=True) + "\n"
+    title = "crowded ids and groups"
+    yield Trial(title, "check", [batch], answers.check_line(requests))
+    yield Trial(title, "plan", [batch], answers.plan_text(requests))
+    yield Trial(title, "canon", [batch], canonical)
+    yield Trial(title, "replay", [batch, json.dumps({"outcomes": outcomes})], response)
+    yield Trial(title, "match", [batch, json.dumps(responses)], answers.match_text(requests, outcomes))
+    yield Trial(title, "run", [batch, json.dumps({"events": events})], response)
 
 
 def members():
@@ -220,7 +247,7 @@ def main():
     binary = os.path.abspath(options.binary)
     if not os.access(binary, os.X_OK):
         sys.exit(f"{binary} is not there: build it first, as bin/odb_batch does")
-    kinds = [dense, seconds, members, headers, names, urls, escapes, runs]
+    kinds = [crowded, dense, seconds, members, headers, names, urls, escapes, runs]
     with tempfile.TemporaryDirectory(prefix="sizes-") as folder, ThreadPoolExecutor(options.jobs) as pool:
         passed = [it for found in pool.map(lambda kind: tried(kind, binary, folder), kinds) for it in found]
     print(f"{sum(passed)} passed, {len(passed) - sum(passed)} failed")
