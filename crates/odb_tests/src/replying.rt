@@ -156,6 +156,15 @@ impl Reply {
     }
 }
 
+/// The reply to a run that is finished.
+fn reply_after(alloc: Global, scheduler: Scheduler<'_>) -> Result<Reply, Fail> {
+    if scheduler.is_finished() {
+        Ok(Reply::of(alloc, &scheduler.close()))
+    } else {
+        Err(Fail::new("the run is not finished"))
+    }
+}
+
 /// Starts and ends each request in turn.
 #[derive(Clone, Copy)]
 struct Playing<'a> {
@@ -168,11 +177,7 @@ impl OnPlan for Playing<'_> {
     fn on_plan(&mut self, alloc: Global, plan: &Plan<'_>) -> Result<Reply, Fail> {
         let mut scheduler = Scheduler::new(alloc, plan, Policy::free(Mode::Continue))?;
         play_all(alloc, plan, &mut scheduler, self.endings)?;
-        if scheduler.is_finished() {
-            Ok(Reply::of(alloc, &scheduler.close()))
-        } else {
-            Err(Fail::new("the run is not finished"))
-        }
+        reply_after(alloc, scheduler)
     }
 }
 
