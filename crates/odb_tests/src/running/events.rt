@@ -6,15 +6,17 @@ ghost use Rattle.odb_check.specs.Plans.{plan_records};
 ghost use Rattle.odb_sched.specs.State.{size};
 ghost use Rattle.odb_sched.specs.Runs.{position_of};
 
+use super::notes::note_done;
 use super::{GROUP, OnPlan, PASSED_ON, REFERENCE, THREE, code_of, on_document, outcome, policy};
 use odb_check::Plan;
 use odb_sched::Mode::{Continue, Stop};
-use odb_sched::{Done, Event, Mode, Policy, RunRefusal, Scheduler, run};
+use odb_sched::{Event, Mode, Policy, RunRefusal, Scheduler, run};
 use std::alloc::{AllocError, Global};
 use std::test::Fail;
 
 /// A document, the mode and the width of its run (0 where it is free), the events by position and
-/// status (0 for a start), what they lead to one by one, and what they are as a list.
+/// status (0 for a start); what they lead to one by one: the code of each, the ready and the running
+/// requests, and how a finished run ended; and what they are as a list.
 type Row = (
     &'static str,
     Mode,
@@ -70,7 +72,7 @@ fn note_events(
 fn note_positions(alloc: Global, notes: &mut String, positions: &[u32]) -> Result<(), AllocError> {
     let mut positions = Vec::from_slice(alloc, positions)?;
     positions.sort()?;
-    notes.push_str(&format!(in alloc; "{positions:?}")?)
+    notes.push_str(&format!(in alloc; "{positions:?} ")?)
 }
 
 /// Adds the ready requests and the running ones.
@@ -81,31 +83,14 @@ fn note_views(
 ) -> Result<(), AllocError> {
     notes.push_str("ready ")?;
     note_positions(alloc, notes, scheduler.ready())?;
-    notes.push_str(" running ")?;
+    notes.push_str("running ")?;
     note_positions(alloc, notes, scheduler.running())
-}
-
-fn note_undone(alloc: Global, notes: &mut String, undone: &[u32]) -> Result<(), AllocError> {
-    notes.push_str(&format!(in alloc; " undone {undone:?}")?)
-}
-
-fn note_status(alloc: Global, notes: &mut String, status: u16) -> Result<(), AllocError> {
-    notes.push_str(&format!(in alloc; " {status}")?)
-}
-
-/// Adds the statuses of the answers, and the undone positions.
-fn note_answers(alloc: Global, done: &Done<'_>, notes: &mut String) -> Result<(), AllocError> {
-    notes.push_str(" answers")?;
-    for i in 0..done.plan().len() {
-        note_status(alloc, notes, done.answer(i).status())?;
-    }
-    note_undone(alloc, notes, &done.undone(alloc)?)
 }
 
 /// Adds how a run ended, where it is finished.
 fn note_end(alloc: Global, scheduler: Scheduler<'_>, notes: &mut String) -> Result<(), AllocError> {
     if scheduler.is_finished() {
-        return note_answers(alloc, &scheduler.close(), notes);
+        return note_done(alloc, &scheduler.close(), notes);
     }
     Ok(())
 }
@@ -215,16 +200,16 @@ const ROWS: &[Row] = &[
         Continue,
         0,
         &[],
-        "ready [] running [] answers undone []",
+        "ready [] running [] []",
         "a finished run",
     ),
-    (THREE, Continue, 0, &[], "ready [0, 1] running []", "a run"),
+    (THREE, Continue, 0, &[], "ready [0, 1] running [] ", "a run"),
     (
         THREE,
         Continue,
         0,
         &[(2, 0)],
-        "S4 ready [0, 1] running []",
+        "S4 ready [0, 1] running [] ",
         "S4 Waiting Start { at: 0, cause: Waiting(One(0)) }",
     ),
     (
@@ -232,7 +217,7 @@ const ROWS: &[Row] = &[
         Continue,
         0,
         &[(1, 0)],
-        "S4 ready [0] running []",
+        "S4 ready [0] running [] ",
         "S4 Waiting Start { at: 0, cause: Waiting(One(0)) }",
     ),
     (
@@ -248,7 +233,7 @@ const ROWS: &[Row] = &[
             (0, 599),
             (0, 200),
         ],
-        "P1 ok S1 P2 P2 ok P1 ready [] running [] answers 599 424 undone []",
+        "P1 ok S1 P2 P2 ok P1 ready [] running [] 599 424 []",
         "P1 NotRunning Report { at: 0, cause: NotRunning }",
     ),
     (
@@ -256,7 +241,7 @@ const ROWS: &[Row] = &[
         Continue,
         0,
         &[(0, 0), (0, 700)],
-        "ok P2 ready [1] running [0]",
+        "ok P2 ready [1] running [0] ",
         "P2 BadStatus Report { at: 1, cause: BadStatus }",
     ),
     (
@@ -264,7 +249,7 @@ const ROWS: &[Row] = &[
         Continue,
         0,
         &[(0, 0), (0, 200), (1, 0)],
-        "ok ok ok ready [2] running [1]",
+        "ok ok ok ready [2] running [1] ",
         "a run",
     ),
     (
@@ -272,7 +257,7 @@ const ROWS: &[Row] = &[
         Continue,
         0,
         &[(0, 0), (0, 304), (2, 0), (1, 0), (1, 200)],
-        "ok ok S3 ok ok ready [] running [] answers 304 200 424 undone []",
+        "ok ok S3 ok ok ready [] running [] 304 200 424 []",
         "S3 UnitFailed Start { at: 2, cause: UnitFailed }",
     ),
     (
@@ -280,7 +265,7 @@ const ROWS: &[Row] = &[
         Stop,
         0,
         &[(0, 0), (0, 304), (1, 0), (1, 200)],
-        "ok ok ok ok ready [] running [] answers 304 200 424 undone []",
+        "ok ok ok ok ready [] running [] 304 200 424 []",
         "a finished run",
     ),
     (
@@ -288,7 +273,7 @@ const ROWS: &[Row] = &[
         Stop,
         0,
         &[(0, 0), (0, 404), (1, 0), (2, 0)],
-        "ok ok S2 S2 ready [] running [] answers 404 424 424 undone []",
+        "ok ok S2 S2 ready [] running [] 404 424 424 []",
         "S2 Stopped Start { at: 2, cause: Stopped }",
     ),
     (
@@ -296,7 +281,7 @@ const ROWS: &[Row] = &[
         Stop,
         0,
         &[(0, 0), (0, 404), (0, 0)],
-        "ok ok S1 ready [] running [] answers 404 424 424 undone []",
+        "ok ok S1 ready [] running [] 404 424 424 []",
         "S1 AlreadyStarted Start { at: 2, cause: AlreadyStarted }",
     ),
     (
@@ -304,7 +289,7 @@ const ROWS: &[Row] = &[
         Continue,
         1,
         &[(0, 0), (2, 0), (1, 0)],
-        "ok S4 S5 ready [] running [0]",
+        "ok S4 S5 ready [] running [0] ",
         "S4 Waiting Start { at: 1, cause: Waiting(One(0)) }",
     ),
     (
@@ -312,7 +297,7 @@ const ROWS: &[Row] = &[
         Continue,
         1,
         &[(0, 0), (1, 0), (0, 200), (1, 0)],
-        "ok S5 ok ok ready [] running [1]",
+        "ok S5 ok ok ready [] running [1] ",
         "S5 WidthReached Start { at: 1, cause: WidthReached }",
     ),
     (
@@ -320,7 +305,7 @@ const ROWS: &[Row] = &[
         Continue,
         0,
         &[(0, 0), (0, 201), (1, 0), (1, 201), (2, 0), (2, 409)],
-        "ok ok ok ok ok ok ready [] running [] answers 424 424 409 undone [1, 0]",
+        "ok ok ok ok ok ok ready [] running [] 424 424 409 [ 1:201 0:201]",
         "a finished run",
     ),
     (
@@ -328,7 +313,7 @@ const ROWS: &[Row] = &[
         Continue,
         0,
         &[(0, 0), (0, 200), (1, 0), (2, 0), (1, 200), (3, 0)],
-        "ok ok ok ok ok S4 ready [] running [2]",
+        "ok ok ok ok ok S4 ready [] running [2] ",
         "S4 Waiting Start { at: 5, cause: Waiting(Group(1)) }",
     ),
     (
@@ -336,7 +321,7 @@ const ROWS: &[Row] = &[
         Continue,
         0,
         &[(0, 0), (1, 0), (0, 500), (2, 0), (3, 0), (1, 201)],
-        "ok ok ok S3 S3 ok ready [] running [] answers 500 424 424 424 undone [1]",
+        "ok ok ok S3 S3 ok ready [] running [] 500 424 424 424 [ 1:201]",
         "S3 UnitFailed Start { at: 3, cause: UnitFailed }",
     ),
     (
@@ -344,7 +329,7 @@ const ROWS: &[Row] = &[
         Continue,
         0,
         &[(0, 0), (0, 500), (1, 0)],
-        "ok ok S3 ready [] running [] answers 500 424 424 424 undone []",
+        "ok ok S3 ready [] running [] 500 424 424 424 []",
         "S3 UnitFailed Start { at: 2, cause: UnitFailed }",
     ),
 ];

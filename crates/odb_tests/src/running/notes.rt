@@ -1,4 +1,4 @@
-//! Notes of what an execution did, as texts that a table can hold.
+//! Notes of what a run did, as texts that a table can hold.
 
 use odb_sched::{Done, ExecFault, Step, Trace};
 use std::alloc::{AllocError, Global};
@@ -6,74 +6,65 @@ use std::alloc::{AllocError, Global};
 /// Adds the steps, as `+0` for a start and `-0` for a report.
 fn note_steps(alloc: Global, steps: &[Step], notes: &mut String) -> Result<(), AllocError> {
     for step in steps {
-        let note = match step {
-            Step::Start(i) => format!(in alloc; "+{i} "),
-            Step::Report(i) => format!(in alloc; "-{i} "),
+        let (sign, i) = match step {
+            Step::Start(i) => ("+", *i),
+            Step::Report(i) => ("-", *i),
         };
-        notes.push_str(&note?)?;
+        notes.push_str(&format!(in alloc; "{sign}{i} ")?)?;
     }
     Ok(())
-}
-
-fn note_status(alloc: Global, status: u16, notes: &mut String) -> Result<(), AllocError> {
-    notes.push_str(&format!(in alloc; "{status} ")?)
 }
 
 /// Adds the statuses of the answers.
 fn note_answers(alloc: Global, done: &Done<'_>, notes: &mut String) -> Result<(), AllocError> {
     for i in 0..done.plan().len() {
-        note_status(alloc, done.answer(i).status(), notes)?;
+        let status = done.answer(i).status();
+        notes.push_str(&format!(in alloc; "{status} ")?)?;
     }
     Ok(())
 }
 
-/// The status that a request has reported, where the plan has the request and it did.
-fn reported_status(done: &Done<'_>, i: u32) -> Option<u16> {
+/// The status that a request has reported, or 0 where the plan has no such request or it did not.
+fn reported_status(done: &Done<'_>, i: u32) -> u16 {
     if i >= done.plan().len() {
-        return None;
+        return 0;
     }
-    Some(done.reported(i)?.status)
+    match done.reported(i) {
+        Some(outcome) => outcome.status,
+        None => 0,
+    }
 }
 
-/// Adds an undone position with the status that was reported there.
-fn note_undone(
-    alloc: Global,
-    i: u32,
-    status: Option<u16>,
-    notes: &mut String,
-) -> Result<(), AllocError> {
-    let note = match status {
-        Some(status) => format!(in alloc; " {i}:{status}"),
-        None => format!(in alloc; " {i}"),
-    };
-    notes.push_str(&note?)
-}
-
-/// Adds the undone positions.
-fn note_each_undone(
+/// Adds positions, each with the status that was reported there.
+fn note_reported(
     alloc: Global,
     done: &Done<'_>,
-    undone: &[u32],
+    positions: &[u32],
     notes: &mut String,
 ) -> Result<(), AllocError> {
-    for i in undone {
-        note_undone(alloc, *i, reported_status(done, *i), notes)?;
+    for i in positions {
+        let status = reported_status(done, *i);
+        notes.push_str(&format!(in alloc; " {i}:{status}")?)?;
     }
     Ok(())
 }
 
-/// Adds the steps; after a bar the statuses of the answers; and the undone positions with what was
-/// reported there.
-pub fn note_trace(alloc: Global, trace: &Trace<'_>, notes: &mut String) -> Result<(), AllocError> {
-    note_steps(alloc, &trace.steps, notes)?;
-    notes.push_str("| ")?;
-    note_answers(alloc, &trace.done, notes)?;
+/// Adds the statuses of the answers, and the undone positions with what was reported there.
+pub fn note_done(alloc: Global, done: &Done<'_>, notes: &mut String) -> Result<(), AllocError> {
+    note_answers(alloc, done, notes)?;
     notes.push_str("[")?;
-    note_each_undone(alloc, &trace.done, &trace.done.undone(alloc)?, notes)?;
+    note_reported(alloc, done, &done.undone(alloc)?, notes)?;
     notes.push_str("]")
 }
 
-/// A fault with its code, its name and its place.
+/// Adds the steps, and after a bar how the run ended.
+pub fn note_trace(alloc: Global, trace: &Trace<'_>, notes: &mut String) -> Result<(), AllocError> {
+    note_steps(alloc, &trace.steps, notes)?;
+    notes.push_str("| ")?;
+    note_done(alloc, &trace.done, notes)
+}
+
+/// Adds a fault with its code, its name and its place.
 pub fn note_fault(alloc: Global, fault: ExecFault, notes: &mut String) -> Result<(), AllocError> {
     if let ExecFault::OutOfMemory = fault {
         return Err(AllocError);
