@@ -13,14 +13,15 @@ const TURNS: [[usize; 3]; 4] = [[1, 1, 1], [3, 3, 3], [1, 7, 2], [1_000, 1_000, 
 /// More calls than any device of the examples is called.
 const ENOUGH: usize = 1_000;
 
-/// The devices: the batch, the second document and the output.
+/// The place of the output among the devices, after the batch and the second document.
 const OUTPUT: usize = 2;
 
-/// How an engine ended, what it wrote, and how often each device was called.
+/// How an engine ended, and what it did to its devices.
 #[derive(Drop)]
 struct Calls {
     ended: Result<Ended, EngineFault>,
     written: Vec<u8>,
+    /// How often each device was called.
     counts: [usize; 3],
     /// Whether the inputs counted as many reads as their readers did.
     are_counted: bool,
