@@ -1,6 +1,6 @@
 -- The laws of the plan of a batch whose names fit together.
-use Rattle.std.proofs.Common.{◌≡◌, ◌≢◌, ◌≤◌, ◌<◌, ◌⊎◌, ℕ, zero, suc, Bool, true, false, cond, List, [], ◌∷◌, ◌++◌, Option, Some, None, refl, sym, ap, ◌∙◌, subst, inl, inr, arith, length, append-nil}
-use Rattle.std.specs.Prelude.{Contains, IsSomeAnd, AllPairs, bytes_eq}
+use Rattle.std.proofs.Common.{◌≡◌, ◌≢◌, ◌≤◌, ◌<◌, ◌⊎◌, ℕ, zero, suc, Bool, true, false, cond, List, [], ◌∷◌, ◌++◌, Option, Some, None, refl, sym, ap, ◌∙◌, subst, inl, inr, arith, length, get_or, append-nil}
+use Rattle.std.specs.Prelude.{◌↔◌, All, Contains, IsSomeAnd, AllPairs, bytes_eq}
 use Rattle.std.specs.List.{list_any, filter_map, cons_option, IsDistinct}
 use Rattle.std.proofs.lemmas.Map.Made.{AllPairs-from_IsDistinct}
 use Rattle.std.proofs.lemmas.Bool.{cases_lt, cases_eq, both_ways}
@@ -16,17 +16,18 @@ use Rattle.odb_check.specs.declared.need.Need.TheVariants.{One, Group}
 use Rattle.odb_check.specs.Firsts.{list_below}
 use Rattle.odb_check.specs.LeastNameFault.{HasGoodNames}
 use Rattle.odb_check.specs.Laws.{HasPositions, NeedsGroups}
+use Rattle.odb_check.specs.Marks.{IsWithin}
 use Rattle.odb_check.specs.Walks.{HasSoundIds}
 use Rattle.odb_check.specs.Needs.{need_of, further_names, needed_names, needs_at}
 use Rattle.odb_check.specs.Positions.{id_at, group_at, names_at, reference_at, IsId, IsIdFrom, IsInGroupOf, NamesGroupOf}
-use Rattle.odb_check.specs.Shape.{unit_of, needs_of, shape_of, IsEarlier, IsAlone, IsPlan, IsShapeOf, HasNamesAsNeeds}
-use Rattle.odb_check.specs.Units.{begins_unit, unit_at}
+use Rattle.odb_check.specs.Shape.{unit_of, needs_of, shape_of, IsEarlier, IsAlone, IsNeed, IsPlan, IsShapeOf, IsSpan, HasNamesAsNeeds}
+use Rattle.odb_check.specs.Units.{begins_unit, unit_at, unit_count, HasMembers}
 use Rattle.odb_check.proofs.AnyLemmas.{ElementMeaning, element_meaning, Contains-meaning, Contains-head, Contains-none, Contains-cases, Contains-Decides, contains_cases}
 use Rattle.odb_check.proofs.BelowLemmas.{length-list_below, get_or-list_below}
 use Rattle.odb_check.proofs.FirstLemmas.{count_few}
 use Rattle.odb_check.proofs.LevelLemmas.{HasNeedsBefore}
 use Rattle.odb_check.proofs.NameLemmas.{later_unit}
-use Rattle.odb_check.proofs.NeedLemmas.{IsMeant, is_meant, position_is, id_need, group_need}
+use Rattle.odb_check.proofs.NeedLemmas.{IsMeant, is_meant, need_within, position_is, id_need, group_need}
 use Rattle.odb_check.proofs.PositionLemmas.{group_within, reference_within, position_first}
 use Rattle.odb_check.proofs.UnitLemmas.{IsUnitOf, unit_before, same_group, one_unit, has_units, in_group, in_unit, in_order, unit_at_start}
 
@@ -177,8 +178,29 @@ unit_there rs i h = (is_shape rs).units i h
 needs_there : (rs : List Record) (i : ℕ) → i < length rs → needs_of (shape_of rs) i ≡ needs_at rs i
 needs_there rs i h = (is_shape rs).needs i h
 
-in_plan : (rs : List Record) (i : ℕ) → i < length (list_below (length rs) (unit_at rs)) → i < length rs
-in_plan rs i h = omega (arith, length-list_below (length rs) (unit_at rs))
+pub in_shape : (rs : List Record) (i : ℕ) → i < length (list_below (length rs) (unit_at rs)) → i < length rs
+in_shape rs i h = omega (arith, length-list_below (length rs) (unit_at rs))
+
+pub span_of : (rs : List Record) (u from to : ℕ) → HasMembers rs u from to → IsSpan (shape_of rs) u from to
+span_of rs u from to is = record {
+  begins = is.begins;
+  within = omega (arith, is.within, length-list_below (length rs) (unit_at rs));
+  exact = λ i h. let inside : i < length rs = in_shape rs i h in subst (λ v. (v ≡ u) ↔ ((from ≤ i) × (i < to))) (sym (unit_there rs i inside)) (is.exact i inside);
+}
+
+within_shape : (rs : List Record) (need : Need) → IsWithin need (length rs) (unit_count rs) → IsNeed (shape_of rs) need
+within_shape rs (One r) h = omega (arith, h, length-list_below (length rs) (unit_at rs))
+within_shape rs (Group u) h = h
+
+-- the batch has all that is needed
+pub needs_within : (rs : List Record) (i : ℕ) → All (λ need. IsWithin need (length rs) (unit_count rs)) (needs_at rs i)
+needs_within rs i k d h =
+    let need = get_or (needs_at rs i) k d in
+    let name : ElementMeaning (need_of rs) (needed_names rs i) need = element_meaning (need_of rs) (needed_names rs i) need (Contains-get_or (needs_at rs i) k d h) in
+    need_within rs name.element need name.means
+
+pub needs_known : (rs : List Record) (i : ℕ) → All (IsNeed (shape_of rs)) (needs_at rs i)
+needs_known rs i k d h = within_shape rs (get_or (needs_at rs i) k d) (needs_within rs i k d h)
 
 earlier_case : (rs : List Record) → HasGoodNames rs → (i : ℕ) → i < length rs → (need : Need) → Contains (needs_at rs i) need → IsEarlier (shape_of rs) i need
 earlier_case rs good i h (One r) inside = (needs_before rs good).one i r inside
@@ -190,7 +212,7 @@ plan_listed rs good i r h inside needs =
     elim (cases_eq (unit_at rs r) (unit_at rs i)) [
       | inl same ↦ inl (unit_there rs r inside ∙ same ∙ sym (unit_there rs i h))
       | inr other ↦ inr (elim (listed_case rs good i r needs other (group_at rs r) refl) [
-        | inl alone ↦ inl (λ j less same. alone j (sym (unit_there rs j (in_plan rs j less)) ∙ same ∙ unit_there rs r inside))
+        | inl alone ↦ inl (λ j less same. alone j (sym (unit_there rs j (in_shape rs j less)) ∙ same ∙ unit_there rs r inside))
         | inr group ↦ inr (subst (λ u. Contains (needs_of (shape_of rs) i) (Group u)) (sym (unit_there rs r inside)) (subst (λ xs. Contains xs (Group (unit_at rs r))) (sym (needs_there rs i h)) group))
       ])
     ]
@@ -203,16 +225,16 @@ is_plan rs good few distinct =
       few = omega (arith, length-list_below (length rs) (unit_at rs));
       as_long = length-list_below (length rs) (needs_at rs) ∙ sym (length-list_below (length rs) (unit_at rs));
       few_units = omega (arith, count_few (length rs) (begins_unit rs), length-list_below (length rs) (unit_at rs));
-      counted = λ i h. let inside : i < length rs = in_plan rs i h in omega (arith, unit_there rs i inside, unit_before rs i (length rs) inside);
-      in_order = λ i j h less. let inside : j < length rs = in_plan rs j less in omega (arith, unit_there rs i (omega arith), unit_there rs j inside, before.order i j h);
-      earlier = λ i need h inside. earlier_case rs good i (in_plan rs i h) need (needs i need (in_plan rs i h) inside);
+      counted = λ i h. let inside : i < length rs = in_shape rs i h in omega (arith, unit_there rs i inside, unit_before rs i (length rs) inside);
+      in_order = λ i j h less. let inside : j < length rs = in_shape rs j less in omega (arith, unit_there rs i (omega arith), unit_there rs j inside, before.order i j h);
+      earlier = λ i need h inside. earlier_case rs good i (in_shape rs i h) need (needs i need (in_shape rs i h) inside);
       earlier_unit = λ i r h inside other.
-          let here : i < length rs = in_plan rs i h in
+          let here : i < length rs = in_shape rs i h in
           let less : r < i = before.one i r (needs i (One r) here inside) in
           let low : unit_of (shape_of rs) r ≤ unit_of (shape_of rs) i = omega (arith, unit_there rs r (omega arith), unit_there rs i here, before.order r i (omega arith)) in
           elim (cases_lt (unit_of (shape_of rs) r) (unit_of (shape_of rs) i)) [ inl smaller ↦ smaller | inr more ↦ absurd (other (omega arith)) ];
-      listed = λ i r h inside. let here : i < length rs = in_plan rs i h in let need : Contains (needs_at rs i) (One r) = needs i (One r) here inside in plan_listed rs good i r here (let less : r < i = before.one i r need in omega arith) need;
-      distinct = λ i h. let here : i < length rs = in_plan rs i h in subst (AllPairs (λ need other. need ≢ other)) (sym (needs_there rs i here))
+      listed = λ i r h inside. let here : i < length rs = in_shape rs i h in let need : Contains (needs_at rs i) (One r) = needs i (One r) here inside in plan_listed rs good i r here (let less : r < i = before.one i r need in omega arith) need;
+      distinct = λ i h. let here : i < length rs = in_shape rs i h in subst (AllPairs (λ need other. need ≢ other)) (sym (needs_there rs i here))
           (needs_apart rs (needed_names rs i) (needed_apart (names_at rs i) (reference_at rs i) (AllPairs-from_IsDistinct bytes_eq-Decides (names_at rs i) (distinct i here))));
     }
 

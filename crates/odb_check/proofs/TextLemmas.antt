@@ -1,18 +1,13 @@
 -- Names of needs, and one more of them in a text.
-use Rattle.std.proofs.Common.{◌≡◌, ◌<◌, ℕ, List, [], ◌∷◌, ◌++◌, sym, ap, ◌∙◌, arith, length, get_or, append_assoc, append-nil}
-use Rattle.std.specs.Prelude.{All, codes, ◌==◌, option_and_then}
+use Rattle.std.proofs.Common.{◌≡◌, ◌<◌, ℕ, List, [], ◌∷◌, ◌++◌, sym, ap, ◌∙◌, arith, length, append_assoc, append-nil}
+use Rattle.std.specs.Prelude.{codes, ◌==◌, option_and_then}
 use Rattle.std.proofs.lemmas.Bool.{eq-eqb, ne_eqb}
-use Rattle.std.proofs.lemmas.List.Elements.{Contains-get_or}
 use Rattle.odb_doc.specs.Records.{Record}
 use Rattle.odb_check.specs.declared.need.Need.{Need}
-use Rattle.odb_check.specs.Marks.{IsWithin}
-use Rattle.odb_check.specs.Needs.{need_of, needed_names, needs_at}
 use Rattle.odb_check.specs.Positions.{group_at}
 use Rattle.odb_check.specs.Texts.{need_name, further_text, group_of_unit}
-use Rattle.odb_check.specs.Units.{unit_at, unit_count, HasMembers}
-use Rattle.odb_check.proofs.AnyLemmas.{ElementMeaning, element_meaning}
+use Rattle.odb_check.specs.Units.{unit_at, HasMembers}
 use Rattle.odb_check.proofs.FirstLemmas.{first_some}
-use Rattle.odb_check.proofs.NeedLemmas.{need_within}
 
 -- the group of a unit is that of its first position
 pub group_of_start : (rs : List Record) (u from to : ℕ) → HasMembers rs u from to → group_of_unit rs u ≡ group_at rs from
@@ -22,13 +17,6 @@ group_of_start rs u from to is =
       passes = eq-eqb (unit_at rs from) u ((is.exact from inside).1 (omega arith, is.begins));
       before = λ k less. ne_eqb (unit_at rs k) u (λ e. omega (arith, ((is.exact k (omega arith)).0 e).0));
     }))
-
--- the batch has all that is needed
-pub needs_within : (rs : List Record) (i : ℕ) → All (λ need. IsWithin need (length rs) (unit_count rs)) (needs_at rs i)
-needs_within rs i k d h =
-    let need = get_or (needs_at rs i) k d in
-    let name : ElementMeaning (need_of rs) (needed_names rs i) need = element_meaning (need_of rs) (needed_names rs i) need (Contains-get_or (needs_at rs i) k d h) in
-    need_within rs name.element need name.means
 
 pub further_text-append : (rs : List Record) (needs : List Need) (need : Need) → further_text rs (needs ++ need ∷ []) ≡ further_text rs needs ++ (codes "," ++ need_name rs need)
 further_text-append rs [] need = append-nil (codes "," ++ need_name rs need)

@@ -1,5 +1,5 @@
 -- A plan as data, its laws, and what the names of a batch have to do with it.
-use Rattle.std.specs.Prelude.{◌≡◌, ◌≢◌, ◌⊎◌, ◌<◌, ◌≤◌, ℕ, List, [], length, Some, Contains, slice_index_or, AllPairs}
+use Rattle.std.specs.Prelude.{◌≡◌, ◌≢◌, ◌↔◌, ◌⊎◌, ◌<◌, ◌≤◌, ℕ, List, [], length, Some, Contains, slice_index_or, AllPairs}
 use Rattle.odb_doc.specs.Records.{Record}
 use Rattle.odb_check.specs.declared.need.Need.{Need}
 use Rattle.odb_check.specs.declared.need.Need.TheVariants.{One, Group}
@@ -32,6 +32,17 @@ pub record IsShapeOf (rs : List Record) (plan : Shape) : Type 0 where
   pub unit_count : plan.unit_count ≡ all.unit_count rs
   pub units : (i : ℕ) → i < length rs → unit_of plan i ≡ all.unit_at rs i
   pub needs : (i : ℕ) → i < length rs → needs_of plan i ≡ needs_at rs i
+
+-- the positions of the unit are those from one number up to another, one at least
+pub record IsSpan (plan : Shape) (u from to : ℕ) : Type 0 where
+  pub begins : from < to
+  pub within : to ≤ length plan.units
+  pub exact : (i : ℕ) → i < length plan.units → (unit_of plan i ≡ u) ↔ ((from ≤ i) × (i < to))
+
+-- the plan has the request, or the unit, that is needed
+abbrev pub IsNeed : Shape → Need → Type 0
+IsNeed plan (One r) = r < length plan.units
+IsNeed plan (Group u) = u < plan.unit_count
 
 -- what the request at i needs precedes it: an earlier position, or an earlier unit
 abbrev pub IsEarlier : Shape → ℕ → Need → Type 0

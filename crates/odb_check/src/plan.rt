@@ -1,4 +1,4 @@
-ghost use Rattle.std.specs.Prelude.{◌≡◌, ◌≤◌, ◌<◌, length, slice_get, Some};
+ghost use Rattle.std.specs.Prelude.{◌≡◌, ◌≤◌, ◌<◌, length, slice_get, All, Some};
 ghost use Rattle.std.proofs.Props.{props};
 ghost use Rattle.odb_doc.specs.Records.{IsSoundRecord, record_of};
 ghost use Rattle.odb_check.specs.LeastNameFault.{HasGoodNames};
@@ -31,18 +31,21 @@ pub struct Plan<'b> {
 impl<'b> Plan<'b> {
     ghost use Rattle.odb_check.specs.Groups.{groups_of};
     ghost use Rattle.odb_check.specs.Needs.{needs_at};
-    ghost use Rattle.odb_check.specs.Plans.{plan_records};
-    ghost use Rattle.odb_check.specs.Shape.{HasNamesAsNeeds, IsPlan, shape_of};
+    ghost use Rattle.odb_check.specs.Plans.{plan_records, shape};
+    ghost use Rattle.odb_check.specs.Shape.{IsNeed, IsSpan};
+    ghost use Rattle.odb_check.specs.Shape as shapes;
 
     /// Returns the number of requests: 10,000 at most.
     pub fn len(&self) -> u32
         ensures count { result ≡ length (plan_records self.now) }
+        ensures size { result ≡ length (shape self.now).units }
         ensures small { result ≤ 10000 }
 
-        // What holds of every plan.
+        // What holds of every plan: `laws::every_plan` says more.
         ensures good { HasGoodNames (plan_records self.now) }
-        ensures laws { IsPlan (shape_of (plan_records self.now)) }
-        ensures names { HasNamesAsNeeds (plan_records self.now) (shape_of (plan_records self.now)) }
+        ensures laws { shapes.IsPlan (shapes.shape_of (plan_records self.now)) }
+        ensures names { shapes.HasNamesAsNeeds (plan_records self.now)
+            (shapes.shape_of (plan_records self.now)) }
     {
         self.tables.len()
     }
@@ -59,6 +62,7 @@ impl<'b> Plan<'b> {
     /// Returns the number of units.
     pub fn unit_count(&self) -> u32
         ensures count { result ≡ units.unit_count (plan_records self.now) }
+        ensures size { result ≡ (shape self.now).unit_count }
         ensures few { result ≤ length (plan_records self.now) }
     {
         self.tables.unit_count()
@@ -73,20 +77,24 @@ impl<'b> Plan<'b> {
 
     /// Returns the unit of the request at a position.
     pub fn unit_of(&self, i: u32) -> u32
-        requires { i < length (plan_records self.now) }
+        requires { i < length (shape self.now).units }
         ensures value { result ≡ units.unit_at (plan_records self.now) i }
         ensures within { result < units.unit_count (plan_records self.now) }
+        ensures unit { result ≡ shapes.unit_of (shape self.now) i }
+        ensures counted { result < (shape self.now).unit_count }
     {
         self.tables.unit_of(i)
     }
 
     /// Returns the positions of a unit, which are adjacent.
     pub fn members(&self, u: u32) -> Range<u32>
-        requires { u < units.unit_count (plan_records self.now) }
-        ensures { units.HasMembers (plan_records self.now) u result.start result.end }
+        requires { u < (shape self.now).unit_count }
+        ensures members { units.HasMembers (plan_records self.now) u result.start result.end }
+        ensures span { IsSpan (shape self.now) u result.start result.end }
     {
+        let count = self.unit_count();
         let start = self.tables.start_of(u);
-        let end = if u + 1 < self.tables.unit_count() {
+        let end = if u + 1 < count {
             self.tables.start_of(u + 1)
         } else {
             self.len()
@@ -97,8 +105,10 @@ impl<'b> Plan<'b> {
     /// Returns the dependencies of the request at a position: its `dependsOn` entries in order,
     /// without repeats, then the request that its URL refers to unless it is already among them.
     pub fn needs(&self, i: u32) -> &[Need]
-        requires { i < length (plan_records self.now) }
-        ensures { result.now ≡ needs_at (plan_records self.now) i }
+        requires { i < length (shape self.now).units }
+        ensures value { result.now ≡ needs_at (plan_records self.now) i }
+        ensures needs { result.now ≡ shapes.needs_of (shape self.now) i }
+        ensures known { All (IsNeed (shape self.now)) result.now }
     {
         needs_of_request(&self.tables, &self.needs, i)
     }

@@ -7,7 +7,7 @@ use Rattle.serde_json.specs.Written.{compact_text}
 use Rattle.odb_doc.specs.Outcomes.{Recorded}
 use Rattle.odb_doc.specs.Records.{Record}
 use Rattle.odb_check.specs.declared.plan.Plan.{Plan}
-use Rattle.odb_check.specs.Plans.{plan_records}
+use Rattle.odb_check.specs.Plans.{plan_records, shape}
 use Rattle.odb_check.specs.Positions.{id_at}
 use Rattle.odb_check.specs.Shape.{Shape, shape_of}
 use Rattle.odb_sched.specs.declared.event.Event.{Event}
@@ -23,7 +23,7 @@ use Rattle.odb_sched.specs.Laws.{StartsLast}
 use Rattle.odb_sched.specs.Phases.{is_running}
 use Rattle.odb_sched.specs.Recordings.{recorded_for, OffersRecorded}
 use Rattle.odb_sched.specs.Runs.{IsRunFrom, after_all}
-use Rattle.odb_sched.specs.State.{State, shape, phase_at, at_first}
+use Rattle.odb_sched.specs.State.{State, phase_at, at_first}
 use Rattle.odb_reply.specs.OnePerId.{HasOnePerId}
 use Rattle.odb_reply.specs.Responses.{response, responses_from, response_value, response_text}
 use Rattle.odb_engine.specs.declared.ending.Ended.{Ended}

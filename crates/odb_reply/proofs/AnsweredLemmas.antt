@@ -14,11 +14,11 @@ use Rattle.odb_check.specs.LeastNameFault.{HasGoodNames}
 use Rattle.odb_check.specs.Needs.{needs_at}
 use Rattle.odb_check.specs.Plans.{plan_records}
 use Rattle.odb_check.specs.Positions.{id_at, group_at}
-use Rattle.odb_check.specs.Shape.{needs_of, unit_of}
+use Rattle.odb_check.specs.Shape.{IsShapeOf, needs_of, unit_of}
 use Rattle.odb_check.specs.Units.{unit_at}
 use Rattle.odb_sched.specs.Answers.{answer, status_of, is_answered_2xx}
 use Rattle.odb_sched.specs.Laws.{IsSound}
-use Rattle.odb_sched.specs.State.{State, shape, size}
+use Rattle.odb_sched.specs.State.{State, size}
 use Rattle.odb_sched.specs.Statuses.{is_success}
 use Rattle.odb_reply.specs.Fits.{id_in, Responds, Succeeds, IsSatisfied, Fits, ListsFit, AnswersStatuses}
 use Rattle.odb_reply.specs.ResponseDocuments.{Entry, IsResponse, IsResponseDocument, IsStatus, Says, group_in}
@@ -26,7 +26,6 @@ use Rattle.odb_reply.specs.Responses.{with_some, response, responses_from, respo
 use Rattle.odb_reply.proofs.IdLemmas.{id_within}
 use Rattle.odb_reply.proofs.OneLemmas.{IsOnce, once_in_plan, id_of_response, responses_in-value}
 use Rattle.odb_reply.proofs.SliceLemmas.{map_some}
-use Rattle.odb_reply.proofs.UnitLemmas.{get_or-list_below}
 
 -- ---- what a response says
 
@@ -141,19 +140,14 @@ succeeds_answered state r once answered e responds =
     ap is_success shows.status ∙ answered_success (answer state r) answered
 
 -- the needs and the units of the run are those of the requests
-needs_there : (state : State) (i : ℕ) (need : Need) → state.shape ≡ shape state.plan → i < length (plan_records state.plan) → Contains (needs_at (plan_records state.plan) i) need → Contains (needs_of state.shape i) need
-unfolding shape
-needs_there state i need same within needed =
-    let rs = plan_records state.plan in
-    let here : needs_of state.shape i ≡ needs_at rs i = ap (λ plan. needs_of plan i) same ∙ get_or-list_below (length rs) i (needs_at rs) [] within in
-    subst (λ (needs : List Need). Contains needs need) (sym here) needed
+needs_there : (state : State) (i : ℕ) (need : Need) → IsShapeOf (plan_records state.plan) state.shape → i < length (plan_records state.plan) → Contains (needs_at (plan_records state.plan) i) need → Contains (needs_of state.shape i) need
+needs_there state i need same within needed = subst (λ (needs : List Need). Contains needs need) (sym (same.needs i within)) needed
 
-unit_there : (state : State) (i : ℕ) → state.shape ≡ shape state.plan → i < length (plan_records state.plan) → unit_of state.shape i ≡ unit_at (plan_records state.plan) i
-unfolding shape
-unit_there state i same within = let rs = plan_records state.plan in ap (λ plan. unit_of plan i) same ∙ get_or-list_below (length rs) i (unit_at rs) 0 within
+unit_there : (state : State) (i : ℕ) → IsShapeOf (plan_records state.plan) state.shape → i < length (plan_records state.plan) → unit_of state.shape i ≡ unit_at (plan_records state.plan) i
+unit_there state i same within = same.units i within
 
 -- a response to a member of the unit is to a request of the run
-met_answered : (state : State) (i : ℕ) (need : Need) → IsOnce (plan_records state.plan) → IsSound state → state.shape ≡ shape state.plan → size state ≡ length (plan_records state.plan)
+met_answered : (state : State) (i : ℕ) (need : Need) → IsOnce (plan_records state.plan) → IsSound state → IsShapeOf (plan_records state.plan) state.shape → size state ≡ length (plan_records state.plan)
     → i < length (plan_records state.plan) → is_answered_2xx (answer state i) ≡ true → Contains (needs_at (plan_records state.plan) i) need → IsSatisfied (plan_records state.plan) (listed state) need
 met_answered state i (One r) once sound same count within answered needed =
     let inside : i < size state = omega (arith, count) in
@@ -164,7 +158,7 @@ met_answered state i (Group u) once sound same count within answered needed = λ
     let here : r < size state = omega (arith, count) in
     succeeds_answered state r once ((sound i inside answered).1 u r (needs_there state i (Group u) same within needed) here (unit_there state r same member ∙ unit)) e responds
 
-fits_answered : (state : State) → IsOnce (plan_records state.plan) → IsSound state → state.shape ≡ shape state.plan → size state ≡ length (plan_records state.plan) → Fits (plan_records state.plan) (listed state)
+fits_answered : (state : State) → IsOnce (plan_records state.plan) → IsSound state → IsShapeOf (plan_records state.plan) state.shape → size state ≡ length (plan_records state.plan) → Fits (plan_records state.plan) (listed state)
 fits_answered state once sound same count = record {
   one = λ i id is. (i, record { has = place_of_id state i id is; only = λ j has. once j i id (id_of_place state j id has) is });
   known = λ k id has. (k, id_of_place state k id has);
@@ -176,7 +170,7 @@ fits_answered state once sound same count = record {
       met_answered state i need once sound same count (id_within rs i e.id responds.id) answered needed;
 }
 
-pub ListsFit-answered : (state : State) → HasGoodNames (plan_records state.plan) → IsSound state → state.shape ≡ shape state.plan → size state ≡ length (plan_records state.plan)
+pub ListsFit-answered : (state : State) → HasGoodNames (plan_records state.plan) → IsSound state → IsShapeOf (plan_records state.plan) state.shape → size state ≡ length (plan_records state.plan)
     → ListsFit (plan_records state.plan) (response_value state)
 ListsFit-answered state good sound same count = record {
   listed = listed state;

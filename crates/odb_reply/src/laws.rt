@@ -60,5 +60,5 @@ pub fn every_response(done: &Done<'_>)
     ensures document { AnswersStatuses done.now → IsResponseDocument (response_value done.now) }
 {
     done.laws();
-    let _count = done.plan().len();
+    odb_check::laws::every_plan(done.plan());
 }

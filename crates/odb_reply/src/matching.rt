@@ -63,6 +63,7 @@ fn has_failed_need(plan: &Plan<'_>, table: &Table, units: &[bool], i: u32) -> bo
     ensures { result ≡ list_any (λ need. not (known.is_satisfied (tables.statuses table.now) units.now need))
         (needs_at (plan_records plan.now) i) }
 {
+    odb_check::laws::every_plan(plan);
     for need in plan.needs(i) {
         if !is_satisfied(table, units, *need) {
             return true;

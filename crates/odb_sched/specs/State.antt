@@ -2,17 +2,13 @@
 use Rattle.std.specs.Prelude.{ℕ, List, length, replicate, slice_index_or, slice_set}
 use Rattle.odb_doc.specs.declared.outcome.Outcome.{Outcome}
 use Rattle.odb_check.specs.declared.plan.Plan.{Plan}
-use Rattle.odb_check.specs.Plans.{plan_records}
-use Rattle.odb_check.specs.Shape.{Shape, shape_of}
+unfoldable pub use Rattle.odb_check.specs.Plans.{shape}
+use Rattle.odb_check.specs.Shape.{Shape}
 use Rattle.odb_sched.specs.declared.policy.Policy.{Policy}
 use Rattle.odb_sched.specs.declared.phase.Phase.{Phase}
 use Rattle.odb_sched.specs.declared.phase.Phase.TheVariants.{Unstarted, Running, Reported}
 use Rattle.odb_sched.specs.declared.event.Event.{Event}
 use Rattle.odb_sched.specs.declared.event.Event.TheVariants.{Start, Report}
-
--- The units and needs of a plan. It is closed, since a run asks for no more of them than the laws of a plan.
-unfoldable pub shape : Plan → Shape
-shape plan = shape_of (plan_records plan)
 
 -- the shape is that of the plan; the phases are by position
 pub record State : Type 0 where

@@ -11,7 +11,6 @@ ghost use Rattle.odb_sched.specs.Tallies.{ArePending};
 
 use crate::phase::{Phase, is_success};
 use crate::policy::Policy;
-use crate::shape::{size, unit_of};
 use odb_check::Plan;
 use odb_doc::Outcome;
 use std::alloc::{AllocError, Global};
@@ -98,7 +97,7 @@ impl<'p> Done<'p> {
         requires { i < states.size self.now }
         ensures { result ≡ steps.unit_succeeded self.now (shapes.unit_of self.now.shape i) }
     {
-        self.pending[unit_of(self.plan, i) as usize] == 0
+        self.pending[self.plan.unit_of(i) as usize] == 0
     }
 
     /// Returns the plan that was run.
@@ -167,7 +166,7 @@ impl<'p> Done<'p> {
             All (λ i. i < states.size self.now) positions.items) }
     {
         let mut positions = Vec::new(alloc);
-        for i in (0..size(self.plan)).rev() {
+        for i in (0..self.plan.len()).rev() {
             if self.is_undone(i) {
                 positions.push(i)?;
             }

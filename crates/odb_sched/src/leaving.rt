@@ -6,7 +6,6 @@ ghost use Rattle.odb_sched.specs.Tallies as tallies;
 ghost use Rattle.odb_sched.specs.Phases as tests;
 
 use crate::phase::Phase;
-use crate::shape::unit_of;
 use crate::tally::Tally;
 use odb_check::Plan;
 
@@ -27,7 +26,7 @@ pub(crate) fn leave(plan: &Plan<'_>, phases: &[Phase], i: u32, tally: &mut Tally
     ensures rest { tally.new ≡ record tally.old { running = tally.new.running; left = tally.new.left } }
 {
     tally.running.remove(i);
-    if !tally.units.is_passed(unit_of(plan, i)) {
+    if !tally.units.is_passed(plan.unit_of(i)) {
         tally.left -= 1;
     }
 }

@@ -27,7 +27,6 @@ mod refusal;
 mod resolving;
 mod scheduler;
 mod service;
-mod shape;
 mod spreading;
 mod starting;
 mod step;

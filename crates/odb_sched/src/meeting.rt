@@ -8,7 +8,6 @@ ghost use Rattle.odb_sched.specs.Phases as tests;
 use crate::leaving::leave;
 use crate::needers::unit_key;
 use crate::phase::Phase;
-use crate::shape::unit_of;
 use crate::tally::Tally;
 use odb_check::Plan;
 use odb_dense::Rows;
@@ -33,7 +32,7 @@ fn meet(plan: &Plan<'_>, phases: &[Phase], i: u32, tally: &mut Tally)
     tally.unmet[at] -= 1;
     if tally.unmet[at] == 0
         && phases[at].is_unstarted()
-        && !tally.units.is_passed(unit_of(plan, i))
+        && !tally.units.is_passed(plan.unit_of(i))
     {
         tally.ready.insert(i);
     }
@@ -112,7 +111,7 @@ pub(crate) fn succeed(plan: &Plan<'_>, phases: &[Phase], needers: &Rows, i: u32,
     ensures { tallies.AreCounts (shape plan.now) phases.now tally.new }
 {
     leave(plan, phases, i, tally);
-    let unit = unit_of(plan, i);
+    let unit = plan.unit_of(i);
     settle(unit, tally);
     meet_each(plan, phases, needers.row(i), tally);
     meet_unit(plan, phases, needers, unit, tally);

@@ -5,7 +5,6 @@ ghost use Rattle.odb_sched.specs.Plans.{IsNeed};
 ghost use Rattle.odb_sched.specs.State.{shape};
 ghost use Rattle.odb_sched.specs.Tallies as tallies;
 
-use crate::shape::{needs_of, size, unit_count};
 use odb_check::{Need, Plan};
 use odb_dense::Rows;
 use std::alloc::{AllocError, Global};
@@ -15,7 +14,8 @@ pub(crate) fn unit_key(plan: &Plan<'_>, u: u32) -> u32
     requires { u < (shape plan.now).unit_count }
     ensures { result ≡ length (shape plan.now).units + u }
 {
-    size(plan) + u
+    odb_check::laws::every_plan(plan);
+    plan.len() + u
 }
 
 /// The key of what is needed.
@@ -31,11 +31,10 @@ fn key_of(plan: &Plan<'_>, need: Need) -> u32
 
 /// Adds a pair for each need of a request: the key of what is needed, and the request.
 fn push_needs(plan: &Plan<'_>, i: u32, pairs: &mut Vec<(u32, u32)>) -> Result<(), AllocError>
-    requires laws { shapes.IsPlan (shape plan.now) }
     requires request { i < length (shape plan.now).units }
     ensures { OnOk result (pairs.new.items ≡ pairs.old.items ++ need_pairs (shape plan.now) i) }
 {
-    for need in needs_of(plan, i) {
+    for need in plan.needs(i) {
         pairs.push((key_of(plan, *need), i))?;
     }
     Ok(())
@@ -46,7 +45,7 @@ fn pairs_of(alloc: Global, plan: &Plan<'_>) -> Result<Vec<(u32, u32)>, AllocErro
     ensures { IfOk result (λ pairs. pairs.items ≡ all_pairs (shape plan.now)) }
 {
     let mut pairs = Vec::new(alloc);
-    for i in 0..size(plan) {
+    for i in 0..plan.len() {
         push_needs(plan, i, &mut pairs)?;
     }
     Ok(pairs)
@@ -60,6 +59,7 @@ fn pairs_of(alloc: Global, plan: &Plan<'_>) -> Result<Vec<(u32, u32)>, AllocErro
 pub(crate) fn needers_of(alloc: Global, plan: &Plan<'_>) -> Result<Rows, AllocError>
     ensures { IfOk result (tallies.AreNeeders (shape plan.now)) }
 {
-    let keys = size(plan) as usize + unit_count(plan) as usize;
+    odb_check::laws::every_plan(plan);
+    let keys = plan.len() as usize + plan.unit_count() as usize;
     Rows::of(alloc, keys, &pairs_of(alloc, plan)?)
 }

@@ -21,7 +21,6 @@ use crate::order::{End, Order};
 use crate::phase::{Phase, is_status};
 use crate::policy::Policy;
 use crate::refusal::{ReportRefusal, StartRefusal};
-use crate::shape::{size, unit_of};
 use crate::step::Step;
 use crate::unmet::first_unmet;
 use crate::views::Views;
@@ -93,10 +92,11 @@ impl<'p> Scheduler<'p> {
         ensures size { IfOk result (λ scheduler. states.size scheduler
             ≡ length (plan_records plan.now)) }
     {
+        odb_check::laws::every_plan(plan);
         Ok(Scheduler {
             plan,
             policy,
-            phases: all_unstarted(alloc, size(plan))?,
+            phases: all_unstarted(alloc, plan.len())?,
             views: Views::new(alloc, plan, policy)?,
         })
     }
@@ -112,7 +112,7 @@ impl<'p> Scheduler<'p> {
         if self.views.stopped() {
             return Some(StartRefusal::Stopped);
         }
-        if self.views.failed(unit_of(self.plan, i)) {
+        if self.views.failed(self.plan.unit_of(i)) {
             return Some(StartRefusal::UnitFailed);
         }
         if let Some(need) = first_unmet(self.plan, &self.phases, self.views.pending(), i) {

@@ -11,7 +11,6 @@ ghost use Rattle.odb_sched.specs.Passing as passing;
 use crate::leaving::leave;
 use crate::needers::unit_key;
 use crate::phase::Phase;
-use crate::shape::{members_of, unit_of};
 use crate::tally::Tally;
 use odb_check::Plan;
 use odb_dense::Rows;
@@ -35,7 +34,7 @@ fn give_up(plan: &Plan<'_>, phases: &[Phase], u: u32, tally: &mut Tally)
         (tallies.is_gone (shape plan.now) tally.old.units) phases.now }
     ensures rest { tally.new ≡ record tally.old { ready = tally.new.ready; left = tally.new.left } }
 {
-    let members = members_of(plan, u);
+    let members = plan.members(u);
     for i in members.start..members.end {
         tally.ready.remove(i);
         if !phases[i as usize].is_reported() {
@@ -60,7 +59,7 @@ fn mark_each(plan: &Plan<'_>, list: &[u32], tally: &mut Tally)
     ensures rest { tally.new ≡ record tally.old { units = tally.new.units } }
 {
     for i in list {
-        tally.units.put(unit_of(plan, *i));
+        tally.units.put(plan.unit_of(*i));
     }
 }
 
@@ -78,7 +77,7 @@ fn mark_needers(plan: &Plan<'_>, needers: &Rows, u: u32, tally: &mut Tally)
         ⊎ passing.NeedsUnit (shape plan.now) v u }
     ensures rest { tally.new ≡ record tally.old { units = tally.new.units } }
 {
-    let members = members_of(plan, u);
+    let members = plan.members(u);
     for r in members.start..members.end {
         mark_each(plan, needers.row(r), tally);
     }
@@ -121,6 +120,6 @@ pub(crate) fn fail(plan: &Plan<'_>, phases: &[Phase], needers: &Rows, i: u32, ta
     ensures { tallies.AreCounts (shape plan.now) phases.now tally.new }
 {
     leave(plan, phases, i, tally);
-    tally.units.put(unit_of(plan, i));
+    tally.units.put(plan.unit_of(i));
     spread(plan, phases, needers, tally);
 }

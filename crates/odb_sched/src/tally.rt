@@ -4,7 +4,6 @@ ghost use Rattle.odb_sched.specs.FirstCounts as first;
 ghost use Rattle.odb_sched.specs.State.{shape};
 ghost use Rattle.odb_sched.specs.Tallies.{AreCounts};
 
-use crate::shape::{members_of, needs_of, size, unit_count};
 use odb_check::Plan;
 use odb_dense::{OrderedPositions, Worklist};
 use std::alloc::{AllocError, Global};
@@ -30,9 +29,9 @@ pub(crate) struct Tally {
 fn need_counts(alloc: Global, plan: &Plan<'_>) -> Result<Vec<usize>, AllocError>
     ensures { IfOk result (λ counts. counts.items ≡ first.need_counts (shape plan.now)) }
 {
-    let mut counts = Vec::with_capacity(alloc, size(plan) as usize)?;
-    for i in 0..size(plan) {
-        counts.push(needs_of(plan, i).len())?;
+    let mut counts = Vec::with_capacity(alloc, plan.len() as usize)?;
+    for i in 0..plan.len() {
+        counts.push(plan.needs(i).len())?;
     }
     Ok(counts)
 }
@@ -42,9 +41,9 @@ fn member_counts(alloc: Global, plan: &Plan<'_>) -> Result<Vec<u32>, AllocError>
     ensures counts { IfOk result (λ counts. counts.items ≡ first.member_counts (shape plan.now)) }
     ensures some { IfOk result (λ counts. All (λ count. 0 < count) counts.items) }
 {
-    let mut counts = Vec::with_capacity(alloc, unit_count(plan) as usize)?;
-    for u in 0..unit_count(plan) {
-        let members = members_of(plan, u);
+    let mut counts = Vec::with_capacity(alloc, plan.unit_count() as usize)?;
+    for u in 0..plan.unit_count() {
+        let members = plan.members(u);
         counts.push(members.end - members.start)?;
     }
     Ok(counts)
@@ -56,9 +55,9 @@ fn without_needs(alloc: Global, plan: &Plan<'_>) -> Result<OrderedPositions, All
     ensures exact { IfOk result (λ free. (i : ℕ) → i < length (shape plan.now).units
         → slice_index_or free i false ≡ (first.needs_in (shape plan.now) i == 0)) }
 {
-    let mut free = OrderedPositions::new(alloc, size(plan))?;
-    for i in 0..size(plan) {
-        if needs_of(plan, i).is_empty() {
+    let mut free = OrderedPositions::new(alloc, plan.len())?;
+    for i in 0..plan.len() {
+        if plan.needs(i).is_empty() {
             free.insert(i);
         }
     }
@@ -76,13 +75,14 @@ impl Tally {
         ensures { IfOk result (AreCounts (shape plan.now)
             (replicate (length (shape plan.now).units) Unstarted)) }
     {
+        odb_check::laws::every_plan(plan);
         Ok(Tally {
             unmet: need_counts(alloc, plan)?,
             pending: member_counts(alloc, plan)?,
-            units: Worklist::new(alloc, unit_count(plan))?,
+            units: Worklist::new(alloc, plan.unit_count())?,
             ready: without_needs(alloc, plan)?,
-            running: OrderedPositions::new(alloc, size(plan))?,
-            left: size(plan) as usize,
+            running: OrderedPositions::new(alloc, plan.len())?,
+            left: plan.len() as usize,
         })
     }
 }

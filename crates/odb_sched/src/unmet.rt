@@ -6,7 +6,6 @@ ghost use Rattle.odb_sched.specs.State.{shape};
 ghost use Rattle.odb_sched.specs.Tallies.{ArePending};
 
 use crate::phase::Phase;
-use crate::shape::needs_of;
 use odb_check::{Need, Plan};
 
 /// Whether what is needed has reported a success, where `pending` says of each unit how many members
@@ -41,7 +40,7 @@ pub(crate) fn first_unmet(
         ≡ find (λ need. not (met_in (shape plan.now) phases.now need))
         (shapes.needs_of (shape plan.now) i) }
 {
-    let needs = needs_of(plan, i);
+    let needs = plan.needs(i);
     for need in needs {
         if !is_met(plan, phases, pending, *need) {
             return Some(*need);

@@ -12,5 +12,8 @@ is_satisfied-requires c =
     let items : List Need = c.needs-need-items.result.now in
     let need : Need = get_or items c.loop-need.need-index (One 0) in
     let among : Contains items need = Contains-get_or items c.loop-need.need-index (One 0) c.loop-need-test.true in
-    let within = need_within rs c.args.i need c.requires.laws c.requires.request (subst (λ (needs : List Need). Contains needs need) c.needs-need-items.ensures among) in
+    let within = need_within rs c.args.i need c.requires.laws c.requires.request (subst (λ (needs : List Need). Contains needs need) c.needs-need-items.ensures.value among) in
     rw (c.requires.statuses, c.requires.units.count) within
+
+pub needs-need-items-requires : goal.needs-need-items-requires
+needs-need-items-requires c = rw c.every_plan.ensures.shape.size c.requires.request

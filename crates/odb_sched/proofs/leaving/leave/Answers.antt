@@ -10,7 +10,7 @@ overflow_sub-tally c = omega (
   arith,
   c.requires.left,
   left_reported (shape c.args.plan.now) (is_gone (shape c.args.plan.now) c.args.tally.now.units) c.args.phases.now c.args.i c.requires.request c.requires.each c.requires.reported
-      (gone_read (shape c.args.plan.now) c.args.tally.now.units c.args.i _ _ _ c.is_passed.ensures c.unit_of.ensures.value c.if-not-is_passed.true),
+      (gone_read (shape c.args.plan.now) c.args.tally.now.units c.args.i _ _ _ c.is_passed.ensures c.unit_of.ensures.unit c.if-not-is_passed.true),
 )
 
 pub returns-then-not-is_passed-clause-running : goal.returns-then-not-is_passed-clause-running
@@ -21,7 +21,7 @@ returns-then-not-is_passed-clause-left c = omega (
   arith,
   c.requires.left,
   left_reported (shape c.args.plan.now) (is_gone (shape c.args.plan.now) c.args.tally.now.units) c.args.phases.now c.args.i c.requires.request c.requires.each c.requires.reported
-      (gone_read (shape c.args.plan.now) c.args.tally.now.units c.args.i _ _ _ c.is_passed.ensures c.unit_of.ensures.value c.if-not-is_passed.true),
+      (gone_read (shape c.args.plan.now) c.args.tally.now.units c.args.i _ _ _ c.is_passed.ensures c.unit_of.ensures.unit c.if-not-is_passed.true),
 )
 
 pub returns-else-not-is_passed-clause-running : goal.returns-else-not-is_passed-clause-running
@@ -29,4 +29,4 @@ returns-else-not-is_passed-clause-running c = c.remove.ensures ∙ ap (λ b. set
 
 pub returns-else-not-is_passed-clause-left : goal.returns-else-not-is_passed-clause-left
 returns-else-not-is_passed-clause-left c = c.requires.left ∙ left_gone (shape c.args.plan.now) (is_gone (shape c.args.plan.now) c.args.tally.now.units) c.args.phases.now c.args.i
-    (gone_read (shape c.args.plan.now) c.args.tally.now.units c.args.i _ _ _ c.is_passed.ensures c.unit_of.ensures.value c.if-not-is_passed.false)
+    (gone_read (shape c.args.plan.now) c.args.tally.now.units c.args.i _ _ _ c.is_passed.ensures c.unit_of.ensures.unit c.if-not-is_passed.false)

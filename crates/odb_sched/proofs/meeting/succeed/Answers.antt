@@ -13,7 +13,7 @@ pub settle-requires-clause-some : goal.settle-requires-clause-some
 settle-requires-clause-some c =
     let before : get_or c.args.tally.now.pending.items (unit_of (shape c.args.plan.now) c.args.i) 0 ≡ suc (pending_in (shape c.args.plan.now) c.args.phases.now (unit_of (shape c.args.plan.now) c.args.i)) =
     c.requires.counts.pending _ (c.requires.laws.counted c.args.i c.requires.request) ∙ pending_own (shape c.args.plan.now) c.args.phases.now c.args.i c.requires.request c.requires.each c.requires.succeeded in
-    rw (ap (λ (t : Tally). t.pending.items) c.leave.ensures.rest, c.unit_of-unit.ensures.value, before) (omega arith)
+    rw (ap (λ (t : Tally). t.pending.items) c.leave.ensures.rest, c.unit_of-unit.ensures.unit, before) (omega arith)
 
 pub meet_each-requires-clause-enough : goal.meet_each-requires-clause-enough
 meet_each-requires-clause-enough c = λ i inside.
@@ -27,7 +27,7 @@ meet_each-requires-clause-enough c = λ i inside.
 
 pub meet_unit-requires-clause-pending : goal.meet_unit-requires-clause-pending
 meet_unit-requires-clause-pending c =
-    let own = c.unit_of-unit.ensures.value in
+    let own = c.unit_of-unit.ensures.unit in
     let settled = c.settle.ensures.pending ∙ ap (λ ps. set ps c.unit_of-unit.result (get_or ps c.unit_of-unit.result 0 - 1)) (ap (λ (t : Tally). t.pending.items) c.leave.ensures.rest) ∙ ap (λ u. set c.args.tally.now.pending.items u (get_or c.args.tally.now.pending.items u 0 - 1)) own in
     rw (ap (λ (t : Tally). t.pending.items) c.meet_each.ensures.rest)
     (pending_settled (shape c.args.plan.now) c.args.phases.now c.args.i c.args.tally.now.pending.items c.settle.new.tally.pending.items c.requires.laws c.requires.request c.requires.each c.requires.succeeded c.requires.counts.members c.requires.counts.pending settled
@@ -41,11 +41,11 @@ meet_unit-requires-clause-enough c = λ i inside.
     c.requires.counts.unmet i inside ∙ unmet_falls (shape c.args.plan.now) c.args.phases.now c.args.i i c.requires.laws c.requires.request inside c.requires.each c.requires.succeeded in
     let fallen : get_or c.meet_each.new.tally.unmet.items i 0 + need_count (shape c.args.plan.now) c.args.i i ≡ get_or c.args.tally.now.unmet.items i 0 =
     subst (λ n. get_or c.meet_each.new.tally.unmet.items i 0 + n ≡ get_or c.args.tally.now.unmet.items i 0) listed (c.meet_each.ensures.fallen i inside ∙ same) in
-    rw c.unit_of-unit.ensures.value (omega arith)
+    rw c.unit_of-unit.ensures.unit (omega arith)
 
 pub returns : goal.returns
 returns c =
-    let own = c.unit_of-unit.ensures.value in
+    let own = c.unit_of-unit.ensures.unit in
     let settled = c.settle.ensures.pending ∙ ap (λ ps. set ps c.unit_of-unit.result (get_or ps c.unit_of-unit.result 0 - 1)) (ap (λ (t : Tally). t.pending.items) c.leave.ensures.rest) ∙ ap (λ u. set c.args.tally.now.pending.items u (get_or c.args.tally.now.pending.items u 0 - 1)) own in
     let to_met = c.meet_unit.ensures.rest ∙ ap (λ (t : Tally). record t { unmet = c.meet_unit.new.tally.unmet; ready = c.meet_unit.new.tally.ready }) c.meet_each.ensures.rest in
     let to_left = to_met ∙ ap (λ (t : Tally). record t { unmet = c.meet_unit.new.tally.unmet; ready = c.meet_unit.new.tally.ready }) c.settle.ensures.rest in

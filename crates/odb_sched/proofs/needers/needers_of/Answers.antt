@@ -6,10 +6,10 @@ use Rattle.odb_sched.proofs.needers.needers_of.Goals as goal
 
 pub of-requires : goal.of-requires
 of-requires c =
-    let keys : c.size.result + c.unit_count.result ≡ length (shape c.args.plan.now).units + (shape c.args.plan.now).unit_count = omega (arith, c.size.ensures.value, c.unit_count.ensures) in
-    pairs_keyed (shape c.args.plan.now) _ _ c.size.ensures.laws keys (c.deref.ensures.value ∙ c.in_ok-pairs_of.ensures)
+    let keys : c.len.result + c.unit_count.result ≡ length (shape c.args.plan.now).units + (shape c.args.plan.now).unit_count = omega (arith, c.len.ensures.size, c.unit_count.ensures.size) in
+    pairs_keyed (shape c.args.plan.now) _ _ c.every_plan.ensures.order keys (c.deref.ensures.value ∙ c.in_ok-pairs_of.ensures)
 
 pub returns : goal.returns
 returns c =
-    let keys : c.size.result + c.unit_count.result ≡ length (shape c.args.plan.now).units + (shape c.args.plan.now).unit_count = omega (arith, c.size.ensures.value, c.unit_count.ensures) in
+    let keys : c.len.result + c.unit_count.result ≡ length (shape c.args.plan.now).units + (shape c.args.plan.now).unit_count = omega (arith, c.len.ensures.size, c.unit_count.ensures.size) in
     needers_are (shape c.args.plan.now) _ _ c.of.result keys (c.deref.ensures.value ∙ c.in_ok-pairs_of.ensures) c.of.ensures.len c.of.ensures.rows

@@ -8,20 +8,20 @@ use Rattle.odb_sched.proofs.spreading.give_up.Goals.{then-not-is_reported, else-
 
 pub loop-i-init : goal.loop-i-init
 loop-i-init c = record {
-  ready = ready_same (shape c.args.plan.now) _ _ c.args.phases.now c.args.tally.now.unmet.items c.args.tally.now.ready (λ i within. gone_first (shape c.args.plan.now) c.args.tally.now.units c.args.u _ _ i c.members_of-members.ensures.span within) c.requires.ready;
-  left = c.requires.left ∙ left_same (shape c.args.plan.now) _ _ c.args.phases.now (λ i within. gone_first (shape c.args.plan.now) c.args.tally.now.units c.args.u _ _ i c.members_of-members.ensures.span within);
+  ready = ready_same (shape c.args.plan.now) _ _ c.args.phases.now c.args.tally.now.unmet.items c.args.tally.now.ready (λ i within. gone_first (shape c.args.plan.now) c.args.tally.now.units c.args.u _ _ i c.members-members.ensures.span within) c.requires.ready;
+  left = c.requires.left ∙ left_same (shape c.args.plan.now) _ _ c.args.phases.now (λ i within. gone_first (shape c.args.plan.now) c.args.tally.now.units c.args.u _ _ i c.members-members.ensures.span within);
   rest = refl;
 }
 
 pub overflow_sub-tally : goal.overflow_sub-tally
 overflow_sub-tally c =
-    let here = member_here (shape c.args.plan.now) c.args.u _ _ c.loop-i.i c.members_of-members.ensures.span c.loop-i.auto.i c.loop-i-test.true in
+    let here = member_here (shape c.args.plan.now) c.args.u _ _ c.loop-i.i c.members-members.ensures.span c.loop-i.auto.i c.loop-i-test.true in
     some_open (shape c.args.plan.now) c.args.phases.now c.args.u c.loop-i.i c.args.tally.now c.loop-i.tally here.0 here.1 c.requires.passed c.loop-i.invariant
     (reported_read c.args.phases.now c.loop-i.i c.index-phases-i.result _ _ (omega (arith, here.0, c.requires.each)) c.index-phases-i.is c.is_reported.ensures c.if-not-is_reported.true)
 
 pub loop-i-preserved : goal.loop-i-preserved
 loop-i-preserved c =
-    let here = member_here (shape c.args.plan.now) c.args.u _ _ c.loop-i.i c.members_of-members.ensures.span c.loop-i.auto.i c.loop-i-test.true in
+    let here = member_here (shape c.args.plan.now) c.args.u _ _ c.loop-i.i c.members-members.ensures.span c.loop-i.auto.i c.loop-i-test.true in
     elim c.if-not-is_reported.branch [
       | then-not-is_reported w ↦ subst (λ (t : Tally). AreGivenUp (shape c.args.plan.now) c.args.phases.now c.args.u (c.loop-i.i + 1) c.args.tally.now t) (sym w.tally-is)
           (given_up_open (shape c.args.plan.now) c.args.phases.now c.args.u c.loop-i.i c.args.tally.now c.loop-i.tally c.remove.new.self here.0 here.1 c.requires.passed c.loop-i.invariant
@@ -32,4 +32,4 @@ loop-i-preserved c =
     ]
 
 pub returns-clause-left : goal.returns-clause-left
-returns-clause-left c = c.loop-i.invariant.left ∙ left_same (shape c.args.plan.now) _ _ c.args.phases.now (λ i within. gone_last (shape c.args.plan.now) c.args.tally.now.units c.args.u _ _ c.loop-i.i i c.members_of-members.ensures.span c.loop-i-test.false within)
+returns-clause-left c = c.loop-i.invariant.left ∙ left_same (shape c.args.plan.now) _ _ c.args.phases.now (λ i within. gone_last (shape c.args.plan.now) c.args.tally.now.units c.args.u _ _ c.loop-i.i i c.members-members.ensures.span c.loop-i-test.false within)

@@ -8,10 +8,10 @@ use Rattle.odb_sched.proofs.spreading.mark_needers.Goals as goal
 
 pub loop-r-preserved : goal.loop-r-preserved
 loop-r-preserved c =
-    let here = member_here (shape c.args.plan.now) c.args.u _ _ c.loop-r.r c.members_of-members.ensures.span c.loop-r.auto.r c.loop-r-test.true in
+    let here = member_here (shape c.args.plan.now) c.args.u _ _ c.loop-r.r c.members-members.ensures.span c.loop-r.auto.r c.loop-r-test.true in
     record {
       marks = marks_trans _ _ _ c.loop-r.invariant.marks c.mark_each.ensures.marks;
-      marked = rows_marked (shape c.args.plan.now) c.args.needers.now _ _ c.members_of-members.result.start c.loop-r.r c.mark_each.ensures.marks c.loop-r.invariant.marked
+      marked = rows_marked (shape c.args.plan.now) c.args.needers.now _ _ c.members-members.result.start c.loop-r.r c.mark_each.ensures.marks c.loop-r.invariant.marked
           (row_marked (shape c.args.plan.now) c.args.needers.now c.mark_each.new.tally.units c.row.result.now c.loop-r.r c.row.ensures c.mark_each.ensures.marked);
       only = λ v marked. elim (c.mark_each.ensures.only v marked) [
         | inl before ↦ c.loop-r.invariant.only v before
@@ -21,7 +21,7 @@ loop-r-preserved c =
     }
 
 pub returns-clause-marked : goal.returns-clause-marked
-returns-clause-marked c = needers_marked (shape c.args.plan.now) c.args.needers.now c.args.u _ _ c.loop-r.r _ _ c.requires.laws c.requires.needers c.requires.unit c.members_of-members.ensures.span c.loop-r-test.false c.loop-r.invariant.marked c.mark_each-2.ensures.marks
+returns-clause-marked c = needers_marked (shape c.args.plan.now) c.args.needers.now c.args.u _ _ c.loop-r.r _ _ c.requires.laws c.requires.needers c.requires.unit c.members-members.ensures.span c.loop-r-test.false c.loop-r.invariant.marked c.mark_each-2.ensures.marks
     (row_marked (shape c.args.plan.now) c.args.needers.now c.mark_each-2.new.tally.units c.row-2.result.now _ (c.row-2.ensures ∙ ap (λ key. get_or c.args.needers.now key []) c.unit_key.ensures) c.mark_each-2.ensures.marked)
 
 pub returns-clause-only : goal.returns-clause-only

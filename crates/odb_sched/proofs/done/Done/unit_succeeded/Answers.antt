@@ -14,4 +14,4 @@ returns c =
     subst (λ state. (c.index.result.now == 0) ≡ unit_succeeded state (unit_of state.shape c.args.i)) c.self.view_is
     (ap (λ n. n == 0) (get_or_read pending c.unit_of.result c.index.result.now within c.index.ensures 0 ∙ c.self.invariant.pending c.unit_of.result c.unit_of.ensures.counted)
     ∙ none_pending (shape c.self.inside.plan.now) c.self.inside.phases.items c.unit_of.result
-    ∙ ap (succeeded_in (shape c.self.inside.plan.now) c.self.inside.phases.items) c.unit_of.ensures.value)
+    ∙ ap (succeeded_in (shape c.self.inside.plan.now) c.self.inside.phases.items) c.unit_of.ensures.unit)
