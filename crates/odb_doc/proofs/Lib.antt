@@ -12,7 +12,7 @@ mod MovedHeaders
 mod PartLemmas
 mod QuoteLemmas
 mod MemberLemmas
-pub mod NameLemmas
+mod NameLemmas
 mod OneHeaders
 mod OutcomeLemmas
 mod OutcomeListLemmas
