@@ -46,10 +46,10 @@ def sources(crate):
 
 
 def exported(crate):
-    """The names that the crate's root file hands out, and its public modules; None for a program."""
+    """The names that the crate's root file hands out, and its public modules; a program has none."""
     root = f"{ROOT}/crates/{crate}/src/lib.rt"
     if not os.path.exists(root):
-        return None, set()
+        return set(), set()
     text = re.sub(r"//.*", "", text_of(root))
     names = {name for _, names in re.findall(r"pub use ([\w:]+)::\{?([\w, \n]+)\}?;", text) for name in re.findall(r"\w+", names)}
     return names, set(re.findall(r"pub mod (\w+);", text))
@@ -91,7 +91,7 @@ def public_clauses(crate):
     for path in sources(crate):
         module = os.path.splitext(os.path.basename(path))[0]
         for owner, is_public, name, clauses in calls(path):
-            is_open = names is None or (owner or name) in names or module in modules
+            is_open = (owner or name) in names or module in modules
             if is_public and is_open:
                 prefix = owner or (module if module in modules else None)
                 found.setdefault(f"{prefix}::{name}" if prefix else name, []).extend(clauses)
