@@ -76,7 +76,7 @@ fn greatest_place(positions: &[u32]) -> usize
     greatest
 }
 
-/// Reports before it starts, and takes the least position.
+/// Reports before it starts, each time the request with the least position.
 #[derive(Clone, Copy, Debug)]
 pub struct First;
 
@@ -102,7 +102,7 @@ impl Chooser for First {
     }
 }
 
-/// Reports before it starts, and takes the greatest position.
+/// Reports before it starts, each time the request with the greatest position.
 #[derive(Clone, Copy, Debug)]
 pub struct Last;
 
@@ -154,7 +154,7 @@ impl Chooser for Wide {
     }
 }
 
-/// An order is a chooser too: the one that it is named for.
+/// Each order is also a chooser, which does what the type of this name does.
 impl Chooser for Order {
     ghost use Rattle.std.specs.Prelude.{◌≡◌, Some};
     ghost use Rattle.odb_sched.specs.Choosing.{AllowsOrder};

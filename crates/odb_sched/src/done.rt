@@ -16,19 +16,20 @@ use odb_doc::Outcome;
 use std::alloc::{AllocError, Global};
 use std::marker::Model;
 
-/// What a request of a finished run is answered (OData JSON Format 4.01, section 19.5).
+/// The answer to a request of a finished run (OData JSON Format 4.01, section 19.5).
 #[derive(Clone, Copy, Debug)]
 pub enum Answer<'a> {
     /// The outcome that was reported.
     Reported(&'a Outcome),
-    /// It did not start, or it reported a success that is undone, since its unit did not succeed.
+    /// It did not start, or it reported a success that has to be undone, since its unit did not
+    /// succeed.
     FailedDependency,
 }
 
 impl Answer<'_> {
     ghost use Rattle.odb_sched.specs.Answers.{shown, status_of};
 
-    /// The HTTP status. That of a failed dependency is 424.
+    /// Returns the HTTP status, which is 424 for a failed dependency.
     pub fn status(&self) -> u16
         ensures { result ≡ status_of (shown self.now) }
     {
@@ -92,7 +93,7 @@ impl<'p> Done<'p> {
         }
     }
 
-    /// Whether each member of the unit of a request has reported a success.
+    /// Returns whether all members of the request's unit have succeeded.
     fn unit_succeeded(&self, i: u32) -> bool
         requires { i < states.size self.now }
         ensures { result ≡ steps.unit_succeeded self.now (shapes.unit_of self.now.shape i) }
@@ -121,7 +122,7 @@ impl<'p> Done<'p> {
         let _ = &self.plan;
     }
 
-    /// What the request at a position, counted from 0, is answered.
+    /// Returns the answer to request `i`, counted from 0.
     pub fn answer(&self, i: u32) -> Answer<'_>
         requires { i < states.size self.now }
         ensures { answers.shown result ≡ answers.answer self.now i }
@@ -138,8 +139,7 @@ impl<'p> Done<'p> {
         }
     }
 
-    /// The outcome that the request at a position, counted from 0, reported, where it did: also one
-    /// that has to be undone, whatever the request is answered.
+    /// Returns the outcome that request `i` reported, if it did: also one that has to be undone.
     pub fn reported(&self, i: u32) -> Option<&Outcome>
         requires { i < states.size self.now }
         ensures { option_map (λ outcome. outcome.now) result ≡ answers.reported self.now i }
@@ -150,7 +150,7 @@ impl<'p> Done<'p> {
         }
     }
 
-    /// Whether a request reported a success and is answered as a failed dependency.
+    /// Returns whether a request reported a success that has to be undone.
     fn is_undone(&self, i: u32) -> bool
         requires { i < states.size self.now }
         ensures { result ≡ answers.is_undone self.now i }
@@ -158,8 +158,8 @@ impl<'p> Done<'p> {
         self.phases[i as usize].has_succeeded() && !self.unit_succeeded(i)
     }
 
-    /// The positions whose requests reported a success that has to be undone, since their unit did
-    /// not succeed: from the last to the first.
+    /// Returns the positions of the requests that reported a success but are answered 424, since
+    /// their unit did not succeed: from the last to the first.
     pub fn undone(&self, alloc: Global) -> Result<Vec<u32>, AllocError>
         ensures value { IfOk result (λ positions. positions.items ≡ answers.undone self.now) }
         ensures within { IfOk result (λ positions.

@@ -13,16 +13,16 @@ use odb_check::Plan;
 use odb_doc::Outcome;
 use std::alloc::Global;
 
-/// What happens in a run to the request at a position, counted from 0.
+/// An event of a run, at the position of its request, counted from 0.
 #[derive(Debug, Drop)]
 pub enum Event {
-    /// The request is handed to its service.
+    /// The request is sent.
     Start(u32),
-    /// The service has answered.
+    /// The request has ended with this outcome.
     Report(u32, Outcome),
 }
 
-/// Takes the event at a place of its list, where it may come.
+/// Takes the event at index `k` of its list, if it may come.
 fn take(scheduler: &mut Scheduler<'_>, at: usize, event: Event) -> Result<(), RunRefusal>
     requires { position_of event < states.size scheduler.old }
     ensures allowed { OnOk result (may_come scheduler.old event ≡ true) }
@@ -41,7 +41,7 @@ fn take(scheduler: &mut Scheduler<'_>, at: usize, event: Event) -> Result<(), Ru
     }
 }
 
-/// A run that takes these events in order.
+/// Runs a plan by these events, in their order.
 ///
 /// # Errors
 ///

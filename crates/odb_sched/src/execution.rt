@@ -26,7 +26,7 @@ use odb_check::Plan;
 use odb_doc::Outcome;
 use std::alloc::{AllocError, Global};
 
-/// A finished execution: its answers, and the steps that led to them.
+/// A finished execution: its answers, and its steps.
 #[derive(Drop)]
 pub struct Trace<'p> {
     /// The run as it ended.

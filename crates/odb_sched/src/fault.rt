@@ -15,7 +15,7 @@ pub enum ExecFault {
     /// F81: the service failed.
     #[error("request {0}: the service failed")]
     Service(u32),
-    /// F82: the service gave a status that is not from 200 to 599.
+    /// F82: the service returned a status that is not from 200 to 599.
     #[error("request {0}: the status is not from 200 to 599")]
     BadStatus(u32),
     /// Allocation failed, here or in the service. That says nothing of the requests.
@@ -26,7 +26,7 @@ pub enum ExecFault {
 impl ExecFault {
     ghost use Rattle.odb_sched.specs.ExecFaults.{IsNumbered, exec_code, exec_name, exec_place};
 
-    /// The code of a numbered fault, from `F80` to `F82`.
+    /// Returns the code of a numbered fault, from `F80` to `F82`.
     pub fn code(&self) -> &'static str
         requires { IsNumbered self.now }
         ensures { result.now ≡ exec_code self.now }
@@ -39,7 +39,7 @@ impl ExecFault {
         }
     }
 
-    /// The name of a numbered fault, as `NoOutcome`.
+    /// Returns the name of a numbered fault, such as `NoOutcome`.
     pub fn name(&self) -> &'static str
         requires { IsNumbered self.now }
         ensures { result.now ≡ exec_name self.now }

@@ -9,7 +9,7 @@ use odb_check::{Need, Plan};
 use odb_dense::Rows;
 use std::alloc::{AllocError, Global};
 
-/// The key of a unit: those of the units come after those of all positions.
+/// Returns the key of a unit. The keys of units follow those of all requests.
 pub(crate) fn unit_key(plan: &Plan<'_>, u: u32) -> u32
     requires { u < (shape plan.now).unit_count }
     ensures { result ≡ length (shape plan.now).units + u }
@@ -18,7 +18,7 @@ pub(crate) fn unit_key(plan: &Plan<'_>, u: u32) -> u32
     plan.len() + u
 }
 
-/// The key of what is needed.
+/// Returns the key of a dependency.
 fn key_of(plan: &Plan<'_>, need: Need) -> u32
     requires { IsNeed (shape plan.now) need }
     ensures { result ≡ tallies.key_of (shape plan.now) need }
@@ -29,7 +29,7 @@ fn key_of(plan: &Plan<'_>, need: Need) -> u32
     }
 }
 
-/// Adds a pair for each need of a request: the key of what is needed, and the request.
+/// Appends a pair for each dependency of a request: its key, and the request.
 fn push_needs(plan: &Plan<'_>, i: u32, pairs: &mut Vec<(u32, u32)>) -> Result<(), AllocError>
     requires request { i < length (shape plan.now).units }
     ensures { OnOk result (pairs.new.items ≡ pairs.old.items ++ need_pairs (shape plan.now) i) }
@@ -40,7 +40,7 @@ fn push_needs(plan: &Plan<'_>, i: u32, pairs: &mut Vec<(u32, u32)>) -> Result<()
     Ok(())
 }
 
-/// The pairs of all requests, in order.
+/// Returns the pairs of all requests, in order.
 fn pairs_of(alloc: Global, plan: &Plan<'_>) -> Result<Vec<(u32, u32)>, AllocError>
     ensures { IfOk result (λ pairs. pairs.items ≡ all_pairs (shape plan.now)) }
 {
@@ -51,7 +51,7 @@ fn pairs_of(alloc: Global, plan: &Plan<'_>) -> Result<Vec<(u32, u32)>, AllocErro
     Ok(pairs)
 }
 
-/// Of each key, the requests that need what has the key.
+/// Returns the dependents of each request and of each unit, by their keys.
 ///
 /// # Errors
 ///

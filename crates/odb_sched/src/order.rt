@@ -6,11 +6,11 @@ use odb_dense::OrderedPositions;
 /// A built-in order, which an execution follows without a search through all positions.
 #[derive(Clone, Copy, Debug, PartialEq, Eq)]
 pub enum Order {
-    /// That of [`crate::First`].
+    /// The order of [`crate::First`].
     First,
-    /// That of [`crate::Last`].
+    /// The order of [`crate::Last`].
     Last,
-    /// That of [`crate::Wide`].
+    /// The order of [`crate::Wide`].
     Wide,
 }
 
@@ -22,7 +22,7 @@ pub(crate) enum End {
 }
 
 impl End {
-    /// The position at this end of a set, or `None` where the set is empty.
+    /// Returns the position at this end of a set, or `None` if the set is empty.
     pub(crate) fn of(self, set: &mut OrderedPositions) -> Option<u32>
         ensures same { set.new ≡ set.old }
         ensures none { result ≡ None → (i : ℕ) → slice_index_or set.old i false ≡ false }

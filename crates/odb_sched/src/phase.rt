@@ -11,14 +11,14 @@ pub enum Phase {
     Reported(Outcome),
 }
 
-/// Whether a status is a success.
+/// Returns whether a status is a success, which is 200 to 299.
 pub(crate) fn is_success(status: u16) -> bool
     ensures { result ≡ statuses.is_success status }
 {
     (200..300).contains(&status)
 }
 
-/// Whether a report may have this status.
+/// Returns whether a report may have this status, which is 200 to 599.
 pub(crate) fn is_status(status: u16) -> bool
     ensures { result ≡ statuses.is_status status }
 {
@@ -46,7 +46,7 @@ impl Phase {
         matches!(self, Phase::Reported(_))
     }
 
-    /// Whether a status from 200 to 299 was reported.
+    /// Returns whether a status from 200 to 299 was reported.
     pub(crate) fn has_succeeded(&self) -> bool
         ensures { result ≡ phases.has_succeeded self.now }
     {
@@ -56,7 +56,7 @@ impl Phase {
         }
     }
 
-    /// Whether another status was reported.
+    /// Returns whether a status from 300 to 599 was reported.
     pub(crate) fn has_failed(&self) -> bool
         ensures { result ≡ phases.has_failed self.now }
     {
@@ -66,7 +66,7 @@ impl Phase {
         }
     }
 
-    /// Whether a status from 400 to 599 was reported.
+    /// Returns whether a status from 400 to 599 was reported.
     pub(crate) fn has_erred(&self) -> bool
         ensures { result ≡ phases.has_erred self.now }
     {

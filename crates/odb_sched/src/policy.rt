@@ -7,7 +7,7 @@ const MAX_WIDTH: u32 = 10_000;
 /// `continue-on-error`).
 #[derive(Clone, Copy, Debug, PartialEq, Eq)]
 pub enum Mode {
-    /// Only what depends on a request that did not succeed is left out.
+    /// Only what depends on a request that did not succeed is skipped.
     Continue,
     /// Nothing starts any more once a status from 400 to 599 was reported.
     Stop,
@@ -18,7 +18,7 @@ pub enum Mode {
 pub struct Policy {
     /// Whether an error stops the run.
     pub mode: Mode,
-    /// How many requests may run at once.
+    /// The number of requests that may run at once.
     pub width: u32,
     ghost wide: { 0 < width },
 }
@@ -36,7 +36,7 @@ impl Policy {
         }
     }
 
-    /// A policy of this width, or `None` where the width is 0.
+    /// Returns a policy of this width, or `None` if the width is 0.
     pub fn new(mode: Mode, width: u32) -> Option<Policy>
         ensures valid { IsSome result ↔ (0 < width) }
         ensures mode { IfSome result (λ policy. policy.mode ≡ mode) }

@@ -33,7 +33,7 @@ impl Model for Recorded {
     ghost view = { λ s. s.outcomes.items };
 }
 
-/// No outcome for as many requests.
+/// Returns a list of so many absent outcomes.
 fn none_for_each(alloc: Global, count: u32) -> Result<Vec<Option<Outcome>>, AllocError>
     ensures { IfOk result (λ outcomes. outcomes.items ≡ replicate count None) }
 {
@@ -44,7 +44,7 @@ fn none_for_each(alloc: Global, count: u32) -> Result<Vec<Option<Outcome>>, Allo
     Ok(outcomes)
 }
 
-/// Notes the outcome of the request at a position.
+/// Records the outcome of the request at a position, unless one was recorded before.
 fn put(outcomes: &mut [Option<Outcome>], i: u32, outcome: Outcome)
     requires { i < length outcomes.old }
     ensures { outcomes.new ≡ slice_set outcomes.old i (Some outcome) }
@@ -52,7 +52,7 @@ fn put(outcomes: &mut [Option<Outcome>], i: u32, outcome: Outcome)
     outcomes[i as usize] = Some(outcome);
 }
 
-/// Notes the outcome of the request with an id. One that is no id of the plan is not used.
+/// Records the outcome of the request with this id. An id that the plan does not have is ignored.
 fn note(plan: &Plan<'_>, outcomes: &mut [Option<Outcome>], id: &str, outcome: Outcome)
     requires { length outcomes.old ≡ length (plan_records plan.now) }
     ensures { outcomes.new ≡ noted_at (position_of (plan_records plan.now) id.now) outcomes.old
@@ -63,7 +63,7 @@ fn note(plan: &Plan<'_>, outcomes: &mut [Option<Outcome>], id: &str, outcome: Ou
     }
 }
 
-/// What is recorded for each request of the plan.
+/// Returns what is recorded for each request of the plan.
 fn by_position(
     alloc: Global,
     plan: &Plan<'_>,
@@ -80,8 +80,8 @@ fn by_position(
 }
 
 impl Recorded {
-    /// A service of the outcomes that are recorded for the requests of a plan. One whose id is no id
-    /// of the plan is not used.
+    /// Returns a service of the outcomes that are recorded for the requests of a plan. An outcome
+    /// with another id is ignored.
     pub fn new(alloc: Global, plan: &Plan<'_>, outcomes: Outcomes) -> Result<Recorded, AllocError>
         ensures { IfOk result (λ recorded. recorded
             ≡ recorded_for (plan_records plan.now) (entries outcomes)) }

@@ -9,19 +9,20 @@ use thiserror::Error;
 /// Why a request may not start.
 #[derive(Clone, Copy, Debug, PartialEq, Eq, Error)]
 pub enum StartRefusal {
-    /// S1: it has started before.
+    /// S1: it was started before.
     #[error("the request has started before")]
     AlreadyStarted,
     /// S2: an error has stopped the run.
     #[error("an error has stopped the run")]
     Stopped,
-    /// S3: a request of its unit did not succeed, or needs something of another unit that failed.
+    /// S3: a request of its unit did not succeed, or depends on something of another unit that
+    /// failed.
     #[error("the unit of the request has failed")]
     UnitFailed,
     /// S4: this is the first of its needs that is not satisfied.
     #[error("the request waits for {0:?}")]
     Waiting(Need),
-    /// S5: as many requests run as the width allows.
+    /// S5: as many requests are running as the width allows.
     #[error("as many requests run as may")]
     WidthReached,
 }
@@ -29,7 +30,7 @@ pub enum StartRefusal {
 /// Why an outcome is not taken.
 #[derive(Clone, Copy, Debug, PartialEq, Eq, Error)]
 pub enum ReportRefusal {
-    /// P1: the request does not run.
+    /// P1: the request is not running.
     #[error("the request does not run")]
     NotRunning,
     /// P2: the status is not from 200 to 599.
@@ -37,16 +38,16 @@ pub enum ReportRefusal {
     BadStatus,
 }
 
-/// Why a list of events is no run.
+/// Why a list of events is not a run.
 #[derive(Clone, Copy, Debug, PartialEq, Eq, Error)]
 pub enum RunRefusal {
-    /// The start at this place of the list, counted from 0, may not come.
+    /// The start at this index of the list may not come.
     #[error("event {at}: {cause}")]
     Start { at: usize, cause: StartRefusal },
-    /// The report at this place of the list, counted from 0, may not come.
+    /// The report at this index of the list may not come.
     #[error("event {at}: {cause}")]
     Report { at: usize, cause: ReportRefusal },
-    /// Memory was refused. That says nothing of the events.
+    /// An allocation failed. That says nothing about the events.
     #[error("out of memory")]
     OutOfMemory,
 }
@@ -54,7 +55,7 @@ pub enum RunRefusal {
 impl StartRefusal {
     ghost use Rattle.odb_sched.specs.Refusals.{start_code, start_name};
 
-    /// The code that is printed, from `S1` to `S5`.
+    /// Returns the code, from `S1` to `S5`.
     pub fn code(&self) -> &'static str
         ensures { result.now ≡ start_code self.now }
     {
@@ -67,7 +68,7 @@ impl StartRefusal {
         }
     }
 
-    /// The name that is printed, as `Waiting`.
+    /// Returns the name, such as `Waiting`.
     pub fn name(&self) -> &'static str
         ensures { result.now ≡ start_name self.now }
     {
@@ -84,7 +85,7 @@ impl StartRefusal {
 impl ReportRefusal {
     ghost use Rattle.odb_sched.specs.Refusals.{report_code, report_name};
 
-    /// The code that is printed, `P1` or `P2`.
+    /// Returns the code, `P1` or `P2`.
     pub fn code(&self) -> &'static str
         ensures { result.now ≡ report_code self.now }
     {
@@ -94,7 +95,7 @@ impl ReportRefusal {
         }
     }
 
-    /// The name that is printed, as `NotRunning`.
+    /// Returns the name, such as `NotRunning`.
     pub fn name(&self) -> &'static str
         ensures { result.now ≡ report_name self.now }
     {
@@ -108,7 +109,7 @@ impl ReportRefusal {
 impl RunRefusal {
     ghost use Rattle.odb_sched.specs.Refusals.{IsNumbered, run_code, run_name, run_place};
 
-    /// The code of a numbered refusal, as `S4`.
+    /// Returns the code of a numbered refusal, such as `S4`.
     pub fn code(&self) -> &'static str
         requires { IsNumbered self.now }
         ensures { result.now ≡ run_code self.now }
@@ -120,7 +121,7 @@ impl RunRefusal {
         }
     }
 
-    /// The name of a numbered refusal, as `Waiting`.
+    /// Returns the name of a numbered refusal, such as `Waiting`.
     pub fn name(&self) -> &'static str
         requires { IsNumbered self.now }
         ensures { result.now ≡ run_name self.now }

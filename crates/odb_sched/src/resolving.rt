@@ -14,13 +14,13 @@ use odb_doc::{Events, NamedEvent, Place};
 use std::alloc::{AllocError, AllocFailed, Global};
 use thiserror::Error;
 
-/// Why events that name requests by their ids are none of a batch.
+/// Why recorded events are not events of a batch.
 #[derive(Clone, Copy, Debug, PartialEq, Eq, Error)]
 pub enum ResolveFault {
-    /// F65: the event at this place, counted from 0, names no request of the batch.
+    /// F65: the batch has no request with the id of the event at this index.
     #[error("event {at}: the batch has no such request")]
     UnknownEvent { at: usize },
-    /// Memory was refused. That says nothing of the events.
+    /// An allocation failed. That says nothing about the events.
     #[error("out of memory")]
     OutOfMemory,
 }
@@ -101,11 +101,11 @@ fn at_position(event: NamedEvent, i: u32) -> Event
 
 /// Returns the events by the positions of their requests, in their order. The outcomes are moved.
 ///
-/// It takes time linear in the number of events.
+/// Costs O(number of events).
 ///
 /// # Errors
 ///
-/// F65 of the first event that names no request of the plan; `OutOfMemory` if memory was refused.
+/// F65 for the first event whose id the plan does not have; `OutOfMemory` if an allocation fails.
 pub fn resolve(alloc: Global, plan: &Plan<'_>, events: Events) -> Result<Vec<Event>, ResolveFault>
     ensures known { OnOk result (All (IsKnown (plan_records plan.now)) (entries events)) }
     ensures events { IfOk result (λ found. AllZip (IsResolved (plan_records plan.now))

@@ -29,7 +29,7 @@ use odb_doc::Outcome;
 use std::alloc::{AllocError, Global};
 use std::marker::Model;
 
-/// One run of a plan, as far as it has come (OData Protocol 4.01, section 11.7).
+/// A run of a plan, as far as it has come (OData Protocol 4.01, section 11.7).
 ///
 /// `start` costs O(dependencies of the request); all reports of a run together cost O(requests +
 /// dependencies). `ready`, `running` and `is_finished` take constant time.
@@ -60,7 +60,7 @@ impl<'p> Model for Scheduler<'p> {
     ghost invariant = { IsKept };
 }
 
-/// As many requests that have not started.
+/// Returns the phases of so many requests that have not started.
 fn all_unstarted(alloc: Global, count: u32) -> Result<Vec<Phase>, AllocError>
     ensures { IfOk result (λ phases. phases.items ≡ replicate count Unstarted) }
 {
@@ -80,8 +80,8 @@ fn put(phases: &mut [Phase], i: u32, phase: Phase)
 }
 
 impl<'p> Scheduler<'p> {
-    /// A run before its first event. It takes all the memory that the run needs: the calls from
-    /// then on take none, and an outcome is moved in, not copied.
+    /// Returns a run before its first event. It allocates all that the run needs: later calls
+    /// allocate nothing, and outcomes are moved in, not copied.
     pub fn new<'a: 'p>(
         alloc: Global,
         plan: &'p Plan<'a>,
@@ -101,7 +101,7 @@ impl<'p> Scheduler<'p> {
         })
     }
 
-    /// The first cause why a request may not start.
+    /// Returns the first cause why a request may not start.
     fn start_refusal(&self, i: u32) -> Option<StartRefusal>
         requires { i < states.size self.now }
         ensures { result ≡ causes.start_refusal self.now i }
@@ -124,11 +124,11 @@ impl<'p> Scheduler<'p> {
         None
     }
 
-    /// Starts the request at a position, counted from 0.
+    /// Starts request `i`, counted from 0.
     ///
     /// # Errors
     ///
-    /// The first cause in the order S1 to S5; the run is as before.
+    /// The first of the causes S1 to S5 that applies; the run is unchanged.
     pub fn start(&mut self, i: u32) -> Result<(), StartRefusal>
         requires { i < states.size self.old }
         ensures ok { OnOk result (self.new ≡ states.started self.old i) }
@@ -167,7 +167,7 @@ impl<'p> Scheduler<'p> {
     ///
     /// # Errors
     ///
-    /// P1 or P2, in this order, and the outcome; the run is as before.
+    /// The first of P1 and P2 that applies, with the outcome; the run is unchanged.
     pub fn report(&mut self, i: u32, outcome: Outcome) -> Result<(), (ReportRefusal, Outcome)>
         requires { i < states.size self.old }
         ensures ok { OnOk result (self.new ≡ states.reported self.old i outcome) }
@@ -257,7 +257,7 @@ impl<'p> Scheduler<'p> {
         }
     }
 
-    /// The next step in an order, or `None` where the run is finished.
+    /// Returns the next step in an order, or `None` if the run is finished.
     pub(crate) fn next_in(&mut self, order: Order) -> Option<Step>
         ensures same { self.new ≡ self.old }
         ensures finished { result ≡ None → steps.is_finished self.old ≡ true }
@@ -270,8 +270,8 @@ impl<'p> Scheduler<'p> {
         }
     }
 
-    /// Whether no event may come any more: none runs, and the run is stopped or each request was
-    /// reported or will never start.
+    /// Returns whether no event may come any more: no request is running, and the run is stopped or
+    /// each request was reported or will never start.
     pub fn is_finished(&self) -> bool
         ensures value { result ≡ steps.is_finished self.now }
         ensures idle { IsTrue result ↔ ((i : ℕ) → i < states.size self.now
@@ -281,7 +281,7 @@ impl<'p> Scheduler<'p> {
         self.views.is_finished()
     }
 
-    /// Ends a finished run.
+    /// Ends a finished run and returns its answers.
     pub fn close(self) -> Done<'p>
         requires { steps.is_finished self ≡ true }
         ensures state { result ≡ self.entry }

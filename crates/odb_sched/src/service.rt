@@ -1,7 +1,7 @@
 use odb_doc::{Outcome, Request};
 use thiserror::Error;
 
-/// Why a service gives no outcome.
+/// Why a service returns no outcome.
 #[derive(Clone, Copy, Debug, PartialEq, Eq, Error)]
 pub enum ServiceFault {
     /// It has none for this request.
@@ -27,7 +27,7 @@ pub trait Service {
     ghost use Rattle.odb_sched.specs.declared.service.ServiceFault.{ServiceFault};
     ghost use Rattle.odb_sched.specs.declared.service.ServiceFault.TheVariants.{OutOfMemory};
 
-    /// Which answers it may give now for the request at a position.
+    /// The answers that it may give now for the request at a position.
     ghost offers: { Self → ℕ → Result Outcome ServiceFault → Type 0 };
 
     /// What one call does: the service before it, the position, the request, the answer, and the

@@ -43,7 +43,7 @@ fn give_up(plan: &Plan<'_>, phases: &[Phase], u: u32, tally: &mut Tally)
     }
 }
 
-/// Puts the unit of each request of a list on the worklist.
+/// Marks the unit of each request of the list as failed.
 fn mark_each(plan: &Plan<'_>, list: &[u32], tally: &mut Tally)
     requires laws { shapes.IsPlan (shape plan.now) }
     requires units { length tally.old.units ≡ (shape plan.now).unit_count }

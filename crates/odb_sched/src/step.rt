@@ -2,7 +2,7 @@
 /// outcome.
 #[derive(Clone, Copy, Debug, PartialEq, Eq)]
 pub enum Step {
-    /// The request was handed to its service.
+    /// The request was sent.
     Start(u32),
     /// The service was asked for the outcome of the request.
     Report(u32),

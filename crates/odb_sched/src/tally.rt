@@ -13,7 +13,7 @@ use std::alloc::{AllocError, Global};
 pub(crate) struct Tally {
     /// Of each request, how many of its needs are not satisfied.
     pub(crate) unmet: Vec<usize>,
-    /// Of each unit, how many members have not reported a success.
+    /// For each unit the number of its members that have not succeeded.
     pub(crate) pending: Vec<u32>,
     /// The units that have failed.
     pub(crate) units: Worklist,
@@ -21,11 +21,11 @@ pub(crate) struct Tally {
     pub(crate) ready: OrderedPositions,
     /// The running requests.
     pub(crate) running: OrderedPositions,
-    /// How many requests are neither reported nor in a unit that has failed.
+    /// The number of requests that have not reported and are not in a failed unit.
     pub(crate) left: usize,
 }
 
-/// Of each request, how many needs it has.
+/// Returns for each request the number of its dependencies.
 fn need_counts(alloc: Global, plan: &Plan<'_>) -> Result<Vec<usize>, AllocError>
     ensures { IfOk result (λ counts. counts.items ≡ first.need_counts (shape plan.now)) }
 {
@@ -36,7 +36,7 @@ fn need_counts(alloc: Global, plan: &Plan<'_>) -> Result<Vec<usize>, AllocError>
     Ok(counts)
 }
 
-/// Of each unit, how many members it has.
+/// Returns for each unit the number of its members.
 fn member_counts(alloc: Global, plan: &Plan<'_>) -> Result<Vec<u32>, AllocError>
     ensures counts { IfOk result (λ counts. counts.items ≡ first.member_counts (shape plan.now)) }
     ensures some { IfOk result (λ counts. All (λ count. 0 < count) counts.items) }
@@ -49,7 +49,7 @@ fn member_counts(alloc: Global, plan: &Plan<'_>) -> Result<Vec<u32>, AllocError>
     Ok(counts)
 }
 
-/// The requests that need nothing.
+/// Returns the requests without dependencies.
 fn without_needs(alloc: Global, plan: &Plan<'_>) -> Result<OrderedPositions, AllocError>
     ensures each { IfOk result (λ free. length free ≡ length (shape plan.now).units) }
     ensures exact { IfOk result (λ free. (i : ℕ) → i < length (shape plan.now).units
@@ -65,8 +65,8 @@ fn without_needs(alloc: Global, plan: &Plan<'_>) -> Result<OrderedPositions, All
 }
 
 impl Tally {
-    /// What is counted before the first event of a run: each request has all its needs before it, each
-    /// unit all its members, and no request has failed or runs.
+    /// Returns the counts before the first event of a run: no dependency is satisfied, and no
+    /// request is running or has failed.
     ///
     /// # Errors
     ///

@@ -8,8 +8,8 @@ ghost use Rattle.odb_sched.specs.Tallies.{ArePending};
 use crate::phase::Phase;
 use odb_check::{Need, Plan};
 
-/// Whether what is needed has reported a success, where `pending` says of each unit how many members
-/// have not.
+/// Returns whether a dependency is satisfied. `pending` has for each unit the number of its members
+/// that have not succeeded.
 fn is_met(plan: &Plan<'_>, phases: &[Phase], pending: &[u32], need: Need) -> bool
     requires each { length phases.now ≡ length (shape plan.now).units }
     requires members { length pending.now ≡ (shape plan.now).unit_count }
@@ -23,8 +23,8 @@ fn is_met(plan: &Plan<'_>, phases: &[Phase], pending: &[u32], need: Need) -> boo
     }
 }
 
-/// The first need of a request that is not met, where `pending` says of each unit how many members
-/// have not reported a success.
+/// Returns the first dependency of a request that is not satisfied. `pending` has for each unit the
+/// number of its members that have not succeeded.
 pub(crate) fn first_unmet(
     plan: &Plan<'_>,
     phases: &[Phase],

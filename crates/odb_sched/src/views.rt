@@ -24,7 +24,7 @@ use odb_check::Plan;
 use odb_dense::Rows;
 use std::alloc::{AllocError, Global};
 
-/// Whether a run is stopped, or the report of a request stops it.
+/// Returns whether the run was stopped before, or this report stops it.
 fn is_stopped(stopped: bool, policy: Policy, phase: &Phase) -> bool
     ensures { result ≡ (stopped || (stops policy.mode && tests.has_erred phase.now)) }
 {
@@ -60,7 +60,7 @@ pub(crate) struct Views {
 impl Views {
     ghost use Rattle.odb_sched.specs.Kept.{AreViews};
 
-    /// The views of a run before its first event.
+    /// Returns what is kept before the first event.
     pub(crate) fn new(alloc: Global, plan: &Plan<'_>, policy: Policy) -> Result<Views, AllocError>
         ensures { IfOk result (AreViews (states.at_first plan.now policy)) }
     {
@@ -96,14 +96,14 @@ impl Views {
         self.stopped = is_stopped(self.stopped, policy, &phases[i as usize]);
     }
 
-    /// Whether an error has stopped the run.
+    /// Returns whether an error has stopped the run.
     pub(crate) fn stopped(&self) -> bool
         ensures { result ≡ self.now.stopped }
     {
         self.stopped
     }
 
-    /// Whether a unit has failed.
+    /// Returns whether a unit has failed.
     pub(crate) fn failed(&self, u: u32) -> bool
         requires { u < length self.now.tally.units }
         ensures { result ≡ is_passed (slice_index_or self.now.tally.units u Sound) }
@@ -111,14 +111,15 @@ impl Views {
         self.tally.units.is_passed(u)
     }
 
-    /// Of each unit, how many members have not reported a success.
+    /// For each unit the number of its members that have not succeeded.
     pub(crate) fn pending(&self) -> &[u32]
         ensures { result.now ≡ self.now.tally.pending.items }
     {
         &self.tally.pending
     }
 
-    /// Of each unit, how many members have not reported a success, at the end of a run.
+    /// Returns for each unit the number of its members that have not succeeded, at the end of a
+    /// run.
     pub(crate) fn into_pending(self) -> Vec<u32>
         ensures { result ≡ self.tally.pending }
     {
@@ -126,7 +127,8 @@ impl Views {
         tally.pending
     }
 
-    /// Whether nothing may start now, since the run is stopped or as many run as the width allows.
+    /// Returns whether nothing may start now: the run is stopped, or as many requests are running
+    /// as the width allows.
     fn is_closed(&self, policy: Policy) -> bool
         ensures { result ≡ (self.now.stopped
             || not (nat_lt (count_by (λ runs. runs) self.now.tally.running) policy.width)) }
@@ -134,7 +136,7 @@ impl Views {
         self.stopped || self.tally.running.len() >= policy.width as usize
     }
 
-    /// Whether no position may start any more and none runs.
+    /// Returns whether no request is running and none may start any more.
     pub(crate) fn is_finished(&self) -> bool
         ensures { result ≡ ((count_by (λ runs. runs) self.now.tally.running == 0)
             && (self.now.stopped || (self.now.tally.left == 0))) }
