@@ -7,14 +7,14 @@ use Rattle.std.proofs.lemmas.List.{get_or_default, length-map}
 use Rattle.std.proofs.lemmas.List.Sums.{sum_by-cons, get_or-le-sum_by}
 use Rattle.odb_check.specs.Shape.{unit_of, needs_of}
 use Rattle.odb_sched.specs.declared.phase.Phase.TheVariants.{Unstarted}
-use Rattle.odb_sched.specs.declared.views.Views.{Views}
+use Rattle.odb_sched.specs.declared.tracker.Tracker.{Tracker}
 use Rattle.odb_sched.specs.Below.{any_below, all_below, ListsOnce}
 use Rattle.odb_sched.specs.Phases.{is_unstarted, is_running, is_reported}
 use Rattle.odb_sched.specs.State.{State, size, phase_at}
 use Rattle.odb_sched.specs.Steps.{met_in, all_met, unit_failed, is_stopped, running_count, may_start, is_finished}
 use Rattle.odb_sched.specs.Reached.{IsReached}
-use Rattle.odb_sched.specs.Tallies.{is_gone}
-use Rattle.odb_sched.specs.Kept.{AreViews}
+use Rattle.odb_sched.specs.ProgressCounts.{is_gone}
+use Rattle.odb_sched.specs.Kept.{IsTracked}
 use Rattle.odb_sched.proofs.BelowLemmas.{any_below-Decides, count_by-none}
 use Rattle.odb_sched.proofs.ListLemmas.{lists_alike}
 use Rattle.odb_sched.proofs.UnmetLemmas.{none_counted, all_alike}
@@ -46,15 +46,15 @@ none_pass test xs d = elim (cases_Bool (any_below (length xs) (λ i. test (get_o
         ne_eqb _ 0 (λ none. omega arith)
 
 -- how many run
-pub running_is : (state : State) (views : Views) → AreViews state views → count_by (λ runs. runs) views.tally.running ≡ running_count state
-running_is state views are = ap (count_by (λ runs. runs)) are.counts.running ∙ count_map is_running state.phases
+pub running_is : (state : State) (tracker : Tracker) → IsTracked state tracker → count_by (λ runs. runs) tracker.progress.running ≡ running_count state
+running_is state tracker are = ap (count_by (λ runs. runs)) are.counts.running ∙ count_map is_running state.phases
 
 -- whether the unit of a request has failed
-gone_is : (state : State) (views : Views) (i : ℕ) → IsReached state → AreViews state views → i < size state → is_gone state.shape views.tally.units i ≡ unit_failed state (unit_of state.shape i)
-gone_is state views i reached are within = are.counts.units.failed (unit_of state.shape i) (reached.laws.counted i within)
+gone_is : (state : State) (tracker : Tracker) (i : ℕ) → IsReached state → IsTracked state tracker → i < size state → is_gone state.shape tracker.progress.units i ≡ unit_failed state (unit_of state.shape i)
+gone_is state tracker i reached are within = are.counts.units.failed (unit_of state.shape i) (reached.laws.counted i within)
 
-unmet_is : (state : State) (views : Views) (i : ℕ) → AreViews state views → i < size state → (get_or views.tally.unmet.items i 0 == 0) ≡ all_met state i
-unmet_is state views i are within = ap (λ n. n == 0) (are.counts.unmet i within) ∙ none_unmet (met_in state.shape state.phases) (needs_of state.shape i)
+unmet_is : (state : State) (tracker : Tracker) (i : ℕ) → IsTracked state tracker → i < size state → (get_or tracker.progress.unmet.items i 0 == 0) ≡ all_met state i
+unmet_is state tracker i are within = ap (λ n. n == 0) (are.counts.unmet i within) ∙ none_unmet (met_in state.shape state.phases) (needs_of state.shape i)
 
 regroup : (fresh stopped failed met room : Bool) → ((fresh && not failed && met) && not stopped && room) ≡ (fresh && not stopped && not failed && met && room)
 regroup true true true met room = refl
@@ -66,38 +66,38 @@ regroup true false false false room = refl
 regroup false stopped failed met room = refl
 
 -- which positions may start
-pub starts_is : (state : State) (views : Views) (i : ℕ) → IsReached state → AreViews state views → i < size state
-    → (get_or views.tally.ready i false && not views.stopped && nat_lt (count_by (λ runs. runs) views.tally.running) state.policy.width) ≡ may_start state i
-starts_is state views i reached are within =
-    rw (are.counts.ready.exact i within, gone_is state views i reached are within, unmet_is state views i are within, are.stopped, running_is state views are)
+pub starts_is : (state : State) (tracker : Tracker) (i : ℕ) → IsReached state → IsTracked state tracker → i < size state
+    → (get_or tracker.progress.ready i false && not tracker.stopped && nat_lt (count_by (λ runs. runs) tracker.progress.running) state.policy.width) ≡ may_start state i
+starts_is state tracker i reached are within =
+    rw (are.counts.ready.exact i within, gone_is state tracker i reached are within, unmet_is state tracker i are within, are.stopped, running_is state tracker are)
     (regroup (is_unstarted (phase_at state i)) (is_stopped state) (unit_failed state (unit_of state.shape i)) (all_met state i) (nat_lt (running_count state) state.policy.width))
 
 -- which positions run
-pub runs_is : (state : State) (views : Views) (i : ℕ) → AreViews state views → get_or views.tally.running i false ≡ is_running (phase_at state i)
-runs_is state views i are = ap (λ running. get_or running i false) are.counts.running ∙ get_or-map is_running state.phases i Unstarted
+pub runs_is : (state : State) (tracker : Tracker) (i : ℕ) → IsTracked state tracker → get_or tracker.progress.running i false ≡ is_running (phase_at state i)
+runs_is state tracker i are = ap (λ running. get_or running i false) are.counts.running ∙ get_or-map is_running state.phases i Unstarted
 
 -- the positions that may start are listed
-pub ready_listed : (state : State) (views : Views) (xs : List ℕ) → IsReached state → AreViews state views
-    → ListsOnce (length views.tally.ready) (λ i. get_or views.tally.ready i false && not views.stopped && nat_lt (count_by (λ runs. runs) views.tally.running) state.policy.width) xs → ListsOnce (size state) (may_start state) xs
-ready_listed state views xs reached are listed = lists_alike (size state) _ (may_start state) xs (λ i within. starts_is state views i reached are within)
-    (subst (λ n. ListsOnce n (λ i. get_or views.tally.ready i false && not views.stopped && nat_lt (count_by (λ runs. runs) views.tally.running) state.policy.width) xs) are.counts.ready.each listed)
+pub ready_listed : (state : State) (tracker : Tracker) (xs : List ℕ) → IsReached state → IsTracked state tracker
+    → ListsOnce (length tracker.progress.ready) (λ i. get_or tracker.progress.ready i false && not tracker.stopped && nat_lt (count_by (λ runs. runs) tracker.progress.running) state.policy.width) xs → ListsOnce (size state) (may_start state) xs
+ready_listed state tracker xs reached are listed = lists_alike (size state) _ (may_start state) xs (λ i within. starts_is state tracker i reached are within)
+    (subst (λ n. ListsOnce n (λ i. get_or tracker.progress.ready i false && not tracker.stopped && nat_lt (count_by (λ runs. runs) tracker.progress.running) state.policy.width) xs) are.counts.ready.each listed)
 
 -- the positions that run are listed
-pub running_listed : (state : State) (views : Views) (xs : List ℕ) → IsReached state → AreViews state views → ListsOnce (length views.tally.running) (λ i. get_or views.tally.running i false) xs → ListsOnce (size state) (λ i. is_running (phase_at state i)) xs
-running_listed state views xs reached are listed = lists_alike (size state) _ _ xs (λ i within. runs_is state views i are)
-    (subst (λ n. ListsOnce n (λ i. get_or views.tally.running i false) xs) (ap length are.counts.running ∙ length-map state.phases is_running ∙ reached.each) listed)
+pub running_listed : (state : State) (tracker : Tracker) (xs : List ℕ) → IsReached state → IsTracked state tracker → ListsOnce (length tracker.progress.running) (λ i. get_or tracker.progress.running i false) xs → ListsOnce (size state) (λ i. is_running (phase_at state i)) xs
+running_listed state tracker xs reached are listed = lists_alike (size state) _ _ xs (λ i within. runs_is state tracker i are)
+    (subst (λ n. ListsOnce n (λ i. get_or tracker.progress.running i false) xs) (ap length are.counts.running ∙ length-map state.phases is_running ∙ reached.each) listed)
 
 -- nothing runs and nothing may start any more exactly where the run is finished
-pub finished_is : (state : State) (views : Views) → IsReached state → AreViews state views → ((count_by (λ runs. runs) views.tally.running == 0) && (views.stopped || (views.tally.left == 0))) ≡ is_finished state
-finished_is state views reached are = rw (running_is state views are, none_pass is_running state.phases Unstarted, reached.each, are.stopped, left_is) refl
+pub finished_is : (state : State) (tracker : Tracker) → IsReached state → IsTracked state tracker → ((count_by (λ runs. runs) tracker.progress.running == 0) && (tracker.stopped || (tracker.progress.left == 0))) ≡ is_finished state
+finished_is state tracker reached are = rw (running_is state tracker are, none_pass is_running state.phases Unstarted, reached.each, are.stopped, left_is) refl
   where
     turned : (a b : Bool) → (a || b) ≡ not (not a && not b)
     turned true b = refl
     turned false true = refl
     turned false false = refl
 
-    left_is : (views.tally.left == 0) ≡ all_below (size state) (λ i. is_reported (phase_at state i) || unit_failed state (unit_of state.shape i))
+    left_is : (tracker.progress.left == 0) ≡ all_below (size state) (λ i. is_reported (phase_at state i) || unit_failed state (unit_of state.shape i))
     left_is =
         ap (λ n. n == 0) are.counts.left
-        ∙ none_counted (size state) _ _ (λ i. turned (is_reported (phase_at state i)) (is_gone state.shape views.tally.units i))
-        ∙ all_alike (size state) _ _ (λ i within. ap (λ b. is_reported (phase_at state i) || b) (gone_is state views i reached are within))
+        ∙ none_counted (size state) _ _ (λ i. turned (is_reported (phase_at state i)) (is_gone state.shape tracker.progress.units i))
+        ∙ all_alike (size state) _ _ (λ i within. ap (λ b. is_reported (phase_at state i) || b) (gone_is state tracker i reached are within))

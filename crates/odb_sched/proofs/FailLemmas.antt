@@ -10,17 +10,17 @@ use Rattle.odb_dense.specs.declared.worklist.Standing.{Standing}
 use Rattle.odb_dense.specs.declared.worklist.Standing.TheVariants.{Sound, Waiting, Passed}
 use Rattle.odb_sched.specs.declared.phase.Phase.{Phase}
 use Rattle.odb_sched.specs.declared.phase.Phase.TheVariants.{Unstarted, Running, Reported}
-use Rattle.odb_sched.specs.declared.tally.Tally.{Tally}
+use Rattle.odb_sched.specs.declared.progress.Progress.{Progress}
 use Rattle.odb_sched.specs.Below.{all_below}
 use Rattle.odb_sched.specs.Phases.{is_running, has_succeeded, has_failed}
 use Rattle.odb_sched.specs.Failing.{own}
 use Rattle.odb_sched.specs.Steps.{met_in, failed_in}
 use Rattle.odb_dense.specs.Standings.{is_marked, is_passed, marked}
-use Rattle.odb_sched.specs.Tallies.{is_gone, unmet_in, pending_in, ArePassed, AreReady, AreCounts, open_count}
+use Rattle.odb_sched.specs.ProgressCounts.{is_gone, unmet_in, pending_in, ArePassed, AreReady, AreCounts, open_count}
 use Rattle.odb_sched.specs.Passing.{NeedsUnit, HaveMarked, ArePassing}
 use Rattle.odb_sched.proofs.CountLemmas.{count_same}
 use Rattle.odb_sched.proofs.FailingLemmas.{Fails-from_fails, fails-from_Fails, Fails-as}
-use Rattle.odb_sched.proofs.SpreadLemmas.{own_fails, need_fails, gone_marked}
+use Rattle.odb_sched.proofs.PropagateLemmas.{own_fails, need_fails, gone_marked}
 
 failed_not_succeeded : (phase : Phase) → has_failed phase ≡ true → has_succeeded phase ≡ false
 failed_not_succeeded Unstarted e = refl
@@ -143,7 +143,7 @@ passing_failed plan phases units i laws within as_long failed are = record {
     taken v below bad = marks.kept v (are.marked v ∙ are.failed v below ∙ bad)
 
 -- the counts are right again
-pub counts_failed : (plan : Shape) (phases : List Phase) (i : ℕ) (before t : Tally) → i < length phases → has_failed (get_or phases i Unstarted) ≡ true → AreCounts plan (set phases i Running) before
+pub counts_failed : (plan : Shape) (phases : List Phase) (i : ℕ) (before t : Progress) → i < length phases → has_failed (get_or phases i Unstarted) ≡ true → AreCounts plan (set phases i Running) before
     → t.unmet.items ≡ before.unmet.items → t.pending.items ≡ before.pending.items → t.running ≡ map is_running phases → ArePassed plan phases t.units → AreReady plan (is_gone plan t.units) phases t.unmet.items t.ready → t.left ≡ open_count plan (is_gone plan t.units) phases
     → AreCounts plan phases t
 counts_failed plan phases i before t within failed counts unmet pending running units ready left = record {

@@ -12,13 +12,13 @@ use Rattle.odb_dense.specs.declared.worklist.Standing.TheVariants.{Sound}
 use Rattle.odb_dense.specs.Standings.{is_marked, is_passed}
 use Rattle.odb_sched.specs.declared.phase.Phase.{Phase}
 use Rattle.odb_sched.specs.declared.phase.Phase.TheVariants.{Unstarted}
-use Rattle.odb_sched.specs.declared.tally.Tally.{Tally}
+use Rattle.odb_sched.specs.declared.progress.Progress.{Progress}
 use Rattle.odb_sched.specs.Phases.{is_running, is_unstarted, is_reported, has_succeeded, has_failed}
 use Rattle.odb_sched.specs.Failing.{Fails, own, passed, unit_needed}
 use Rattle.odb_sched.specs.FirstCounts.{needs_in, members_in, need_counts, member_counts}
 use Rattle.odb_sched.specs.Plans.{IsSpan, IsNeed}
 use Rattle.odb_sched.specs.Steps.{met_in, failed_in}
-use Rattle.odb_sched.specs.Tallies.{AreCounts, AreReady, ArePassed, is_gone, open_count, pending_in, unmet_in}
+use Rattle.odb_sched.specs.ProgressCounts.{AreCounts, AreReady, ArePassed, is_gone, open_count, pending_in, unmet_in}
 use Rattle.odb_sched.proofs.CountLemmas.{count_same, count_none}
 use Rattle.odb_sched.proofs.FailingLemmas.{Fails-from_fails}
 use Rattle.odb_sched.proofs.PhaseLemmas.{get_or-replicate_Unstarted}
@@ -141,7 +141,7 @@ open_first : (plan : Shape) → length plan.units ≡ open_count plan (is_gone p
 open_first plan = sym (count_each (length plan.units) _ (λ i within. rw (ap is_reported (fresh_at plan i), not_gone plan i) refl))
 
 -- the counts of needs and members are right before any event
-pub first_counts : (plan : Shape) (t : Tally) → IsPlan plan → t.unmet.items ≡ need_counts plan → t.pending.items ≡ member_counts plan → All (λ count. 0 < count) t.pending.items → t.units ≡ replicate plan.unit_count Sound
+pub first_counts : (plan : Shape) (t : Progress) → IsPlan plan → t.unmet.items ≡ need_counts plan → t.pending.items ≡ member_counts plan → All (λ count. 0 < count) t.pending.items → t.units ≡ replicate plan.unit_count Sound
     → length t.ready ≡ length plan.units → ((i : ℕ) → i < length plan.units → get_or t.ready i false ≡ (needs_in plan i == 0)) → t.running ≡ replicate (length plan.units) false → t.left ≡ length plan.units
     → AreCounts plan (fresh plan) t
 first_counts plan t laws unmet pending some units each exact running left = record {

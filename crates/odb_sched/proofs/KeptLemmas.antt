@@ -6,7 +6,7 @@ use Rattle.std.proofs.lemmas.List.{with_items_is}
 use Rattle.odb_doc.specs.declared.outcome.Outcome.{Outcome}
 use Rattle.odb_sched.specs.declared.phase.Phase.{Phase}
 use Rattle.odb_sched.specs.declared.phase.Phase.TheVariants.{Unstarted}
-use Rattle.odb_sched.specs.declared.views.Views.{Views}
+use Rattle.odb_sched.specs.declared.tracker.Tracker.{Tracker}
 use Rattle.odb_sched.specs.declared.scheduler.Scheduler.TheInside.{Inside}
 use Rattle.odb_sched.specs.declared.refusal.StartRefusal.{StartRefusal}
 use Rattle.odb_sched.specs.declared.refusal.ReportRefusal.{ReportRefusal}
@@ -16,7 +16,7 @@ use Rattle.odb_sched.specs.Steps.{may_start, may_report, is_finished}
 use Rattle.odb_sched.specs.CauseTests.{start_refusal, report_refusal}
 use Rattle.odb_sched.specs.Plans.{state_of}
 use Rattle.odb_sched.specs.Reached.{IsReached}
-use Rattle.odb_sched.specs.Kept.{AreViews, IsKept}
+use Rattle.odb_sched.specs.Kept.{IsTracked, IsKept}
 use Rattle.odb_sched.proofs.StartLemmas.{start_refusal-may_start, report_refusal-may_report}
 use Rattle.odb_sched.proofs.StuckLemmas.{never_stuck, none_runs, none_starts}
 
@@ -43,13 +43,13 @@ pub written_back : (s : Inside) (i : ℕ) (before new : Phase) (written told : L
     → set told i before ≡ s.phases.items
 written_back s i before new written told write len tell stood = ap (λ phases. set phases i before) (tell ∙ with_items_is s.phases written len ∙ write) ∙ set_back s.phases.items i before new stood
 
--- a request's new phase is written, and the views are told of it
-pub kept_written : (s : Inside) (i : ℕ) (new : Phase) (written told : List Phase) (views : Views) → written ≡ set s.phases.items i new → length written ≡ s.phases.len
-    → IsReached (state_of s.plan.now s.policy (set s.phases.items i new)) → told ≡ (with_items s.phases written).items → AreViews (state_of s.plan.now s.policy told) views
-    → IsKept (record { plan = s.plan; policy = s.policy; phases = with_items s.phases written; views = views })
-kept_written s i new written told views write len reached tell are = record {
+-- a request's new phase is written, and the tracker are told of it
+pub kept_written : (s : Inside) (i : ℕ) (new : Phase) (written told : List Phase) (tracker : Tracker) → written ≡ set s.phases.items i new → length written ≡ s.phases.len
+    → IsReached (state_of s.plan.now s.policy (set s.phases.items i new)) → told ≡ (with_items s.phases written).items → IsTracked (state_of s.plan.now s.policy told) tracker
+    → IsKept (record { plan = s.plan; policy = s.policy; phases = with_items s.phases written; tracker = tracker })
+kept_written s i new written told tracker write len reached tell are = record {
   reached = subst (λ phases. IsReached (state_of s.plan.now s.policy phases)) (sym (with_items_is s.phases written len ∙ write)) reached;
-  views = subst (λ phases. AreViews (state_of s.plan.now s.policy phases) views) tell are;
+  tracker = subst (λ phases. IsTracked (state_of s.plan.now s.policy phases) tracker) tell are;
 }
 
 -- a run is finished exactly where none may start and none runs

@@ -9,7 +9,7 @@ use Rattle.odb_check.specs.Firsts.{joined_below}
 use Rattle.odb_check.specs.Shape.{Shape, IsPlan, needs_of}
 use Rattle.odb_dense.specs.ByKey.{of_key, HaveKeys}
 use Rattle.odb_sched.specs.Plans.{IsNeed}
-use Rattle.odb_sched.specs.Tallies.{AreNeeders, key_of, need_count}
+use Rattle.odb_sched.specs.ProgressCounts.{AreNeeders, key_of, need_count}
 use Rattle.odb_sched.specs.NeedPairs.{need_pairs, all_pairs}
 use Rattle.odb_sched.proofs.SpanLemmas.{known_needs}
 

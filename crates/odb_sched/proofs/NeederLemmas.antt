@@ -11,7 +11,7 @@ use Rattle.odb_dense.specs.declared.worklist.Standing.TheVariants.{Sound}
 use Rattle.odb_dense.specs.Standings.{is_marked}
 use Rattle.odb_sched.specs.Plans.{IsSpan}
 use Rattle.odb_sched.specs.Failing.{unit_needed}
-use Rattle.odb_sched.specs.Tallies.{AreNeeders, key_of}
+use Rattle.odb_sched.specs.ProgressCounts.{AreNeeders, key_of}
 use Rattle.odb_sched.specs.Passing.{NeedsUnit, HaveMarked}
 
 -- what is counted is there

@@ -13,7 +13,7 @@ use Rattle.odb_sched.specs.Below.{all_below}
 use Rattle.odb_sched.specs.Failing.{fails}
 use Rattle.odb_sched.specs.Phases.{is_unstarted, is_running, is_reported, has_succeeded, has_failed}
 use Rattle.odb_sched.specs.Steps.{met_in}
-use Rattle.odb_sched.specs.Tallies.{AreReady, ArePassed, unmet_in, pending_in, open_count}
+use Rattle.odb_sched.specs.ProgressCounts.{AreReady, ArePassed, unmet_in, pending_in, open_count}
 use Rattle.odb_sched.proofs.PhaseLemmas.{Running-from}
 
 -- a test that cannot tell a request that runs from an unstarted one has the same value before the start

@@ -8,7 +8,7 @@ use Rattle.odb_sched.specs.declared.phase.Phase.TheVariants.{Unstarted, Running,
 use Rattle.odb_dense.specs.declared.worklist.Standing.{Standing}
 use Rattle.odb_sched.specs.Failing.{fails}
 use Rattle.odb_sched.specs.Phases.{has_succeeded, has_failed}
-use Rattle.odb_sched.specs.Tallies.{AreUnmet, ArePending, ArePassed, need_count, unmet_in, met_by_unit, pending_in}
+use Rattle.odb_sched.specs.ProgressCounts.{AreUnmet, ArePending, ArePassed, need_count, unmet_in, met_by_unit, pending_in}
 use Rattle.odb_sched.proofs.UnmetLemmas.{unmet_falls, pending_own, pending_other}
 
 success_failed : (phase : Phase) → has_succeeded phase ≡ true → has_failed phase ≡ false

@@ -13,7 +13,7 @@ use Rattle.odb_sched.specs.Below.{all_below}
 use Rattle.odb_sched.specs.Phases.{has_succeeded}
 use Rattle.odb_sched.specs.Plans.{IsNeed}
 use Rattle.odb_sched.specs.Steps.{succeeded_in, met_in}
-use Rattle.odb_sched.specs.Tallies.{AreNeeders, key_of, need_count, unmet_in, met_by_unit, pending_in}
+use Rattle.odb_sched.specs.ProgressCounts.{AreNeeders, key_of, need_count, unmet_in, met_by_unit, pending_in}
 use Rattle.odb_sched.proofs.BelowLemmas.{count_by-none}
 use Rattle.odb_sched.proofs.CountLemmas.{count_same, count_less}
 use Rattle.odb_sched.proofs.MetLemmas.{member_succeeded}

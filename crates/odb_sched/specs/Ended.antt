@@ -5,7 +5,7 @@ use Rattle.odb_sched.specs.State.{State, shape}
 use Rattle.odb_sched.specs.Steps.{is_finished}
 use Rattle.odb_sched.specs.Plans.{state_of}
 use Rattle.odb_sched.specs.Reached.{IsReached}
-use Rattle.odb_sched.specs.Tallies.{ArePending}
+use Rattle.odb_sched.specs.ProgressCounts.{ArePending}
 
 -- the state in which the run has ended
 abbrev pub state_in : Inside → State

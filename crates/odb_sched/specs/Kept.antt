@@ -1,18 +1,18 @@
 -- Private: what a scheduler keeps from one event to the next.
 use Rattle.std.specs.Prelude.{◌≡◌}
-use Rattle.odb_sched.specs.declared.views.Views.{Views}
+use Rattle.odb_sched.specs.declared.tracker.Tracker.{Tracker}
 use Rattle.odb_sched.specs.declared.scheduler.Scheduler.TheInside.{Inside}
 use Rattle.odb_sched.specs.State.{State}
 use Rattle.odb_sched.specs.Steps.{is_stopped}
 use Rattle.odb_sched.specs.Plans.{state_of}
 use Rattle.odb_sched.specs.Reached.{IsReached}
-use Rattle.odb_sched.specs.Tallies.{AreNeeders, AreCounts}
+use Rattle.odb_sched.specs.ProgressCounts.{AreNeeders, AreCounts}
 
 -- the rows, the counts and the stop are those of the state
-pub record AreViews (state : State) (views : Views) : Type 0 where
-  pub needers : AreNeeders state.shape views.needers
-  pub counts : AreCounts state.shape state.phases views.tally
-  pub stopped : views.stopped ≡ is_stopped state
+pub record IsTracked (state : State) (tracker : Tracker) : Type 0 where
+  pub needers : AreNeeders state.shape tracker.needers
+  pub counts : AreCounts state.shape state.phases tracker.progress
+  pub stopped : tracker.stopped ≡ is_stopped state
 
 -- the state of the run that a scheduler drives
 abbrev pub state_in : Inside → State
@@ -21,4 +21,4 @@ state_in s = state_of s.plan.now s.policy s.phases.items
 -- what a scheduler keeps
 pub record IsKept (s : Inside) : Type 0 where
   pub reached : IsReached (state_in s)
-  pub views : AreViews (state_in s) s.views
+  pub tracker : IsTracked (state_in s) s.tracker

@@ -23,7 +23,7 @@ pub mod PlanCode
 pub mod Plans
 pub mod CauseTests
 pub mod Reached
-pub mod Tallies
+pub mod ProgressCounts
 pub mod NeedPairs
 pub mod FirstCounts
 pub mod Passing

@@ -2,7 +2,7 @@
 use Rattle.std.specs.Prelude.{ℕ, List, map, length}
 use Rattle.odb_check.specs.Firsts.{joined_below}
 use Rattle.odb_check.specs.Shape.{Shape, needs_of}
-use Rattle.odb_sched.specs.Tallies.{key_of}
+use Rattle.odb_sched.specs.ProgressCounts.{key_of}
 
 -- a pair for each need of a request
 abbrev pub need_pairs : Shape → ℕ → List (ℕ × ℕ)

@@ -10,7 +10,7 @@ use Rattle.odb_sched.specs.declared.phase.Phase.TheVariants.{Unstarted}
 use Rattle.odb_sched.specs.Phases.{has_failed}
 use Rattle.odb_sched.specs.Failing.{unit_needed}
 use Rattle.odb_sched.specs.Steps.{failed_in}
-use Rattle.odb_sched.specs.Tallies.{is_gone}
+use Rattle.odb_sched.specs.ProgressCounts.{is_gone}
 
 -- a member of the first unit needs something of the second
 abbrev pub NeedsUnit : Shape → ℕ → ℕ → Type 0

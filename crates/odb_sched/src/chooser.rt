@@ -12,7 +12,7 @@ pub enum Choice {
     Report(usize),
 }
 
-/// Decides in which order a plan is executed, as far as its dependencies leave that open.
+/// Decides in which order a plan is executed, as far as its dependencies complete that open.
 ///
 /// Each chooser defines which steps it allows, given the sets of ready and running positions: the
 /// order of the two slices carries no meaning. A chooser that names an order by

@@ -7,7 +7,7 @@ ghost use Rattle.odb_sched.specs.Steps as steps;
 ghost use Rattle.odb_sched.specs.Laws as laws;
 ghost use Rattle.odb_sched.specs.Reached.{IsReached};
 ghost use Rattle.odb_sched.specs.Plans.{state_of};
-ghost use Rattle.odb_sched.specs.Tallies.{ArePending};
+ghost use Rattle.odb_sched.specs.ProgressCounts.{ArePending};
 
 use crate::phase::{Phase, is_success};
 use crate::policy::Policy;

@@ -3,7 +3,7 @@ ghost use Rattle.odb_check.specs.Shape as shapes;
 ghost use Rattle.odb_sched.specs.NeedPairs.{need_pairs, all_pairs};
 ghost use Rattle.odb_sched.specs.Plans.{IsNeed};
 ghost use Rattle.odb_sched.specs.State.{shape};
-ghost use Rattle.odb_sched.specs.Tallies as tallies;
+ghost use Rattle.odb_sched.specs.ProgressCounts as tallies;
 
 use odb_check::{Need, Plan};
 use odb_dense::Rows;

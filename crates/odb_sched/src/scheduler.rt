@@ -23,7 +23,7 @@ use crate::policy::Policy;
 use crate::refusal::{ReportRefusal, StartRefusal};
 use crate::step::Step;
 use crate::unmet::first_unmet;
-use crate::views::Views;
+use crate::tracker::Tracker;
 use odb_check::Plan;
 use odb_doc::Outcome;
 use std::alloc::{AllocError, Global};
@@ -38,7 +38,7 @@ pub struct Scheduler<'p> {
     plan: &'p Plan<'p>,
     policy: Policy,
     phases: Vec<Phase>,
-    views: Views,
+    tracker: Tracker,
 }
 
 impl<'p> Model for Scheduler<'p> {
@@ -97,7 +97,7 @@ impl<'p> Scheduler<'p> {
             plan,
             policy,
             phases: all_unstarted(alloc, plan.len())?,
-            views: Views::new(alloc, plan, policy)?,
+            tracker: Tracker::new(alloc, plan, policy)?,
         })
     }
 
@@ -109,16 +109,16 @@ impl<'p> Scheduler<'p> {
         if !self.phases[i as usize].is_unstarted() {
             return Some(StartRefusal::AlreadyStarted);
         }
-        if self.views.stopped() {
+        if self.tracker.stopped() {
             return Some(StartRefusal::Stopped);
         }
-        if self.views.failed(self.plan.unit_of(i)) {
+        if self.tracker.failed(self.plan.unit_of(i)) {
             return Some(StartRefusal::UnitFailed);
         }
-        if let Some(need) = first_unmet(self.plan, &self.phases, self.views.pending(), i) {
+        if let Some(need) = first_unmet(self.plan, &self.phases, self.tracker.pending(), i) {
             return Some(StartRefusal::Waiting(need));
         }
-        if self.views.running().len() >= self.policy.width as usize {
+        if self.tracker.running().len() >= self.policy.width as usize {
             return Some(StartRefusal::WidthReached);
         }
         None
@@ -145,7 +145,7 @@ impl<'p> Scheduler<'p> {
             return Err(cause);
         }
         put(&mut self.phases, i, Phase::Running);
-        self.views.start(self.plan, self.policy, &self.phases, i);
+        self.tracker.start(self.plan, self.policy, &self.phases, i);
         Ok(())
     }
 
@@ -180,7 +180,7 @@ impl<'p> Scheduler<'p> {
             return Err((cause, outcome));
         }
         put(&mut self.phases, i, Phase::Reported(outcome));
-        self.views.report(self.plan, self.policy, &self.phases, i);
+        self.tracker.report(self.plan, self.policy, &self.phases, i);
         Ok(())
     }
 
@@ -189,7 +189,7 @@ impl<'p> Scheduler<'p> {
         ensures listed { ListsOnce (states.size self.now) (steps.may_start self.now) result.now }
         ensures within { All (λ i. i < states.size self.now) result.now }
     {
-        self.views.ready(self.policy)
+        self.tracker.ready(self.policy)
     }
 
     /// The running positions, each once, in no particular order.
@@ -199,7 +199,7 @@ impl<'p> Scheduler<'p> {
         ensures within { All (λ i. i < states.size self.now) result.now }
         ensures width { length result.now ≤ self.now.policy.width }
     {
-        self.views.running()
+        self.tracker.running()
     }
 
     /// The least or the greatest ready position.
@@ -211,7 +211,7 @@ impl<'p> Scheduler<'p> {
         ensures some { IfSome result (λ i. (i < states.size self.old)
             × (steps.may_start self.old i ≡ true) × IsAt end (courses.ready_set self.old) i) }
     {
-        self.views.ready_at(self.policy, end)
+        self.tracker.ready_at(self.policy, end)
     }
 
     /// The least or the greatest running position.
@@ -224,7 +224,7 @@ impl<'p> Scheduler<'p> {
             × (tests.is_running (states.phase_at self.old i) ≡ true)
             × IsAt end (courses.running_set self.old) i) }
     {
-        self.views.running_at(end)
+        self.tracker.running_at(end)
     }
 
     /// The report of the least or the greatest running position, or else the start of that ready one.
@@ -278,7 +278,7 @@ impl<'p> Scheduler<'p> {
             → (steps.may_start self.now i ≡ false)
             × (tests.is_running (states.phase_at self.now i) ≡ false)) }
     {
-        self.views.is_finished()
+        self.tracker.is_finished()
     }
 
     /// Ends a finished run and returns its answers.
@@ -294,8 +294,8 @@ impl<'p> Scheduler<'p> {
             plan,
             policy,
             phases,
-            views,
+            tracker,
         } = self;
-        Done::new(plan, policy, phases, views.into_pending())
+        Done::new(plan, policy, phases, tracker.into_pending())
     }
 }

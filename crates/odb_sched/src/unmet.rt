@@ -3,7 +3,7 @@ ghost use Rattle.odb_check.specs.Shape as shapes;
 ghost use Rattle.odb_sched.specs.Steps.{met_in};
 ghost use Rattle.odb_sched.specs.Plans.{IsNeed};
 ghost use Rattle.odb_sched.specs.State.{shape};
-ghost use Rattle.odb_sched.specs.Tallies.{ArePending};
+ghost use Rattle.odb_sched.specs.ProgressCounts.{ArePending};
 
 use crate::phase::Phase;
 use odb_check::{Need, Plan};

@@ -1,6 +1,6 @@
 use Rattle.std.proofs.Common.{◌≡◌, ◌++◌, map, take}
 use Rattle.odb_sched.specs.State.{shape}
-use Rattle.odb_sched.specs.Tallies.{key_of}
+use Rattle.odb_sched.specs.ProgressCounts.{key_of}
 use Rattle.odb_sched.proofs.needers.push_needs.Given as goal
 
 -- the needs so far have their pairs

@@ -9,7 +9,7 @@ use Rattle.odb_sched.proofs.CountedLemmas.{finished_is}
 use Rattle.odb_sched.proofs.scheduler.Scheduler.is_finished.Goals as goal
 
 pub returns-clause-value : goal.returns-clause-value
-returns-clause-value c = c.is_finished.ensures ∙ finished_is _ _ c.self.invariant.reached c.self.invariant.views ∙ ap is_finished c.self.view_is
+returns-clause-value c = c.is_finished.ensures ∙ finished_is _ _ c.self.invariant.reached c.self.invariant.tracker ∙ ap is_finished c.self.view_is
 
 pub returns-clause-idle : goal.returns-clause-idle
 returns-clause-idle c = subst (λ answer. IsTrue answer ↔ ((i : ℕ) → i < size c.args.self.now → (may_start c.args.self.now i ≡ false) × (is_running (phase_at c.args.self.now i) ≡ false)))

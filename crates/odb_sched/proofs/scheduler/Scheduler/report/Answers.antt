@@ -1,4 +1,4 @@
--- A report that is not refused may come, and the views are told of it.
+-- A report that is not refused may come, and the tracker are told of it.
 use Rattle.std.proofs.Common.{◌≡◌, ◌<◌, ◌∙◌, sym, ap, subst, true, set, length-set, length}
 use Rattle.odb_sched.specs.declared.phase.Phase.TheVariants.{Running, Reported}
 use Rattle.std.proofs.lemmas.Bool.{and_parts}
@@ -7,23 +7,23 @@ use Rattle.odb_sched.specs.Phases.{is_running}
 use Rattle.odb_sched.specs.State.{size, phase_at}
 use Rattle.odb_sched.specs.Steps.{may_report}
 use Rattle.odb_sched.specs.Plans.{state_of}
-use Rattle.odb_sched.specs.Kept.{AreViews, state_in}
+use Rattle.odb_sched.specs.Kept.{IsTracked, state_in}
 use Rattle.odb_sched.proofs.PhaseLemmas.{Running-from}
 use Rattle.odb_sched.proofs.CauseLemmas.{report_cause}
 use Rattle.odb_sched.proofs.ReachedLemmas.{reached_reported}
 use Rattle.odb_sched.proofs.KeptLemmas.{may_report-none, written_back, kept_written}
 use Rattle.odb_sched.proofs.scheduler.Scheduler.report.Goals as goal
 
-pub report-requires-clause-views : goal.report-requires-clause-views
-report-requires-clause-views c =
+pub report-requires-clause-tracker : goal.report-requires-clause-tracker
+report-requires-clause-tracker c =
     let may = subst (λ state. may_report state c.args.i c.args.outcome ≡ true) (sym c.self.view_is) (may_report-none c.args.self.now c.args.i c.args.outcome (sym c.report_refusal.ensures ∙ c.in_default.is)) in
-    subst (λ phases. AreViews (state_of c.self.inside.plan.now c.self.inside.policy phases) c.self.inside.views)
+    subst (λ phases. IsTracked (state_of c.self.inside.plan.now c.self.inside.policy phases) c.self.inside.tracker)
     (sym (written_back c.self.inside c.args.i Running (Reported c.args.outcome) c.put.new.phases c.deref.result.now
     (c.put.ensures ∙ ap (λ phases. set phases c.args.i (Reported c.args.outcome)) c.deref_mut.ensures.value)
     (ap length c.put.ensures ∙ length-set c.deref_mut.result.now c.args.i (Reported c.args.outcome) ∙ c.deref_mut.ensures.len)
     c.deref.ensures.value
     (Running-from _ (and_parts (is_running (phase_at (state_in c.self.inside) c.args.i)) (is_status c.args.outcome.status) may).0)))
-    c.self.invariant.views
+    c.self.invariant.tracker
 
 pub invariant_of-self : goal.invariant_of-self
 invariant_of-self c = kept_written c.self.inside c.args.i (Reported c.args.outcome) c.put.new.phases c.deref.result.now c.report.new.self

@@ -10,7 +10,7 @@ use Rattle.odb_sched.proofs.scheduler.Scheduler.running.Goals as goal
 
 pub returns-clause-listed : goal.returns-clause-listed
 returns-clause-listed c = subst (λ state. ListsOnce (size state) (λ i. is_running (phase_at state i)) c.running.result.now) c.self.view_is
-    (running_listed _ c.self.inside.views c.running.result.now c.self.invariant.reached c.self.invariant.views c.running.ensures.listed)
+    (running_listed _ c.self.inside.tracker c.running.result.now c.self.invariant.reached c.self.invariant.tracker c.running.ensures.listed)
 
 pub returns-clause-within : goal.returns-clause-within
 returns-clause-within c = listed_within (size c.args.self.now) (λ i. is_running (phase_at c.args.self.now i)) c.running.result.now (returns-clause-listed c)
@@ -18,6 +18,6 @@ returns-clause-within c = listed_within (size c.args.self.now) (λ i. is_running
 pub returns-clause-width : goal.returns-clause-width
 returns-clause-width c =
     let most : running_count (state_in c.self.inside) ≤ c.self.inside.policy.width = c.self.invariant.reached.narrow in
-    let counted : length c.running.result.now ≡ running_count (state_in c.self.inside) = c.running.ensures.count ∙ running_is (state_in c.self.inside) c.self.inside.views c.self.invariant.views in
+    let counted : length c.running.result.now ≡ running_count (state_in c.self.inside) = c.running.ensures.count ∙ running_is (state_in c.self.inside) c.self.inside.tracker c.self.invariant.tracker in
     let width : c.self.inside.policy.width ≡ c.args.self.now.policy.width = ap (λ (state : State). state.policy.width) c.self.view_is in
     omega arith

@@ -11,14 +11,14 @@ use Rattle.odb_sched.proofs.scheduler.Scheduler.running_at.Goals as goal
 
 pub returns-clause-none : goal.returns-clause-none
 returns-clause-none c = λ none. subst (λ state. IsNone (running_set state)) c.self.view_is
-    (none_runs _ c.self.inside.views c.self.invariant.views (c.running_at.ensures.none none))
+    (none_runs _ c.self.inside.tracker c.self.invariant.tracker (c.running_at.ensures.none none))
 
 pub returns-clause-finished : goal.returns-clause-finished
 returns-clause-finished c = λ none ready. subst (λ state. is_finished state ≡ true) c.self.view_is
     (finished_none _ c.self.invariant.reached
     (subst (λ state. IsNone (ready_set state)) (sym c.self.view_is) ready)
-    (none_runs _ c.self.inside.views c.self.invariant.views (c.running_at.ensures.none none)))
+    (none_runs _ c.self.inside.tracker c.self.invariant.tracker (c.running_at.ensures.none none)))
 
 pub returns-clause-some : goal.returns-clause-some
 returns-clause-some c = subst (λ state. IfSome c.running_at.result (λ i. (i < size state) × (is_running (phase_at state i) ≡ true) × IsAt c.args.end (running_set state) i)) c.self.view_is
-    (runs_at _ c.self.inside.views c.args.end c.running_at.result c.self.invariant.reached c.self.invariant.views c.running_at.ensures.some)
+    (runs_at _ c.self.inside.tracker c.args.end c.running_at.result c.self.invariant.reached c.self.invariant.tracker c.running_at.ensures.some)

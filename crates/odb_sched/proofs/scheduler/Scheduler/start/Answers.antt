@@ -1,4 +1,4 @@
--- A start that is not refused may come, and the views are told of it.
+-- A start that is not refused may come, and the tracker are told of it.
 use Rattle.std.proofs.Common.{◌≡◌, ◌∙◌, sym, ap, subst, true, set, length-set, length, refl, ◌<◌}
 use Rattle.std.proofs.lemmas.Bool.{both_ways, false≢true}
 use Rattle.odb_sched.specs.declared.phase.Phase.TheVariants.{Unstarted, Running}
@@ -7,7 +7,7 @@ use Rattle.odb_sched.specs.Laws.{HaveSucceeded}
 use Rattle.odb_check.specs.Plans.{plan_records}
 use Rattle.odb_sched.specs.Steps.{may_start}
 use Rattle.odb_sched.specs.Plans.{state_of}
-use Rattle.odb_sched.specs.Kept.{AreViews, state_in}
+use Rattle.odb_sched.specs.Kept.{IsTracked, state_in}
 use Rattle.odb_sched.proofs.PhaseLemmas.{Unstarted-from}
 use Rattle.odb_sched.proofs.StartLemmas.{may_start-parts}
 use Rattle.odb_sched.proofs.CauseLemmas.{start_cause}
@@ -19,16 +19,16 @@ use Rattle.odb_sched.proofs.scheduler.Scheduler.start.Goals as goal
 pub returns-in-Some-clause-allowed : goal.returns-in-Some-clause-allowed
 returns-in-Some-clause-allowed c = ((λ e. absurd (false≢true e)), (λ may. absurd (both_ways _ (may_start-some c.args.self.now c.args.i c.in-Some.cause (sym c.start_refusal.ensures ∙ c.in-Some.is)) may)))
 
-pub start-requires-clause-views : goal.start-requires-clause-views
-start-requires-clause-views c =
+pub start-requires-clause-tracker : goal.start-requires-clause-tracker
+start-requires-clause-tracker c =
     let may = subst (λ state. may_start state c.args.i ≡ true) (sym c.self.view_is) (may_start-none c.args.self.now c.args.i (sym c.start_refusal.ensures ∙ c.in_default.is)) in
-    subst (λ phases. AreViews (state_of c.self.inside.plan.now c.self.inside.policy phases) c.self.inside.views)
+    subst (λ phases. IsTracked (state_of c.self.inside.plan.now c.self.inside.policy phases) c.self.inside.tracker)
     (sym (written_back c.self.inside c.args.i Unstarted Running c.put.new.phases c.deref.result.now
     (c.put.ensures ∙ ap (λ phases. set phases c.args.i Running) c.deref_mut.ensures.value)
     (ap length c.put.ensures ∙ length-set c.deref_mut.result.now c.args.i Running ∙ c.deref_mut.ensures.len)
     c.deref.ensures.value
     (Unstarted-from _ (may_start-parts (state_in c.self.inside) c.args.i may).fresh)))
-    c.self.invariant.views
+    c.self.invariant.tracker
 
 pub invariant_of-self : goal.invariant_of-self
 invariant_of-self c = kept_written c.self.inside c.args.i Running c.put.new.phases c.deref.result.now c.start.new.self

@@ -1,0 +1,12 @@
+use Rattle.std.proofs.Common.{◌≡◌, ◌<◌, ◌≤◌, ◌==◌, ℕ, false, length, slice_index_or}
+use Rattle.odb_sched.specs.State.{shape}
+use Rattle.odb_sched.specs.FirstCounts.{needs_in}
+use Rattle.odb_sched.proofs.progress.without_needs.Given as goal
+
+-- the requests so far that need nothing are in the set, and none further on
+abbrev pub invariant-loop-i : goal.invariant-loop-i
+invariant-loop-i l = record {
+  each : length l.free ≡ length (shape l.plan).units;
+  before : (k : ℕ) → k < l.i → slice_index_or l.free k false ≡ (needs_in (shape l.plan) k == 0);
+  after : (k : ℕ) → l.i ≤ k → slice_index_or l.free k false ≡ false;
+}

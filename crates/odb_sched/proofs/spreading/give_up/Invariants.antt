@@ -1,7 +1,0 @@
-use Rattle.odb_sched.specs.State.{shape}
-use Rattle.odb_sched.proofs.GivenUpLemmas.{AreGivenUp}
-use Rattle.odb_sched.proofs.spreading.give_up.Given as goal
-
--- the members so far are neither ready nor open
-abbrev pub invariant-loop-i : goal.invariant-loop-i
-invariant-loop-i l = AreGivenUp (shape l.plan) l.phases l.u l.i l.initial.tally l.tally

@@ -1,0 +1,79 @@
+-- Private: what a scheduler counts beside the phases of its requests.
+use Rattle.std.specs.Prelude.{◌≡◌, ℕ, ◌<◌, ◌==◌, ◌&&◌, ◌+◌, Bool, false, not, List, [], length, map, slice_index_or, count_by, All, if◌then◌else◌}
+use Rattle.odb_dense.specs.declared.worklist.Standing.{Standing}
+use Rattle.odb_dense.specs.declared.worklist.Standing.TheVariants.{Sound}
+use Rattle.odb_dense.specs.Standings.{is_marked, is_passed}
+use Rattle.odb_check.specs.declared.need.Need.{Need}
+use Rattle.odb_check.specs.declared.need.Need.TheVariants.{One, Group}
+use Rattle.odb_check.specs.Firsts.{count_below}
+use Rattle.odb_check.specs.Shape.{Shape, unit_of, needs_of}
+use Rattle.odb_sched.specs.declared.phase.Phase.{Phase}
+use Rattle.odb_sched.specs.declared.phase.Phase.TheVariants.{Unstarted}
+use Rattle.odb_sched.specs.declared.progress.Progress.{Progress}
+use Rattle.odb_sched.specs.Phases.{is_unstarted, is_running, is_reported, has_succeeded}
+use Rattle.odb_sched.specs.Steps.{succeeded_in, met_in, failed_in}
+
+-- the key of what is needed: a position, or a unit, whose keys come after those of all positions
+abbrev pub key_of : Shape → Need → ℕ
+key_of plan (One r) = r
+key_of plan (Group u) = length plan.units + u
+
+-- how often a request needs what has this key
+abbrev pub need_count : Shape → ℕ → ℕ → ℕ
+need_count plan key i = count_by (λ need. key_of plan need == key) (needs_of plan i)
+
+-- the row of each key has each request as often as it needs what has the key
+pub record AreNeeders (plan : Shape) (rows : List (List ℕ)) : Type 0 where
+  pub each : length rows ≡ length plan.units + plan.unit_count
+  pub within : (key : ℕ) → key < length rows → All (λ i. i < length plan.units) (slice_index_or rows key [])
+  pub exact : (key i : ℕ) → key < length rows → i < length plan.units → count_by (λ j. j == i) (slice_index_or rows key []) ≡ need_count plan key i
+
+-- how many needs of a request are not met
+abbrev pub unmet_in : Shape → List Phase → ℕ → ℕ
+unmet_in plan phases i = count_by (λ need. not (met_in plan phases need)) (needs_of plan i)
+
+-- how many needs of a request a unit meets
+abbrev pub met_by_unit : Shape → List Phase → ℕ → ℕ → ℕ
+met_by_unit plan phases u i = if succeeded_in plan phases u then need_count plan (length plan.units + u) i else 0
+
+-- of each request, how many of its needs are not met
+abbrev pub AreUnmet : Shape → List Phase → List ℕ → Type 0
+AreUnmet plan phases unmet = (i : ℕ) → i < length plan.units → slice_index_or unmet i 0 ≡ unmet_in plan phases i
+
+-- how many members of a unit have not reported a success
+abbrev pub pending_in : Shape → List Phase → ℕ → ℕ
+pending_in plan phases u = count_below (length plan.units) (λ i. (unit_of plan i == u) && not (has_succeeded (slice_index_or phases i Unstarted)))
+
+-- of each unit, how many members have not reported a success
+abbrev pub ArePending : Shape → List Phase → List ℕ → Type 0
+ArePending plan phases pending = (u : ℕ) → u < plan.unit_count → slice_index_or pending u 0 ≡ pending_in plan phases u
+
+-- whether the unit of a request was taken from the worklist
+abbrev pub is_gone : Shape → List Standing → ℕ → Bool
+is_gone plan units i = is_passed (slice_index_or units (unit_of plan i) Sound)
+
+-- the set has what is unstarted, is not gone and has no unmet need
+pub record AreReady (plan : Shape) (gone : ℕ → Bool) (phases : List Phase) (unmet : List ℕ) (ready : List Bool) : Type 0 where
+  pub counted : length unmet ≡ length plan.units
+  pub each : length ready ≡ length plan.units
+  pub exact : (i : ℕ) → i < length plan.units → slice_index_or ready i false ≡ (is_unstarted (slice_index_or phases i Unstarted) && not (gone i) && (slice_index_or unmet i 0 == 0))
+
+-- how many requests are neither reported nor gone
+abbrev pub open_count : Shape → (ℕ → Bool) → List Phase → ℕ
+open_count plan gone phases = count_below (length plan.units) (λ i. not (is_reported (slice_index_or phases i Unstarted)) && not (gone i))
+
+-- the units that have failed were taken from the worklist, and no others were ever on it
+pub record ArePassed (plan : Shape) (phases : List Phase) (units : List Standing) : Type 0 where
+  pub each : length units ≡ plan.unit_count
+  pub failed : (u : ℕ) → u < plan.unit_count → is_passed (slice_index_or units u Sound) ≡ failed_in plan phases u
+  pub marked : (u : ℕ) → is_marked (slice_index_or units u Sound) ≡ is_passed (slice_index_or units u Sound)
+
+-- what is counted is so where the requests stand so
+pub record AreCounts (plan : Shape) (phases : List Phase) (t : Progress) : Type 0 where
+  pub unmet : AreUnmet plan phases t.unmet.items
+  pub members : length t.pending.items ≡ plan.unit_count
+  pub pending : ArePending plan phases t.pending.items
+  pub units : ArePassed plan phases t.units
+  pub ready : AreReady plan (is_gone plan t.units) phases t.unmet.items t.ready
+  pub running : t.running ≡ map is_running phases
+  pub left : t.left ≡ open_count plan (is_gone plan t.units) phases

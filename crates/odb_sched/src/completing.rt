@@ -1,0 +1,32 @@
+ghost use Rattle.std.specs.Prelude.{◌≡◌, ◌<◌, true, length, map, slice_index_or, slice_set};
+ghost use Rattle.odb_check.specs.Shape as shapes;
+ghost use Rattle.odb_sched.specs.declared.phase.Phase.TheVariants.{Unstarted, Running};
+ghost use Rattle.odb_sched.specs.State.{shape};
+ghost use Rattle.odb_sched.specs.ProgressCounts as tallies;
+ghost use Rattle.odb_sched.specs.Phases as tests;
+
+use crate::phase::Phase;
+use crate::progress::Progress;
+use odb_check::Plan;
+
+/// Takes a request that has reported off the running ones, and off the open ones. `phases[i]` already
+/// holds the outcome.
+pub(crate) fn complete(plan: &Plan<'_>, phases: &[Phase], i: u32, progress: &mut Progress)
+    requires laws { shapes.IsPlan (shape plan.now) }
+    requires each { length phases.now ≡ length (shape plan.now).units }
+    requires request { i < length (shape plan.now).units }
+    requires reported { tests.is_reported (slice_index_or phases.now i Unstarted) ≡ true }
+    requires units { length progress.old.units ≡ (shape plan.now).unit_count }
+    requires running { progress.old.running ≡ map tests.is_running (slice_set phases.now i Running) }
+    requires left { progress.old.left ≡ tallies.open_count (shape plan.now)
+        (tallies.is_gone (shape plan.now) progress.old.units) (slice_set phases.now i Running) }
+    ensures running { progress.new.running ≡ map tests.is_running phases.now }
+    ensures left { progress.new.left ≡ tallies.open_count (shape plan.now)
+        (tallies.is_gone (shape plan.now) progress.old.units) phases.now }
+    ensures rest { progress.new ≡ record progress.old { running = progress.new.running; left = progress.new.left } }
+{
+    progress.running.remove(i);
+    if !progress.units.is_passed(plan.unit_of(i)) {
+        progress.left -= 1;
+    }
+}

@@ -1,0 +1,125 @@
+ghost use Rattle.std.specs.Prelude.{◌≡◌, ◌<◌, ◌==◌, ◌&&◌, ◌⊎◌, ℕ, true, not, length, slice_index_or, slice_set, All};
+ghost use Rattle.odb_check.specs.Shape as shapes;
+ghost use Rattle.odb_sched.specs.declared.phase.Phase.TheVariants.{Unstarted, Running};
+ghost use Rattle.odb_dense.specs.declared.worklist.Standing.TheVariants.{Sound};
+ghost use Rattle.odb_sched.specs.State.{shape};
+ghost use Rattle.odb_sched.specs.ProgressCounts as tallies;
+ghost use Rattle.odb_sched.specs.Phases as tests;
+ghost use Rattle.odb_dense.specs.Standings.{is_marked, is_passed};
+ghost use Rattle.odb_sched.specs.Passing as passing;
+
+use crate::completing::complete;
+use crate::needers::unit_key;
+use crate::phase::Phase;
+use crate::progress::Progress;
+use odb_check::Plan;
+use odb_dense::Rows;
+
+/// Takes the members of a unit that has failed off the ready and the open requests.
+fn skip_members(plan: &Plan<'_>, phases: &[Phase], u: u32, progress: &mut Progress)
+    requires laws { shapes.IsPlan (shape plan.now) }
+    requires each { length phases.now ≡ length (shape plan.now).units }
+    requires units { length progress.old.units ≡ (shape plan.now).unit_count }
+    requires unit { u < (shape plan.now).unit_count }
+    requires passed { is_passed (slice_index_or progress.old.units u Sound) ≡ true }
+    requires ready { tallies.AreReady (shape plan.now)
+        (λ i. tallies.is_gone (shape plan.now) progress.old.units i && not (shapes.unit_of (shape plan.now) i == u))
+        phases.now progress.old.unmet.items progress.old.ready }
+    requires left { progress.old.left ≡ tallies.open_count (shape plan.now)
+        (λ i. tallies.is_gone (shape plan.now) progress.old.units i && not (shapes.unit_of (shape plan.now) i == u))
+        phases.now }
+    ensures ready { tallies.AreReady (shape plan.now) (tallies.is_gone (shape plan.now) progress.old.units)
+        phases.now progress.new.unmet.items progress.new.ready }
+    ensures left { progress.new.left ≡ tallies.open_count (shape plan.now)
+        (tallies.is_gone (shape plan.now) progress.old.units) phases.now }
+    ensures rest { progress.new ≡ record progress.old { ready = progress.new.ready; left = progress.new.left } }
+{
+    let members = plan.members(u);
+    for i in members.start..members.end {
+        progress.ready.remove(i);
+        if !phases[i as usize].is_reported() {
+            progress.left -= 1;
+        }
+    }
+}
+
+/// Marks the unit of each request of the list as failed.
+fn mark_units(plan: &Plan<'_>, list: &[u32], progress: &mut Progress)
+    requires laws { shapes.IsPlan (shape plan.now) }
+    requires units { length progress.old.units ≡ (shape plan.now).unit_count }
+    requires within { All (λ i. i < length (shape plan.now).units) list.now }
+    ensures marks { passing.HaveMarked progress.old.units progress.new.units }
+    ensures marked { (k : ℕ) → k < length list.now
+        → is_marked (slice_index_or progress.new.units
+        (shapes.unit_of (shape plan.now) (slice_index_or list.now k 0)) Sound) ≡ true }
+    ensures only { (v : ℕ) → is_marked (slice_index_or progress.new.units v Sound) ≡ true
+        → (is_marked (slice_index_or progress.old.units v Sound) ≡ true)
+        ⊎ ((k : ℕ) × (k < length list.now)
+        × (shapes.unit_of (shape plan.now) (slice_index_or list.now k 0) ≡ v)) }
+    ensures rest { progress.new ≡ record progress.old { units = progress.new.units } }
+{
+    for i in list {
+        progress.units.put(plan.unit_of(*i));
+    }
+}
+
+/// Puts each unit that depends on a unit on the worklist.
+fn mark_dependents(plan: &Plan<'_>, needers: &Rows, u: u32, progress: &mut Progress)
+    requires laws { shapes.IsPlan (shape plan.now) }
+    requires units { length progress.old.units ≡ (shape plan.now).unit_count }
+    requires unit { u < (shape plan.now).unit_count }
+    requires needers { tallies.AreNeeders (shape plan.now) needers.now }
+    ensures marks { passing.HaveMarked progress.old.units progress.new.units }
+    ensures marked { (w : ℕ) → passing.NeedsUnit (shape plan.now) w u
+        → is_marked (slice_index_or progress.new.units w Sound) ≡ true }
+    ensures only { (v : ℕ) → is_marked (slice_index_or progress.new.units v Sound) ≡ true
+        → (is_marked (slice_index_or progress.old.units v Sound) ≡ true)
+        ⊎ passing.NeedsUnit (shape plan.now) v u }
+    ensures rest { progress.new ≡ record progress.old { units = progress.new.units } }
+{
+    let members = plan.members(u);
+    for r in members.start..members.end {
+        mark_units(plan, needers.row(r), progress);
+    }
+    mark_units(plan, needers.row(unit_key(plan, u)), progress);
+}
+
+/// Takes units from the worklist, and puts those that depend on them on it, until it is empty.
+fn propagate(plan: &Plan<'_>, phases: &[Phase], needers: &Rows, progress: &mut Progress)
+    requires laws { shapes.IsPlan (shape plan.now) }
+    requires each { length phases.now ≡ length (shape plan.now).units }
+    requires needers { tallies.AreNeeders (shape plan.now) needers.now }
+    requires passing { passing.ArePassing (shape plan.now) phases.now progress.old.units }
+    requires ready { tallies.AreReady (shape plan.now) (tallies.is_gone (shape plan.now) progress.old.units)
+        phases.now progress.old.unmet.items progress.old.ready }
+    requires left { progress.old.left ≡ tallies.open_count (shape plan.now)
+        (tallies.is_gone (shape plan.now) progress.old.units) phases.now }
+    ensures passed { tallies.ArePassed (shape plan.now) phases.now progress.new.units }
+    ensures ready { tallies.AreReady (shape plan.now) (tallies.is_gone (shape plan.now) progress.new.units)
+        phases.now progress.new.unmet.items progress.new.ready }
+    ensures left { progress.new.left ≡ tallies.open_count (shape plan.now)
+        (tallies.is_gone (shape plan.now) progress.new.units) phases.now }
+    ensures rest { progress.new
+        ≡ record progress.old { units = progress.new.units; ready = progress.new.ready; left = progress.new.left } }
+{
+    while let Some(u) = progress.units.take() {
+        skip_members(plan, phases, u, progress);
+        mark_dependents(plan, needers, u, progress);
+    }
+}
+
+/// Handles a failed request: marks its unit as failed, and propagates the failure to every unit that
+/// depends on it, directly or not. `phases[i]` already holds the outcome.
+pub(crate) fn fail(plan: &Plan<'_>, phases: &[Phase], needers: &Rows, i: u32, progress: &mut Progress)
+    requires laws { shapes.IsPlan (shape plan.now) }
+    requires each { length phases.now ≡ length (shape plan.now).units }
+    requires request { i < length (shape plan.now).units }
+    requires needers { tallies.AreNeeders (shape plan.now) needers.now }
+    requires failed { tests.has_failed (slice_index_or phases.now i Unstarted) ≡ true }
+    requires counts { tallies.AreCounts (shape plan.now) (slice_set phases.now i Running) progress.old }
+    ensures { tallies.AreCounts (shape plan.now) phases.now progress.new }
+{
+    complete(plan, phases, i, progress);
+    progress.units.put(plan.unit_of(i));
+    propagate(plan, phases, needers, progress);
+}
