@@ -1,6 +1,6 @@
 //! What is explained of a fault.
 
-use odb_check::NameRule;
+use odb_check::{CheckFault, NameRule};
 use odb_doc::{
     DocFault, DocumentRule, EventFault, EventRule, OutcomeFault, OutcomeRule, RequestRule,
     TextFault,
@@ -42,7 +42,7 @@ impl Fault {
         match self {
             Fault::Document(rule) => DocFault::Document(rule).code(),
             Fault::Request(rule) => DocFault::Request { at: 0, rule }.code(),
-            Fault::Name(rule) => rule.code(),
+            Fault::Name(rule) => CheckFault::Request { at: 0, rule }.code(),
             Fault::Text => TextFault::NotWhole { at: 0 }.code(),
             Fault::Outcome(rule) => OutcomeFault::Outcome { at: 0, rule }.code(),
             Fault::Event(rule) => EventFault::Event { at: 0, rule }.code(),
@@ -63,7 +63,7 @@ impl Fault {
         match self {
             Fault::Document(rule) => DocFault::Document(rule).name(),
             Fault::Request(rule) => DocFault::Request { at: 0, rule }.name(),
-            Fault::Name(rule) => rule.name(),
+            Fault::Name(rule) => CheckFault::Request { at: 0, rule }.name(),
             Fault::Text => TextFault::NotWhole { at: 0 }.name(),
             Fault::Outcome(rule) => OutcomeFault::Outcome { at: 0, rule }.name(),
             Fault::Event(rule) => EventFault::Event { at: 0, rule }.name(),
