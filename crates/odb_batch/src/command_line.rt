@@ -2,11 +2,8 @@
 
 use crate::commands::{ORDER, WIDTH, program};
 use clap::{ArgMatches, Error};
-use odb_sched::{Mode, Order, Policy};
+use odb_sched::{MAX_WIDTH, Mode, Order, Policy};
 use std::alloc::{AllocError, Global};
-
-/// The greatest width that can be asked for, and the default.
-const MAX_WIDTH: u32 = 10_000;
 
 /// Returns the order of this name, one of `ORDERS`, or the default.
 fn order_of(name: Option<&str>) -> Order {

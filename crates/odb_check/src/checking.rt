@@ -13,7 +13,7 @@ use crate::needs::Needs;
 use crate::plan::Plan;
 use crate::seed::Seed;
 use crate::tables::{Tables, tables_of};
-use crate::walk::needs_of;
+use crate::walk::all_needs;
 use odb_doc::Batch;
 use std::alloc::Global;
 
@@ -26,7 +26,7 @@ fn needs_and_levels(alloc: Global, tables: &Tables<'_>) -> Result<(Needs, Vec<u3
     ensures least { IfErr result (λ fault. RefusesNames fault (requests tables.now)) }
 {
     check_ids(tables)?;
-    let needs = needs_of(alloc, tables)?;
+    let needs = all_needs(alloc, tables)?;
     let levels = levels_of(alloc, tables, &needs)?;
     Ok((needs, levels))
 }

@@ -82,7 +82,7 @@ fn add_request(
 }
 
 /// The needs of the requests, or the first of them that breaks a rule on names and references.
-pub(crate) fn needs_of(alloc: Global, tables: &Tables<'_>) -> Result<Needs, CheckFault>
+pub(crate) fn all_needs(alloc: Global, tables: &Tables<'_>) -> Result<Needs, CheckFault>
     requires { HasSoundIds (requests tables.now) }
     ensures good { OnOk result (HasGoodNames (requests tables.now)) }
     ensures needs { IfOk result (AreNeeds (requests tables.now)) }

@@ -13,7 +13,7 @@ use crate::whole::is_whole;
 use std::alloc::{AllocError, Global};
 
 /// The capacity for each request: enough for a short one.
-const ROOM_BYTES: usize = 128;
+const REQUEST_BYTES: usize = 128;
 
 /// Returns whether each number in the body of a request is whole.
 fn has_whole_body(request: &Request<'_>) -> bool
@@ -44,7 +44,7 @@ fn whole_text(alloc: Global, batch: &Batch<'_>) -> Result<String, AllocError>
     ensures { IfOk result (λ text. string_bytes text ≡ canonical_text (records batch.now)) }
 {
     let count = batch.len();
-    let mut text = String::with_capacity(alloc, ROOM_BYTES * (count as usize))?;
+    let mut text = String::with_capacity(alloc, REQUEST_BYTES * (count as usize))?;
     text.push_str("{\"requests\":[")?;
     for i in 0..count {
         push_request(alloc, &mut text, batch, i)?;

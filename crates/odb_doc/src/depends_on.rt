@@ -40,7 +40,7 @@ fn listed_names<'a>(alloc: Global, element: &'a Value) -> Result<Option<Vec<&'a 
 
 /// Returns the names in `dependsOn` without repeats, each at its first place, or F17 if it is not an
 /// array of strings.
-pub(crate) fn names_of<'a>(
+pub(crate) fn read_names<'a>(
     alloc: Global,
     element: &'a Value,
 ) -> Result<Vec<&'a str>, Broken<RequestRule>>

@@ -13,7 +13,7 @@ ghost use Rattle.odb_doc.specs.BrokenRules.{OnRule, BreaksNoneBefore, IsLeastReq
 
 use crate::broken::Broken;
 use crate::fault::RequestRule;
-use crate::member::{given, members_of, text_of, unless_null};
+use crate::member::{given, into_members, text_of, unless_null};
 use serde_json::{Map, Value};
 use std::alloc::{AllocError, Global};
 use std::collections::BTreeMap;
@@ -161,7 +161,7 @@ pub(crate) fn headers_from(
     let Some(value) = unless_null(member) else {
         return Ok(Some(BTreeMap::new(alloc)));
     };
-    let Some(members) = members_of(value) else {
+    let Some(members) = into_members(value) else {
         return Ok(None);
     };
     moved_headers(alloc, members)

@@ -134,7 +134,7 @@ pub(crate) fn number_of(value: &Value) -> Option<Number>
 }
 
 /// Moves out the members of an object.
-pub(crate) fn members_of(value: Value) -> Option<Map<String, Value>>
+pub(crate) fn into_members(value: Value) -> Option<Map<String, Value>>
     ensures { option_map (λ members. members_view members.entries) result ≡ as_object (view value) }
 {
     match value {
@@ -157,7 +157,7 @@ pub(crate) fn array_of(value: Value) -> Option<Vec<Value>>
 pub(crate) fn member_of(value: Value, name: &str) -> Option<Value>
     ensures { option_map view result ≡ get name.now (view value) }
 {
-    let mut members = members_of(value)?;
+    let mut members = into_members(value)?;
     members.remove(name)
 }
 

@@ -9,7 +9,7 @@ ghost use Rattle.odb_doc.specs.Names.{texts_in};
 
 use crate::body::body_of;
 use crate::broken::Broken;
-use crate::depends_on::names_of;
+use crate::depends_on::read_names;
 use crate::fault::RequestRule;
 use crate::headers::headers_of;
 use crate::line::RequestLine;
@@ -56,7 +56,7 @@ impl<'a> Request<'a> {
         ensures first { IfErr result (OnRule (IsLeastRequestRule (view element.now))) }
     {
         let line = RequestLine::read(element)?;
-        let names = names_of(alloc, element)?;
+        let names = read_names(alloc, element)?;
         let headers = headers_of(alloc, element)?;
         let body = body_of(alloc, element, line.method, &headers)?;
         let reference = reference_of(alloc, line.url)?;

@@ -27,7 +27,7 @@ use Rattle.odb_sched.specs.State.{State, phase_at, at_first}
 use Rattle.odb_reply.specs.OnePerId.{HasOnePerId}
 use Rattle.odb_reply.specs.Responses.{response, responses_from, response_value, response_text}
 use Rattle.odb_engine.specs.declared.ending.Ended.{Ended}
-use Rattle.odb_engine.specs.Lines.{newline}
+use Rattle.odb_check.specs.Texts.{newline}
 use Rattle.odb_engine.specs.Replays.{ReplaysPlan, IsResult, LacksOutcome, response_line, trace_part, result_text}
 use Rattle.odb_engine.specs.Traces.{report_line, step_line, undo_line}
 

@@ -9,7 +9,8 @@ use Rattle.odb_check.specs.Groups.{groups_of}
 use Rattle.odb_check.specs.Texts.{plan_text}
 use Rattle.odb_engine.specs.Cascade.{Writes, Prints, Refusal, Reports}
 use Rattle.odb_engine.specs.Inputs.{SomeDocument}
-use Rattle.odb_engine.specs.Lines.{accepted_line, newline}
+use Rattle.odb_check.specs.Texts.{newline}
+use Rattle.odb_engine.specs.Lines.{accepted_line}
 
 -- how many requests and groups there are
 abbrev pub Counts : List Record → Writes

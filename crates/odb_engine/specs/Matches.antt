@@ -13,7 +13,8 @@ use Rattle.odb_reply.specs.ResponseDocuments.{Entry, IsResponseDocument, Refuses
 use Rattle.odb_reply.specs.ResponseFaults as documents
 use Rattle.odb_engine.specs.declared.ending.Ended.{Ended}
 use Rattle.odb_engine.specs.Cascade.{Writes, Prints, Refusal, Reports, RefusesBytes, HasValue}
-use Rattle.odb_engine.specs.Lines.{fit_line, newline}
+use Rattle.odb_check.specs.Texts.{newline}
+use Rattle.odb_engine.specs.Lines.{fit_line}
 
 -- `ID STATUS`
 abbrev pub status_line : List ℕ → ℕ → List ℕ

@@ -20,7 +20,7 @@ use Rattle.odb_reply.specs.OnePerId.{HasOnePerId}
 use Rattle.odb_sched.specs.Laws.{StartsLast}
 use Rattle.odb_engine.specs.declared.ending.Ended.{Ended}
 use Rattle.odb_engine.specs.declared.ending.Ended.TheVariants.{Done, Refused}
-use Rattle.odb_engine.specs.Lines.{newline}
+use Rattle.odb_check.specs.Texts.{newline}
 use Rattle.odb_engine.specs.Traces.{trace_text}
 use Rattle.odb_engine.specs.Cascade.{Writes, Refusal, line_of, Reports, RefusesBytes, HasValue, Accepts}
 use Rattle.odb_sched.specs.declared.fault.ExecFault.{ExecFault}

@@ -14,7 +14,7 @@ use odb_sched::Done;
 use std::alloc::{AllocError, Global};
 
 /// The capacity for each response: enough for an answer with a header and a short body.
-const ROOM_BYTES: usize = 128;
+const RESPONSE_BYTES: usize = 128;
 
 /// Returns the text of a response whose bodies hold only whole numbers.
 fn whole_text(alloc: Global, done: &Done<'_>) -> Result<String, AllocError>
@@ -22,7 +22,7 @@ fn whole_text(alloc: Global, done: &Done<'_>) -> Result<String, AllocError>
     ensures { IfOk result (λ text. string_bytes text ≡ responses.response_text done.now) }
 {
     let count = done.plan().len();
-    let mut text = String::with_capacity(alloc, ROOM_BYTES * (count as usize))?;
+    let mut text = String::with_capacity(alloc, RESPONSE_BYTES * (count as usize))?;
     text.push_str("{\"responses\":[")?;
     for i in 0..count {
         push_response(alloc, &mut text, done, i)?;

@@ -8,7 +8,8 @@ use Rattle.std.proofs.lemmas.List.{get_or_default}
 use Rattle.std.proofs.lemmas.List.Folds.{list_any_at, Any-from_list_any}
 use Rattle.std.proofs.lemmas.List.Sums.{sum_by-cons}
 use Rattle.std.proofs.lemmas.List.Elements.{Contains-get_or}
-use Rattle.odb_sched.specs.Below.{passing_below, ListsOnce}
+use Rattle.odb_dense.specs.Lists.{ListsOnce}
+use Rattle.odb_sched.specs.Below.{passing_below}
 use Rattle.odb_sched.proofs.ListLemmas.{none_listed}
 use Rattle.odb_sched.specs.Choosing.{positions_of, IsLeast, IsGreatest, IsNone}
 

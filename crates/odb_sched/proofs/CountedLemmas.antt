@@ -8,7 +8,8 @@ use Rattle.std.proofs.lemmas.List.Sums.{sum_by-cons, get_or-le-sum_by}
 use Rattle.odb_check.specs.Shape.{unit_of, needs_of}
 use Rattle.odb_sched.specs.declared.phase.Phase.TheVariants.{Unstarted}
 use Rattle.odb_sched.specs.declared.tracker.Tracker.{Tracker}
-use Rattle.odb_sched.specs.Below.{any_below, all_below, ListsOnce}
+use Rattle.odb_dense.specs.Lists.{ListsOnce}
+use Rattle.odb_sched.specs.Below.{any_below, all_below}
 use Rattle.odb_sched.specs.Phases.{is_unstarted, is_running, is_reported}
 use Rattle.odb_sched.specs.State.{State, size, phase_at}
 use Rattle.odb_sched.specs.Steps.{met_in, all_met, unit_failed, is_stopped, running_count, may_start, is_finished}

@@ -20,12 +20,12 @@ use Rattle.odb_sched.specs.declared.service.ServiceFault.{ServiceFault}
 use Rattle.odb_sched.specs.declared.service.ServiceFault.TheVariants as service
 use Rattle.odb_sched.specs.declared.fault.ExecFault.{ExecFault}
 use Rattle.odb_sched.specs.declared.fault.ExecFault.TheVariants as fault
-use Rattle.odb_sched.specs.Below.{ListsOnce}
+use Rattle.odb_dense.specs.Lists.{ListsOnce}
 use Rattle.odb_sched.specs.Statuses.{is_status}
 use Rattle.odb_sched.specs.Phases.{is_running, is_reported}
 use Rattle.odb_sched.specs.State.{State, size, phase_at, shape, at_first, after, started, reported}
 use Rattle.odb_sched.specs.Steps.{may_start, may_report, may_come}
-use Rattle.odb_sched.specs.Runs.{position_of, after_all, IsRunFrom}
+use Rattle.odb_sched.specs.Runs.{event_position, after_all, IsRunFrom}
 use Rattle.odb_sched.specs.Answers.{outcome_of, reported as reported_at}
 use Rattle.odb_sched.specs.Reached.{IsReached}
 use Rattle.odb_sched.specs.Choosing.{Positions, positions_of, IsAmong}
@@ -95,7 +95,7 @@ left-set state i old new reached within stood fewer =
     omega arith
 
 -- an event takes one from them
-pub left_after_event : (state : State) (event : Event) → IsReached state → position_of event < size state → may_come state event ≡ true → events_left (after state event) + 1 ≡ events_left state
+pub left_after_event : (state : State) (event : Event) → IsReached state → event_position event < size state → may_come state event ≡ true → events_left (after state event) + 1 ≡ events_left state
 left_after_event state (Start i) reached within may = left-set state i Unstarted Running reached within (move_start state i reached within may).stood refl
 left_after_event state (Report i outcome) reached within may = left-set state i Running (Reported outcome) reached within (move_report state i outcome reached within may).stood refl
 
@@ -118,7 +118,7 @@ pub map-push : (events : List Event) (event : Event) → map step_of (events ++ 
 map-push [] event = refl
 map-push (e ∷ es) event = ap (λ steps. step_of e ∷ steps) (map-push es event)
 
-pub position-step : (event : Event) → position_in (step_of event) ≡ position_of event
+pub position-step : (event : Event) → position_in (step_of event) ≡ event_position event
 position-step (Start i) = refl
 position-step (Report i outcome) = refl
 
@@ -132,7 +132,7 @@ is_report (step.Start i) = false
 is_report (step.Report i) = true
 
 -- a request that is not reported after a step was not reported before it, and was not the one reported
-pub still_open : (state : State) (event : Event) (i : ℕ) → IsReached state → position_of event < size state → may_come state event ≡ true → is_reported (phase_at (after state event) i) ≡ false
+pub still_open : (state : State) (event : Event) (i : ℕ) → IsReached state → event_position event < size state → may_come state event ≡ true → is_reported (phase_at (after state event) i) ≡ false
     → (is_reported (phase_at state i) ≡ false) × (step_of event ≡ step.Report i → ⊥)
 still_open state (Start j) i reached within may fresh = let move = move_start state j reached within may in (
   elim (cases_eq i j) [
@@ -158,7 +158,7 @@ offered-first offers offers_now state (Report i outcome) first may offered =
 -- a step takes one event from those that are left
 pub fewer-left : (allows : Allowance) (offers : Offer) (state new : State) (s : Step) → IsReached state → IsNext allows state s → IsTaken offers state new s → events_left new + 1 ≡ events_left state
 fewer-left allows offers state new s reached next taken =
-    let within : position_of taken.event < size state = subst (λ i. i < size state) (ap position_in taken.step_is ∙ position-step taken.event) next.within in
+    let within : event_position taken.event < size state = subst (λ i. i < size state) (ap position_in taken.step_is ∙ position-step taken.event) next.within in
     let last : events_left new ≡ events_left (after state taken.event) = ap events_left taken.new_is in
     let fewer : events_left (after state taken.event) + 1 ≡ events_left state = left_after_event state taken.event reached within taken.may in
     omega arith
@@ -172,12 +172,12 @@ module _ (allows allows_now allows_later : Allowance) (offers offers_now offers_
       let event = taken.event in
       let here : state ≡ after_all first far.events = far.state_is in
       let now : IsReached state = subst IsReached (sym here) (reached_after_all first far.events reached far.course.run) in
-      let within : position_of event < size state = subst (λ i. i < size state) (ap position_in taken.step_is ∙ position-step event) next.within in
+      let within : event_position event < size state = subst (λ i. i < size state) (ap position_in taken.step_is ∙ position-step event) next.within in
       let chosen : IsAllowed allows state (step_of event) = subst (IsAllowed allows state) taken.step_is (far.allowed (ready_set state) (running_set state) s next.allowed) in
       record {
         events = far.events ++ event ∷ [];
         course = record {
-          run = joined first far.events event far.course.run (subst (λ x. position_of event < size x) here within) (subst (λ x. may_come x event ≡ true) here taken.may);
+          run = joined first far.events event far.course.run (subst (λ x. event_position event < size x) here within) (subst (λ x. may_come x event ≡ true) here taken.may);
           chosen = chosen-push allows offers first far.events event far.course.chosen (subst (λ x. IsAllowed allows x (step_of event)) here chosen)
               (offered-first offers offers_now state event far.offered taken.may taken.offered);
         };

@@ -15,7 +15,7 @@ use Rattle.odb_sched.specs.Statuses.{is_success, is_status}
 use Rattle.odb_sched.specs.Phases.{is_running, has_succeeded}
 use Rattle.odb_sched.specs.State.{State, size, phase_at, shape, at_first, after}
 use Rattle.odb_sched.specs.Steps.{may_come}
-use Rattle.odb_sched.specs.Runs.{position_of, after_all, IsRunFrom, starts, report_of, or_later, first_report, phase_by, phase_of, IsRun, state_after}
+use Rattle.odb_sched.specs.Runs.{event_position, after_all, IsRunFrom, starts, report_of, or_later, first_report, phase_by, phase_of, IsRun, state_after}
 use Rattle.odb_sched.specs.Laws.{HasSuccess, HasFewEvents}
 use Rattle.odb_sched.specs.Reached.{IsReached}
 use Rattle.odb_sched.proofs.PhaseLemmas.{get_or-set_cases, get_or-replicate_Unstarted, Unstarted-from, Running-from}
@@ -47,9 +47,9 @@ success_among state (event ∷ es) r e = elim (success_among (after state event)
 
 -- where the request of an event stood before it and stands after it, and where the others do
 pub record IsMove (state : State) (event : Event) (before new : Phase) : Type 0 where
-  pub stood : phase_at state (position_of event) ≡ before
-  pub stands : phase_at (after state event) (position_of event) ≡ new
-  pub others : (i : ℕ) → i ≢ position_of event → phase_at (after state event) i ≡ phase_at state i
+  pub stood : phase_at state (event_position event) ≡ before
+  pub stands : phase_at (after state event) (event_position event) ≡ new
+  pub others : (i : ℕ) → i ≢ event_position event → phase_at (after state event) i ≡ phase_at state i
 
 pub move_start : (state : State) (i : ℕ) → IsReached state → i < size state → may_come state (Start i) ≡ true → IsMove state (Start i) Unstarted Running
 move_start state i reached within may =
@@ -78,22 +78,22 @@ left Running = 1
 left (Reported outcome) = 0
 
 -- an event takes one from what its request has left
-left_by : (state : State) (event : Event) (before new : Phase) (i : ℕ) → IsMove state event before new → left new + 1 ≡ left before → cond (position_of event == i) 1 0 + left (phase_at (after state event) i) ≤ left (phase_at state i)
-left_by state event before new i move fewer = elim (cases_eq (position_of event) i) [
+left_by : (state : State) (event : Event) (before new : Phase) (i : ℕ) → IsMove state event before new → left new + 1 ≡ left before → cond (event_position event == i) 1 0 + left (phase_at (after state event) i) ≤ left (phase_at state i)
+left_by state event before new i move fewer = elim (cases_eq (event_position event) i) [
   | inl here ↦ rw (eq-eqb _ _ here, ← here, move.stood, move.stands) (omega arith)
   | inr elsewhere ↦ rw (ne_eqb _ _ elsewhere, move.others i (λ e. elsewhere (sym e))) (omega arith)
 ]
 
-left_after : (state : State) (event : Event) (i : ℕ) → IsReached state → position_of event < size state → may_come state event ≡ true → cond (position_of event == i) 1 0 + left (phase_at (after state event) i) ≤ left (phase_at state i)
+left_after : (state : State) (event : Event) (i : ℕ) → IsReached state → event_position event < size state → may_come state event ≡ true → cond (event_position event == i) 1 0 + left (phase_at (after state event) i) ≤ left (phase_at state i)
 left_after state (Start j) i reached within may = left_by state (Start j) Unstarted Running i (move_start state j reached within may) refl
 left_after state (Report j outcome) i reached within may = left_by state (Report j outcome) Running (Reported outcome) i (move_report state j outcome reached within may) refl
 
-pub few_events : (state : State) (events : List Event) (i : ℕ) → IsReached state → IsRunFrom state events → count_by (λ e. position_of e == i) events ≤ left (phase_at state i)
+pub few_events : (state : State) (events : List Event) (i : ℕ) → IsReached state → IsRunFrom state events → count_by (λ e. event_position e == i) events ≤ left (phase_at state i)
 few_events state [] i reached run = omega arith
 few_events state (event ∷ es) i reached run =
-    let rest : count_by (λ e. position_of e == i) es ≤ left (phase_at (after state event) i) = few_events (after state event) es i (reached_after state event reached run.0 run.1) run.2 in
-    let first : cond (position_of event == i) 1 0 + left (phase_at (after state event) i) ≤ left (phase_at state i) = left_after state event i reached run.0 run.1 in
-    rw (sum_by-cons (λ e. cond (position_of e == i) 1 0) event es) (omega arith)
+    let rest : count_by (λ e. event_position e == i) es ≤ left (phase_at (after state event) i) = few_events (after state event) es i (reached_after state event reached run.0 run.1) run.2 in
+    let first : cond (event_position event == i) 1 0 + left (phase_at (after state event) i) ≤ left (phase_at state i) = left_after state event i reached run.0 run.1 in
+    rw (sum_by-cons (λ e. cond (event_position e == i) 1 0) event es) (omega arith)
 
 -- where a request stands by where it stood, its first report since, and whether it has started since
 abbrev phase_since : Phase → Option Outcome → Bool → Phase
@@ -106,7 +106,7 @@ phase_since-none Unstarted = refl
 phase_since-none Running = refl
 phase_since-none (Reported outcome) = refl
 
-phase_by_event : (state : State) (event : Event) (i : ℕ) (report : Option Outcome) (started : Bool) → IsReached state → position_of event < size state → may_come state event ≡ true
+phase_by_event : (state : State) (event : Event) (i : ℕ) (report : Option Outcome) (started : Bool) → IsReached state → event_position event < size state → may_come state event ≡ true
     → phase_since (phase_at (after state event) i) report started ≡ phase_since (phase_at state i) (or_later (report_of i event) report) (starts i event || started)
 phase_by_event state (Start j) i report started reached within may = elim (cases_eq i j) [
   | inl here ↦ let move = move_start state j reached within may in rw (eq-eqb _ _ here, here, move.stood, move.stands) refl
@@ -125,7 +125,7 @@ phase_after_all state (event ∷ es) i reached run =
 
 -- before any event each request has two events left, and is unstarted
 pub few_events_first : (source : Plan) (policy : Policy) (events : List Event) → IsReached (at_first source policy) → IsRun source policy events → HasFewEvents events
-few_events_first source policy events reached run i = subst (λ phase. count_by (λ e. position_of e == i) events ≤ left phase) (get_or-replicate_Unstarted (length (shape source).units) i) (few_events (at_first source policy) events i reached run)
+few_events_first source policy events reached run i = subst (λ phase. count_by (λ e. event_position e == i) events ≤ left phase) (get_or-replicate_Unstarted (length (shape source).units) i) (few_events (at_first source policy) events i reached run)
 
 pub phases_first : (source : Plan) (policy : Policy) (events : List Event) (i : ℕ) → IsReached (at_first source policy) → IsRun source policy events → phase_at (state_after source policy events) i ≡ phase_of i events
 phases_first source policy events i reached run = phase_after_all (at_first source policy) events i reached run ∙ ap (λ phase. phase_since phase (first_report i events) (list_any (starts i) events)) (get_or-replicate_Unstarted (length (shape source).units) i)

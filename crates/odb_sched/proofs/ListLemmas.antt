@@ -3,7 +3,7 @@ use Rattle.std.proofs.Common.{Option, Some, None, is_none, find, not, ◌≡◌,
 use Rattle.std.specs.List.{list_all}
 use Rattle.std.proofs.lemmas.Bool.{cases_lt, and_parts, true≢false}
 use Rattle.std.proofs.lemmas.List.{take_all}
-use Rattle.odb_sched.specs.Below.{ListsOnce}
+use Rattle.odb_dense.specs.Lists.{ListsOnce}
 use Rattle.odb_sched.proofs.BelowLemmas.{find-all}
 
 -- where the tests agree, so do the lists

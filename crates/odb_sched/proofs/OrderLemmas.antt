@@ -16,7 +16,7 @@ use Rattle.odb_sched.specs.Statuses.{is_status}
 use Rattle.odb_sched.specs.Phases.{is_running}
 use Rattle.odb_sched.specs.State.{State, size, phase_at, after}
 use Rattle.odb_sched.specs.Steps.{may_come, is_finished}
-use Rattle.odb_sched.specs.Runs.{position_of, after_all, IsRunFrom}
+use Rattle.odb_sched.specs.Runs.{event_position, after_all, IsRunFrom}
 use Rattle.odb_sched.specs.Choosing.{Positions, IsLeast, IsGreatest, AllowsOrder}
 use Rattle.odb_sched.specs.Courses.{Offer, IsAllowed, step_of, IsOffered, AreChosen, IsDue, IsCausedBy, ready_set, running_set}
 use Rattle.odb_sched.specs.Recordings.{OffersRecorded}
@@ -46,7 +46,7 @@ step_one order.Wide ready running (step.Report i) (step.Start j) a b = absurd (b
 step_one order.Wide ready running (step.Report i) (step.Report j) a b = ap step.Report (least_one running i j a.1 b.1)
 
 -- no event may come where the run is finished
-none_comes : (state : State) (event : Event) → is_finished state ≡ true → position_of event < size state → may_come state event ≡ true → ⊥
+none_comes : (state : State) (event : Event) → is_finished state ≡ true → event_position event < size state → may_come state event ≡ true → ⊥
 none_comes state (Start i) finished within may = both_ways _ (none_starts state i finished within) may
 none_comes state (Report i outcome) finished within may = both_ways _ (none_runs state i finished within) (and_parts _ (is_status outcome.status) may).0
 

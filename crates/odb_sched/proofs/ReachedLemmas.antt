@@ -16,7 +16,7 @@ use Rattle.odb_sched.specs.Statuses.{is_status}
 use Rattle.odb_sched.specs.Phases.{is_unstarted, is_running, has_succeeded}
 use Rattle.odb_sched.specs.State.{State, size, phase_at, shape, at_first, started, reported, after}
 use Rattle.odb_sched.specs.Steps.{all_met, may_start, may_report, may_come}
-use Rattle.odb_sched.specs.Runs.{position_of}
+use Rattle.odb_sched.specs.Runs.{event_position}
 use Rattle.odb_sched.specs.Reached.{IsReached}
 use Rattle.odb_sched.proofs.PhaseLemmas.{Unstarted-from, Running-from, get_or-replicate_Unstarted}
 use Rattle.odb_sched.proofs.MetLemmas.{all_met-set}
@@ -72,6 +72,6 @@ reached_reported state i outcome reached within may =
       needs = needs_after state i (Reported outcome) reached (rw here refl) (reached.needs i within (rw here refl));
     }
 
-pub reached_after : (state : State) (event : Event) → IsReached state → position_of event < size state → may_come state event ≡ true → IsReached (after state event)
+pub reached_after : (state : State) (event : Event) → IsReached state → event_position event < size state → may_come state event ≡ true → IsReached (after state event)
 reached_after state (Start i) reached within may = reached_started state i reached within may
 reached_after state (Report i outcome) reached within may = reached_reported state i outcome reached within may

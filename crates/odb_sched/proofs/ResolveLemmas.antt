@@ -9,7 +9,7 @@ use Rattle.odb_doc.specs.declared.event.NamedEvent.TheVariants as named
 use Rattle.odb_sched.specs.declared.event.Event.{Event}
 use Rattle.odb_sched.specs.declared.event.Event.TheVariants as at
 use Rattle.odb_sched.specs.Resolving.{IsKnown, IsResolved, IsFirstUnknown}
-use Rattle.odb_sched.specs.Runs.{position_of}
+use Rattle.odb_sched.specs.Runs.{event_position}
 
 -- the events before the rest are these by their positions
 pub record HasResolved (rs : List Record) (events rest : List NamedEvent) (found : List Event) : Type 0 where
@@ -17,7 +17,7 @@ pub record HasResolved (rs : List Record) (events rest : List NamedEvent) (found
   pub whole : events ≡ before ++ rest
   pub known : All (IsKnown rs) before
   pub resolved : AllZip (IsResolved rs) before found
-  pub within : All (λ event. position_of event < length rs) found
+  pub within : All (λ event. event_position event < length rs) found
 
 pub resolved_none : (rs : List Record) (events : List NamedEvent) → HasResolved rs events events []
 resolved_none rs events = record { before = []; whole = refl; known = λ k event less. absurd (omega arith); resolved = tt; within = λ k event less. absurd (omega arith) }
@@ -46,18 +46,18 @@ slice_get-seam [] x rest = refl
 slice_get-seam (y ∷ xs) x rest = slice_get-seam xs x rest
 
 pub resolved_more : (rs : List Record) (events : List NamedEvent) (event : NamedEvent) (later : List NamedEvent) (found : List Event) (next : Event) → HasResolved rs events (event ∷ later) found
-    → IsResolved rs event next → position_of next < length rs → HasResolved rs events later (found ++ next ∷ [])
+    → IsResolved rs event next → event_position next < length rs → HasResolved rs events later (found ++ next ∷ [])
 resolved_more rs events event later found next so_far is within = record {
   before = so_far.before ++ event ∷ [];
   whole = so_far.whole ∙ sym (append_assoc so_far.before (event ∷ []) later);
   known = All-push (IsKnown rs) so_far.before event so_far.known (known-from rs event next is);
   resolved = AllZip-push (IsResolved rs) so_far.before found event next so_far.resolved is;
-  within = All-push (λ event. position_of event < length rs) found next so_far.within within;
+  within = All-push (λ event. event_position event < length rs) found next so_far.within within;
 }
 
 -- all events are resolved
 pub resolved_all : (rs : List Record) (events : List NamedEvent) (found : List Event) → HasResolved rs events [] found
-    → All (IsKnown rs) events × AllZip (IsResolved rs) events found × All (λ event. position_of event < length rs) found
+    → All (IsKnown rs) events × AllZip (IsResolved rs) events found × All (λ event. event_position event < length rs) found
 resolved_all rs events found so_far =
     let whole : events ≡ so_far.before = so_far.whole ∙ append-nil so_far.before in
     (subst (All (IsKnown rs)) (sym whole) so_far.known, subst (λ (all : List NamedEvent). AllZip (IsResolved rs) all found) (sym whole) so_far.resolved, so_far.within)

@@ -8,7 +8,7 @@ use Rattle.odb_sched.specs.declared.event.Event.{Event}
 use Rattle.odb_sched.specs.declared.event.Event.TheVariants.{Start, Report}
 use Rattle.odb_sched.specs.State.{State, size, at_first, after}
 use Rattle.odb_sched.specs.Steps.{may_come}
-use Rattle.odb_sched.specs.Runs.{position_of, after_all, IsRunFrom, IsRun, state_after}
+use Rattle.odb_sched.specs.Runs.{event_position, after_all, IsRunFrom, IsRun, state_after}
 use Rattle.odb_sched.specs.Reached.{IsReached}
 use Rattle.odb_sched.proofs.PlanLemmas.{laws-shape}
 use Rattle.odb_sched.proofs.ReachedLemmas.{reached_first, reached_after}
@@ -39,7 +39,7 @@ shape-after_all state (e ∷ es) = shape-after_all (after state e) es ∙ shape-
 -- a run that an event is in, cut there
 pub record IsCut (state : State) (before : List Event) (event : Event) (later : List Event) : Type 0 where
   pub run : IsRunFrom state before
-  pub within : position_of event < size (after_all state before)
+  pub within : event_position event < size (after_all state before)
   pub may : may_come (after_all state before) event ≡ true
   pub rest : IsRunFrom (after (after_all state before) event) later
 
@@ -50,7 +50,7 @@ cut state (e ∷ es) event later run =
     record { run = (run.0, run.1, inner.run); within = inner.within; may = inner.may; rest = inner.rest }
 
 -- a run goes on with an event that may come
-pub joined : (state : State) (before : List Event) (event : Event) → IsRunFrom state before → position_of event < size (after_all state before) → may_come (after_all state before) event ≡ true → IsRunFrom state (before ++ event ∷ [])
+pub joined : (state : State) (before : List Event) (event : Event) → IsRunFrom state before → event_position event < size (after_all state before) → may_come (after_all state before) event ≡ true → IsRunFrom state (before ++ event ∷ [])
 joined state [] event run within may = (within, may, tt)
 joined state (e ∷ es) event run within may = (run.0, run.1, joined (after state e) es event run.2 within may)
 

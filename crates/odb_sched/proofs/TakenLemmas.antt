@@ -7,7 +7,7 @@ use Rattle.odb_sched.specs.declared.refusal.RunRefusal.{RunRefusal}
 use Rattle.odb_sched.specs.declared.refusal.RunRefusal.TheVariants as refusal
 use Rattle.odb_sched.specs.State.{State, size, after}
 use Rattle.odb_sched.specs.Steps.{may_come}
-use Rattle.odb_sched.specs.Runs.{position_of, after_all, IsRunFrom, RefusesEvent, StopsAt, Refuses}
+use Rattle.odb_sched.specs.Runs.{event_position, after_all, IsRunFrom, RefusesEvent, StopsAt, Refuses}
 use Rattle.odb_sched.proofs.CauseLemmas.{start_caused, report_caused}
 use Rattle.odb_sched.proofs.KeptLemmas.{may_start-some, may_report-some}
 use Rattle.odb_sched.proofs.RunLemmas.{after_all-push, joined, shape-after_all}
@@ -28,17 +28,17 @@ pub taken_as : (first : State) (events rest other : List Event) (count n : ℕ) 
 taken_as first events rest other count n now same_rest same_count taken = rw (← same_rest, ← same_count) taken
 
 -- the next event names a request that there is
-pub next_within : (first : State) (events : List Event) (event : Event) (later : List Event) (count : ℕ) (now : State) → All (λ e. position_of e < size first) events → HasTaken first events (event ∷ later) count now → position_of event < size now
+pub next_within : (first : State) (events : List Event) (event : Event) (later : List Event) (count : ℕ) (now : State) → All (λ e. event_position e < size first) events → HasTaken first events (event ∷ later) count now → event_position event < size now
 next_within first events event later count now within taken =
-    let here : position_of event < size first = All-contains (λ e. position_of e < size first) events event within (rw taken.whole (Contains-append_right taken.before (event ∷ later) event (0, omega arith, refl))) in
+    let here : event_position event < size first = All-contains (λ e. event_position e < size first) events event within (rw taken.whole (Contains-append_right taken.before (event ∷ later) event (0, omega arith, refl))) in
     rw (taken.state, shape-after_all first taken.before) here
 
-pub taken_more : (first : State) (events : List Event) (event : Event) (later : List Event) (count : ℕ) (now next : State) → HasTaken first events (event ∷ later) count now → position_of event < size now → may_come now event ≡ true → next ≡ after now event → HasTaken first events later (count + 1) next
+pub taken_more : (first : State) (events : List Event) (event : Event) (later : List Event) (count : ℕ) (now next : State) → HasTaken first events (event ∷ later) count now → event_position event < size now → may_come now event ≡ true → next ≡ after now event → HasTaken first events later (count + 1) next
 taken_more first events event later count now next taken within may is = record {
   before = taken.before ++ event ∷ [];
   whole = taken.whole ∙ sym (append_assoc taken.before (event ∷ []) later);
   counted = let counted = taken.counted in omega (arith, length-append taken.before (event ∷ []));
-  run = joined first taken.before event taken.run (subst (λ state. position_of event < size state) taken.state within) (subst (λ state. may_come state event ≡ true) taken.state may);
+  run = joined first taken.before event taken.run (subst (λ state. event_position event < size state) taken.state within) (subst (λ state. may_come state event ≡ true) taken.state may);
   state = is ∙ ap (λ state. after state event) taken.state ∙ sym (after_all-push first taken.before event);
 }
 
@@ -75,5 +75,5 @@ taken_refused first events event later at count now (refusal.Report n cause) tak
 taken_refused first events event later at count now refusal.OutOfMemory taken place refused = tt
 
 -- each event names a request that there is
-pub sized : (first : State) (n : ℕ) (events : List Event) → size first ≡ n → All (λ e. position_of e < n) events → All (λ e. position_of e < size first) events
+pub sized : (first : State) (n : ℕ) (events : List Event) → size first ≡ n → All (λ e. event_position e < n) events → All (λ e. event_position e < size first) events
 sized first n events is within = rw is within

@@ -15,7 +15,3 @@ all_below (suc n) test = test n && all_below n test
 abbrev pub passing_below : ℕ → (ℕ → Bool) → List ℕ
 passing_below zero test = []
 passing_below (suc n) test = if test n then n ∷ passing_below n test else passing_below n test
-
--- the list has the numbers below n that pass, each once, and no others
-abbrev pub ListsOnce : ℕ → (ℕ → Bool) → List ℕ → Type 0
-ListsOnce n test xs = (i : ℕ) → count_by (λ x. x == i) xs ≡ (if nat_lt i n && test i then 1 else 0)

@@ -8,11 +8,11 @@ use Rattle.odb_sched.specs.Reached.{IsReached}
 use Rattle.odb_sched.specs.ProgressCounts.{ArePending}
 
 -- the state in which the run has ended
-abbrev pub state_in : Inside → State
-state_in s = state_of s.plan.now s.policy s.phases.items
+abbrev pub ended_state : Inside → State
+ended_state s = state_of s.plan.now s.policy s.phases.items
 
 pub record IsEnded (s : Inside) : Type 0 where
-  pub reached : IsReached (state_in s)
-  pub finished : is_finished (state_in s) ≡ true
+  pub reached : IsReached (ended_state s)
+  pub finished : is_finished (ended_state s) ≡ true
   pub members : length s.pending.items ≡ (shape s.plan.now).unit_count
   pub pending : ArePending (shape s.plan.now) s.phases.items s.pending.items

@@ -15,10 +15,10 @@ pub record IsTracked (state : State) (tracker : Tracker) : Type 0 where
   pub stopped : tracker.stopped ≡ is_stopped state
 
 -- the state of the run that a scheduler drives
-abbrev pub state_in : Inside → State
-state_in s = state_of s.plan.now s.policy s.phases.items
+abbrev pub kept_state : Inside → State
+kept_state s = state_of s.plan.now s.policy s.phases.items
 
 -- what a scheduler keeps
 pub record IsKept (s : Inside) : Type 0 where
-  pub reached : IsReached (state_in s)
-  pub tracker : IsTracked (state_in s) s.tracker
+  pub reached : IsReached (kept_state s)
+  pub tracker : IsTracked (kept_state s) s.tracker

@@ -14,7 +14,7 @@ use Rattle.odb_sched.specs.Phases.{is_running, has_succeeded}
 use Rattle.odb_sched.specs.State.{State, size, phase_at}
 use Rattle.odb_sched.specs.Failing.{unit_needed, succeeds}
 use Rattle.odb_sched.specs.Steps.{may_start, is_finished}
-use Rattle.odb_sched.specs.Runs.{position_of}
+use Rattle.odb_sched.specs.Runs.{event_position}
 use Rattle.odb_sched.specs.Answers.{answer, is_answered_2xx}
 
 -- the events hold a report of this request with a status from 200 to 299
@@ -46,7 +46,7 @@ IsNeverStuck state = is_finished state ≡ false → (i : ℕ) × (i < size stat
 
 -- no request has more than a start and a report
 abbrev pub HasFewEvents : List Event → Type 0
-HasFewEvents events = (i : ℕ) → count_by (λ e. position_of e == i) events ≤ 2
+HasFewEvents events = (i : ℕ) → count_by (λ e. event_position e == i) events ≤ 2
 
 -- what was reported is what the table has
 abbrev pub Agrees : State → (ℕ → Outcome) → Type 0

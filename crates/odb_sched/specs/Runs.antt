@@ -14,9 +14,9 @@ use Rattle.odb_sched.specs.State.{State, size, at_first, after}
 use Rattle.odb_sched.specs.Steps.{may_come}
 use Rattle.odb_sched.specs.Causes.{IsStartCause, IsReportCause}
 
-abbrev pub position_of : Event → ℕ
-position_of (Start i) = i
-position_of (Report i outcome) = i
+abbrev pub event_position : Event → ℕ
+event_position (Start i) = i
+event_position (Report i outcome) = i
 
 -- the state after events
 abbrev pub after_all : State → List Event → State
@@ -26,7 +26,7 @@ after_all state (e ∷ es) = after_all (after state e) es
 -- each event may come after those before it
 abbrev pub IsRunFrom : State → List Event → Type 0
 IsRunFrom state [] = Unit {0}
-IsRunFrom state (e ∷ es) = (position_of e < size state) × (may_come state e ≡ true) × IsRunFrom (after state e) es
+IsRunFrom state (e ∷ es) = (event_position e < size state) × (may_come state e ≡ true) × IsRunFrom (after state e) es
 
 -- the events are a run of the plan
 abbrev pub IsRun : Plan → Policy → List Event → Type 0

@@ -61,9 +61,9 @@ impl<'p> Model for Done<'p> {
 
     ghost coded = { Prim.hlevel (codes, plan_code, policies.the_row.coded, phase.the_row.coded) };
 
-    ghost use Rattle.odb_sched.specs.Ended.{state_in, IsEnded};
+    ghost use Rattle.odb_sched.specs.Ended.{ended_state, IsEnded};
 
-    ghost view = { state_in };
+    ghost view = { ended_state };
 
     ghost invariant = { IsEnded };
 }

@@ -2,7 +2,7 @@ ghost use Rattle.std.specs.Prelude.{◌≡◌, ◌<◌, true, length, All, OnOk,
 ghost use Rattle.odb_check.specs.Plans.{plan_records};
 ghost use Rattle.odb_sched.specs.State as states;
 ghost use Rattle.odb_sched.specs.Steps.{may_come};
-ghost use Rattle.odb_sched.specs.Runs.{position_of, IsRun, state_after, RefusesEvent, Refuses};
+ghost use Rattle.odb_sched.specs.Runs.{event_position, IsRun, state_after, RefusesEvent, Refuses};
 ghost use Rattle.odb_sched.specs.Laws.{StartsLast, HasFewEvents};
 
 use crate::laws::every_run;
@@ -24,7 +24,7 @@ pub enum Event {
 
 /// Takes the event at index `k` of its list, if it may come.
 fn take(scheduler: &mut Scheduler<'_>, at: usize, event: Event) -> Result<(), RunRefusal>
-    requires { position_of event < states.size scheduler.old }
+    requires { event_position event < states.size scheduler.old }
     ensures allowed { OnOk result (may_come scheduler.old event ≡ true) }
     ensures state { OnOk result (scheduler.new ≡ states.after scheduler.old event) }
     ensures refused { IfErr result (RefusesEvent scheduler.old at event) }
@@ -53,7 +53,7 @@ pub fn run<'a: 'p, 'p>(
     policy: Policy,
     events: Vec<Event>,
 ) -> Result<Scheduler<'p>, RunRefusal>
-    requires { All (λ event. position_of event < length (plan_records plan.now)) events.items }
+    requires { All (λ event. event_position event < length (plan_records plan.now)) events.items }
     ensures run { OnOk result (IsRun plan.now policy events.items) }
     ensures state { IfOk result (λ scheduler. scheduler
         ≡ state_after plan.now policy events.items) }

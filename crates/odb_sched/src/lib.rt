@@ -40,7 +40,7 @@ pub use event::{Event, run};
 pub use execution::{Trace, execute};
 pub use fault::ExecFault;
 pub use order::Order;
-pub use policy::{Mode, Policy};
+pub use policy::{MAX_WIDTH, Mode, Policy};
 pub use recorded::Recorded;
 pub use refusal::{ReportRefusal, RunRefusal, StartRefusal};
 pub use resolving::{ResolveFault, resolve};

@@ -1,7 +1,7 @@
 ghost use Rattle.std.specs.Prelude.{◌≡◌, ◌<◌, ◌↔◌, IsSome, IfSome};
 
-/// As many requests as a batch may have, so that no request ever waits because of the width.
-const MAX_WIDTH: u32 = 10_000;
+/// The greatest width that makes a difference: a batch has no more requests.
+pub const MAX_WIDTH: u32 = 10_000;
 
 /// Whether a run goes on after an error (OData Protocol 4.01, section 8.2.8.3, the preference
 /// `continue-on-error`).

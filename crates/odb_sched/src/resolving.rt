@@ -6,7 +6,7 @@ ghost use Rattle.odb_check.specs.Plans.{plan_records};
 ghost use Rattle.odb_check.specs.Positions.{id_at};
 ghost use Rattle.odb_sched.specs.declared.resolving.ResolveFault.TheVariants.{OutOfMemory};
 ghost use Rattle.odb_sched.specs.Resolving.{IsKnown, IsResolved, RefusesNamed, named_id};
-ghost use Rattle.odb_sched.specs.Runs.{position_of};
+ghost use Rattle.odb_sched.specs.Runs.{event_position};
 
 use crate::event::Event;
 use odb_check::Plan;
@@ -89,7 +89,7 @@ fn id_of(event: &NamedEvent) -> &str
 
 /// Returns the event at the position of its request.
 fn at_position(event: NamedEvent, i: u32) -> Event
-    ensures place { position_of result ≡ i }
+    ensures place { event_position result ≡ i }
     ensures same { (batch : List Record) → id_at batch i ≡ Some (named_id event)
         → IsResolved batch event result }
 {
@@ -110,7 +110,7 @@ pub fn resolve(alloc: Global, plan: &Plan<'_>, events: Events) -> Result<Vec<Eve
     ensures known { OnOk result (All (IsKnown (plan_records plan.now)) (entries events)) }
     ensures events { IfOk result (λ found. AllZip (IsResolved (plan_records plan.now))
         (entries events) found.items) }
-    ensures within { IfOk result (λ found. All (λ event. position_of event
+    ensures within { IfOk result (λ found. All (λ event. event_position event
         < length (plan_records plan.now)) found.items) }
     ensures least { IfErr result (λ fault. RefusesNamed fault (plan_records plan.now)
         (entries events)) }

@@ -3,7 +3,7 @@ ghost use Rattle.odb_check.specs.Plans.{plan_records};
 ghost use Rattle.odb_sched.specs.declared.policy.Mode.TheVariants as modes;
 ghost use Rattle.odb_sched.specs.declared.phase.Phase.TheVariants.{Unstarted};
 ghost use Rattle.odb_sched.specs.declared.refusal.StartRefusal.TheVariants.{WidthReached};
-ghost use Rattle.odb_sched.specs.Below.{ListsOnce};
+ghost use Rattle.odb_dense.specs.Lists.{ListsOnce};
 ghost use Rattle.odb_sched.specs.Phases as tests;
 ghost use Rattle.odb_sched.specs.State as states;
 ghost use Rattle.odb_sched.specs.Steps as steps;
@@ -53,9 +53,9 @@ impl<'p> Model for Scheduler<'p> {
 
     ghost coded = { Prim.hlevel (codes, plan_code, policies.the_row.coded, phase.the_row.coded) };
 
-    ghost use Rattle.odb_sched.specs.Kept.{state_in, IsKept};
+    ghost use Rattle.odb_sched.specs.Kept.{kept_state, IsKept};
 
-    ghost view = { state_in };
+    ghost view = { kept_state };
 
     ghost invariant = { IsKept };
 }

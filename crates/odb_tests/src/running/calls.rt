@@ -4,7 +4,7 @@
 ghost use Rattle.std.specs.Prelude.{◌≡◌, ◌<◌, length, All, IfOk};
 ghost use Rattle.odb_check.specs.Plans.{plan_records};
 ghost use Rattle.odb_sched.specs.Calls.{reported_by};
-ghost use Rattle.odb_sched.specs.Runs.{position_of};
+ghost use Rattle.odb_sched.specs.Runs.{event_position};
 
 use super::{GROUP, OnPlan, PASSED_ON, REFERENCE, THREE, on_document, outcome};
 use odb_check::Plan;
@@ -138,7 +138,7 @@ const AROUND: &str = r#"{"requests":[{"id":"a","method":"get","url":"X"},
 
 /// An event of the request at a position: a start where the status is 0.
 fn event_of(alloc: Global, i: u32, status: u16) -> Event
-    ensures { position_of result ≡ i }
+    ensures { event_position result ≡ i }
 {
     if status == 0 {
         Event::Start(i)
@@ -154,7 +154,7 @@ fn events_of(
     events: &[(u32, u16)],
 ) -> Result<Vec<Event>, AllocError>
     ensures { IfOk result (λ list. All
-        (λ event. position_of event < length (plan_records plan.now)) list.items) }
+        (λ event. event_position event < length (plan_records plan.now)) list.items) }
 {
     let mut list = Vec::new(alloc);
     for (i, status) in events {

@@ -2,7 +2,7 @@
 use Rattle.std.proofs.Common.{[], ◌∷◌}
 use Rattle.odb_reply.specs.Responses.{response_text}
 use Rattle.odb_engine.specs.Stops.{Sends}
-use Rattle.odb_engine.specs.Lines.{newline}
+use Rattle.odb_check.specs.Texts.{newline}
 use Rattle.odb_engine.specs.Replays.{response_line}
 use Rattle.odb_engine.proofs.EngineLemmas.{exit-stop}
 use Rattle.odb_engine.proofs.SendLemmas.{Sends-stopped, Sends-after}

@@ -1,5 +1,5 @@
 use Rattle.std.proofs.Common.{subst}
-use Rattle.odb_sched.specs.Below.{ListsOnce}
+use Rattle.odb_dense.specs.Lists.{ListsOnce}
 use Rattle.odb_sched.specs.State.{size}
 use Rattle.odb_sched.specs.Steps.{may_start}
 use Rattle.odb_sched.proofs.ChoiceLemmas.{listed_within}

@@ -7,7 +7,7 @@ use Rattle.odb_sched.specs.Phases.{is_running}
 use Rattle.odb_sched.specs.State.{size, phase_at}
 use Rattle.odb_sched.specs.Steps.{may_report}
 use Rattle.odb_sched.specs.Plans.{state_of}
-use Rattle.odb_sched.specs.Kept.{IsTracked, state_in}
+use Rattle.odb_sched.specs.Kept.{IsTracked, kept_state}
 use Rattle.odb_sched.proofs.PhaseLemmas.{Running-from}
 use Rattle.odb_sched.proofs.CauseLemmas.{report_cause}
 use Rattle.odb_sched.proofs.ReachedLemmas.{reached_reported}
@@ -22,7 +22,7 @@ report-requires-clause-tracker c =
     (c.put.ensures ∙ ap (λ phases. set phases c.args.i (Reported c.args.outcome)) c.deref_mut.ensures.value)
     (ap length c.put.ensures ∙ length-set c.deref_mut.result.now c.args.i (Reported c.args.outcome) ∙ c.deref_mut.ensures.len)
     c.deref.ensures.value
-    (Running-from _ (and_parts (is_running (phase_at (state_in c.self.inside) c.args.i)) (is_status c.args.outcome.status) may).0)))
+    (Running-from _ (and_parts (is_running (phase_at (kept_state c.self.inside) c.args.i)) (is_status c.args.outcome.status) may).0)))
     c.self.invariant.tracker
 
 pub invariant_of-self : goal.invariant_of-self

@@ -1,7 +1,7 @@
 use Rattle.std.proofs.Common.{◌≡◌, ◌≤◌, ◌∙◌, ap, subst, arith, length}
-use Rattle.odb_sched.specs.Below.{ListsOnce}
+use Rattle.odb_dense.specs.Lists.{ListsOnce}
 use Rattle.odb_sched.specs.Phases.{is_running}
-use Rattle.odb_sched.specs.Kept.{state_in}
+use Rattle.odb_sched.specs.Kept.{kept_state}
 use Rattle.odb_sched.specs.State.{State, size, phase_at}
 use Rattle.odb_sched.specs.Steps.{running_count}
 use Rattle.odb_sched.proofs.ChoiceLemmas.{listed_within}
@@ -17,7 +17,7 @@ returns-clause-within c = listed_within (size c.args.self.now) (λ i. is_running
 
 pub returns-clause-width : goal.returns-clause-width
 returns-clause-width c =
-    let most : running_count (state_in c.self.inside) ≤ c.self.inside.policy.width = c.self.invariant.reached.narrow in
-    let counted : length c.running.result.now ≡ running_count (state_in c.self.inside) = c.running.ensures.count ∙ running_is (state_in c.self.inside) c.self.inside.tracker c.self.invariant.tracker in
+    let most : running_count (kept_state c.self.inside) ≤ c.self.inside.policy.width = c.self.invariant.reached.narrow in
+    let counted : length c.running.result.now ≡ running_count (kept_state c.self.inside) = c.running.ensures.count ∙ running_is (kept_state c.self.inside) c.self.inside.tracker c.self.invariant.tracker in
     let width : c.self.inside.policy.width ≡ c.args.self.now.policy.width = ap (λ (state : State). state.policy.width) c.self.view_is in
     omega arith

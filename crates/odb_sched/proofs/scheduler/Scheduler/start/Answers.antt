@@ -7,7 +7,7 @@ use Rattle.odb_sched.specs.Laws.{HaveSucceeded}
 use Rattle.odb_check.specs.Plans.{plan_records}
 use Rattle.odb_sched.specs.Steps.{may_start}
 use Rattle.odb_sched.specs.Plans.{state_of}
-use Rattle.odb_sched.specs.Kept.{IsTracked, state_in}
+use Rattle.odb_sched.specs.Kept.{IsTracked, kept_state}
 use Rattle.odb_sched.proofs.PhaseLemmas.{Unstarted-from}
 use Rattle.odb_sched.proofs.StartLemmas.{may_start-parts}
 use Rattle.odb_sched.proofs.CauseLemmas.{start_cause}
@@ -27,7 +27,7 @@ start-requires-clause-tracker c =
     (c.put.ensures ∙ ap (λ phases. set phases c.args.i Running) c.deref_mut.ensures.value)
     (ap length c.put.ensures ∙ length-set c.deref_mut.result.now c.args.i Running ∙ c.deref_mut.ensures.len)
     c.deref.ensures.value
-    (Unstarted-from _ (may_start-parts (state_in c.self.inside) c.args.i may).fresh)))
+    (Unstarted-from _ (may_start-parts (kept_state c.self.inside) c.args.i may).fresh)))
     c.self.invariant.tracker
 
 pub invariant_of-self : goal.invariant_of-self

@@ -3,7 +3,7 @@ use Rattle.odb_check.specs.declared.fault.NameRule.{NameRule}
 use Rattle.odb_check.specs.LeastNameFault.{BreaksIn}
 use Rattle.odb_check.specs.Marks.{AreUpTo}
 use Rattle.odb_check.specs.Requests.{requests}
-use Rattle.odb_check.proofs.walk.needs_of.Given as goal
+use Rattle.odb_check.proofs.walk.all_needs.Given as goal
 use Rattle.odb_check.specs.Walks.{AreNeedsOf}
 
 -- the requests before i break no rule, and the list has their needs

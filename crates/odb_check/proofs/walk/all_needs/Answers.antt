@@ -2,7 +2,7 @@ use Rattle.std.proofs.Common.{arith}
 use Rattle.odb_check.specs.LeastNameFault.{RefusesNames}
 use Rattle.odb_check.specs.Requests.{requests}
 use Rattle.odb_check.proofs.WalkLemmas.{same_error, names_refused, all_good}
-use Rattle.odb_check.proofs.walk.needs_of.Goals as goal
+use Rattle.odb_check.proofs.walk.all_needs.Goals as goal
 
 pub returns-in_err-add_request-clause-least : goal.returns-in_err-add_request-clause-least
 returns-in_err-add_request-clause-least c =
