@@ -16,7 +16,7 @@ from dataclasses import dataclass
 
 sys.dont_write_bytecode = True
 
-from pages import COMMANDS
+from pages import OF_BATCHES
 from run import HERE, PROGRAM
 
 EXAMPLES = os.path.join(os.path.dirname(HERE), "examples")
@@ -62,7 +62,7 @@ def parts_of(name):
 def parts():
     found = []
     for name in BATCHES:
-        found += [Part(name, data, COMMANDS[len(data) % len(COMMANDS)], "batch") for data in parts_of(name)]
+        found += [Part(name, data, OF_BATCHES[len(data) % len(OF_BATCHES)], "batch") for data in parts_of(name)]
     for command, (place, name) in SECONDS.items():
         found += [Part(name, data, command, place) for data in parts_of(name)]
     return found

@@ -22,7 +22,7 @@ import grammar
 import mistakes
 import rules
 import rules_of_runs
-from pages import COMMANDS, command_names
+from pages import OF_BATCHES, command_names
 from run import PROGRAM
 
 SECONDS = 60
@@ -140,7 +140,7 @@ def read_arguments():
     parser = argparse.ArgumentParser(description="Compares the program with plain rules on random documents.")
     option = parser.add_argument
     option("--binary", default=PROGRAM, metavar="PATH", help="the program; else the one built here")
-    option("--commands", type=command_names, default=list(COMMANDS), metavar="NAME,..", help="only these commands")
+    option("--commands", type=command_names, default=list(OF_BATCHES), metavar="NAME,..", help="only these commands")
     option("--count", type=int, default=2000, metavar="N", help="how many documents; 2000")
     option("--seed", type=int, default=1, metavar="S", help="which documents; 1")
     option("--jobs", type=int, default=4, metavar="N", help="how many run at once; 4")

@@ -10,7 +10,9 @@ import re
 import shlex
 from dataclasses import dataclass, field
 
-COMMANDS = ("check", "plan", "replay", "canon", "match", "run", "explain", "completions", "man")
+# The commands that read a batch, and all commands.
+OF_BATCHES = ("check", "plan", "replay", "canon", "match", "run")
+COMMANDS = (*OF_BATCHES, "explain", "completions", "man")
 SOMETHING = "..."
 STREAMS = ("input", "output", "errors")
 
