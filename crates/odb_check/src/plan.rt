@@ -40,12 +40,6 @@ impl<'b> Plan<'b> {
         ensures count { result ≡ length (plan_records self.now) }
         ensures size { result ≡ length (shape self.now).units }
         ensures small { result ≤ 10000 }
-
-        // What holds of every plan: `laws::every_plan` says more.
-        ensures good { HasGoodNames (plan_records self.now) }
-        ensures laws { shapes.IsPlan (shapes.shape_of (plan_records self.now)) }
-        ensures names { shapes.HasNamesAsNeeds (plan_records self.now)
-            (shapes.shape_of (plan_records self.now)) }
     {
         self.tables.len()
     }

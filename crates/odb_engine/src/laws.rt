@@ -64,5 +64,5 @@ pub fn one_run(plan: &Plan<'_>)
     odb_doc::laws::one_fault();
     odb_check::laws::one_fault();
     odb_sched::laws::every_cause();
-    let _count = plan.len();
+    odb_check::laws::every_plan(plan);
 }

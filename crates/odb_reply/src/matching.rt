@@ -4,7 +4,6 @@ ghost use Rattle.odb_doc.specs.Records.{record_of};
 ghost use Rattle.odb_check.specs.Marks.{IsWithin};
 ghost use Rattle.odb_check.specs.Needs.{needs_at};
 ghost use Rattle.odb_check.specs.Plans.{plan_records};
-ghost use Rattle.odb_check.specs.Shape.{IsPlan, shape_of};
 ghost use Rattle.odb_sched.specs.Statuses as specs;
 ghost use Rattle.odb_reply.specs.Fits.{Fits, IsTableOf};
 ghost use Rattle.odb_reply.specs.LeastMatchFault.{RefusesMatch};
@@ -56,7 +55,6 @@ fn is_satisfied(table: &Table, units: &[bool], need: Need) -> bool
 /// Returns whether a dependency of the request has failed.
 fn has_failed_need(plan: &Plan<'_>, table: &Table, units: &[bool], i: u32) -> bool
     requires request { i < length (plan_records plan.now) }
-    requires laws { IsPlan (shape_of (plan_records plan.now)) }
     requires statuses { length (tables.statuses table.now) ≡ length (plan_records plan.now) }
     requires units { known.AreUnits (plan_records plan.now) (tables.statuses table.now)
         (length (plan_records plan.now)) units.now }
@@ -88,7 +86,6 @@ fn broken_rule(
     i: u32,
 ) -> Option<MatchRule>
     requires request { i < length (plan_records plan.now) }
-    requires laws { IsPlan (shape_of (plan_records plan.now)) }
     requires rows { known.HasRows (plan_records plan.now) (entries responses.now)
         (tables.places table.now) (tables.statuses table.now) }
     requires units { known.AreUnits (plan_records plan.now) (tables.statuses table.now)
@@ -96,6 +93,7 @@ fn broken_rule(
     ensures none { IfNone result (known.NoneIn 3 (plan_records plan.now) (entries responses.now) i) }
     ensures first { IfSome result (known.IsFirstIn 3 (plan_records plan.now) (entries responses.now) i) }
 {
+    odb_check::laws::every_plan(plan);
     if !has_group(responses.entry(table.place(i)), plan.request(i)) {
         return Some(MatchRule::GroupDiffers);
     }

@@ -55,6 +55,7 @@ pub(crate) fn places_of(
         (entries responses.now)) }
     ensures good { HasGoodNames (plan_records plan.now) }
 {
+    odb_check::laws::every_plan(plan);
     let mut places = no_places(alloc, plan.len())?;
     for at in 0..responses.len() {
         if let Err(rule) = note_place(plan, &mut places, responses.entry(at).id, at) {

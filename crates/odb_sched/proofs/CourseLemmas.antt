@@ -7,7 +7,7 @@ use Rattle.std.proofs.lemmas.List.{length-append}
 use Rattle.std.proofs.lemmas.List.Folds.{sum_by-replicate}
 use Rattle.odb_check.specs.declared.plan.Plan.{Plan}
 use Rattle.odb_check.specs.Plans.{plan_records}
-use Rattle.odb_check.specs.Shape.{IsPlan, shape_of}
+use Rattle.odb_check.specs.Shape.{IsPlan}
 use Rattle.odb_doc.specs.declared.outcome.Outcome.{Outcome}
 use Rattle.odb_sched.specs.declared.policy.Policy.{Policy}
 use Rattle.odb_sched.specs.declared.phase.Phase.{Phase}
@@ -273,7 +273,7 @@ module _ (source : Plan) (policy : Policy) where
     pub next-within : (s : Step) → IsNext allows_now state s → position_in s < length (plan_records source)
     next-within s next = subst (λ n. position_in s < n) same-size next.within
 
-    pub reached-so_far : IsPlan (shape_of (plan_records source)) → IsReached state
+    pub reached-so_far : IsPlan (shape source) → IsReached state
     reached-so_far laws = subst IsReached (sym far.state_is) (reached_after_all (at_first source policy) far.events (reached_at_first source policy laws) far.course.run)
 
     pub same-policy : state.policy ≡ policy

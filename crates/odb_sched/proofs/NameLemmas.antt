@@ -4,7 +4,7 @@ use Rattle.std.proofs.lemmas.Bool.{both_ways}
 use Rattle.odb_check.specs.declared.plan.Plan.{Plan}
 use Rattle.odb_check.specs.declared.need.Need.TheVariants.{One, Group}
 use Rattle.odb_check.specs.Plans.{plan_records}
-use Rattle.odb_check.specs.Shape.{HasNamesAsNeeds, shape_of, unit_of, needs_of}
+use Rattle.odb_check.specs.Shape.{HasNamesAsNeeds, unit_of, needs_of}
 use Rattle.odb_sched.specs.declared.policy.Policy.{Policy}
 use Rattle.odb_sched.specs.declared.event.Event.{Event}
 use Rattle.odb_sched.specs.declared.event.Event.TheVariants.{Start}
@@ -13,7 +13,7 @@ use Rattle.odb_sched.specs.State.{State, phase_at, shape, at_first}
 use Rattle.odb_sched.specs.Steps.{is_met, all_met}
 use Rattle.odb_sched.specs.Runs.{IsRun, state_after}
 use Rattle.odb_sched.specs.Laws.{HasSuccess, HaveSucceeded, StartsLast}
-use Rattle.odb_sched.proofs.PlanLemmas.{length-shape, names-shape, group_at-within}
+use Rattle.odb_sched.proofs.PlanLemmas.{length-shape, group_at-within}
 use Rattle.odb_sched.proofs.BelowLemmas.{list_all-each}
 use Rattle.odb_sched.proofs.PhaseLemmas.{get_or-replicate_Unstarted}
 use Rattle.odb_sched.proofs.MetLemmas.{member_succeeded}
@@ -29,21 +29,20 @@ success_in source policy events r done = elim (success_among (at_first source po
 ]
 
 -- where what a request needs is met, what it names has succeeded
-pub named-succeeded : (source : Plan) (state : State) (i : ℕ) → HasNamesAsNeeds (plan_records source) (shape_of (plan_records source)) → state.shape ≡ shape source → all_met state i ≡ true → HaveSucceeded (plan_records source) state i
+pub named-succeeded : (source : Plan) (state : State) (i : ℕ) → HasNamesAsNeeds (plan_records source) (shape source) → state.shape ≡ shape source → all_met state i ≡ true → HaveSucceeded (plan_records source) state i
 named-succeeded source state i named same met =
-    let needed = names-shape source named in
     record {
-      ids = λ name r has at. one r (needed.names_id i name r has at);
+      ids = λ name r has at. one r (named.names_id i name r has at);
       groups = λ name j has at. member_succeeded state.shape state.phases (unit_of state.shape j) j
-          (list_all-each (is_met state) (needs_of state.shape i) (Group (unit_of state.shape j)) met (rw same (needed.names_group i name j has at)))
+          (list_all-each (is_met state) (needs_of state.shape i) (Group (unit_of state.shape j)) met (rw same (named.names_group i name j has at)))
           (rw (same, length-shape source) (group_at-within (plan_records source) j name at)) refl;
-      references = λ name r refers at. one r (needed.refers i name r refers at);
+      references = λ name r refers at. one r (named.refers i name r refers at);
     }
   where
     one : (r : ℕ) → Contains (needs_of (shape source) i) (One r) → has_succeeded (phase_at state r) ≡ true
     one r has = list_all-each (is_met state) (needs_of state.shape i) (One r) met (rw same has)
 
-pub dependencies_first : (source : Plan) (policy : Policy) (events : List Event) → HasNamesAsNeeds (plan_records source) (shape_of (plan_records source)) → IsRun source policy events → StartsLast (plan_records source) events
+pub dependencies_first : (source : Plan) (policy : Policy) (events : List Event) → HasNamesAsNeeds (plan_records source) (shape source) → IsRun source policy events → StartsLast (plan_records source) events
 dependencies_first source policy events named run before later i whole =
     let parts = cut (at_first source policy) before (Start i) later (subst (IsRun source policy) whole run) in
     let done = named-succeeded source (state_after source policy before) i named (shape-after_all (at_first source policy) before) (may_start-parts (state_after source policy before) i parts.may).met in

@@ -8,7 +8,6 @@ use Rattle.odb_check.specs.Plans.{plan_records, shape}
 use Rattle.odb_check.specs.Positions.{group_at}
 use Rattle.odb_check.specs.Firsts.{list_below}
 use Rattle.odb_check.specs.Units.{unit_at}
-use Rattle.odb_check.specs.Shape.{HasNamesAsNeeds, IsPlan, shape_of}
 
 pub length-list_below : {X : Type 0} (n : ℕ) (value : ℕ → X) → length (list_below n value) ≡ n
 length-list_below zero value = refl
@@ -24,14 +23,6 @@ get_or-list_below (suc n) i value d within = elim (cases_lt i n) [
 pub length-shape : (source : Plan) → length (shape source).units ≡ length (plan_records source)
 unfolding shape
 length-shape source = length-list_below (length (plan_records source)) (unit_at (plan_records source))
-
-pub laws-shape : (source : Plan) → IsPlan (shape_of (plan_records source)) → IsPlan (shape source)
-unfolding shape
-laws-shape source laws = laws
-
-pub names-shape : (source : Plan) → HasNamesAsNeeds (plan_records source) (shape_of (plan_records source)) → HasNamesAsNeeds (plan_records source) (shape source)
-unfolding shape
-names-shape source named = named
 
 -- a position with a group is one of the batch
 pub group_at-within : (rs : List Record) (j : ℕ) (group : List ℕ) → group_at rs j ≡ Some group → j < length rs

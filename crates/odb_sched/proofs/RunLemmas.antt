@@ -1,26 +1,24 @@
 -- Runs by their parts: what holds of a state along a run.
 use Rattle.std.proofs.Common.{◌<◌, ◌≡◌, ◌<◌, ◌∙◌, refl, true, List, [], ◌∷◌, ◌++◌}
 use Rattle.odb_check.specs.declared.plan.Plan.{Plan}
-use Rattle.odb_check.specs.Plans.{plan_records}
-use Rattle.odb_check.specs.Shape.{IsPlan, shape_of}
+use Rattle.odb_check.specs.Shape.{IsPlan}
 use Rattle.odb_sched.specs.declared.policy.Policy.{Policy}
 use Rattle.odb_sched.specs.declared.event.Event.{Event}
 use Rattle.odb_sched.specs.declared.event.Event.TheVariants.{Start, Report}
-use Rattle.odb_sched.specs.State.{State, size, at_first, after}
+use Rattle.odb_sched.specs.State.{State, shape, size, at_first, after}
 use Rattle.odb_sched.specs.Steps.{may_come}
 use Rattle.odb_sched.specs.Runs.{event_position, after_all, IsRunFrom, IsRun, state_after}
 use Rattle.odb_sched.specs.Reached.{IsReached}
-use Rattle.odb_sched.proofs.PlanLemmas.{laws-shape}
 use Rattle.odb_sched.proofs.ReachedLemmas.{reached_first, reached_after}
 
 pub reached_after_all : (state : State) (events : List Event) → IsReached state → IsRunFrom state events → IsReached (after_all state events)
 reached_after_all state [] reached run = reached
 reached_after_all state (e ∷ es) reached run = reached_after_all (after state e) es (reached_after state e reached run.0 run.1) run.2
 
-pub reached_at_first : (source : Plan) (policy : Policy) → IsPlan (shape_of (plan_records source)) → IsReached (at_first source policy)
-reached_at_first source policy laws = reached_first source policy (laws-shape source laws)
+pub reached_at_first : (source : Plan) (policy : Policy) → IsPlan (shape source) → IsReached (at_first source policy)
+reached_at_first source policy laws = reached_first source policy laws
 
-pub reached_run : (source : Plan) (policy : Policy) (events : List Event) → IsPlan (shape_of (plan_records source)) → IsRun source policy events → IsReached (state_after source policy events)
+pub reached_run : (source : Plan) (policy : Policy) (events : List Event) → IsPlan (shape source) → IsRun source policy events → IsReached (state_after source policy events)
 reached_run source policy events laws run = reached_after_all (at_first source policy) events (reached_at_first source policy laws) run
 
 -- events one after another

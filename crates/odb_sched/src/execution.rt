@@ -167,7 +167,7 @@ fn take_all<S: Service>(
         (S.offers service.old) (at_first plan.now policy))) }
 {
     every_run(plan);
-    let _count = plan.len();
+    odb_check::laws::every_plan(plan);
     while let Some(step) = next_step(scheduler, chooser) {
         take(scheduler, plan, service, step)?;
         steps.push(step).unwrap();

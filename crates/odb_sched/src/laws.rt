@@ -27,6 +27,7 @@ ghost use Rattle.odb_sched.specs.Orders.{HasOneCourse, HasOneFault, FaultsOrFini
 
 use crate::service::Service;
 use odb_check::Plan;
+use odb_check::laws::every_plan;
 
 /// No request starts before all that it names has ended with success. A run that is not finished
 /// has a running or a ready request, and no request has more than a start and a report.
@@ -41,7 +42,7 @@ pub fn every_run(plan: &Plan<'_>)
         → IsRun plan.now policy events
         → HasFewEvents events }
 {
-    let _count = plan.len();
+    every_plan(plan);
 }
 
 /// A request may start only once all that it names has succeeded. At a width of 10,000 no start is
@@ -54,7 +55,7 @@ pub fn every_start(plan: &Plan<'_>)
         → length state.phases ≡ size state → i < size state → 10000 ≤ state.policy.width
         → ¬ IsStartCause state i WidthReached }
 {
-    let _count = plan.len();
+    every_plan(plan);
 }
 
 /// A start or a report may come if and only if no cause bars it, S1 to S5 or P1 and P2. Of the causes
@@ -103,7 +104,7 @@ pub fn every_result(plan: &Plan<'_>)
         → IsRun plan.now policy events
         → IsSound (state_after plan.now policy events) }
 {
-    let _count = plan.len();
+    every_plan(plan);
 }
 
 /// Shows that the definitions above that compute mean what they should: the phase of a request is that
@@ -119,7 +120,7 @@ pub fn every_word(plan: &Plan<'_>)
     ensures succeeding { (table : ℕ → Outcome) (u : ℕ)
         → SucceedsByMembers (shape plan.now) table u }
 {
-    let _count = plan.len();
+    every_plan(plan);
 }
 
 /// In an order, as that of `First`, `Last` or `Wide`, and with recorded outcomes, an execution has one
@@ -133,5 +134,5 @@ pub fn every_order(plan: &Plan<'_>)
     ensures fault_or_end { (order : Order) (outcomes : List (Option Outcome)) (policy : Policy)
         → FaultsOrFinishes order outcomes (at_first plan.now policy) }
 {
-    let _count = plan.len();
+    every_plan(plan);
 }

@@ -72,6 +72,7 @@ fn by_position(
     ensures { IfOk result (λ outcomes. outcomes.items
         ≡ recorded_for (plan_records plan.now) (map recorded entries.items)) }
 {
+    odb_check::laws::every_plan(plan);
     let mut outcomes = none_for_each(alloc, plan.len())?;
     while let Some((id, outcome)) = entries.pop() {
         note(plan, &mut outcomes, &id, outcome);

@@ -46,7 +46,7 @@ unwrap-requires g c =
     let allows_now = (goal.Chooser-dyn g c.loop-step.chooser.now).allows c.loop-step.chooser.now.1 in
     let offers = g.S.Service.offers c.args.service.now in
     let offers_now = g.S.Service.offers c.loop-step.service in
-    let reached = reached-so_far plan c.args.policy allows allows_now offers offers_now c.loop-step.scheduler c.loop-step.steps.items c.loop-step.invariant.far c.len-count.ensures.laws in
+    let reached = reached-so_far plan c.args.policy allows allows_now offers offers_now c.loop-step.scheduler c.loop-step.steps.items c.loop-step.invariant.far c.every_plan.ensures.order in
     let taken_by = subst (λ state. IsTakenBy g.S.Service.performs (plan_records plan) offers_now state c.take.new.scheduler c.loop-step.service c.take.new.service c.in-Some.step) c.next_step.ensures.same c.in_ok-take.ensures.taken in
     let taken = taken_by.taken in
     let fewer : events_left c.take.new.scheduler + 1 ≡ events_left c.loop-step.scheduler = fewer-left allows_now offers_now c.loop-step.scheduler c.take.new.scheduler c.in-Some.step reached c.in-Some.ensures.next taken in
@@ -61,7 +61,7 @@ loop-step-smaller g c =
     let allows_now = (goal.Chooser-dyn g c.loop-step.chooser.now).allows c.loop-step.chooser.now.1 in
     let offers = g.S.Service.offers c.args.service.now in
     let offers_now = g.S.Service.offers c.loop-step.service in
-    let reached = reached-so_far plan c.args.policy allows allows_now offers offers_now c.loop-step.scheduler c.loop-step.steps.items c.loop-step.invariant.far c.len-count.ensures.laws in
+    let reached = reached-so_far plan c.args.policy allows allows_now offers offers_now c.loop-step.scheduler c.loop-step.steps.items c.loop-step.invariant.far c.every_plan.ensures.order in
     let taken_by = subst (λ state. IsTakenBy g.S.Service.performs (plan_records plan) offers_now state c.take.new.scheduler c.loop-step.service c.take.new.service c.in-Some.step) c.next_step.ensures.same c.in_ok-take.ensures.taken in
     let taken = taken_by.taken in
     let fewer : events_left c.take.new.scheduler + 1 ≡ events_left c.loop-step.scheduler = fewer-left allows_now offers_now c.loop-step.scheduler c.take.new.scheduler c.in-Some.step reached c.in-Some.ensures.next taken in
@@ -75,7 +75,7 @@ loop-step-preserved g c =
     let allows_now = (goal.Chooser-dyn g c.loop-step.chooser.now).allows c.loop-step.chooser.now.1 in
     let offers = g.S.Service.offers c.args.service.now in
     let offers_now = g.S.Service.offers c.loop-step.service in
-    let reached = reached-so_far plan c.args.policy allows allows_now offers offers_now c.loop-step.scheduler c.loop-step.steps.items c.loop-step.invariant.far c.len-count.ensures.laws in
+    let reached = reached-so_far plan c.args.policy allows allows_now offers offers_now c.loop-step.scheduler c.loop-step.steps.items c.loop-step.invariant.far c.every_plan.ensures.order in
     let taken_by = subst (λ state. IsTakenBy g.S.Service.performs (plan_records plan) offers_now state c.take.new.scheduler c.loop-step.service c.take.new.service c.in-Some.step) c.next_step.ensures.same c.in_ok-take.ensures.taken in
     let taken = taken_by.taken in
     let fewer : events_left c.take.new.scheduler + 1 ≡ events_left c.loop-step.scheduler = fewer-left allows_now offers_now c.loop-step.scheduler c.take.new.scheduler c.in-Some.step reached c.in-Some.ensures.next taken in
@@ -89,7 +89,7 @@ loop-step-preserved g c =
     let more : vec_capacity c.loop-step.steps ≤ vec_capacity c.push.new.self = c.push.ensures.capacity in
     record {
       far = one_more allows allows_now allows_later offers offers_now offers_later first c.loop-step.scheduler c.take.new.scheduler c.loop-step.steps.items c.in-Some.step
-          c.push.new.self.items items (reached_at_first plan c.args.policy c.len-count.ensures.laws)
+          c.push.new.self.items items (reached_at_first plan c.args.policy c.every_plan.ensures.order)
           c.loop-step.invariant.far c.in-Some.ensures.next taken c.in-Some.ensures.narrows c.in_ok-take.ensures.narrows;
       calls = asks-push g.S.Service.performs (plan_records plan) c.loop-step.invariant.far.events taken.event c.args.service.now c.loop-step.service c.take.new.service c.loop-step.invariant.calls taken_by.asked;
       room = omega arith;

@@ -7,13 +7,13 @@ use Rattle.odb_sched.proofs.RunLemmas.{reached_run, policy-after_all}
 use Rattle.odb_sched.proofs.laws.every_result.Goals as goal
 
 pub returns-clause-one_result : goal.returns-clause-one_result
-returns-clause-one_result c = λ policy events continues run finished. one_result _ (reached_run _ policy events c.len-count.ensures.laws run) finished (ap (λ (p : Policy). p.mode) (policy-after_all _ events) ∙ continues)
+returns-clause-one_result c = λ policy events continues run finished. one_result _ (reached_run _ policy events c.every_plan.ensures.order run) finished (ap (λ (p : Policy). p.mode) (policy-after_all _ events) ∙ continues)
 
 pub returns-clause-sound_result : goal.returns-clause-sound_result
-returns-clause-sound_result c = λ policy events run. sound_result _ (reached_run _ policy events c.len-count.ensures.laws run)
+returns-clause-sound_result c = λ policy events run. sound_result _ (reached_run _ policy events c.every_plan.ensures.order run)
 
 pub returns-clause-all_or_none : goal.returns-clause-all_or_none
 returns-clause-all_or_none c = λ policy events run. all_or_none (state_after c.args.plan.now policy events)
 
 pub returns-clause-sound : goal.returns-clause-sound
-returns-clause-sound c = λ policy events run. sound_answers _ (reached_run _ policy events c.len-count.ensures.laws run)
+returns-clause-sound c = λ policy events run. sound_answers _ (reached_run _ policy events c.every_plan.ensures.order run)

@@ -1,8 +1,6 @@
 -- The clauses are the laws of the lemmas, at the requests of the plan.
-use Rattle.std.proofs.Common.{◌≡◌, ◌≤◌, ◌∙◌, ap, arith, length}
-use Rattle.odb_check.specs.Plans.{plan_records}
-use Rattle.odb_sched.specs.State.{size}
-use Rattle.odb_sched.proofs.PlanLemmas.{length-shape}
+use Rattle.std.proofs.Common.{◌≡◌, ◌≤◌, ap, arith, length}
+use Rattle.odb_sched.specs.State.{size, shape}
 use Rattle.odb_sched.specs.declared.refusal.StartRefusal.TheVariants.{WidthReached}
 use Rattle.odb_sched.proofs.CauseLemmas.{start_caused}
 use Rattle.odb_sched.proofs.NameLemmas.{named-succeeded}
@@ -10,11 +8,10 @@ use Rattle.odb_sched.proofs.StartLemmas.{may_start-parts, not_held_back}
 use Rattle.odb_sched.proofs.laws.every_start.Goals as goal
 
 pub returns-clause-dependencies_first : goal.returns-clause-dependencies_first
-returns-clause-dependencies_first c = λ state i same may. named-succeeded _ state i c.len-count.ensures.names same (may_start-parts state i may).met
+returns-clause-dependencies_first c = λ state i same may. named-succeeded _ state i c.every_plan.ensures.names same (may_start-parts state i may).met
 
 pub returns-clause-free : goal.returns-clause-free
 returns-clause-free c = λ state i same each within wide.
-    let count : c.len-count.result ≡ length (plan_records c.args.plan.now) = c.len-count.ensures.count in
-    let few : c.len-count.result ≤ 10000 = c.len-count.ensures.small in
-    let units : size state ≡ length (plan_records c.args.plan.now) = ap (λ shape. length shape.units) same ∙ length-shape c.args.plan.now in
+    let few : length (shape c.args.plan.now).units ≤ 10000 = c.every_plan.ensures.order.few in
+    let units : size state ≡ length (shape c.args.plan.now).units = ap (λ shape. length shape.units) same in
     λ cause. not_held_back state i each within (omega arith) (start_caused state i WidthReached cause)

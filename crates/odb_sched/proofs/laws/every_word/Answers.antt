@@ -2,14 +2,13 @@
 use Rattle.odb_sched.proofs.EventLemmas.{phases_first}
 use Rattle.odb_sched.proofs.FailingLemmas.{Fails-from_fails, fails-from_Fails, succeeds_by_members}
 use Rattle.odb_sched.proofs.RunLemmas.{reached_at_first}
-use Rattle.odb_sched.proofs.PlanLemmas.{laws-shape}
 use Rattle.odb_sched.proofs.laws.every_word.Goals as goal
 
 pub returns-clause-phases : goal.returns-clause-phases
-returns-clause-phases c = λ policy events i run. phases_first _ policy events i (reached_at_first _ policy c.len-count.ensures.laws) run
+returns-clause-phases c = λ policy events i run. phases_first _ policy events i (reached_at_first _ policy c.every_plan.ensures.order) run
 
 pub returns-clause-failing : goal.returns-clause-failing
-returns-clause-failing c = λ bad u. ((λ e. Fails-from_fails _ bad u e), (λ failing. fails-from_Fails _ bad u (laws-shape _ c.len-count.ensures.laws) failing))
+returns-clause-failing c = λ bad u. ((λ e. Fails-from_fails _ bad u e), (λ failing. fails-from_Fails _ bad u c.every_plan.ensures.order failing))
 
 pub returns-clause-succeeding : goal.returns-clause-succeeding
-returns-clause-succeeding c = λ table u. succeeds_by_members _ table u (laws-shape _ c.len-count.ensures.laws)
+returns-clause-succeeding c = λ table u. succeeds_by_members _ table u c.every_plan.ensures.order

@@ -29,7 +29,7 @@ loop-id-preserved c =
     c.note.ensures ∙ ap (λ id. noted_at (position_of batch id) c.deref_mut.result.now c.in-Some.outcome) name ∙ ap (λ xs. noted_at (position_of batch (string_bytes c.in-Some.id)) xs c.in-Some.outcome) c.deref_mut.ensures.value in
     let same : length new ≡ length old = ap length note ∙ length-noted_at (position_of batch (string_bytes c.in-Some.id)) old c.in-Some.outcome in
     noted-more batch (map recorded c.args.entries.items) (map recorded c.loop-id.entries.items) left (string_bytes c.in-Some.id) c.in-Some.outcome old _
-    c.len.ensures.good c.loop-id.invariant last (written_over old new c.loop-id.outcomes.len same c.loop-id.outcomes.ok.0 ∙ note)
+    c.every_plan.ensures.good c.loop-id.invariant last (written_over old new c.loop-id.outcomes.len same c.loop-id.outcomes.ok.0 ∙ note)
 
 pub returns : goal.returns
 returns c =
