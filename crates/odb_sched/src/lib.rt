@@ -11,28 +11,28 @@
 #![tactic(auto)]
 
 mod chooser;
+mod completing;
 mod done;
 mod event;
 mod execution;
 mod fault;
 pub mod laws;
-mod completing;
-mod satisfying;
 mod needers;
 mod order;
 mod phase;
 mod policy;
+mod progress;
+mod propagating;
 mod recorded;
 mod refusal;
 mod resolving;
+mod satisfying;
 mod scheduler;
 mod service;
-mod propagating;
 mod starting;
 mod step;
-mod progress;
-mod unmet;
 mod tracker;
+mod unmet;
 
 pub use chooser::{Choice, Chooser, First, Last, Wide};
 pub use done::{Answer, Done};

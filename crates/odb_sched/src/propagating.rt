@@ -110,7 +110,13 @@ fn propagate(plan: &Plan<'_>, phases: &[Phase], needers: &Rows, progress: &mut P
 
 /// Handles a failed request: marks its unit as failed, and propagates the failure to every unit that
 /// depends on it, directly or not. `phases[i]` already holds the outcome.
-pub(crate) fn fail(plan: &Plan<'_>, phases: &[Phase], needers: &Rows, i: u32, progress: &mut Progress)
+pub(crate) fn fail(
+    plan: &Plan<'_>,
+    phases: &[Phase],
+    needers: &Rows,
+    i: u32,
+    progress: &mut Progress,
+)
     requires laws { shapes.IsPlan (shape plan.now) }
     requires each { length phases.now ≡ length (shape plan.now).units }
     requires request { i < length (shape plan.now).units }

@@ -101,7 +101,13 @@ fn count_success(u: u32, progress: &mut Progress)
 
 /// Handles a request that has succeeded: its dependents have one need less, and so have those of its
 /// unit if it was the last of the members. `phases[i]` already holds the outcome.
-pub(crate) fn succeed(plan: &Plan<'_>, phases: &[Phase], needers: &Rows, i: u32, progress: &mut Progress)
+pub(crate) fn succeed(
+    plan: &Plan<'_>,
+    phases: &[Phase],
+    needers: &Rows,
+    i: u32,
+    progress: &mut Progress,
+)
     requires laws { shapes.IsPlan (shape plan.now) }
     requires each { length phases.now ≡ length (shape plan.now).units }
     requires request { i < length (shape plan.now).units }

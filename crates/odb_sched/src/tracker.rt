@@ -12,14 +12,14 @@ ghost use Rattle.odb_sched.specs.Plans.{state_of};
 ghost use Rattle.odb_sched.specs.Ends.{IsEndOf};
 ghost use Rattle.odb_sched.specs.ProgressCounts as tallies;
 
-use crate::satisfying::succeed;
 use crate::needers::needers_of;
 use crate::order::End;
 use crate::phase::Phase;
 use crate::policy::{Mode, Policy};
-use crate::propagating::fail;
-use crate::starting::begin;
 use crate::progress::Progress;
+use crate::propagating::fail;
+use crate::satisfying::succeed;
+use crate::starting::begin;
 use odb_check::Plan;
 use odb_dense::Rows;
 use std::alloc::{AllocError, Global};
