@@ -6,7 +6,6 @@ For every order, with and without `--stop` and at some widths: `match` accepts t
 replay, and `run` of the trace's events gives that response. The last line is `N chains, M broken`.
 """
 
-import argparse
 import itertools
 import json
 import os
@@ -19,7 +18,7 @@ from random import Random
 sys.dont_write_bytecode = True
 
 import grammar
-from run import PROGRAM
+from program import read_arguments
 
 SECONDS = 60
 ORDERS = ("first", "last", "wide")
@@ -132,16 +131,15 @@ def chain(binary, seed):
     return None
 
 
+def more_options(option):
+    option("--count", type=int, default=100, metavar="N", help="how many batches; 100")
+    option("--seed", type=int, default=1, metavar="S", help="which batches; 1")
+
+
 def main():
-    parser = argparse.ArgumentParser(description="Shows that the commands agree with each other.")
-    parser.add_argument("--binary", default=PROGRAM, metavar="PATH", help="the program; else the one built here")
-    parser.add_argument("--count", type=int, default=100, metavar="N", help="how many batches; 100")
-    parser.add_argument("--seed", type=int, default=1, metavar="S", help="which batches; 1")
-    parser.add_argument("--jobs", type=int, default=4, metavar="N", help="how many run at once; 4")
-    options = parser.parse_args()
-    binary = os.path.abspath(options.binary)
+    options = read_arguments("Shows that the commands agree with each other.", more_options)
     with ThreadPoolExecutor(options.jobs) as pool:
-        broken = list(filter(None, pool.map(lambda k: chain(binary, f"{options.seed} {k}"), range(options.count))))
+        broken = list(filter(None, pool.map(lambda k: chain(options.binary, f"{options.seed} {k}"), range(options.count))))
     for text in broken[:5]:
         print(text)
     print(f"{options.count} chains, {len(broken)} broken")

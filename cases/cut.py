@@ -6,7 +6,6 @@ batch is given to each command in turn, and a second document to the command tha
 line is `N passed, M failed`.
 """
 
-import argparse
 import os
 import subprocess
 import sys
@@ -17,7 +16,8 @@ from dataclasses import dataclass
 sys.dont_write_bytecode = True
 
 from pages import OF_BATCHES
-from run import HERE, PROGRAM
+from program import read_arguments
+from run import HERE
 
 EXAMPLES = os.path.join(os.path.dirname(HERE), "examples")
 BATCH = "usual.json"
@@ -79,22 +79,11 @@ def call(part, binary, folder):
     return done.stdout, done.stderr, done.returncode
 
 
-def read_arguments():
-    parser = argparse.ArgumentParser(description="Gives the program documents that were cut.")
-    option = parser.add_argument
-    option("--binary", default=PROGRAM, metavar="PATH", help="the program; else the one built here")
-    option("--jobs", type=int, default=4, metavar="N", help="how many run at once; 4")
-    return parser.parse_args()
-
-
 def main():
-    options = read_arguments()
-    binary = os.path.abspath(options.binary)
-    if not os.access(binary, os.X_OK):
-        sys.exit(f"{binary} is not there: build it first, as bin/odb_batch does")
+    options = read_arguments("Gives the program documents that were cut.")
     chosen = parts()
     with tempfile.TemporaryDirectory(prefix="cut-") as folder, ThreadPoolExecutor(options.jobs) as pool:
-        got = list(pool.map(lambda part: call(part, binary, folder), chosen))
+        got = list(pool.map(lambda part: call(part, options.binary, folder), chosen))
     wrong = [(part, it) for part, it in zip(chosen, got) if it != (part.fault(), b"", 1)]
     for part, (out, err, status) in wrong[:SHOWN]:
         print(f"{part.command}, {part.name} cut after {len(part.data)} bytes: status {status}, {out!r} {err!r}")

@@ -6,7 +6,6 @@ mistakes.py is found: that the rules with it print something else than the progr
 `N documents, M differ`.
 """
 
-import argparse
 import os
 import subprocess
 import sys
@@ -23,7 +22,7 @@ import mistakes
 import rules
 import rules_of_runs
 from pages import OF_BATCHES, command_names
-from run import PROGRAM
+from program import read_arguments
 
 SECONDS = 60
 SHOWN = 5
@@ -136,17 +135,12 @@ def look_for_mistakes(trials, outputs, commands):
     return missed
 
 
-def read_arguments():
-    parser = argparse.ArgumentParser(description="Compares the program with plain rules on random documents.")
-    option = parser.add_argument
-    option("--binary", default=PROGRAM, metavar="PATH", help="the program; else the one built here")
+def more_options(option):
     option("--commands", type=command_names, default=list(OF_BATCHES), metavar="NAME,..", help="only these commands")
     option("--count", type=int, default=2000, metavar="N", help="how many documents; 2000")
     option("--seed", type=int, default=1, metavar="S", help="which documents; 1")
-    option("--jobs", type=int, default=4, metavar="N", help="how many run at once; 4")
     option("--mistakes", action="store_true", help="show that each planted mistake is found")
     option("--plant", choices=list(mistakes.MISTAKES), help="compare with rules that have this mistake")
-    return parser.parse_args()
 
 
 def compare(trials, outputs):
@@ -158,10 +152,8 @@ def compare(trials, outputs):
 
 
 def main():
-    options = read_arguments()
-    binary, commands = os.path.abspath(options.binary), options.commands
-    if not os.access(binary, os.X_OK):
-        sys.exit(f"{binary} is not there: build it first, as bin/odb_batch does")
+    options = read_arguments("Compares the program with plain rules on random documents.", more_options)
+    binary, commands = options.binary, options.commands
     trials = [trial(Random(f"{options.seed} {k}"), commands) for k in range(options.count)]
     with ThreadPoolExecutor(options.jobs) as pool:
         outputs = list(pool.map(lambda it: call(it, binary), trials))

@@ -7,7 +7,6 @@ lines as it should, and `groff` finds nothing to warn of. What is not installed 
 left out. The last line is `N passed, N failed`.
 """
 
-import argparse
 import os
 import re
 import shutil
@@ -16,7 +15,7 @@ import sys
 
 sys.dont_write_bytecode = True
 
-from run import PROGRAM
+from program import read_arguments
 
 CHECKS = {"bash": ["bash", "-n"], "zsh": ["zsh", "-n"], "fish": ["fish", "--no-execute"]}
 
@@ -163,9 +162,7 @@ def groff_faults(program):
 
 
 def main():
-    parser = argparse.ArgumentParser(description="Compares manual page and completions with the help.")
-    parser.add_argument("--binary", default=PROGRAM, metavar="PATH", help="the program; else the one built here")
-    program = Program(os.path.abspath(parser.parse_args().binary))
+    program = Program(read_arguments("Compares manual page and completions with the help.").binary)
     checks = [manual_faults(program), groff_faults(program), bash_faults(program)]
     checks += [it(program, shell) for shell in CHECKS for it in (script_faults, syntax_faults)]
     found = [list(check) for check in checks]

@@ -5,7 +5,6 @@ Each run has a fresh folder with the case's files. Its standard output, its stan
 exit status have to be the ones that the case shows. The last line is `N passed, N failed`.
 """
 
-import argparse
 import os
 import pty
 import subprocess
@@ -17,23 +16,19 @@ from contextlib import contextmanager
 sys.dont_write_bytecode = True
 
 import pages
+from program import read_arguments
 
 HERE = os.path.dirname(os.path.realpath(__file__))
-PROGRAM = os.path.join(os.path.dirname(HERE), "crates", "odb_batch", "out", "odb_batch")
 SECONDS = 60
 SHOWN = 600
 NOBODY = "|"
 CLOSING = {"input": "<&-", "output": ">&-", "errors": "2>&-"}
 
 
-def read_arguments():
-    parser = argparse.ArgumentParser(description="Runs the worked cases of this folder.")
-    option, every = parser.add_argument, list(pages.COMMANDS)
-    option("--binary", default=PROGRAM, metavar="PATH", help="the program; else the one built here")
+def more_options(option):
+    every = list(pages.COMMANDS)
     option("--commands", type=pages.command_names, default=every, metavar="NAME,..", help="only these commands")
     option("--only", default="", metavar="WORD", help="only the cases with WORD in page or title")
-    option("--jobs", type=int, default=4, metavar="N", help="how many run at once; 4")
-    return parser.parse_args()
 
 
 def write_files(run, folder):
@@ -142,10 +137,7 @@ def tried(run, binary):
 
 
 def main():
-    options = read_arguments()
-    binary = os.path.abspath(options.binary)
-    if not os.access(binary, os.X_OK):
-        sys.exit(f"{binary} is not there: build it first, as bin/odb_batch does")
+    options = read_arguments("Runs the worked cases of this folder.", more_options)
     chosen = [
         run
         for run in pages.read_folder(HERE)
@@ -155,7 +147,7 @@ def main():
         sys.exit("no case is chosen")
     failed = 0
     with ThreadPoolExecutor(options.jobs) as pool:
-        for run, found in zip(chosen, pool.map(lambda run: tried(run, binary), chosen)):
+        for run, found in zip(chosen, pool.map(lambda run: tried(run, options.binary), chosen)):
             if found:
                 failed += 1
                 print(run.name, *found, sep="\n", end="\n\n")

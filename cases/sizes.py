@@ -6,7 +6,6 @@ names that crowd a table are made by bench/collide.c, which `cc` compiles. The l
 `N passed, M failed`.
 """
 
-import argparse
 import json
 import os
 import subprocess
@@ -17,7 +16,8 @@ from dataclasses import dataclass
 
 sys.dont_write_bytecode = True
 
-from run import HERE, PROGRAM, shown
+from program import read_arguments
+from run import HERE, shown
 
 sys.path.append(os.path.join(os.path.dirname(HERE), "bench"))
 
@@ -234,22 +234,11 @@ def tried(kind, binary, folder):
     return [is_passed(trial, binary, folder) for trial in kind()]
 
 
-def read_arguments():
-    parser = argparse.ArgumentParser(description="Gives the program the longest documents that it takes.")
-    option = parser.add_argument
-    option("--binary", default=PROGRAM, metavar="PATH", help="the program; else the one built here")
-    option("--jobs", type=int, default=4, metavar="N", help="how many kinds run at once; 4")
-    return parser.parse_args()
-
-
 def main():
-    options = read_arguments()
-    binary = os.path.abspath(options.binary)
-    if not os.access(binary, os.X_OK):
-        sys.exit(f"{binary} is not there: build it first, as bin/odb_batch does")
+    options = read_arguments("Gives the program the longest documents that it takes.")
     kinds = [crowded, dense, seconds, members, headers, names, urls, escapes, runs]
     with tempfile.TemporaryDirectory(prefix="sizes-") as folder, ThreadPoolExecutor(options.jobs) as pool:
-        passed = [it for found in pool.map(lambda kind: tried(kind, binary, folder), kinds) for it in found]
+        passed = [it for found in pool.map(lambda kind: tried(kind, options.binary, folder), kinds) for it in found]
     print(f"{sum(passed)} passed, {len(passed) - sum(passed)} failed")
     return 0 if all(passed) else 1
 

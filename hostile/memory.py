@@ -8,7 +8,6 @@ of 1,000 requests one of ten allocations is tried, chosen by a seed. A run has t
 last line is `N runs, M wrong`.
 """
 
-import argparse
 import os
 import subprocess
 import sys
@@ -23,7 +22,10 @@ import documents
 
 HERE = os.path.dirname(os.path.realpath(__file__))
 ROOT = os.path.dirname(HERE)
-PROGRAM = os.path.join(ROOT, "crates", "odb_batch", "out", "odb_batch")
+sys.path.append(os.path.join(ROOT, "cases"))
+
+from program import read_arguments
+
 MEMORY = (4, b"error: memory\n")
 SECONDS = 60
 SHARE = 10
@@ -129,28 +131,20 @@ def tried(program, pool, trial, rest, seed):
     return len(chosen), len(wrong)
 
 
-def read_arguments():
-    parser = argparse.ArgumentParser(description="Lets allocations of the program fail.")
-    option = parser.add_argument
-    option("--binary", default=PROGRAM, metavar="PATH", help="the program; else the one built here")
+def more_options(option):
     option("--commands", default=",".join(documents.COMMANDS), metavar="NAME,..", help="only these commands")
     option("--seed", type=int, default=1, metavar="S", help="which allocations of the large trials; 1")
-    option("--jobs", type=int, default=4, metavar="N", help="how many runs at once; 4")
     option("--only", default="", metavar="WORD", help="only the trials with WORD in their title")
-    return parser.parse_args()
 
 
 def main():
-    options = read_arguments()
-    binary = os.path.abspath(options.binary)
-    if not os.access(binary, os.X_OK):
-        sys.exit(f"{binary} is not there: build it first, as bin/odb_batch does")
+    options = read_arguments("Lets allocations of the program fail.", more_options)
     chosen = [it for it in documents.trials(options.commands.split(",")) if options.only in it.title]
     if not chosen:
         sys.exit("no trial is chosen")
     runs = wrong = 0
     with tempfile.TemporaryDirectory(prefix="hostile-") as folder, ThreadPoolExecutor(options.jobs) as pool:
-        program = Program(binary, folder)
+        program = Program(options.binary, folder)
         documents.write(folder, os.path.join(ROOT, "examples"))
         for trial in chosen:
             for rest in (False,) if trial.large else (False, True):
