@@ -16,10 +16,9 @@ from dataclasses import dataclass
 sys.dont_write_bytecode = True
 
 from pages import OF_BATCHES
-from program import read_arguments
-from run import HERE
+from program import ROOT, read_arguments
 
-EXAMPLES = os.path.join(os.path.dirname(HERE), "examples")
+EXAMPLES = os.path.join(ROOT, "examples")
 BATCH = "usual.json"
 BATCHES = (BATCH, "references.json")
 SECONDS = {

@@ -16,10 +16,10 @@ from dataclasses import dataclass
 
 sys.dont_write_bytecode = True
 
-from program import read_arguments
-from run import HERE, shown
+from program import ROOT, read_arguments
+from run import shown
 
-sys.path.append(os.path.join(os.path.dirname(HERE), "bench"))
+sys.path.append(os.path.join(ROOT, "bench"))
 
 import answers
 import floods

@@ -25,12 +25,9 @@ fn send_next(alloc: Global, scheduler: &mut Scheduler<'_>) {
     }
 }
 
-/// Performs a batch, one request after another, and returns the text of the response.
-fn respond(alloc: Global, document: &[u8]) -> Result<String, Fail> {
-    let value = parse(alloc, document)?;
-    let batch = Batch::read(alloc, &value)?;
-    let plan = check(alloc, &batch)?;
-    let mut scheduler = Scheduler::new(alloc, &plan, Policy::free(Mode::Continue))?;
+/// Sends the requests of a plan, one after another, and returns the text of the response.
+fn send_all(alloc: Global, plan: &Plan<'_>) -> Result<String, Fail> {
+    let mut scheduler = Scheduler::new(alloc, plan, Policy::free(Mode::Continue))?;
     for _ in 0..plan.len() {
         send_next(alloc, &mut scheduler);
     }
@@ -38,6 +35,13 @@ fn respond(alloc: Global, document: &[u8]) -> Result<String, Fail> {
         return Ok(String::new(alloc));
     }
     Ok(response_text(alloc, &scheduler.close())?)
+}
+
+/// Returns the text of the response to a document.
+fn respond(alloc: Global, document: &[u8]) -> Result<String, Fail> {
+    let value = parse(alloc, document)?;
+    let batch = Batch::read(alloc, &value)?;
+    send_all(alloc, &check(alloc, &batch)?)
 }
 
 /// A service that creates what has a body, and reads all else.
