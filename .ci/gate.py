@@ -118,7 +118,7 @@ def main():
     rows.append(("building and running", max(kinds["all"] - sum(kinds.get(name, 0) for name in named), 0)))
     for title, quiet, words in [
         ("the questions of the edits", False, [".ci/edits.py"]),
-        ("README.md", False, [".ci/readme.py", "README.md"]),
+        ("README.md and docs/library.md", False, [".ci/readme.py", "README.md", "docs/library.md"]),
         ("docs/faults.md", False, [".ci/faults.py"]),
         ("worked cases", False, ["cases/run.py"]),
         ("manual page and completions", False, ["cases/manual.py"]),
@@ -135,8 +135,8 @@ def main():
         rows.append((title, kinds["all"]))
     print("processor minutes:")
     for name, seconds in [*rows, ("all", sum(it for _, it in rows))]:
-        print(f"  {name:28}{seconds / 60:7.1f}")
-    print(f"minutes by the clock:{(time.monotonic() - begun) / 60:16.1f}")
+        print(f"  {name:32}{seconds / 60:7.1f}")
+    print(f"minutes by the clock:{(time.monotonic() - begun) / 60:20.1f}")
     print("rt ci:", *last, sep="\n", end="")
     print(f"failed: {', '.join(failed)}" if failed else "all passed")
     return 1 if failed else 0

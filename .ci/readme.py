@@ -1,4 +1,4 @@
-"""Compares the blocks of a page with the repository.
+"""Compares the blocks of pages with the repository.
 
 In a block that begins ```console, a line that begins with `$ ` is a command, and the lines up to the
 next command or the end of the block are what it prints, on standard output and standard error.
@@ -61,8 +61,8 @@ def stands_in(path, lines):
     return bool(lines) and any(all_lines[i : i + len(lines)] == lines for i in starts)
 
 
-def main():
-    path = sys.argv[1]
+def differences(path):
+    """Compares one page; returns how many of its commands and excerpts differ, of how many."""
     with open(path, encoding="utf-8") as file:
         page = file.read()
     cases, shown = examples(page), excerpts(page)
@@ -85,7 +85,12 @@ def main():
     for number, source, _ in differ:
         print(f"{path}:{number}: {source} does not have these lines" if source else f"{path}:{number}: no file is named")
     print(f"{path}: {len(shown) - len(differ)} excerpts as in their files, {len(differ)} not")
-    return 1 if failed or differ or not cases else 0
+    return failed + len(differ), len(cases) + len(shown)
+
+
+def main():
+    found = [differences(path) for path in sys.argv[1:]]
+    return 1 if not found or any(bad or not all_ for bad, all_ in found) else 0
 
 
 sys.exit(main())
