@@ -15,6 +15,7 @@ import tempfile
 sys.dont_write_bytecode = True
 
 import floods
+import longest
 import tables
 import turns
 import workloads
@@ -23,7 +24,8 @@ from measure import BenchFault, adopt_orphans
 ROOT = os.path.dirname(os.path.dirname(os.path.realpath(__file__)))
 TURNS = 12
 FLOODED = "flooded"
-NAMES = (*workloads.NAMES, FLOODED)
+LONGEST = "longest"
+NAMES = (*workloads.NAMES, FLOODED, LONGEST)
 
 
 class Parser(argparse.ArgumentParser):
@@ -115,10 +117,16 @@ def flood_text(words, program, folder, count):
     return "\n\n".join([tables.table(floods.HEADS, floods.rows(found, measures), 2), floods.LEGEND])
 
 
+def longest_text(program, folder, count):
+    """The table of the longest documents."""
+    rows = longest.rows(program, folder, count, tell)
+    return "\n\n".join([tables.table(longest.HEADS, rows, 2), longest.LEGEND])
+
+
 def measured_text(words, program, folder):
     """The tables of a whole run."""
     tell("making the workloads, and trying each command on them")
-    names = [name for name in words.only if name != FLOODED]
+    names = [name for name in words.only if name not in (FLOODED, LONGEST)]
     cases, jobs = prepare(program, folder, names, words.short)
     count = words.turns or (1 if words.short else TURNS)
     before = load()
@@ -134,6 +142,8 @@ def measured_text(words, program, folder):
     growth = tables.growth_table(cases, measures)
     parts += [growth, tables.GROWTH_LEGEND] if growth else []
     parts += [flood_text(words, program, folder, count)] if FLOODED in words.only else []
+    # a short run leaves them out: cases/sizes.py compares what is printed of them
+    parts += [longest_text(program, folder, count)] if LONGEST in words.only and not words.short else []
     return "\n\n".join(parts)
 
 
