@@ -133,7 +133,7 @@ members_same places value i place b view within read is =
     let holds : get_or value i false ≡ b = ap (λ (v : List Bool). get_or v i false) (sym view) ∙ (read_members places i ∙ (ap is_some (sym here) ∙ is)) in
     sym (ap (λ x. set value i x) (sym holds) ∙ set-get_or value i false)
 
--- the set is told what was written
+-- what the set is after what was written
 pub members_more : (places : List (Option ℕ)) (value : List Bool) (i k : ℕ) → map is_some places ≡ value → map is_some (set places i (Some k)) ≡ set value i true
 members_more places value i k view = map-set is_some places i (Some k) ∙ ap (λ (v : List Bool). set v i true) view
 
@@ -229,7 +229,7 @@ placed_less items places count i place last kept within at read =
         let elsewhere : k ≢ place = λ e. other (sym item ∙ (ap (λ m. get_or items m 0) e ∙ place_item)) in
         (omega arith, get_or-set_other items place k last 0 elsewhere ∙ item)
 
--- the set is told which number went
+-- what the set is after a number went
 pub members_less : (places : List (Option ℕ)) (value : List Bool) (i place last rest : ℕ) → map is_some places ≡ value → get_or places last None ≡ Some rest → map is_some (set (set places last (Some place)) i None) ≡ set value i false
 members_less places value i place last rest view there =
     map-set is_some (set places last (Some place)) i None

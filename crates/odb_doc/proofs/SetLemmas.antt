@@ -46,7 +46,7 @@ module _ {K : Type 0} (bytes : K → List ℕ) where
   any-insert_key q (key ∷ keys) new =
       insert_step (slice_cmp nat_cmp (bytes new) (bytes key)) q new key keys _ (same_text (bytes new) (bytes key)) (any-insert_key q keys new)
 
--- ---- what an insertion tells
+-- ---- what an insertion returns
 
 pub any_when_old : (is_new any : Bool) → is_new ≡ not any → is_new ≡ false → any ≡ true
 any_when_old is_new true same old = refl

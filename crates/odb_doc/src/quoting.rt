@@ -60,8 +60,8 @@ pub(crate) fn push_if(text: &mut String, holds: bool, piece: &str) -> Result<(),
     if holds { text.push_str(piece) } else { Ok(()) }
 }
 
-/// Appends a text that the caller gives up. One that is longer than the room of `text` takes what
-/// `text` holds to its front and then replaces it, so that no second room of its length is filled.
+/// Appends `piece`, which is moved in. If it is longer than the capacity of `text`, it takes in what
+/// `text` has and replaces it, so that its bytes are not copied to a second buffer.
 pub(crate) fn push_owned(text: &mut String, mut piece: String) -> Result<(), AllocError>
     ensures { OnOk result (string_bytes text.new ≡ string_bytes text.old ++ string_bytes piece) }
 {

@@ -4,10 +4,10 @@ use Rattle.serde_json.specs.Data.{object}
 use Rattle.serde_json.specs.Written.{compact_text, members_text}
 use Rattle.odb_reply.specs.Responses.{Headers, header_members}
 
--- the member of headers, with the comma behind it
+-- the member of headers, with the comma after it
 abbrev pub headers_text : Headers → List ℕ
 headers_text headers = codes "\"headers\":" ++ compact_text (object (header_members headers)) ++ codes ","
 
--- what comes of it from these headers on, behind an earlier header or not
+-- what comes of it from these headers on, after an earlier header or not
 abbrev pub headers_left : Bool → Headers → List ℕ
 headers_left later headers = members_text later (header_members headers) ++ codes ","

@@ -1,4 +1,4 @@
--- The positions that may start and those that run, as lists and as sets.
+-- The ready and the running positions, as lists and as sets.
 use Rattle.std.proofs.Common.{◌≡◌, ℕ, zero, suc, ◌<◌, ◌≤◌, ◌+◌, ◌==◌, ◌∙◌, ap, sym, refl, arith, Bool, true, false, ◌&&◌, ◌||◌, cond, nat_lt, nat_eq, if◌then◌else◌, eq-eqb, eqb-true, lt-ltb, le-ltb, ltb-true, List, [], ◌∷◌, length, get_or, inl, inr, count_by, All, Contains, IsTrue, ◌↔◌}
 use Rattle.std.specs.List.{list_any}
 use Rattle.std.specs.FinSet.{contains, same_set, contains-from_list_nat, nat_cmp-IsAntisymmetric}

@@ -16,7 +16,7 @@ reported_not_running Unstarted e = refl
 reported_not_running Running e = sym e
 reported_not_running (Reported outcome) e = refl
 
--- those that run are as before, but for one
+-- the running requests are those before, without one
 pub running_out : (phases : List Phase) (i : ℕ) → is_reported (get_or phases i Unstarted) ≡ true → set (map is_running (set phases i Running)) i false ≡ map is_running phases
 running_out [] i e = refl
 running_out (phase ∷ phases) zero e = ap (λ b. b ∷ map is_running phases) (sym (reported_not_running phase e))

@@ -80,7 +80,7 @@ starts_at state tracker end (Some i) reached are at goes =
     let may : may_start state i ≡ true = sym (starts_is state tracker i reached are within) ∙ rw (at.among, open_run.0, open_run.1) refl in
     (within, may, end_at end (size state) (may_start state) i within may (λ j inside nearer. sym (starts_is state tracker j reached are inside) ∙ rw (at.nearest j nearer) refl))
 
--- what stands at the end of the running positions runs, and stands at the end of those that run
+-- the last or first of the running positions is running, and is the last or first in the order of positions
 pub runs_at : (state : State) (tracker : Tracker) (end : End) (found : Option ℕ) → IsReached state → IsTracked state tracker → IfSome found (IsEndOf end tracker.progress.running)
     → IfSome found (λ i. (i < size state) × (is_running (phase_at state i) ≡ true) × IsAt end (running_set state) i)
 runs_at state tracker end None reached are at = tt

@@ -34,7 +34,7 @@ as_before test phases i within same j = elim (cases_eq j i) [
   | inr elsewhere ↦ ap test (get_or-set_other phases i j Running Unstarted elsewhere)
 ]
 
--- where the same requests have succeeded, the same is met
+-- if the same requests have succeeded, the same is satisfied
 pub met_same : (plan : Shape) (phases other : List Phase) → ((j : ℕ) → has_succeeded (get_or phases j Unstarted) ≡ has_succeeded (get_or other j Unstarted)) → (need : Need) → met_in plan phases need ≡ met_in plan other need
 met_same plan phases other same (One r) = same r
 met_same plan phases other same (Group u) = ap (λ (f : ℕ → Bool). all_below (length plan.units) (λ j. not (eqb (unit_of plan j) u) || f j)) (fun_ext same)

@@ -88,7 +88,7 @@ pending_first plan u = count_same (length plan.units) _ _ (λ i below. rw (ap ha
     at true = refl
     at false = refl
 
--- and nothing is met
+-- and nothing is satisfied
 not_met : (plan : Shape) (need : Need) → ((u : ℕ) → u < plan.unit_count → 0 < members_in plan u) → IsNeed plan need → met_in plan (fresh plan) need ≡ false
 not_met plan (One r) some known = ap has_succeeded (fresh_at plan r)
 not_met plan (Group u) some known =

@@ -43,7 +43,7 @@ pub written_back : (s : Inside) (i : ℕ) (before new : Phase) (written told : L
     → set told i before ≡ s.phases.items
 written_back s i before new written told write len tell stood = ap (λ phases. set phases i before) (tell ∙ with_items_is s.phases written len ∙ write) ∙ set_back s.phases.items i before new stood
 
--- a request's new phase is written, and the tracker are told of it
+-- a request's new phase is written, and the tracker follows
 pub kept_written : (s : Inside) (i : ℕ) (new : Phase) (written told : List Phase) (tracker : Tracker) → written ≡ set s.phases.items i new → length written ≡ s.phases.len
     → IsReached (state_of s.plan.now s.policy (set s.phases.items i new)) → told ≡ (with_items s.phases written).items → IsTracked (state_of s.plan.now s.policy told) tracker
     → IsKept (record { plan = s.plan; policy = s.policy; phases = with_items s.phases written; tracker = tracker })

@@ -21,7 +21,7 @@ none_listed n test i listed within = at (test i) (subst (λ b. ◌≡◌ {A = �
     at true e = absurd (omega arith)
     at false e = refl
 
--- the first element that does not pass, behind a front that does
+-- the first element that does not pass, after a prefix that does
 pub find_first : {X : Type 0} (test : X → Bool) (xs : List X) (k : ℕ) (d : X) → k < length xs → list_all test (take k xs) ≡ true → test (get_or xs k d) ≡ false → find (λ x. not (test x)) xs ≡ Some (get_or xs k d)
 find_first test [] k d within front here = absurd (omega arith)
 find_first test (x ∷ xs) zero d within front here = rw here refl

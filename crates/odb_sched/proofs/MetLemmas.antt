@@ -1,4 +1,4 @@
--- What is met, and what it says of the requests.
+-- What is satisfied, and what that means for the requests.
 use Rattle.std.proofs.Common.{◌≡◌, ℕ, ◌<◌, ◌∙◌, sym, ap, Bool, true, false, not, ◌||◌, eqb, eq-eqb, List, length, get_or, set, inl, inr}
 use Rattle.std.specs.List.{list_all}
 use Rattle.std.proofs.lemmas.Bool.{cases_eq, both_ways, or_left, or_right, ne_eqb, not_from_false, true≢false}

@@ -28,7 +28,7 @@ success_in source policy events r done = elim (success_among (at_first source po
   | inr among ↦ among
 ]
 
--- where what a request needs is met, what it names has succeeded
+-- if the dependencies of a request are satisfied, what it names has succeeded
 pub named-succeeded : (source : Plan) (state : State) (i : ℕ) → HasNamesAsNeeds (plan_records source) (shape source) → state.shape ≡ shape source → all_met state i ≡ true → HaveSucceeded (plan_records source) state i
 named-succeeded source state i named same met =
     record {

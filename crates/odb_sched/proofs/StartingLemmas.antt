@@ -16,14 +16,14 @@ use Rattle.odb_sched.specs.Steps.{met_in}
 use Rattle.odb_sched.specs.ProgressCounts.{AreReady, ArePassed, unmet_in, pending_in, open_count}
 use Rattle.odb_sched.proofs.PhaseLemmas.{Running-from}
 
--- a test that cannot tell a request that runs from an unstarted one has the same value before the start
+-- a test that is the same for a running request and an unstarted one has the same value before the start
 same_by_start : (test : Phase → Bool) (phases : List Phase) (i j : ℕ) → i < length phases → test Unstarted ≡ test Running → is_running (get_or phases i Unstarted) ≡ true → test (get_or (set phases i Unstarted) j Unstarted) ≡ test (get_or phases j Unstarted)
 same_by_start test phases i j within alike runs = elim (cases_eq j i) [
   | inl here ↦ rw (here, get_or-set_same phases i Unstarted Unstarted within, Running-from (get_or phases i Unstarted) runs) alike
   | inr elsewhere ↦ ap test (get_or-set_other phases i j Unstarted Unstarted elsewhere)
 ]
 
--- and so each word that is told by such a test alone
+-- and so each word that depends on such a test alone
 pub same_tests : (test : Phase → Bool) (phases : List Phase) (i : ℕ) → i < length phases → test Unstarted ≡ test Running → is_running (get_or phases i Unstarted) ≡ true → ◌≡◌ {A = ℕ → Bool} (λ j. test (get_or (set phases i Unstarted) j Unstarted)) (λ j. test (get_or phases j Unstarted))
 same_tests test phases i within alike runs = fun_ext (λ j. same_by_start test phases i j within alike runs)
 
@@ -48,7 +48,7 @@ passed_by_start plan phases i units within runs are = record {
 pub left_by_start : (plan : Shape) (gone : ℕ → Bool) (phases : List Phase) (i : ℕ) → i < length phases → is_running (get_or phases i Unstarted) ≡ true → open_count plan gone (set phases i Unstarted) ≡ open_count plan gone phases
 left_by_start plan gone phases i within runs = ap (λ reported. count_below (length plan.units) (λ j. not (reported j) && not (gone j))) (same_tests is_reported phases i within refl runs)
 
--- those that run are as before, and the one that has started
+-- the running requests are those before, and the one that has started
 pub running_in : (phases : List Phase) (i : ℕ) → is_running (get_or phases i Unstarted) ≡ true → set (map is_running (set phases i Unstarted)) i true ≡ map is_running phases
 running_in [] i e = refl
 running_in (phase ∷ phases) zero e = ap (λ b. b ∷ map is_running phases) (sym e)

@@ -16,8 +16,8 @@ pub const FAULTS: [Explanation; 20] = [
         fault: Fault::Document(DocumentRule::NotJson),
         places: "batch outcomes responses events",
         meaning: "The document is not JSON: it is malformed, or not UTF-8, or nested more than 127 levels deep, or it\n\
-            has a number beyond the range of a float. A byte order mark is not JSON either. Nothing can be told\n\
-            of a text that cannot be parsed. Check where the text was made or cut.",
+            has a number beyond the range of a float. A byte order mark is not JSON either. Check where the text\n\
+            was made or cut.",
         refused: r#"{"requests":[]"#,
         accepted: r#"{"requests":[]}"#,
     },

@@ -42,7 +42,7 @@ pub const FAULTS: [Explanation; 6] = [
         fault: Fault::Match(MatchRule::GroupDiffers),
         places: "/requests/N",
         meaning: "The response names another atomicity group than its request, or only one of the two names a group.\n\
-            Without the right group a client cannot tell what was undone together (OData JSON Format 4.01,\n\
+            Without the right group a client does not know what was undone together (OData JSON Format 4.01,\n\
             section 19.5). The service has to repeat the group of the request.",
         refused: r#"{"responses":[{"id":"1","status":200,"atomicityGroup":"g"},{"id":"2","status":200}]}"#,
         accepted: r#"{"responses":[{"id":"1","status":200,"atomicityGroup":null},{"id":"2","status":200}]}"#,

@@ -1,4 +1,4 @@
-//! Worked examples of sets that tell their least and greatest number: what these are after a few
+//! Worked examples of sets that return their least and greatest number: what these are after a few
 //! steps, and on the way through a set from either end.
 
 ghost use Rattle.std.specs.Prelude.{◌≡◌, ◌<◌, length};
@@ -151,9 +151,9 @@ const STORIES: &[(&str, &[Step])] = &[
     ),
 ];
 
-/// What the set tells at a step, where that is what is wanted.
-fn tells(rt: &impl Abort, told: Option<u32>, wanted: Option<u32>, name: &str, at: usize) {
-    assert_eq!(rt; told, wanted, "{name}: step {at}");
+/// Compares what the set returns at a step with what is wanted.
+fn expect(rt: &impl Abort, got: Option<u32>, wanted: Option<u32>, name: &str, at: usize) {
+    assert_eq!(rt; got, wanted, "{name}: step {at}");
 }
 
 /// A number of the examples.
@@ -163,7 +163,7 @@ fn within(rt: &impl Abort, i: u32)
     assert!(rt; i < BOUND);
 }
 
-/// Takes one step of a story with this name, and compares what it tells.
+/// Takes one step of a story with this name, and compares what it returns.
 fn take(rt: &impl Abort, set: &mut OrderedPositions, name: &str, at: usize, step: Step)
     requires { length set.old ≡ 6 }
     ensures { length set.new ≡ 6 }
@@ -177,16 +177,16 @@ fn take(rt: &impl Abort, set: &mut OrderedPositions, name: &str, at: usize, step
             within(rt, i);
             set.remove(i);
         }
-        Least(wanted) => tells(rt, set.least(), wanted, name, at),
-        Greatest(wanted) => tells(rt, set.greatest(), wanted, name, at),
+        Least(wanted) => expect(rt, set.least(), wanted, name, at),
+        Greatest(wanted) => expect(rt, set.greatest(), wanted, name, at),
         OutLeast(i) => {
             within(rt, i);
-            tells(rt, set.least(), Some(i), name, at);
+            expect(rt, set.least(), Some(i), name, at);
             set.remove(i);
         }
         OutGreatest(i) => {
             within(rt, i);
-            tells(rt, set.greatest(), Some(i), name, at);
+            expect(rt, set.greatest(), Some(i), name, at);
             set.remove(i);
         }
     }
@@ -203,7 +203,7 @@ fn takes(rt: &impl Abort, set: &mut OrderedPositions, name: &str, steps: &[Step]
 }
 
 #[test]
-fn tells_the_least_and_the_greatest(rt: HostRuntime) -> Result<(), Fail> {
+fn returns_the_least_and_the_greatest(rt: HostRuntime) -> Result<(), Fail> {
     for (name, steps) in STORIES {
         let mut set = OrderedPositions::new(rt.alloc(), BOUND)?;
         takes(&rt, &mut set, name, steps);

@@ -12,7 +12,7 @@ pub enum Picks {
     Named(Order),
     /// An order that is asked for each step.
     Asked(Order),
-    /// Starts the greatest position while there is one, and then reports the greatest.
+    /// Starts as many as it can, from the greatest position down, and then reports in that order.
     WideLast,
     /// Takes the numbers of one of `LISTS` from this place on, and 0 after its end: each a place
     /// among the ready requests followed by the running requests.

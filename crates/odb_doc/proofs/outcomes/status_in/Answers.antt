@@ -1,4 +1,4 @@
--- Each exit of the reader, by the rules that are settled there.
+-- Each exit of the reader, by the rules that are decided there.
 use Rattle.std.proofs.Common.{◌≡◌, false, true, option_map, bytes_eq, string_bytes, IfSome, rules}
 use Rattle.std.specs.List.{list_any}
 use Rattle.serde_json.specs.View.{view, number_view}

@@ -1,4 +1,4 @@
--- The request is taken from those that run, and from the open ones where its unit was not gone.
+-- The request is taken from the running ones, and from the open ones if its unit has not failed.
 use Rattle.std.proofs.Common.{◌∙◌, ap, arith, false, set}
 use Rattle.odb_sched.specs.State.{shape}
 use Rattle.odb_sched.specs.ProgressCounts.{is_gone}

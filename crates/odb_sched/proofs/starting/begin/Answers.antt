@@ -1,4 +1,4 @@
--- The request is taken from those that are ready to those that run, and nothing else changes.
+-- The request moves from the ready ones to the running ones, and nothing else changes.
 use Rattle.std.proofs.Common.{◌<◌, ◌∙◌, sym, ap, subst, true, set, length}
 use Rattle.odb_sched.specs.State.{shape}
 use Rattle.odb_sched.specs.ProgressCounts.{AreReady, is_gone}

@@ -1,4 +1,4 @@
--- A group is met exactly where none of its members is left.
+-- A group is satisfied if and only if none of its members is pending.
 use Rattle.std.proofs.Common.{◌==◌, ◌∙◌, sym, ap, subst}
 use Rattle.odb_sched.specs.Plans.{IsNeed}
 use Rattle.odb_sched.specs.State.{shape}

@@ -1,4 +1,4 @@
--- A report that is not refused may come, and the tracker are told of it.
+-- A report that is not refused may come, and the tracker follows.
 use Rattle.std.proofs.Common.{◌≡◌, ◌<◌, ◌∙◌, sym, ap, subst, true, set, length-set, length}
 use Rattle.odb_sched.specs.declared.phase.Phase.TheVariants.{Running, Reported}
 use Rattle.std.proofs.lemmas.Bool.{and_parts}

@@ -1,4 +1,4 @@
--- A start that is not refused may come, and the tracker are told of it.
+-- A start that is not refused may come, and the tracker follows.
 use Rattle.std.proofs.Common.{◌≡◌, ◌∙◌, sym, ap, subst, true, set, length-set, length, refl, ◌<◌}
 use Rattle.std.proofs.lemmas.Bool.{both_ways, false≢true}
 use Rattle.odb_sched.specs.declared.phase.Phase.TheVariants.{Unstarted, Running}
