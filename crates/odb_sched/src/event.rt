@@ -22,7 +22,7 @@ pub enum Event {
     Report(u32, Outcome),
 }
 
-/// Takes the event at index `k` of its list, if it may come.
+/// Takes the event at index `at` of its list, if it may come.
 fn take(scheduler: &mut Scheduler<'_>, at: usize, event: Event) -> Result<(), RunRefusal>
     requires { event_position event < states.size scheduler.old }
     ensures allowed { OnOk result (may_come scheduler.old event ≡ true) }
