@@ -88,22 +88,22 @@ pub enum Task<'a> {
 
 /// Why the command line was rejected.
 #[derive(Drop)]
-pub enum Misuse {
+pub enum BadArguments {
     /// `clap` rejects it, or prints its help or the version.
     Arguments(Error),
     /// The width is not a decimal number from 1 to 10,000.
     Width,
 }
 
-impl From<Error> for Misuse {
+impl From<Error> for BadArguments {
     fn from(error: Error) -> Self {
-        Misuse::Arguments(error)
+        BadArguments::Arguments(error)
     }
 }
 
-impl From<AllocError> for Misuse {
+impl From<AllocError> for BadArguments {
     fn from(error: AllocError) -> Self {
-        Misuse::Arguments(Error::from(error))
+        BadArguments::Arguments(Error::from(error))
     }
 }
 
@@ -206,9 +206,9 @@ impl<'a> Task<'a> {
     ///
     /// `Width` for a width that is not valid; `Arguments` for all else that `clap` rejects, for help
     /// and the version, and out of memory.
-    pub fn read(alloc: Global, words: &'a [String]) -> Result<Task<'a>, Misuse> {
+    pub fn read(alloc: Global, words: &'a [String]) -> Result<Task<'a>, BadArguments> {
         let matches = program(alloc)?.try_get_matches_from(words)?;
-        task_of(&matches).ok_or(Misuse::Width)
+        task_of(&matches).ok_or(BadArguments::Width)
     }
 }
 

@@ -16,7 +16,7 @@ mod page;
 mod texts;
 
 use clap::error::ErrorKind;
-use command_line::{Misuse, Task, Text};
+use command_line::{BadArguments, Task, Text};
 use ending::{Status, failed};
 use engines::{Surroundings, canon, check, fit, plan, replay, run_events};
 use odb_check::Seed;
@@ -42,10 +42,10 @@ fn print_clap<R: Runtime>(rt: &R, error: &clap::Error) -> Status {
 }
 
 /// Prints why the arguments are rejected.
-fn reject<R: Runtime>(rt: &R, misuse: &Misuse) -> Status {
-    match misuse {
-        Misuse::Arguments(error) => print_clap(rt, error),
-        Misuse::Width => failed(
+fn reject<R: Runtime>(rt: &R, wrong: &BadArguments) -> Status {
+    match wrong {
+        BadArguments::Arguments(error) => print_clap(rt, error),
+        BadArguments::Width => failed(
             rt,
             "--width must be a whole number from 1 to 10000",
             Status::WrongArguments,
@@ -57,7 +57,7 @@ fn reject<R: Runtime>(rt: &R, misuse: &Misuse) -> Status {
 fn print_text<R: Runtime + AllocGlobal>(rt: &R, text: Text<'_>) -> Status {
     match texts::print(rt, text) {
         Ok(status) => status,
-        Err(misuse) => reject(rt, &misuse),
+        Err(wrong) => reject(rt, &wrong),
     }
 }
 
@@ -89,7 +89,7 @@ fn seed<R: RandomSource>(rt: &R) -> Seed {
 fn run<R: Runtime + AllocGlobal>(rt: &R, around: Surroundings, words: &[String]) -> Status {
     match Task::read(rt.alloc(), words) {
         Ok(task) => perform(rt, around, task),
-        Err(misuse) => reject(rt, &misuse),
+        Err(wrong) => reject(rt, &wrong),
     }
 }
 

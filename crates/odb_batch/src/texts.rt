@@ -1,6 +1,6 @@
 //! The commands that read no document: each prints a text.
 
-use crate::command_line::{Misuse, Shell, Text};
+use crate::command_line::{BadArguments, Shell, Text};
 use crate::commands::{explain_command, program};
 use crate::completions::add_script;
 use crate::ending::{Status, finish};
@@ -51,11 +51,14 @@ fn unknown(alloc: Global, code: &str) -> Result<clap::Error, AllocError> {
 }
 
 /// Prints what is explained of the faults of this code or name.
-fn print_explanations<R: Runtime + AllocGlobal>(rt: &R, code: &str) -> Result<Status, Misuse> {
+fn print_explanations<R: Runtime + AllocGlobal>(
+    rt: &R,
+    code: &str,
+) -> Result<Status, BadArguments> {
     let mut page = Page::new(rt.alloc());
     add_explanations(&mut page, code);
     if page.is_empty() {
-        return Err(Misuse::from(unknown(rt.alloc(), code)?));
+        return Err(BadArguments::from(unknown(rt.alloc(), code)?));
     }
     Ok(print_page(rt, page))
 }
@@ -98,7 +101,7 @@ fn print_manual<R: Runtime + AllocGlobal>(rt: &R) -> Status {
 /// # Errors
 ///
 /// If there is no fault to explain, or out of memory.
-pub fn print<R: Runtime + AllocGlobal>(rt: &R, text: Text<'_>) -> Result<Status, Misuse> {
+pub fn print<R: Runtime + AllocGlobal>(rt: &R, text: Text<'_>) -> Result<Status, BadArguments> {
     match text {
         Text::Faults => Ok(print_table(rt)),
         Text::Explanation(code) => print_explanations(rt, code),

@@ -11,7 +11,7 @@ use crate::broken::Broken;
 use crate::event::{NamedEvent, read_event};
 use crate::event_fault::{EventFault, EventRule};
 use crate::member::{Object, array_of, member_of};
-use crate::outcomes::Emptied;
+use crate::outcomes::Leftovers;
 use serde_json::Value;
 use std::alloc::Global;
 
@@ -94,7 +94,7 @@ impl Events {
     /// # Errors
     ///
     /// Those of [`Events::read`]. Nothing remains of the document then.
-    pub fn split(alloc: Global, document: Value) -> Result<(Events, Emptied), EventFault>
+    pub fn split(alloc: Global, document: Value) -> Result<(Events, Leftovers), EventFault>
         ensures good { OnOk result (IsEventsDocument (view document)) }
         ensures events { IfOk result (λ parts. AreEventsOf (view document) (entries parts.0)) }
         ensures least { IfErr result (λ fault. RefusesEvents fault (view document)) }
@@ -105,7 +105,7 @@ impl Events {
             return Err(EventFault::Document);
         };
         let entries = events_from(alloc, &mut elements)?;
-        Ok((Events { entries }, Emptied { elements }))
+        Ok((Events { entries }, Leftovers { elements }))
     }
 
     /// Returns how many events there are.

@@ -47,6 +47,6 @@ pub use events::Events;
 pub use fault::{DocFault, DocumentRule, Place, RequestRule, TextFault};
 pub use outcome::Outcome;
 pub use outcome_fault::{OutcomeFault, OutcomeRule};
-pub use outcomes::{Emptied, Outcomes};
+pub use outcomes::{Leftovers, Outcomes};
 pub use request::Request;
 pub use whole::is_whole;

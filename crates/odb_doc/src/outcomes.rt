@@ -34,7 +34,7 @@ pub struct Outcomes {
 /// The hollowed-out JSON that remains after reading. Dropping it is slow for large documents; a
 /// program about to exit can leak it instead.
 #[derive(Drop)]
-pub struct Emptied {
+pub struct Leftovers {
     pub(crate) elements: Vec<Value>,
 }
 
@@ -196,7 +196,7 @@ impl Outcomes {
     /// # Errors
     ///
     /// Those of [`Outcomes::read`]. Nothing remains of the document then.
-    pub fn split(alloc: Global, document: Value) -> Result<(Outcomes, Emptied), OutcomeFault>
+    pub fn split(alloc: Global, document: Value) -> Result<(Outcomes, Leftovers), OutcomeFault>
         ensures good { OnOk result (IsOutcomesDocument (view document)) }
         ensures outcomes { IfOk result (λ parts. AreOutcomesOf (view document) (entries parts.0)) }
         ensures least { IfErr result (λ fault. RefusesOutcomes fault (view document)) }
@@ -207,7 +207,7 @@ impl Outcomes {
             return Err(OutcomeFault::Document);
         };
         let entries = outcomes_from(alloc, &mut elements)?;
-        Ok((Outcomes { entries }, Emptied { elements }))
+        Ok((Outcomes { entries }, Leftovers { elements }))
     }
 
     /// Returns how many outcomes there are.

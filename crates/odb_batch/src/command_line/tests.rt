@@ -1,4 +1,4 @@
-use super::{Misuse, Replay, Task, Text};
+use super::{BadArguments, Replay, Task, Text};
 use clap::error::ErrorKind;
 use odb_sched::Policy;
 use std::alloc::{AllocError, Global};
@@ -149,7 +149,7 @@ fn reading(alloc: Global, line: &str) -> Result<String, AllocError> {
     described(alloc, Task::read(alloc, words.as_slice()))
 }
 
-fn described(alloc: Global, task: Result<Task<'_>, Misuse>) -> Result<String, AllocError> {
+fn described(alloc: Global, task: Result<Task<'_>, BadArguments>) -> Result<String, AllocError> {
     match task {
         Ok(Task::Check { file }) => format!(in alloc; "check {}", file.unwrap_or("-")),
         Ok(Task::Plan { file }) => format!(in alloc; "plan {file}"),
@@ -164,8 +164,8 @@ fn described(alloc: Global, task: Result<Task<'_>, Misuse>) -> Result<String, Al
         ) => described_run(alloc, file, events, policy),
         Ok(Task::Print(text)) => described_text(alloc, text),
         Ok(Task::Replay(replay)) => described_replay(alloc, &replay),
-        Err(Misuse::Width) => String::from_str(alloc, "width"),
-        Err(Misuse::Arguments(error)) => String::from_str(alloc, kind_of(error.kind())),
+        Err(BadArguments::Width) => String::from_str(alloc, "width"),
+        Err(BadArguments::Arguments(error)) => String::from_str(alloc, kind_of(error.kind())),
     }
 }
 
