@@ -1,6 +1,7 @@
 //! Runs of plans: what each event may do, which requests are ready and which run after it, and what
 //! each request is answered in the end.
 
+mod bodies;
 mod calls;
 mod embedding;
 mod events;
