@@ -8,18 +8,18 @@ from dataclasses import dataclass
 MANY = 1000
 WRITE_AS_THEY_GO = ("canon", "replay", "match", "run")
 USUAL_EVENTS = [
-    {"start": "0"},
-    {"report": "0", "status": 200, "headers": {"ETag": "7"}, "body": {"Title": "Dune"}},
-    {"start": "2"},
-    {"start": "1"},
-    {"report": "1", "status": 204},
-    {"report": "2", "status": 409, "body": [1, {"Book": "dune"}]},
+    {"start": "book"},
+    {"report": "book", "status": 200, "headers": {"ETag": "7"}, "body": {"Title": "Dune"}},
+    {"start": "loan"},
+    {"start": "mark"},
+    {"report": "mark", "status": 204},
+    {"report": "loan", "status": 409, "body": [1, {"Book": "dune"}]},
 ]
 USUAL_RESPONSES = [
-    {"id": "3", "status": 424},
-    {"id": "2", "status": 409, "atomicityGroup": "lend"},
-    {"id": "1", "status": 424, "atomicityGroup": "lend"},
-    {"id": "0", "status": 200, "headers": {"etag": "7"}, "body": {"Title": "Dune"}},
+    {"id": "list", "status": 424},
+    {"id": "loan", "status": 409, "atomicityGroup": "lend"},
+    {"id": "mark", "status": 424, "atomicityGroup": "lend"},
+    {"id": "book", "status": 200, "headers": {"etag": "7"}, "body": {"Title": "Dune"}},
 ]
 
 
