@@ -7,7 +7,7 @@ names the clause that has to refuse it:
     asks: CALL: CLAUSE, CASE
 
 CALL is written as a caller writes it (`check`, `Plan::needs`), CLAUSE is the name of its `ensures`,
-or `result` where it has one without a name, and CASE tells two edits of one clause apart. The exit
+or `result` where it has one without a name, and CASE distinguishes two edits of one clause. The exit
 status is 1 where an edit lacks that line, names a call or a clause that does not exist, asks what
 another one asks, or where there are more edits than MOST; else 0. A clause that no edit asks is
 listed and is no failure.

@@ -22,7 +22,7 @@ CRATE = os.path.join(ROOT, "crates", "odb_batch")
 PROGRAM = os.path.join(CRATE, "out", "odb_batch")
 TEXTS = os.path.join(CRATE, "src", "explain")
 
-# The files of texts: which codes stand in them, and what they are about.
+# The files of texts: which codes they have, and what they are about.
 FILES = {
     "documents": (r"F[012]\d", "the document and the form of its requests"),
     "names": (r"F[34]\d", "ids, groups, names and references"),
@@ -31,7 +31,7 @@ FILES = {
     "runs": (r"F8\d|[SP]\d", "executions, and events that may not come"),
 }
 
-# How the program names a fault, by its code; NAME stands for the name of the page.
+# How the program names a fault, by its code; NAME is the name on the page.
 FAULTS = [
     (r"F0\d", "Fault::Document(DocumentRule::NAME)"),
     (r"F[12]\d", "Fault::Request(RequestRule::NAME)"),

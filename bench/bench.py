@@ -29,7 +29,7 @@ NAMES = (*workloads.NAMES, FLOODED, LONGEST)
 
 
 class Parser(argparse.ArgumentParser):
-    """A parser that tells of wrong words in one line."""
+    """A parser that reports wrong arguments in one line."""
 
     def error(self, message):
         self.exit(2, f"{self.prog}: {message}\n")
@@ -68,8 +68,8 @@ def read_words(words):
     return parser.parse_args(words)
 
 
-def tell(line):
-    """Tells on standard error how far the measuring is."""
+def report(line):
+    """Prints on standard error how far the measuring is."""
     print(f"bench: {line}", file=sys.stderr, flush=True)
 
 
@@ -110,27 +110,27 @@ def load():
 
 def flood_text(words, program, folder, count):
     """The table of the documents with flooded names."""
-    tell("making the documents with flooded names, and trying each command on them")
+    report("making the documents with flooded names, and trying each command on them")
     found = floods.floods(folder, words.short)
     floods.try_floods(program, folder, found)
-    measures = floods.measure_floods(program, found, count, tell)
+    measures = floods.measure_floods(program, found, count, report)
     return "\n\n".join([tables.table(floods.HEADS, floods.rows(found, measures), 2), floods.LEGEND])
 
 
 def longest_text(program, folder, count):
     """The table of the longest documents."""
-    rows = longest.rows(program, folder, count, tell)
+    rows = longest.rows(program, folder, count, report)
     return "\n\n".join([tables.table(longest.HEADS, rows, 2), longest.LEGEND])
 
 
 def measured_text(words, program, folder):
     """The tables of a whole run."""
-    tell("making the workloads, and trying each command on them")
+    report("making the workloads, and trying each command on them")
     names = [name for name in words.only if name not in (FLOODED, LONGEST)]
     cases, jobs = prepare(program, folder, names, words.short)
     count = words.turns or (1 if words.short else TURNS)
     before = load()
-    measures = turns.measure_in_turns(jobs, count, tell)
+    measures = turns.measure_in_turns(jobs, count, report)
     start = measures["start", 1, "check"]
     facts = (
         f"{tables.machine()}; load {before} before and {load()} after; turns: {count}; "
@@ -156,7 +156,7 @@ def main():
         with tempfile.TemporaryDirectory(prefix="odb_batch_bench_") as folder:
             print(measured_text(words, program, folder))
     except (BenchFault, OSError) as fault:
-        tell(fault)
+        report(fault)
         return 1
     except KeyboardInterrupt:
         return 130

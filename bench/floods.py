@@ -176,12 +176,12 @@ def try_floods(program, folder, found):
                     raise BenchFault(f"{flood.command} of {flood.title}, {kind}, gave a wrong answer")
 
 
-def measure_floods(program, found, turns, tell):
+def measure_floods(program, found, turns, report):
     """Measures each command on both documents, one after the other in each turn."""
     runs = {(at, kind): [] for at in range(len(found)) for kind in KINDS}
     processors = sorted(os.sched_getaffinity(0))
     for turn in range(turns):
-        tell(f"flooded names, turn {turn + 1} of {turns}")
+        report(f"flooded names, turn {turn + 1} of {turns}")
         with staying_on(processors[turn % len(processors)]):
             for at, flood in enumerate(found):
                 for kind in KINDS:

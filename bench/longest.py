@@ -55,10 +55,10 @@ def measured(program, folder, trial, count):
     return [summary(found) for found in runs]
 
 
-def rows(program, folder, count, tell):
+def rows(program, folder, count, report):
     """The rows of the table, one for each document."""
     for kind in KINDS:
-        tell(f"the longest documents: {kind.__name__}")
+        report(f"the longest documents: {kind.__name__}")
         for trial in kind():
             whole, *readings, start = measured(program, folder, trial, count)
             yield row(trial, whole, readings, start)

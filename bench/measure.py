@@ -1,9 +1,9 @@
 """Runs a program and measures it: time, processor time and memory. Linux alone.
 
-What the system tells as the greatest memory of a process begins with that of the process which
+What the system reports as the greatest memory of a process begins with that of the process which
 started it. So a program is not started by this one, whose memory is many times that of a small
-program, but by a shell: it leaves a process that waits for a word, is gone, and the process falls
-to this one, which gives the word, waits for the end and takes the measures. What that process took
+program, but by a shell: it starts a process that waits for a word, and ends; then this one adopts
+that process, gives the word, waits for the end and takes the measures. What that process took
 until then, some tenths of a millisecond, is in its processor time.
 """
 
@@ -46,7 +46,7 @@ class Run:
 
 
 def adopt_orphans():
-    """Lets processes fall to this one whose parent is gone."""
+    """Lets this process adopt those whose parent has ended."""
     try:
         adopted = ctypes.CDLL(None).prctl(SET_CHILD_SUBREAPER, 1, 0, 0, 0) == 0
     except AttributeError:

@@ -54,7 +54,7 @@ def table(heads, rows, texts):
 
 
 def milliseconds(seconds):
-    """The time in milliseconds, with as many digits as tell something."""
+    """The time in milliseconds, with as many digits as mean something."""
     value = seconds * 1000
     return f"{value:,.0f}" if value >= 100 else f"{value:.1f}"
 

@@ -130,15 +130,15 @@ def sizes_together(jobs):
     return sorted(jobs, key=lambda job: firsts.index((job.name, job.command)))
 
 
-def measure_in_turns(jobs, turns, tell):
+def measure_in_turns(jobs, turns, report):
     """Runs all jobs in their order, and again in each turn, each on memory that was stirred. A turn
-    stays on one processor, and the next one goes to the next, so that the runs of a turn are not
-    told apart by where the system put them. Gives the measures of each job by its name, part and
+    stays on one processor, and the next one goes to the next, so that the runs of a turn do
+    not differ by where the system put them. Gives the measures of each job by its name, part and
     command."""
     runs = {(job.name, job.part, job.command): [] for job in jobs}
     processors = sorted(os.sched_getaffinity(0))
     for turn in range(turns):
-        tell(f"turn {turn + 1} of {turns}")
+        report(f"turn {turn + 1} of {turns}")
         with staying_on(processors[turn % len(processors)]):
             for job in jobs:
                 stir_memory()

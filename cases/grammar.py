@@ -249,7 +249,7 @@ def outcomes(random, ids):
 
 
 def events_of_run(random, run):
-    """The events of a run that the rules allow, in any order that they leave open."""
+    """The events of a run that the rules allow, in any order that they allow."""
     found = []
     while not rules_of_runs.is_finished(run):
         may_start, running = rules_of_runs.ready(run), run.running()

@@ -1,7 +1,7 @@
 #!/usr/bin/env python3
 """Compares the manual page and the completions with the help of each command.
 
-What `--help` lists, commands, arguments, options and values, has to stand in the section of the
+What `--help` lists, commands, arguments, options and values, has to appear in the section of the
 command in the manual page, and the options and values in each completion script. Bash completes some
 lines as it should, and `groff` finds nothing to warn of. What is not installed is said in a line and
 left out. The last line is `N passed, N failed`.

@@ -102,7 +102,7 @@ def words_of(value, count):
 
 
 def argument_of(word):
-    """The bytes of an argument, in which `\\xff` stands for a byte."""
+    """The bytes of an argument, in which `\\xff` is written for a byte."""
     parts = re.split(r"\\x([0-9a-f]{2})", word)
     return b"".join(bytes.fromhex(it) if at % 2 else it.encode() for at, it in enumerate(parts))
 

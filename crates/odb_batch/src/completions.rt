@@ -65,7 +65,7 @@ fn add_positional_values(page: &mut Page, command: &Command<'_>) {
     }
 }
 
-/// Adds words in single quotes, in which `quote` stands for a quote.
+/// Adds words in single quotes, with `quote` in place of each quote.
 fn add_quoted(page: &mut Page, words: &str, quote: &str) {
     page.add("'");
     for c in words.chars() {

@@ -40,8 +40,8 @@ pub const FAULTS: [Explanation; 20] = [
     Explanation {
         fault: Fault::Document(DocumentRule::UnknownMember),
         places: "batch",
-        meaning: "The object has another member beside requests. Only annotations, whose names have an @, may stand\n\
-            there; a member that nobody reads is more likely a mistake (a choice of this product). Drop it, or\n\
+        meaning: "The object has another member beside requests. It may have only annotations, whose names have an @,\n\
+            beside it; a member that nobody reads is more likely a mistake (a choice of this product). Drop it, or\n\
             make it an annotation.",
         refused: r#"{"requests":[],"next":1}"#,
         accepted: r#"{"requests":[],"@next":1}"#,
