@@ -64,9 +64,9 @@ def request(members):
 
 
 def names():
-    before = '{"requests":[{"id":"a","method":"get","url":"X"},{"id":"b","method":"get","url":"X","dependsOn":['
-    same, _ = filled(before, lambda n: '"a"', "]}]}")
-    plan = "0 a level 0 group * needs *\n1 b level 1 group * needs a\n"
+    before = '{"requests":[{"id":"one","method":"get","url":"X"},{"id":"two","method":"get","url":"X","dependsOn":['
+    same, _ = filled(before, lambda n: '"one"', "]}]}")
+    plan = "0 one level 0 group * needs *\n1 two level 1 group * needs one\n"
     yield Trial("one name again and again", "plan", [same], plan)
     different, _ = filled(before, lambda n: f'"{n:07}"', "]}]}")
     yield refused("different names", "check", [different], "F40 UnknownName /requests/1")

@@ -7,14 +7,14 @@ use std::test::Fail;
 
 /// Two groups, of which the second needs the first, and a request that needs both and a member.
 const GROUPS: &str = r#"{"requests":[
-    {"id":"a","method":"post","url":"X","atomicityGroup":"g"},
-    {"id":"b","method":"get","url":"$a/Y","atomicityGroup":"g"},
-    {"id":"c","method":"get","url":"X","atomicityGroup":"h","dependsOn":["g"]},
-    {"id":"d","method":"get","url":"X","atomicityGroup":"h"},
-    {"id":"e","method":"get","url":"$b/Y","dependsOn":["h","c","h","g"]}]}"#;
+    {"id":"a","method":"post","url":"X","atomicityGroup":"left"},
+    {"id":"b","method":"get","url":"$a/Y","atomicityGroup":"left"},
+    {"id":"c","method":"get","url":"X","atomicityGroup":"right","dependsOn":["left"]},
+    {"id":"d","method":"get","url":"X","atomicityGroup":"right"},
+    {"id":"e","method":"get","url":"$b/Y","dependsOn":["right","c","right","left"]}]}"#;
 
 /// Texts that are ids or groups of `GROUPS`, or neither.
-const TEXTS: &[&str] = &["a", "e", "g", "A", ""];
+const TEXTS: &[&str] = &["a", "e", "left", "A", ""];
 
 /// Batches, and the fault, or the plan: its text; for each request its unit, its level and what it
 /// needs; the members of each unit; how many groups there are; and where each of `TEXTS` is an id.
@@ -22,11 +22,11 @@ const BATCHES: &[(&str, &str)] = &[
     (r#"{"requests":[]}"#, "0 groups None None None None None "),
     (
         GROUPS,
-        "0 a level 0 group g needs *\n\
-         1 b level 1 group g needs a\n\
-         2 c level 2 group h needs g\n\
-         3 d level 0 group h needs *\n\
-         4 e level 3 group * needs h,c,g,b\n\
+        "0 a level 0 group left needs *\n\
+         1 b level 1 group left needs a\n\
+         2 c level 2 group right needs left\n\
+         3 d level 0 group right needs *\n\
+         4 e level 3 group * needs right,c,left,b\n\
          a 0 0 [] b 0 1 [One(0)] c 1 2 [Group(0)] d 1 0 [] \
          e 2 3 [Group(1), One(2), Group(0), One(1)] 0..2 2..4 4..5 2 groups \
          Some(0) Some(4) None None None ",

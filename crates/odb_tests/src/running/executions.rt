@@ -29,7 +29,7 @@ const BOTH: &str = r#"{"requests":[{"id":"a","method":"get","url":"X"},
 const APART: &str = r#"{"requests":[{"id":"a","method":"get","url":"X"},
     {"id":"b","method":"get","url":"X"},{"id":"c","method":"get","url":"X"}]}"#;
 
-/// Gives each request the status that stands at its position. At 0 it has no outcome, at 1 it
+/// Answers each request with the status at its position in a list. At 0 it has no outcome, at 1 it
 /// fails.
 #[derive(Drop)]
 struct Statuses<'a> {

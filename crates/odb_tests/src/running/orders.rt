@@ -1,8 +1,8 @@
-//! The orders that choosers name, by which an execution goes without asking for each step.
+//! The orders that choosers name, which an execution follows without asking for each step.
 
 use odb_sched::{Choice, Chooser, First, Last, Order, Wide};
 
-/// Starts what stands first, and reports what stands first where nothing may start.
+/// Starts the first ready request of the list, and reports the first running one if none is ready.
 struct Front;
 
 impl Chooser for Front {
