@@ -9,11 +9,14 @@ use std::alloc::Global;
 use std::collections::BTreeMap;
 use std::test::Fail;
 
-/// Returns the text of the response to a batch.
-fn respond(alloc: Global, document: &[u8]) -> Result<String, Fail> {
+/// Returns the text of the response to a batch whose requests the service performs.
+fn respond<S: Service>(alloc: Global, document: &[u8], service: &mut S) -> Result<String, Fail> {
     let value = parse(alloc, document)?;
     let batch = Batch::read(alloc, &value)?;
-    send_all(alloc, &check(alloc, &batch)?)
+    let plan = check(alloc, &batch)?;
+    let policy = Policy::free(Mode::Continue);
+    let trace = execute(alloc, &plan, policy, &mut First, service)?;
+    Ok(response_text(alloc, &trace.done)?)
 }
 
 /// Sends the requests of a plan, one after another, each once it may start.
@@ -62,17 +65,15 @@ impl Service for Store {
     }
 }
 
-/// Executes a plan against a store.
+/// Drives the run of a plan by hand.
 #[derive(Clone, Copy)]
-struct Stored;
+struct ByHand;
 
-impl OnPlan for Stored {
+impl OnPlan for ByHand {
     type Found = String;
 
     fn on_plan(&mut self, alloc: Global, plan: &Plan<'_>) -> Result<String, Fail> {
-        let policy = Policy::free(Mode::Continue);
-        let trace = execute(alloc, plan, policy, &mut First, &mut Store { alloc })?;
-        Ok(response_text(alloc, &trace.done)?)
+        send_all(alloc, plan)
     }
 }
 
@@ -95,9 +96,13 @@ const ROWS: &[(&str, &str, &str)] = &[
 #[test]
 fn drives_and_executes_a_plan(rt: HostRuntime) -> Result<(), Fail> {
     for (document, sent, stored) in ROWS {
-        let by_hand = respond(rt.alloc(), document.as_bytes())?;
+        let by_hand = on_document(rt.alloc(), document, &mut ByHand)?;
         assert_eq!(rt; by_hand.as_str(), *sent);
-        let by_store = on_document(rt.alloc(), document, &mut Stored)?;
+        let by_store = respond(
+            rt.alloc(),
+            document.as_bytes(),
+            &mut Store { alloc: rt.alloc() },
+        )?;
         assert_eq!(rt; by_store.as_str(), *stored);
     }
     Ok(())
