@@ -55,7 +55,7 @@ def read_words(words):
     """The words of the command line."""
     parser = Parser(description="Measures odb_batch on workloads made here, and prints tables in Markdown.")
     option = parser.add_argument
-    option("--short", action="store_true", help="small sizes and one turn: a few seconds")
+    option("--short", action="store_true", help="small sizes and one turn: some twenty seconds")
     option("--turns", type=turn_count, metavar="N", help=f"how often each run is made; {TURNS}, in short 1")
     option("--program", metavar="PATH", help="the program to measure; else that of this repository")
     option(

@@ -6,7 +6,7 @@ import shutil
 from dataclasses import dataclass
 
 MANY = 1000
-WRITE_AS_THEY_GO = ("canon", "replay", "match", "run")
+WRITE_AS_THEY_GO = ("replay", "run")
 USUAL_EVENTS = [
     {"start": "book"},
     {"report": "book", "status": 200, "headers": {"ETag": "7"}, "body": {"Title": "Dune"}},

@@ -150,7 +150,7 @@ pub const FAULTS: [Explanation; 20] = [
         places: "/requests/N",
         meaning: "The body does not suit the header content-type. For a type that begins with text/ it has to be a\n\
             string, for any other that is not JSON a string in base64url (OData JSON Format 4.01, section\n\
-            19.1). It is asked only if the headers can be read. Correct the type, or encode the body.",
+            19.1). It is checked only if the headers can be read. Correct the type, or encode the body.",
         refused: r#"{"requests":[{"id":"1","method":"put","url":"A","headers":{"content-type":"text/plain"},"body":1}]}"#,
         accepted: r#"{"requests":[{"id":"1","method":"put","url":"A","headers":{"content-type":"text/plain"},"body":"1"}]}"#,
     },
