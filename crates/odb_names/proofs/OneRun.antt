@@ -1,10 +1,10 @@
--- A text is split in one way into its longest run and what is left.
+-- A text is split in one way into its longest run and the rest.
 use Rattle.std.proofs.Common.{◌≡◌, ℕ, Bool, true, false, List, [], ◌∷◌, ◌++◌, refl}
 use Rattle.std.specs.List.{AllPass}
 use Rattle.std.proofs.lemmas.List.Elements.{All-head, All-tail}
 use Rattle.odb_names.specs.Runs.{SplitsRun}
 
--- what is left does not begin with a character that passes
+-- the rest does not begin with a character that passes
 abbrev Stops : (ℕ → Bool) → List ℕ → Type 0
 Stops test rest = (first : ℕ) (more : List ℕ) → rest ≡ first ∷ more → test first ≡ false
 
@@ -25,7 +25,7 @@ same_split test (x ∷ run) rest (y ∷ run') rest' passes stops passes' stops' 
     let runs : run ≡ run' = tails.0 in
     ((cc), tails.1)
 
--- the runs are the same, and so is what is left
+-- the runs are the same, and so are the rests
 pub same_run : {test : ℕ → Bool} {text run rest run' rest' : List ℕ} → SplitsRun test text run rest → SplitsRun test text run' rest' → (run ≡ run') × (rest ≡ rest')
 same_run {test} {text} {run} {rest} {run'} {rest'} one other =
     same_split test run rest run' rest' one.passes one.stops other.passes other.stops (cc (one.whole, other.whole))

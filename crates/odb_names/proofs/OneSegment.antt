@@ -9,7 +9,7 @@ has_slash : (more segment : List ℕ) → HasNoSlash ((more ++ slash ∷ []) ++ 
 has_slash [] segment none = All-head (λ byte. byte ≢ slash) slash segment none refl
 has_slash (x ∷ more) segment none = has_slash more segment (All-tail (λ byte. byte ≢ slash) x _ none)
 
--- what a text without `/` begins with does not end a segment
+-- a prefix of a text without `/` does not end a segment
 ends_later : (x : ℕ) (before segment : List ℕ) → EndsSegment (x ∷ before) → HasNoSlash ((x ∷ before) ++ segment) → ⊥
 ends_later x before segment (inl is_empty) none = absurd (cc)
 ends_later x before segment (inr (more, ends)) none =
@@ -21,7 +21,7 @@ ends_tail x before (inl is_empty) = absurd (cc)
 ends_tail x before (inr ([], ends)) = inl (cc)
 ends_tail x before (inr (y ∷ more, ends)) = inr (more, (cc))
 
--- by the characters of the two fronts, one by one
+-- by the characters of the two prefixes, one by one
 same_end : (before segment before' segment' : List ℕ) → EndsSegment before → EndsSegment before' → HasNoSlash segment → HasNoSlash segment' → before ++ segment ≡ before' ++ segment' → segment ≡ segment'
 same_end [] segment [] segment' _ _ _ _ same = same
 same_end [] segment (x ∷ before') segment' _ ends none _ same =

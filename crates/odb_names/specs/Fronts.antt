@@ -15,7 +15,7 @@ pub data FrontForm : Type 0 where
   reference : List ℕ → FrontForm
   bad : FrontForm
 
--- without where the text of its identifier lies
+-- a front with its identifier as bytes, wherever they are in memory
 abbrev pub form : Front → FrontForm
 form fronts.Plain = plain
 form fronts.Reserved = reserved
@@ -43,13 +43,13 @@ is_reserved name = list_any (λ reserved_name. bytes_eq name reserved_name) rese
 abbrev pub IsReserved : List ℕ → Type 0
 IsReserved name = IsTrue (is_reserved name)
 
--- the segment is `$`, then the longest run of unreserved characters, and then what is left
+-- the segment is `$`, then the longest run of unreserved characters, and then the rest
 pub record Refers (segment run rest : List ℕ) : Type 0 where
   pub after : List ℕ
   pub begins : segment ≡ dollar ∷ after
   pub splits : SplitsRun is_unreserved after run rest
 
--- the front that a segment, once percent-decoded, is
+-- the front of a URL by its first segment, percent-decoded
 abbrev pub IsFrontOf : List ℕ → FrontForm → Type 0
 IsFrontOf segment plain = (after : List ℕ) → segment ≢ dollar ∷ after
 IsFrontOf segment reserved = (run rest : List ℕ) × Refers segment run rest × IsReserved run

@@ -2,7 +2,7 @@
 use Rattle.std.specs.Prelude.{◌≡◌, ℕ, Bool, false, List, ◌∷◌, ◌++◌}
 use Rattle.std.specs.List.{AllPass}
 
--- the text is its longest run of characters that pass the test, and then what is left
+-- the text is its longest run of characters that pass the test, and then the rest
 pub record SplitsRun (test : ℕ → Bool) (text run rest : List ℕ) : Type 0 where
   pub whole : text ≡ run ++ rest
   pub passes : AllPass test run

@@ -20,7 +20,7 @@ is_in_segment byte = not ((byte == slash) || (byte == 63) || (byte == 35))
 abbrev pub HasNoSlash : List ℕ → Type 0
 HasNoSlash text = All (λ byte. byte ≢ slash) text
 
--- no `%`: decoding leaves such a text as it is
+-- no `%`: decoding does not change such a text
 abbrev pub HasNoEscape : List ℕ → Type 0
 HasNoEscape text = All (λ byte. byte ≢ percent_sign) text
 

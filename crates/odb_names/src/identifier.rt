@@ -11,7 +11,7 @@ pub(crate) fn is_unreserved(byte: u8) -> bool
 /// Returns whether the text may be the `id` or the `atomicityGroup` of a request.
 ///
 /// By the OData ABNF 4.01 (`request-id`) it must be one or more ASCII letters, digits, `-`, `.`, `_` and
-/// `~`. Case counts.
+/// `~`. Case is significant.
 pub fn is_request_id(text: &str) -> bool
     ensures { IsTrue result ↔ IsRequestId text.now }
 {

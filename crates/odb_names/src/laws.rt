@@ -1,7 +1,7 @@
 //! What a text determines: it has one front, names one method, and has one longest run.
 //!
-//! The laws are clauses of a function that does nothing. They speak of the words that the clauses of
-//! this crate use, for callers that compare two readings of one text.
+//! The laws are clauses of a function that does nothing. They use the relations that the clauses of
+//! this crate use, and serve callers that compare two readings of one text.
 
 ghost use Rattle.std.specs.Prelude.{◌≡◌, ℕ, Bool, List};
 ghost use Rattle.odb_names.specs.Fronts.{FrontForm, HasFront};

@@ -7,13 +7,13 @@ use crate::identifier::is_unreserved;
 /// A set of bytes.
 #[derive(Clone, Copy)]
 pub(crate) enum Class {
-    /// Those of identifiers.
+    /// The bytes of identifiers.
     Unreserved,
-    /// Those of base64url, before its padding.
+    /// The bytes of base64url, before its padding.
     Base64Url,
-    /// Those of the path of a URL.
+    /// The bytes of the path of a URL.
     Path,
-    /// Those of a segment of the path.
+    /// The bytes of a segment of the path.
     Segment,
 }
 

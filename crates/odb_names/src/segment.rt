@@ -44,7 +44,7 @@ fn is_reserved(name: &[u8]) -> bool
 }
 
 impl Front {
-    /// Returns the front that a percent-decoded segment is.
+    /// Returns the front of a URL by its first segment, percent-decoded.
     pub(crate) fn of_segment(alloc: Global, segment: &[u8]) -> Result<Front, AllocError>
         ensures front { IfOk result (λ front. IsFrontOf segment.now (form front)) }
         ensures memory { OnErr result ((id : List ℕ) × IsFrontOf segment.now (reference id)) }
