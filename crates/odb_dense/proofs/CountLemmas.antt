@@ -32,7 +32,7 @@ count_set test xs i y d within = sum_by-set (λ x. cond (test x) 1 0) xs i y d w
 pub count_below : {X : Type 0} (test : X → Bool) (xs : List X) (i : ℕ) (y d : X) → i < length xs → test (get_or xs i d) ≡ false → test y ≡ true → count_by test xs < length xs
 count_below test xs i y d within fails passes =
     let change = count_set test xs i y d within in
-    let gone : cond {A = ℕ} (test (get_or xs i d)) 1 0 ≡ 0 = cond-false (test (get_or xs i d)) 1 0 fails in
+    let none : cond {A = ℕ} (test (get_or xs i d)) 1 0 ≡ 0 = cond-false (test (get_or xs i d)) 1 0 fails in
     let here : cond {A = ℕ} (test y) 1 0 ≡ 1 = cond-true (test y) 1 0 passes in
     let most : count_by test (set xs i y) ≤ length (set xs i y) = count_by-le-length test (set xs i y) in
     let same : length (set xs i y) ≡ length xs = length-set xs i y in

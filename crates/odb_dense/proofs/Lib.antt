@@ -1,6 +1,6 @@
 pub mod CountLemmas
 pub mod PlacedLemmas
 pub mod QueuedLemmas
-pub mod StandingLemmas
+pub mod MarkLemmas
 pub mod KeyLemmas
 pub mod RowLemmas

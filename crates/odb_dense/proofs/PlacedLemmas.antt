@@ -48,7 +48,7 @@ listed_at items places count i place kept at =
         let read : get_or (take count items) j e ≡ get_or items j 0 = get_or-take count items j e less ∙ get_or_default items j e 0 below in
         ne_eqb _ i (λ same. other (same_Some j place (sym (subst (λ x. get_or places x None ≡ Some j) (sym read ∙ same) (kept.placed j less)) ∙ at)))
 
--- the front of the list has each number of the set once
+-- the prefix of the list up to the count has each number of the set once
 pub listed_once : (items : List ℕ) (places : List (Option ℕ)) (count : ℕ) → ArePlaced items places count → ListsOnce (length (map is_some places)) (λ i. get_or (map is_some places) i false) (take count items)
 listed_once items places count kept i = by (get_or places i None) refl
   where
@@ -152,7 +152,7 @@ last_at items places count last kept some few read =
 pub last_within : (items : List ℕ) (places : List (Option ℕ)) (count last : ℕ) → ArePlaced items places count → 0 < count → count ≤ length items → last ≡ get_or items (count - 1) last → last < length places
 last_within items places count last kept some few read = placed_within places last (count - 1) (last_at items places count last kept some few read)
 
--- the last of the list takes the place of a number that goes
+-- the last of the list takes the place of a number that is removed
 pub placed_less : (items : List ℕ) (places : List (Option ℕ)) (count i place last : ℕ) → ArePlaced items places count → i < length places → get_or places i None ≡ Some place → last ≡ get_or items (count - 1) last → ArePlaced (set items place last) (set (set places last (Some place)) i None) (count - 1)
 placed_less items places count i place last kept within at read =
     let (less, few_items) = last_below items places count i place kept at in
@@ -164,7 +164,7 @@ placed_less items places count i place last kept within at read =
     let moved : count_by is_some (set places last (Some place)) + cond {A = ℕ} (is_some (get_or places last None)) 1 0 ≡ count_by is_some places + 1 = count_set is_some places last (Some place) None last_in in
     let was : cond {A = ℕ} (is_some (get_or places last None)) 1 0 ≡ 1 = cond-true (is_some (get_or places last None)) 1 0 (ap is_some there) in
     let same : length (set places last (Some place)) ≡ length places = length-set places last (Some place) in
-    let gone : count_by is_some (set (set places last (Some place)) i None) + cond {A = ℕ} (is_some (get_or (set places last (Some place)) i None)) 1 0 ≡ count_by is_some (set places last (Some place)) + 0 = count_set is_some (set places last (Some place)) i None None (omega arith) in
+    let removed : count_by is_some (set (set places last (Some place)) i None) + cond {A = ℕ} (is_some (get_or (set places last (Some place)) i None)) 1 0 ≡ count_by is_some (set places last (Some place)) + 0 = count_set is_some (set places last (Some place)) i None None (omega arith) in
     let had : cond {A = ℕ} (is_some (get_or (set places last (Some place)) i None)) 1 0 ≡ 1 = cond-true (is_some (get_or (set places last (Some place)) i None)) 1 0 (still last_in) in
     let as_many : length (set (set places last (Some place)) i None) ≡ length (set places last (Some place)) = length-set (set places last (Some place)) i None in
     let as_long : length (set items place last) ≡ length items = length-set items place last in
@@ -191,7 +191,7 @@ placed_less items places count i place last kept within at read =
       | inr other ↦ ap is_some (get_or-set_other places last i (Some place) None other ∙ at)
     ]
 
-    -- if the last one is not the one that goes, it is elsewhere
+    -- if the last one is not the one that is removed, it is elsewhere
     apart_last : get_or places last None ≡ Some (count - 1) → place < count - 1 → last ≢ i
     apart_last there less same = let e : count - 1 ≡ place = same_Some (count - 1) place (sym there ∙ (ap (λ x. get_or places x None) same ∙ at)) in absurd (omega arith)
 

@@ -156,13 +156,13 @@ pub record IsCut (first end size : ℕ) : Type 0 where
   pub to : end ≤ size
 
 -- the row of a key is a part of the flat list
-pub cut_at : (starts flat lent : List ℕ) (rows : List (List ℕ)) (key first end : ℕ) → AreSplit starts flat → map (row_in starts flat) (range_with_len 0 (length starts - 1)) ≡ rows → key < length rows → lent ≡ flat → first ≡ get_or starts key first → end ≡ get_or starts (key + 1) end → IsCut first end (length lent)
-cut_at starts flat lent rows key first end split view below same first_read end_read =
+pub cut_at : (starts flat whole : List ℕ) (rows : List (List ℕ)) (key first end : ℕ) → AreSplit starts flat → map (row_in starts flat) (range_with_len 0 (length starts - 1)) ≡ rows → key < length rows → whole ≡ flat → first ≡ get_or starts key first → end ≡ get_or starts (key + 1) end → IsCut first end (length whole)
+cut_at starts flat whole rows key first end split view below same first_read end_read =
     let many : length rows ≡ length starts - 1 = ap length (sym view) ∙ length-rows starts flat in
     let within : key + 1 < length starts = omega arith in
     let lower : first ≡ get_or starts key 0 = get_or_read starts key first (omega arith) first_read 0 in
     let upper : end ≡ get_or starts (key + 1) 0 = get_or_read starts (key + 1) end within end_read 0 in
     let order : get_or starts key 0 ≤ get_or starts (key + 1) 0 = split.order key within in
     let inside : get_or starts (key + 1) 0 ≤ length flat = split.within (key + 1) within in
-    let long : length lent ≡ length flat = ap length same in
+    let long : length whole ≡ length flat = ap length same in
     record { from = omega arith; to = omega arith }

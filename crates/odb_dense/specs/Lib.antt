@@ -2,7 +2,7 @@
 pub mod ByKey
 pub mod Extremes
 pub mod Lists
-pub mod Standings
+pub mod Marks
 -- What invariants and private clauses cite: nothing to believe.
 pub mod Places
 pub mod Queue

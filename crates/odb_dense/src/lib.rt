@@ -13,4 +13,4 @@ mod worklist;
 
 pub use ordered::OrderedPositions;
 pub use rows::Rows;
-pub use worklist::{Standing, Worklist};
+pub use worklist::{Mark, Worklist};

@@ -30,7 +30,7 @@ impl Model for OrderedPositions {
     ghost invariant = { IsBetween };
 }
 
-/// The least number of a set that is not below `low`.
+/// Returns the least number of a set that has none below `low`, or `None` if it is empty.
 fn walk_up(set: &Positions, low: u32) -> Option<u32>
     requires lower { (i : ℕ) → i < low → slice_index_or set.now i false ≡ false }
     ensures none { result ≡ None → (i : ℕ) → slice_index_or set.now i false ≡ false }
@@ -44,7 +44,7 @@ fn walk_up(set: &Positions, low: u32) -> Option<u32>
     None
 }
 
-/// The greatest number of a set that is below `high`.
+/// Returns the greatest number of a set that has none at `high` or above, or `None` if it is empty.
 fn walk_down(set: &Positions, high: u32) -> Option<u32>
     requires bound { high ≤ length set.now }
     requires upper { (i : ℕ) → high ≤ i → slice_index_or set.now i false ≡ false }
@@ -60,7 +60,7 @@ fn walk_down(set: &Positions, high: u32) -> Option<u32>
 }
 
 impl OrderedPositions {
-    /// The empty set of the numbers below a bound.
+    /// Returns the empty set of numbers below a bound.
     ///
     /// # Errors
     ///

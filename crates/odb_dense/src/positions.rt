@@ -25,7 +25,7 @@ impl Model for Positions {
     ghost invariant = { IsPlaced };
 }
 
-/// No place for any number below a bound.
+/// Returns the places of the numbers below a bound in the empty set: none has one.
 fn no_places(alloc: Global, bound: u32) -> Result<Vec<Option<u32>>, AllocError>
     ensures { IfOk result (λ places. places.items ≡ replicate bound None) }
 {
@@ -37,7 +37,7 @@ fn no_places(alloc: Global, bound: u32) -> Result<Vec<Option<u32>>, AllocError>
 }
 
 impl Positions {
-    /// The empty set of the numbers below a bound.
+    /// Returns the empty set of numbers below a bound.
     ///
     /// # Errors
     ///

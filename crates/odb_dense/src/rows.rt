@@ -25,7 +25,7 @@ impl Model for Rows {
     ghost invariant = { IsSplit };
 }
 
-/// Where the row of each key starts, and where the last one ends.
+/// Returns where the row of each key starts, and where the last one ends.
 fn starts_of(alloc: Global, keys: usize, pairs: &[(u32, u32)]) -> Result<Vec<usize>, AllocError>
     requires { HaveKeys keys pairs.now }
     ensures len { IfOk result (λ starts. length starts.items ≡ keys + 1) }
@@ -42,7 +42,7 @@ fn starts_of(alloc: Global, keys: usize, pairs: &[(u32, u32)]) -> Result<Vec<usi
     Ok(starts)
 }
 
-/// The second parts of pairs, each put where the next of its key goes.
+/// Returns the second parts of the pairs, grouped by key, in the order of the pairs within a key.
 fn flat_of(alloc: Global, pairs: &[(u32, u32)], starts: &[usize]) -> Result<Vec<u32>, AllocError>
     requires keys { HaveKeys (length starts.now - 1) pairs.now }
     requires starts { AreStarts pairs.now starts.now }

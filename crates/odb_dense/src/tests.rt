@@ -199,23 +199,24 @@ fn has_empty_lists_where_there_are_no_pairs(rt: HostRuntime) -> Result<(), Fail>
     Ok(())
 }
 
-/// A step of a worklist: what is put on it, what is taken from it, and what is then passed.
+/// A step of a worklist, with what it should answer: a number is put on it, one is taken from it, or
+/// one is looked up.
 #[derive(Clone, Copy)]
 enum Turn {
     Put(u32),
     Take(Option<u32>),
-    Passed(u32, bool),
+    Visited(u32, bool),
 }
 
 const TURNS: &[Turn] = &[
     Turn::Take(None),
     Turn::Put(3),
     Turn::Put(3),
-    Turn::Passed(3, false),
+    Turn::Visited(3, false),
     Turn::Take(Some(3)),
-    Turn::Passed(3, true),
+    Turn::Visited(3, true),
     Turn::Put(1),
-    Turn::Passed(1, false),
+    Turn::Visited(1, false),
     Turn::Put(3),
     Turn::Take(Some(1)),
     Turn::Put(5),
@@ -226,11 +227,11 @@ const TURNS: &[Turn] = &[
     Turn::Put(0),
     Turn::Take(Some(0)),
     Turn::Take(None),
-    Turn::Passed(4, false),
+    Turn::Visited(4, false),
 ];
 
 /// Takes a turn of a worklist, and compares what it answers.
-#[tactic(auto, using(crate::proofs::StandingLemmas::same_room))]
+#[tactic(auto, using(crate::proofs::MarkLemmas::same_room))]
 fn take_turn(rt: &impl Abort, list: &mut Worklist, turn: Turn)
     requires { length list.old ≡ 6 }
     ensures { length list.new ≡ 6 }
@@ -241,9 +242,9 @@ fn take_turn(rt: &impl Abort, list: &mut Worklist, turn: Turn)
             list.put(u);
         }
         Turn::Take(wanted) => assert!(rt; list.take() == wanted),
-        Turn::Passed(u, wanted) => {
+        Turn::Visited(u, wanted) => {
             assert!(rt; u < BOUND);
-            assert!(rt; list.is_passed(u) == wanted);
+            assert!(rt; list.is_visited(u) == wanted);
         }
     }
 }

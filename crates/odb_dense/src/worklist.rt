@@ -1,26 +1,26 @@
 ghost use Rattle.std.specs.Prelude.{◌≡◌, ◌<◌, length, replicate, slice_index_or, IfOk};
-ghost use Rattle.odb_dense.specs.declared.worklist.Standing.TheVariants.{Sound};
-ghost use Rattle.odb_dense.specs.Standings as standings;
+ghost use Rattle.odb_dense.specs.declared.worklist.Mark.TheVariants.{Unvisited};
+ghost use Rattle.odb_dense.specs.Marks as marks;
 
 use std::alloc::{AllocError, Global};
 use std::marker::Model;
 
-/// The state of a number: not on the list yet, on it, or taken from it.
+/// Whether a number was never on the list, is on it, or was taken from it.
 #[derive(Clone, Copy, Debug, PartialEq, Eq)]
-pub enum Standing {
+pub enum Mark {
     /// It was never put on the list.
-    Sound,
+    Unvisited,
     /// It is on the list.
-    Waiting,
+    Queued,
     /// It was taken from the list, and is not put on it again.
-    Passed,
+    Visited,
 }
 
 /// A worklist of numbers below a bound: each is put on it once at most, and taken from it once at
-/// most. Which of those that wait is taken next is not promised.
+/// most. The order in which they are taken is not specified.
 #[derive(Drop)]
 pub struct Worklist {
-    standings: Vec<Standing>,
+    marks: Vec<Mark>,
     queue: Vec<u32>,
     head: usize,
     tail: usize,
@@ -28,26 +28,26 @@ pub struct Worklist {
 
 impl Model for Worklist {
     ghost use Rattle.std.specs.Prelude.{List};
-    ghost use Rattle.odb_dense.specs.declared.worklist.Standing.{Standing};
+    ghost use Rattle.odb_dense.specs.declared.worklist.Mark.{Mark};
 
-    ghost Value = { List Standing };
+    ghost Value = { List Mark };
 
-    ghost use Rattle.odb_dense.specs.Queue.{standings_of, IsQueued};
+    ghost use Rattle.odb_dense.specs.Queue.{marks_of, IsQueued};
 
-    ghost view = { standings_of };
+    ghost view = { marks_of };
 
     ghost invariant = { IsQueued };
 }
 
-/// The states of the numbers below a bound at first: none was ever on the list.
-fn all_sound(alloc: Global, bound: u32) -> Result<Vec<Standing>, AllocError>
-    ensures { IfOk result (λ standings. standings.items ≡ replicate bound Sound) }
+/// Returns the marks of the numbers below a bound, of which none was on the list yet.
+fn all_unvisited(alloc: Global, bound: u32) -> Result<Vec<Mark>, AllocError>
+    ensures { IfOk result (λ marks. marks.items ≡ replicate bound Unvisited) }
 {
-    let mut standings = Vec::with_capacity(alloc, bound as usize)?;
+    let mut marks = Vec::with_capacity(alloc, bound as usize)?;
     for _ in 0..bound {
-        standings.push(Standing::Sound)?;
+        marks.push(Mark::Unvisited)?;
     }
-    Ok(standings)
+    Ok(marks)
 }
 
 impl Worklist {
@@ -57,10 +57,10 @@ impl Worklist {
     ///
     /// If memory for `bound` numbers cannot be allocated.
     pub fn new(alloc: Global, bound: u32) -> Result<Worklist, AllocError>
-        ensures { IfOk result (λ w. w ≡ replicate bound Sound) }
+        ensures { IfOk result (λ w. w ≡ replicate bound Unvisited) }
     {
         Ok(Worklist {
-            standings: all_sound(alloc, bound)?,
+            marks: all_unvisited(alloc, bound)?,
             queue: vec![in alloc; 0_u32; bound as usize]?,
             head: 0,
             tail: 0,
@@ -68,20 +68,20 @@ impl Worklist {
     }
 
     /// Returns whether a number below the bound was taken from the list.
-    pub fn is_passed(&self, u: u32) -> bool
+    pub fn is_visited(&self, u: u32) -> bool
         requires { u < length self.now }
-        ensures { result ≡ standings.is_passed (slice_index_or self.now u Sound) }
+        ensures { result ≡ marks.is_visited (slice_index_or self.now u Unvisited) }
     {
-        matches!(self.standings[u as usize], Standing::Passed)
+        matches!(self.marks[u as usize], Mark::Visited)
     }
 
     /// Puts a number below the bound on the list, if it was never on it.
     pub fn put(&mut self, u: u32)
         requires { u < length self.old }
-        ensures { self.new ≡ standings.marked self.old u }
+        ensures { self.new ≡ marks.marked self.old u }
     {
-        if let Standing::Sound = self.standings[u as usize] {
-            self.standings[u as usize] = Standing::Waiting;
+        if let Mark::Unvisited = self.marks[u as usize] {
+            self.marks[u as usize] = Mark::Queued;
             self.queue[self.tail] = u;
             self.tail += 1;
         }
@@ -89,14 +89,14 @@ impl Worklist {
 
     /// Takes a number from the list, or returns `None` if it is empty.
     pub fn take(&mut self) -> Option<u32>
-        ensures { standings.Takes self.old result self.new }
+        ensures { marks.Takes self.old result self.new }
     {
         if self.head == self.tail {
             return None;
         }
         let u = self.queue[self.head];
         self.head += 1;
-        self.standings[u as usize] = Standing::Passed;
+        self.marks[u as usize] = Mark::Visited;
         Some(u)
     }
 }

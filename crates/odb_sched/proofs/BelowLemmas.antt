@@ -51,7 +51,7 @@ pub count_by-none : {X : Type 0} (test : X → Bool) (xs : List X) → All (λ x
 count_by-none test xs none =
     let most : count_by test xs ≤ length xs * 0 = sum_by-le (λ x. cond (test x) 1 0) 0 xs (λ k d within. let e = none k d within in rw e (omega arith)) in omega arith
 
--- the first that does not pass is not there exactly where all pass
+-- there is no first that does not pass exactly when all pass
 pub find-all : {X : Type 0} (test : X → Bool) (xs : List X) → is_none (find (λ x. not (test x)) xs) ≡ list_all test xs
 find-all test [] = refl
 find-all test (x ∷ xs) = at (test x) (find-all test xs)

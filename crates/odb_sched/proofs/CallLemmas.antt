@@ -7,7 +7,7 @@ use Rattle.odb_sched.specs.Courses.{step_of}
 use Rattle.odb_sched.specs.Calls.{Performing, AsksAll, Call, call_at, calls_of, reported_by, Writes}
 
 module _ {S : Type 0} (performs : Performing S) (requests : List Record) where
-  -- where each call writes one entry, events write those of their calls
+  -- if each call writes one entry, events write those of their calls
   pub logged : {X : Type 0} (log : S → List X) (entry : Call → X) → Writes performs log entry
       → (events : List Event) (old new : S) → AsksAll performs requests events old new → log new ≡ log old ++ map entry (calls_of requests events)
   logged log entry writes [] old new asked = ap log asked ∙ sym (append-nil _)

@@ -1,4 +1,4 @@
--- The tests of a start and of a report find the first cause, and an event may come where none applies.
+-- The tests of a start and of a report find the first cause, and an event may come if none applies.
 use Rattle.std.proofs.Common.{◌≡◌, ◌↔◌, ◌∙◌, ℕ, ◌<◌, ◌≤◌, ap, sym, refl, subst, arith, Bool, true, false, not, nat_le, Option, Some, None, is_none, is_some, unwrap_or, find, IfSome, IsTrue, if◌then◌else◌}
 use Rattle.std.proofs.lemmas.Bool.{both_ways, true≢false, true_from_ne_false, false_from_ne_true, le-leb, leb-true, and_parts}
 use Rattle.odb_doc.specs.declared.outcome.Outcome.{Outcome}
@@ -12,7 +12,7 @@ use Rattle.odb_sched.specs.declared.refusal.ReportRefusal.TheVariants as report
 use Rattle.odb_sched.specs.Statuses.{is_status}
 use Rattle.odb_sched.specs.Phases.{is_unstarted, is_running}
 use Rattle.odb_sched.specs.State.{State, phase_at}
-use Rattle.odb_sched.specs.Steps.{is_stopped, unit_failed, is_met, all_met, running_count, may_start, may_report}
+use Rattle.odb_sched.specs.Steps.{is_stopped, unit_failed, is_satisfied, all_satisfied, running_count, may_start, may_report}
 use Rattle.odb_sched.specs.Causes.{start_number, BarsStart, IsStartCause, report_number, BarsReport, IsReportCause}
 use Rattle.odb_sched.specs.CauseTests.{waiting_refusal, start_refusal, report_refusal}
 use Rattle.odb_sched.proofs.BelowLemmas.{find-all}
@@ -21,7 +21,7 @@ use Rattle.odb_sched.proofs.KeptLemmas.{may_start-none, may_report-none}
 
 -- ---- starts
 
--- the tests in their order, and what each of them says
+-- the tests in their order, and the cause of each
 abbrev first_of : Bool → Bool → Bool → Option Need → Bool → Option StartRefusal
 first_of fresh stopped failed unmet full =
     if not fresh then Some start.AlreadyStarted else if stopped then Some start.Stopped else if failed then Some start.UnitFailed else waiting_refusal unmet full
@@ -37,7 +37,7 @@ no_need : (unmet : Option Need) → ((need : Need) → unmet ≡ Some need → �
 no_need None none = refl
 no_need (Some need) none = absurd (none need refl)
 
--- none of the first causes applies where their tests say so
+-- none of the first causes applies if their tests are negative
 earlier : (fresh stopped failed : Bool) (unmet : Option Need) (full : Bool) (n : ℕ) → n ≤ 5 → (1 < n → fresh ≡ true) → (2 < n → stopped ≡ false) → (3 < n → failed ≡ false) → (4 < n → unmet ≡ None)
     → (other : StartRefusal) → start_number other < n → ¬ Applies fresh stopped failed unmet full other
 earlier fresh stopped failed unmet full n most a b c d start.AlreadyStarted less applies = both_ways fresh applies (a less)
@@ -97,7 +97,7 @@ is_found fresh stopped failed unmet full start.WidthReached x =
 
 module _ (state : State) (i : ℕ) where
   abbrev unmet : Option Need
-  unmet = find (λ other. not (is_met state other)) (needs_of state.shape i)
+  unmet = find (λ other. not (is_satisfied state other)) (needs_of state.shape i)
 
   abbrev AppliesHere : StartRefusal → Type 0
   AppliesHere = Applies (is_unstarted (phase_at state i)) (is_stopped state) (unit_failed state (unit_of state.shape i)) unmet (nat_le state.policy.width (running_count state))
@@ -118,7 +118,7 @@ module _ (state : State) (i : ℕ) where
 
   pub start_cause : (cause : StartRefusal) → start_refusal state i ≡ Some cause → IsStartCause state i cause
   start_cause cause e =
-      let first : IsLeast start_number AppliesHere cause = subst (λ told. IfSome told (IsLeast start_number AppliesHere)) e
+      let first : IsLeast start_number AppliesHere cause = subst (λ refused. IfSome refused (IsLeast start_number AppliesHere)) e
       (found (is_unstarted (phase_at state i)) (is_stopped state) (unit_failed state (unit_of state.shape i)) unmet (nat_le state.policy.width (running_count state))) in
       record { broken = applies-bars cause first.broken; least = λ other less bars. first.least other less (bars-applies other bars) }
 
@@ -128,16 +128,16 @@ module _ (state : State) (i : ℕ) where
       (record { broken = bars-applies cause x.broken; least = λ other less applies. x.least other less (applies-bars other applies) })
 
   pub one_start : (cause other : StartRefusal) → IsStartCause state i cause → IsStartCause state i other → cause ≡ other
-  one_start cause other x y = ap (λ told. unwrap_or told cause) (sym (start_caused cause x) ∙ start_caused other y)
+  one_start cause other x y = ap (λ refused. unwrap_or refused cause) (sym (start_caused cause x) ∙ start_caused other y)
 
   unbarred : MayStart state i → (cause : StartRefusal) → ¬ BarsStart cause state i
   unbarred may start.AlreadyStarted e = both_ways _ e may.fresh
-  unbarred may start.Stopped e = both_ways _ may.goes e
+  unbarred may start.Stopped e = both_ways _ may.unstopped e
   unbarred may start.UnitFailed e = both_ways _ may.sound e
-  unbarred may (start.Waiting need) e = both_ways (all_met state i) (sym (find-all (is_met state) (needs_of state.shape i)) ∙ ap is_none e) may.met
+  unbarred may (start.Waiting need) e = both_ways (all_satisfied state i) (sym (find-all (is_satisfied state) (needs_of state.shape i)) ∙ ap is_none e) may.satisfied
   unbarred may start.WidthReached e = let room = may.room in absurd (omega arith)
 
-  unless : (told : Option StartRefusal) → start_refusal state i ≡ told → ((cause : StartRefusal) → ¬ BarsStart cause state i) → may_start state i ≡ true
+  unless : (refused : Option StartRefusal) → start_refusal state i ≡ refused → ((cause : StartRefusal) → ¬ BarsStart cause state i) → may_start state i ≡ true
   unless None e none = may_start-none state i e
   unless (Some cause) e none = absurd (none cause (start_cause cause e).broken)
 
@@ -147,14 +147,14 @@ module _ (state : State) (i : ℕ) where
 -- ---- reports
 
 module _ (state : State) (i : ℕ) (outcome : Outcome) where
-  abbrev told_by : Bool → Bool → Option ReportRefusal
-  told_by runs sound = if not runs then Some report.NotRunning else if not sound then Some report.BadStatus else None
+  abbrev refusal_by : Bool → Bool → Option ReportRefusal
+  refusal_by runs sound = if not runs then Some report.NotRunning else if not sound then Some report.BadStatus else None
 
   abbrev AppliesTo : Bool → Bool → ReportRefusal → Type 0
   AppliesTo runs sound report.NotRunning = runs ≡ false
   AppliesTo runs sound report.BadStatus = sound ≡ false
 
-  reported_first : (runs sound : Bool) → IfSome (told_by runs sound) (IsLeast report_number (AppliesTo runs sound))
+  reported_first : (runs sound : Bool) → IfSome (refusal_by runs sound) (IsLeast report_number (AppliesTo runs sound))
   reported_first false sound = record { broken = refl; least = none }
     where
       none : (other : ReportRefusal) → report_number other < 1 → ¬ AppliesTo false sound other
@@ -177,7 +177,7 @@ module _ (state : State) (i : ℕ) (outcome : Outcome) where
 
   pub report_cause : (cause : ReportRefusal) → report_refusal state i outcome ≡ Some cause → IsReportCause state i outcome cause
   report_cause cause e =
-      let first = subst (λ told. IfSome told (IsLeast report_number (AppliesTo (is_running (phase_at state i)) (is_status outcome.status)))) e
+      let first = subst (λ refused. IfSome refused (IsLeast report_number (AppliesTo (is_running (phase_at state i)) (is_status outcome.status)))) e
       (reported_first (is_running (phase_at state i)) (is_status outcome.status)) in
       record { broken = applies-report cause first.broken; least = λ other less bars. first.least other less (report-applies other bars) }
 
@@ -189,13 +189,13 @@ module _ (state : State) (i : ℕ) (outcome : Outcome) where
       rw (a, e) refl
 
   pub one_report : (cause other : ReportRefusal) → IsReportCause state i outcome cause → IsReportCause state i outcome other → cause ≡ other
-  one_report cause other x y = ap (λ told. unwrap_or told cause) (sym (report_caused cause x) ∙ report_caused other y)
+  one_report cause other x y = ap (λ refused. unwrap_or refused cause) (sym (report_caused cause x) ∙ report_caused other y)
 
   unbarred_report : (is_running (phase_at state i) ≡ true) × (is_status outcome.status ≡ true) → (cause : ReportRefusal) → ¬ BarsReport cause state i outcome
   unbarred_report parts report.NotRunning e = both_ways _ e parts.0
   unbarred_report parts report.BadStatus e = both_ways _ e parts.1
 
-  unless_report : (told : Option ReportRefusal) → report_refusal state i outcome ≡ told → ((cause : ReportRefusal) → ¬ BarsReport cause state i outcome) → may_report state i outcome ≡ true
+  unless_report : (refused : Option ReportRefusal) → report_refusal state i outcome ≡ refused → ((cause : ReportRefusal) → ¬ BarsReport cause state i outcome) → may_report state i outcome ≡ true
   unless_report None e none = may_report-none state i outcome e
   unless_report (Some cause) e none = absurd (none cause (report_cause cause e).broken)
 

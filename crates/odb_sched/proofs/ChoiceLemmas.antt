@@ -13,7 +13,7 @@ use Rattle.odb_sched.specs.Below.{passing_below}
 use Rattle.odb_sched.proofs.ListLemmas.{none_listed}
 use Rattle.odb_sched.specs.Choosing.{positions_of, IsLeast, IsGreatest, IsNone}
 
--- some element passes exactly where more than none is counted
+-- some element passes exactly when more than none is counted
 any_counted : (test : ℕ → Bool) (xs : List ℕ) → list_any test xs ≡ nat_lt 0 (count_by test xs)
 any_counted test [] = refl
 any_counted test (x ∷ xs) = rw (sum_by-cons (λ y. cond (test y) 1 0) x xs) (at (test x) (any_counted test xs))
@@ -52,7 +52,7 @@ pub contains-passing : (n : ℕ) (test : ℕ → Bool) (i : ℕ) → list_any (�
 contains-passing zero test i = rw (le-ltb i 0 (omega arith)) refl
 contains-passing (suc n) test i = more n test (contains-passing n test) i
 
--- the set of a list does not hang on its order
+-- the set of a list does not depend on its order
 pub positions-listed : (n : ℕ) (test : ℕ → Bool) (xs : List ℕ) → ListsOnce n test xs → positions_of xs ≡ positions_of (passing_below n test)
 positions-listed n test xs listed = same_set nat_cmp_total nat_cmp-IsAntisymmetric (positions_of xs) (positions_of (passing_below n test))
     (λ i. contains-listed n test xs i listed ∙ sym (contains-from_list_nat (passing_below n test) i ∙ contains-passing n test i))
@@ -61,7 +61,7 @@ positions-listed n test xs listed = same_set nat_cmp_total nat_cmp-IsAntisymmetr
 pub contains-at : (xs : List ℕ) (place : ℕ) → place < length xs → contains (positions_of xs) (get_or xs place 0) ≡ true
 contains-at xs place within = contains-from_list_nat xs (get_or xs place 0) ∙ list_any_at (λ x. nat_eq x (get_or xs place 0)) xs place 0 within (eq-eqb (get_or xs place 0) (get_or xs place 0) refl)
 
--- what stands in a list of the numbers that pass does so
+-- an element of a list of the numbers that pass does pass
 pub listed-in : (n : ℕ) (test : ℕ → Bool) (xs : List ℕ) (i : ℕ) → ListsOnce n test xs → Contains xs i → (i < n) × (test i ≡ true)
 listed-in n test xs i listed (k, within, at) =
     let among : contains (positions_of xs) i ≡ true = contains-from_list_nat xs i ∙ list_any_at (λ x. nat_eq x i) xs k i within (eq-eqb (get_or xs k i) i at) in
@@ -71,19 +71,19 @@ listed-in n test xs i listed (k, within, at) =
 pub listed_within : (n : ℕ) (test : ℕ → Bool) (xs : List ℕ) → ListsOnce n test xs → All (λ i. i < n) xs
 listed_within n test xs listed k d within = (listed-in n test xs (get_or xs k d) listed (Contains-get_or xs k d within)).0
 
--- where a run goes on, some position may start or runs
+-- if a run is not finished, some position may start or runs
 pub some_listed : (n : ℕ) (starts runs : ℕ → Bool) (ready running : List ℕ) (finished : Bool) → ListsOnce n starts ready → ListsOnce n runs running
     → (IsTrue finished ↔ ((i : ℕ) → i < n → (starts i ≡ false) × (runs i ≡ false))) → finished ≡ false → 0 < length ready + length running
-some_listed n starts runs [] [] finished ready running idle goes = absurd (both_ways finished goes (idle.1 (λ i within. (none_listed n starts i ready within, none_listed n runs i running within))))
-some_listed n starts runs [] (y ∷ ys) finished ready running idle goes = omega arith
-some_listed n starts runs (x ∷ xs) ys finished ready running idle goes = omega arith
+some_listed n starts runs [] [] finished ready running idle unfinished = absurd (both_ways finished unfinished (idle.1 (λ i within. (none_listed n starts i ready within, none_listed n runs i running within))))
+some_listed n starts runs [] (y ∷ ys) finished ready running idle unfinished = omega arith
+some_listed n starts runs (x ∷ xs) ys finished ready running idle unfinished = omega arith
 
 -- an empty list has no positions
 pub none-empty : (xs : List ℕ) → (length xs == 0) ≡ true → IsNone (positions_of xs)
 none-empty [] e i = contains-from_list_nat [] i
 none-empty (x ∷ xs) e i = absurd (let none : length (x ∷ xs) ≡ 0 = eqb-true _ 0 e in omega arith)
 
--- what is in the set of a list stands somewhere in it
+-- what is in the set of a list is at some place of it
 place-of : (xs : List ℕ) (i : ℕ) → contains (positions_of xs) i ≡ true → (place : ℕ) × (place < length xs) × (get_or xs place 0 ≡ i)
 place-of xs i among =
     let (k, x, within, at, passes) = Any-from_list_any (λ y. nat_eq y i) xs (sym (contains-from_list_nat xs i) ∙ among) in

@@ -1,4 +1,4 @@
--- What is asked of a run between events, by what is counted of it.
+-- The questions to a run between events, by its counts.
 use Rattle.std.proofs.Common.{◌≡◌, ℕ, ◌<◌, ◌≤◌, ◌+◌, ◌==◌, ◌∙◌, ap, refl, subst, arith, Bool, true, false, not, cond, ◌&&◌, ◌||◌, nat_lt, eq-eqb, ne_eqb, List, [], ◌∷◌, length, get_or, map, inl, inr, count_by}
 use Rattle.std.specs.List.{list_all}
 use Rattle.std.proofs.lemmas.Bool.{cases_Bool, both_ways, false_from_ne_true}
@@ -12,9 +12,9 @@ use Rattle.odb_dense.specs.Lists.{ListsOnce}
 use Rattle.odb_sched.specs.Below.{any_below, all_below}
 use Rattle.odb_sched.specs.Phases.{is_unstarted, is_running, is_reported}
 use Rattle.odb_sched.specs.State.{State, size, phase_at}
-use Rattle.odb_sched.specs.Steps.{met_in, all_met, unit_failed, is_stopped, running_count, may_start, is_finished}
+use Rattle.odb_sched.specs.Steps.{satisfied_in, all_satisfied, unit_failed, is_stopped, running_count, may_start, is_finished}
 use Rattle.odb_sched.specs.Reached.{IsReached}
-use Rattle.odb_sched.specs.ProgressCounts.{is_gone}
+use Rattle.odb_sched.specs.ProgressCounts.{is_skipped}
 use Rattle.odb_sched.specs.Kept.{IsTracked}
 use Rattle.odb_sched.proofs.BelowLemmas.{any_below-Decides, count_by-none}
 use Rattle.odb_sched.proofs.ListLemmas.{lists_alike}
@@ -24,7 +24,7 @@ count_map : {X : Type 0} (test : X → Bool) (xs : List X) → count_by (λ b. b
 count_map test [] = refl
 count_map test (x ∷ xs) = rw (sum_by-cons (λ y. cond (test y) 1 0) x xs, sum_by-cons (λ b. cond b 1 0) (test x) (map test xs), count_map test xs) refl
 
--- no element is counted exactly where all pass the contrary test
+-- no element is counted exactly when all pass the contrary test
 none_unmet : {X : Type 0} (test : X → Bool) (xs : List X) → (count_by (λ x. not (test x)) xs == 0) ≡ list_all test xs
 none_unmet test [] = refl
 none_unmet test (x ∷ xs) = rw (sum_by-cons (λ y. cond (not (test y)) 1 0) x xs, ← none_unmet test xs) (at (test x))
@@ -33,7 +33,7 @@ none_unmet test (x ∷ xs) = rw (sum_by-cons (λ y. cond (not (test y)) 1 0) x x
     at true = ap (λ n. n == 0) (let none : 0 + count_by (λ y. not (test y)) xs ≡ count_by (λ y. not (test y)) xs = omega arith in none)
     at false = ne_eqb _ 0 (λ e. omega arith)
 
--- no element is counted exactly where none passes
+-- no element is counted exactly when none passes
 none_pass : {X : Type 0} (test : X → Bool) (xs : List X) (d : X) → (count_by test xs == 0) ≡ not (any_below (length xs) (λ i. test (get_or xs i d)))
 none_pass test xs d = elim (cases_Bool (any_below (length xs) (λ i. test (get_or xs i d)))) [
   | inl some ↦ rw some (passes ((any_below-Decides (length xs) (λ i. test (get_or xs i d))).0 some))
@@ -51,27 +51,27 @@ pub running_is : (state : State) (tracker : Tracker) → IsTracked state tracker
 running_is state tracker are = ap (count_by (λ runs. runs)) are.counts.running ∙ count_map is_running state.phases
 
 -- whether the unit of a request has failed
-gone_is : (state : State) (tracker : Tracker) (i : ℕ) → IsReached state → IsTracked state tracker → i < size state → is_gone state.shape tracker.progress.units i ≡ unit_failed state (unit_of state.shape i)
-gone_is state tracker i reached are within = are.counts.units.failed (unit_of state.shape i) (reached.laws.counted i within)
+skipped_is : (state : State) (tracker : Tracker) (i : ℕ) → IsReached state → IsTracked state tracker → i < size state → is_skipped state.shape tracker.progress.units i ≡ unit_failed state (unit_of state.shape i)
+skipped_is state tracker i reached are within = are.counts.units.failed (unit_of state.shape i) (reached.laws.counted i within)
 
-unmet_is : (state : State) (tracker : Tracker) (i : ℕ) → IsTracked state tracker → i < size state → (get_or tracker.progress.unmet.items i 0 == 0) ≡ all_met state i
-unmet_is state tracker i are within = ap (λ n. n == 0) (are.counts.unmet i within) ∙ none_unmet (met_in state.shape state.phases) (needs_of state.shape i)
+unmet_is : (state : State) (tracker : Tracker) (i : ℕ) → IsTracked state tracker → i < size state → (get_or tracker.progress.unmet.items i 0 == 0) ≡ all_satisfied state i
+unmet_is state tracker i are within = ap (λ n. n == 0) (are.counts.unmet i within) ∙ none_unmet (satisfied_in state.shape state.phases) (needs_of state.shape i)
 
-regroup : (fresh stopped failed met room : Bool) → ((fresh && not failed && met) && not stopped && room) ≡ (fresh && not stopped && not failed && met && room)
-regroup true true true met room = refl
+regroup : (fresh stopped failed satisfied room : Bool) → ((fresh && not failed && satisfied) && not stopped && room) ≡ (fresh && not stopped && not failed && satisfied && room)
+regroup true true true satisfied room = refl
 regroup true true false true room = refl
 regroup true true false false room = refl
-regroup true false true met room = refl
+regroup true false true satisfied room = refl
 regroup true false false true room = refl
 regroup true false false false room = refl
-regroup false stopped failed met room = refl
+regroup false stopped failed satisfied room = refl
 
 -- which positions may start
 pub starts_is : (state : State) (tracker : Tracker) (i : ℕ) → IsReached state → IsTracked state tracker → i < size state
     → (get_or tracker.progress.ready i false && not tracker.stopped && nat_lt (count_by (λ runs. runs) tracker.progress.running) state.policy.width) ≡ may_start state i
 starts_is state tracker i reached are within =
-    rw (are.counts.ready.exact i within, gone_is state tracker i reached are within, unmet_is state tracker i are within, are.stopped, running_is state tracker are)
-    (regroup (is_unstarted (phase_at state i)) (is_stopped state) (unit_failed state (unit_of state.shape i)) (all_met state i) (nat_lt (running_count state) state.policy.width))
+    rw (are.counts.ready.exact i within, skipped_is state tracker i reached are within, unmet_is state tracker i are within, are.stopped, running_is state tracker are)
+    (regroup (is_unstarted (phase_at state i)) (is_stopped state) (unit_failed state (unit_of state.shape i)) (all_satisfied state i) (nat_lt (running_count state) state.policy.width))
 
 -- which positions run
 pub runs_is : (state : State) (tracker : Tracker) (i : ℕ) → IsTracked state tracker → get_or tracker.progress.running i false ≡ is_running (phase_at state i)
@@ -88,7 +88,7 @@ pub running_listed : (state : State) (tracker : Tracker) (xs : List ℕ) → IsR
 running_listed state tracker xs reached are listed = lists_alike (size state) _ _ xs (λ i within. runs_is state tracker i are)
     (subst (λ n. ListsOnce n (λ i. get_or tracker.progress.running i false) xs) (ap length are.counts.running ∙ length-map state.phases is_running ∙ reached.each) listed)
 
--- nothing runs and nothing may start any more exactly where the run is finished
+-- nothing runs and nothing may start any more exactly when the run is finished
 pub finished_is : (state : State) (tracker : Tracker) → IsReached state → IsTracked state tracker → ((count_by (λ runs. runs) tracker.progress.running == 0) && (tracker.stopped || (tracker.progress.left == 0))) ≡ is_finished state
 finished_is state tracker reached are = rw (running_is state tracker are, none_pass is_running state.phases Unstarted, reached.each, are.stopped, left_is) refl
   where
@@ -100,5 +100,5 @@ finished_is state tracker reached are = rw (running_is state tracker are, none_p
     left_is : (tracker.progress.left == 0) ≡ all_below (size state) (λ i. is_reported (phase_at state i) || unit_failed state (unit_of state.shape i))
     left_is =
         ap (λ n. n == 0) are.counts.left
-        ∙ none_counted (size state) _ _ (λ i. turned (is_reported (phase_at state i)) (is_gone state.shape tracker.progress.units i))
-        ∙ all_alike (size state) _ _ (λ i within. ap (λ b. is_reported (phase_at state i) || b) (gone_is state tracker i reached are within))
+        ∙ none_counted (size state) _ _ (λ i. turned (is_reported (phase_at state i)) (is_skipped state.shape tracker.progress.units i))
+        ∙ all_alike (size state) _ _ (λ i within. ap (λ b. is_reported (phase_at state i) || b) (skipped_is state tracker i reached are within))

@@ -75,7 +75,7 @@ module _ {S : Type 0} (performs : Performing S) (requests : List Record) where
   unfolding taken-report
   taken-report_by offers state new old later i outcome may offered call is = record { taken = taken-report offers state new i outcome may offered is; asked = call }
 
-  -- one more event asks once more
+  -- one more event makes one more call
   pub asks-push : (events : List Event) (event : Event) (old now later : S) → AsksAll performs requests events old now → Asks performs requests event now later → AsksAll performs requests (events ++ event ∷ []) old later
   asks-push [] event old now later all one = (later, subst (λ s. Asks performs requests event s later) all one, refl)
   asks-push (e ∷ es) event old now later all one = (all.0, all.1, asks-push es event all.0 now later all.2 one)
@@ -88,16 +88,16 @@ pub left_at_first : (source : Plan) (policy : Policy) → events_left (at_first 
 left_at_first source policy = let all : sum_by left (replicate (length (shape source).units) Unstarted) ≡ length (shape source).units * 2 = sum_by-replicate left (length (shape source).units) Unstarted in omega arith
 
 left-set : (state : State) (i : ℕ) (old new : Phase) → IsReached state → i < size state → phase_at state i ≡ old → left new + 1 ≡ left old → events_left (record state { phases = slice_set state.phases i new }) + 1 ≡ events_left state
-left-set state i old new reached within stood fewer =
+left-set state i old new reached within before_is fewer =
     let each : length state.phases ≡ size state = reached.each in
     let count = sum_by-set left state.phases i new Unstarted (omega arith) in
-    let here : left (phase_at state i) ≡ left old = ap left stood in
+    let here : left (phase_at state i) ≡ left old = ap left before_is in
     omega arith
 
--- an event takes one from them
+-- each event takes one of them
 pub left_after_event : (state : State) (event : Event) → IsReached state → event_position event < size state → may_come state event ≡ true → events_left (after state event) + 1 ≡ events_left state
-left_after_event state (Start i) reached within may = left-set state i Unstarted Running reached within (move_start state i reached within may).stood refl
-left_after_event state (Report i outcome) reached within may = left-set state i Running (Reported outcome) reached within (move_report state i outcome reached within may).stood refl
+left_after_event state (Start i) reached within may = left-set state i Unstarted Running reached within (move_start state i reached within may).before_is refl
+left_after_event state (Report i outcome) reached within may = left-set state i Running (Reported outcome) reached within (move_report state i outcome reached within may).before_is refl
 
 -- what was done so far, and what chooser and service allow and offer now
 pub record SoFar (allows allows_now : Allowance) (offers offers_now : Offer) (first state : State) (steps : List Step) : Type 0 where
@@ -136,14 +136,14 @@ pub still_open : (state : State) (event : Event) (i : ℕ) → IsReached state �
     → (is_reported (phase_at state i) ≡ false) × (step_of event ≡ step.Report i → ⊥)
 still_open state (Start j) i reached within may fresh = let move = move_start state j reached within may in (
   elim (cases_eq i j) [
-    | inl here ↦ rw (here, move.stood) refl
+    | inl here ↦ rw (here, move.before_is) refl
     | inr elsewhere ↦ ap is_reported (sym (move.others i elsewhere)) ∙ fresh
   ],
   λ same. true≢false (sym (ap is_report same)),
 )
 still_open state (Report j outcome) i reached within may fresh = let move = move_report state j outcome reached within may in
     elim (cases_eq i j) [
-      | inl here ↦ absurd (both_ways _ fresh (rw (here, move.stands) refl))
+      | inl here ↦ absurd (both_ways _ fresh (rw (here, move.after_is) refl))
       | inr elsewhere ↦ (ap is_reported (sym (move.others i elsewhere)) ∙ fresh, λ same. elsewhere (sym (ap position_in same)))
     ]
 
@@ -155,7 +155,7 @@ offered-first offers offers_now state (Start i) first may offered = tt
 offered-first offers offers_now state (Report i outcome) first may offered =
     first i (Ok outcome) (running_open (phase_at state i) (and_parts (is_running (phase_at state i)) (is_status outcome.status) may).0) offered
 
--- a step takes one event from those that are left
+-- a step takes one of the remaining events
 pub fewer-left : (allows : Allowance) (offers : Offer) (state new : State) (s : Step) → IsReached state → IsNext allows state s → IsTaken offers state new s → events_left new + 1 ≡ events_left state
 fewer-left allows offers state new s reached next taken =
     let within : event_position taken.event < size state = subst (λ i. i < size state) (ap position_in taken.step_is ∙ position-step taken.event) next.within in
@@ -255,7 +255,7 @@ module _ (source : Plan) (policy : Policy) where
   left-source : events_left (at_first source policy) ≡ 2 * length (plan_records source)
   left-source = let units : length (shape source).units ≡ length (plan_records source) = length-shape source in let all = left_at_first source policy in omega arith
 
-  -- room for two steps to a request is room enough
+  -- room for two steps per request is enough
   pub room-first : (state : State) (steps : List Step) (room : ℕ) → state ≡ at_first source policy → steps ≡ [] → 2 * length (plan_records source) ≤ room → length steps + events_left state ≤ room
   room-first state steps room here none enough =
       let count : length steps ≡ 0 = ap length none in

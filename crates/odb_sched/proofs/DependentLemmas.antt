@@ -1,4 +1,4 @@
--- The rows of needers have who needs something of a unit, and no others.
+-- The rows of dependents have the requests that depend on a unit or a member of it, and no others.
 use Rattle.std.proofs.Common.{◌≡◌, ℕ, zero, suc, ◌<◌, ◌≤◌, ◌+◌, ◌∙◌, sym, ap, refl, subst, arith, Bool, true, false, cond, eqb, eqb-true, eq-eqb, List, [], ◌∷◌, length, get_or, inl, inr, Contains, count_by}
 use Rattle.std.proofs.lemmas.Bool.{cases_Bool, cases_lt}
 use Rattle.std.proofs.lemmas.List.Sums.{sum_by-cons}
@@ -6,15 +6,15 @@ use Rattle.std.proofs.lemmas.List.Elements.{Contains-get_or}
 use Rattle.odb_check.specs.declared.need.Need.{Need}
 use Rattle.odb_check.specs.declared.need.Need.TheVariants.{One, Group}
 use Rattle.odb_check.specs.Shape.{Shape, IsPlan, unit_of, needs_of}
-use Rattle.odb_dense.specs.declared.worklist.Standing.{Standing}
-use Rattle.odb_dense.specs.declared.worklist.Standing.TheVariants.{Sound}
-use Rattle.odb_dense.specs.Standings.{is_marked}
+use Rattle.odb_dense.specs.declared.worklist.Mark.{Mark}
+use Rattle.odb_dense.specs.declared.worklist.Mark.TheVariants.{Unvisited}
+use Rattle.odb_dense.specs.Marks.{is_marked}
 use Rattle.odb_sched.specs.Plans.{IsSpan}
 use Rattle.odb_sched.specs.Failing.{unit_needed}
-use Rattle.odb_sched.specs.ProgressCounts.{AreNeeders, key_of}
-use Rattle.odb_sched.specs.Passing.{NeedsUnit, HaveMarked}
+use Rattle.odb_sched.specs.ProgressCounts.{AreDependents, key_of}
+use Rattle.odb_sched.specs.Propagation.{NeedsUnit, HaveMarked}
 
--- what is counted is there
+-- what is counted is in the list
 pub counted_some : {X : Type 0} (test : X → Bool) (xs : List X) (d : X) → 0 < count_by test xs → (k : ℕ) × (k < length xs) × (test (get_or xs k d) ≡ true)
 counted_some test [] d some = absurd (omega arith)
 counted_some test (x ∷ xs) d some = elim (cases_Bool (test x)) [
@@ -25,7 +25,7 @@ counted_some test (x ∷ xs) d some = elim (cases_Bool (test x)) [
       (suc later.0, omega (arith, later.1), later.2)
 ]
 
--- what is there is counted
+-- what is in the list is counted
 pub some_counted : {X : Type 0} (test : X → Bool) (xs : List X) (k : ℕ) (d : X) → k < length xs → test (get_or xs k d) ≡ true → 0 < count_by test xs
 some_counted test [] k d within passes = absurd (omega arith)
 some_counted test (x ∷ xs) zero d within passes = rw (sum_by-cons (λ y. cond (test y) 1 0) x xs, passes) (omega arith)
@@ -34,7 +34,7 @@ some_counted test (x ∷ xs) (suc k) d within passes =
     rw (sum_by-cons (λ y. cond (test y) 1 0) x xs) (omega arith)
 
 -- a request of a row needs what has the key
-row_need : (plan : Shape) (rows : List (List ℕ)) (key i k : ℕ) → AreNeeders plan rows → key < length rows → k < length (get_or rows key []) → get_or (get_or rows key []) k 0 ≡ i
+row_need : (plan : Shape) (rows : List (List ℕ)) (key i k : ℕ) → AreDependents plan rows → key < length rows → k < length (get_or rows key []) → get_or (get_or rows key []) k 0 ≡ i
     → (i < length plan.units) × (need : Need) × Contains (needs_of plan i) need × (key_of plan need ≡ key)
 row_need plan rows key i k are known within here =
     let inside : i < length plan.units = subst (λ j. j < length plan.units) here (are.within key known k 0 within) in
@@ -42,8 +42,8 @@ row_need plan rows key i k are known within here =
     (subst (λ n. 0 < n) (are.exact key i known inside) (some_counted (λ j. eqb j i) (get_or rows key []) k 0 within (eq-eqb _ _ here))) in
     (inside, get_or (needs_of plan i) m (One 0), Contains-get_or (needs_of plan i) m (One 0) below, eqb-true _ _ passes)
 
--- who needs what has the key is in the row
-need_row : (plan : Shape) (rows : List (List ℕ)) (key i : ℕ) (need : Need) → AreNeeders plan rows → key < length rows → i < length plan.units → Contains (needs_of plan i) need → key_of plan need ≡ key
+-- a request that needs what has the key is in the row
+need_row : (plan : Shape) (rows : List (List ℕ)) (key i : ℕ) (need : Need) → AreDependents plan rows → key < length rows → i < length plan.units → Contains (needs_of plan i) need → key_of plan need ≡ key
     → (k : ℕ) × (k < length (get_or rows key [])) × (get_or (get_or rows key []) k 0 ≡ i)
 need_row plan rows key i need are known inside (m, below, at) same =
     let (k, within, passes) = counted_some (λ j. eqb j i) (get_or rows key []) 0
@@ -64,55 +64,55 @@ abbrev pub IsOfSome : Shape → List ℕ → ℕ → Type 0
 IsOfSome plan list v = (k : ℕ) × (k < length list) × (unit_of plan (get_or list k 0) ≡ v)
 
 -- a request in the row of a member needs something of the unit
-pub member_needed : (plan : Shape) (rows : List (List ℕ)) (row : List ℕ) (u r v : ℕ) → AreNeeders plan rows → r < length plan.units → unit_of plan r ≡ u → row ≡ get_or rows r [] → IsOfSome plan row v → NeedsUnit plan v u
+pub member_needed : (plan : Shape) (rows : List (List ℕ)) (row : List ℕ) (u r v : ℕ) → AreDependents plan rows → r < length plan.units → unit_of plan r ≡ u → row ≡ get_or rows r [] → IsOfSome plan row v → NeedsUnit plan v u
 member_needed plan rows row u r v are known here read (k, within, own) =
     let (inside, need, has, same) = row_need plan rows r (get_or row k 0) k are (omega (arith, are.each)) (subst (λ xs. k < length xs) read within) (ap (λ xs. get_or xs k 0) (sym read)) in
     (get_or row k 0, need, inside, has, of_member plan u r need known here same, own)
 
 -- a request in the row of the unit needs the unit
-pub unit_is_needed : (plan : Shape) (rows : List (List ℕ)) (row : List ℕ) (u key v : ℕ) → IsPlan plan → AreNeeders plan rows → u < plan.unit_count → key ≡ length plan.units + u → row ≡ get_or rows key [] → IsOfSome plan row v → NeedsUnit plan v u
+pub unit_is_needed : (plan : Shape) (rows : List (List ℕ)) (row : List ℕ) (u key v : ℕ) → IsPlan plan → AreDependents plan rows → u < plan.unit_count → key ≡ length plan.units + u → row ≡ get_or rows key [] → IsOfSome plan row v → NeedsUnit plan v u
 unit_is_needed plan rows row u key v laws are known keyed read (k, within, own) =
     let (inside, need, has, same) = row_need plan rows key (get_or row k 0) k are (omega (arith, are.each)) (subst (λ xs. k < length xs) read within) (ap (λ xs. get_or xs k 0) (sym read)) in
     (get_or row k 0, need, inside, has, of_unit plan u (get_or row k 0) need laws inside has (same ∙ keyed), own)
 
 -- the units of the requests in a row are marked
-abbrev pub IsMarkedRow : Shape → List (List ℕ) → List Standing → ℕ → Type 0
-IsMarkedRow plan rows units key = (k : ℕ) → k < length (get_or rows key []) → is_marked (get_or units (unit_of plan (get_or (get_or rows key []) k 0)) Sound) ≡ true
+abbrev pub IsMarkedRow : Shape → List (List ℕ) → List Mark → ℕ → Type 0
+IsMarkedRow plan rows units key = (k : ℕ) → k < length (get_or rows key []) → is_marked (get_or units (unit_of plan (get_or (get_or rows key []) k 0)) Unvisited) ≡ true
 
 -- the row is this list
-pub row_marked : (plan : Shape) (rows : List (List ℕ)) (units : List Standing) (row : List ℕ) (key : ℕ) → row ≡ get_or rows key [] → ((k : ℕ) → k < length row → is_marked (get_or units (unit_of plan (get_or row k 0)) Sound) ≡ true) → IsMarkedRow plan rows units key
-row_marked plan rows units row key read marked = subst (λ xs. (k : ℕ) → k < length xs → is_marked (get_or units (unit_of plan (get_or xs k 0)) Sound) ≡ true) read marked
+pub row_marked : (plan : Shape) (rows : List (List ℕ)) (units : List Mark) (row : List ℕ) (key : ℕ) → row ≡ get_or rows key [] → ((k : ℕ) → k < length row → is_marked (get_or units (unit_of plan (get_or row k 0)) Unvisited) ≡ true) → IsMarkedRow plan rows units key
+row_marked plan rows units row key read marked = subst (λ xs. (k : ℕ) → k < length xs → is_marked (get_or units (unit_of plan (get_or xs k 0)) Unvisited) ≡ true) read marked
 
 -- one row more is marked
-pub rows_marked : (plan : Shape) (rows : List (List ℕ)) (before after : List Standing) (from r : ℕ) → HaveMarked before after → ((s : ℕ) → from ≤ s → s < r → IsMarkedRow plan rows before s) → IsMarkedRow plan rows after r
+pub rows_marked : (plan : Shape) (rows : List (List ℕ)) (before after : List Mark) (from r : ℕ) → HaveMarked before after → ((s : ℕ) → from ≤ s → s < r → IsMarkedRow plan rows before s) → IsMarkedRow plan rows after r
     → (s : ℕ) → from ≤ s → s < r + 1 → IsMarkedRow plan rows after s
 rows_marked plan rows before after from r marks earlier now s inside below k within = elim (cases_lt s r) [
   | inl less ↦ marks.kept _ (earlier s inside less k within)
   | inr last ↦ let here : r ≡ s = omega arith in subst (IsMarkedRow plan rows after) here now k within
 ]
 
--- who needs what has the key of a row is marked with the row
-marked_in_row : (plan : Shape) (rows : List (List ℕ)) (units : List Standing) (key i : ℕ) (need : Need) → AreNeeders plan rows → key < length rows → i < length plan.units → Contains (needs_of plan i) need → key_of plan need ≡ key → IsMarkedRow plan rows units key
-    → is_marked (get_or units (unit_of plan i) Sound) ≡ true
+-- the unit of a request that needs what has the key of a row is marked with the row
+marked_in_row : (plan : Shape) (rows : List (List ℕ)) (units : List Mark) (key i : ℕ) (need : Need) → AreDependents plan rows → key < length rows → i < length plan.units → Contains (needs_of plan i) need → key_of plan need ≡ key → IsMarkedRow plan rows units key
+    → is_marked (get_or units (unit_of plan i) Unvisited) ≡ true
 marked_in_row plan rows units key i need are known inside has same marked =
     let (k, within, here) = need_row plan rows key i need are known inside has same in
-    subst (λ j. is_marked (get_or units (unit_of plan j) Sound) ≡ true) here (marked k within)
+    subst (λ j. is_marked (get_or units (unit_of plan j) Unvisited) ≡ true) here (marked k within)
 
--- who needs something of a unit is marked with the rows of the members and of the unit
-pub needers_marked : (plan : Shape) (rows : List (List ℕ)) (u from to end : ℕ) (units after : List Standing) → IsPlan plan → AreNeeders plan rows → u < plan.unit_count → IsSpan plan u from to → to ≤ end
+-- the dependents of a unit are marked with the rows of the members and of the unit
+pub dependents_marked : (plan : Shape) (rows : List (List ℕ)) (u from to end : ℕ) (units after : List Mark) → IsPlan plan → AreDependents plan rows → u < plan.unit_count → IsSpan plan u from to → to ≤ end
     → ((r : ℕ) → from ≤ r → r < end → IsMarkedRow plan rows units r) → HaveMarked units after → IsMarkedRow plan rows after (length plan.units + u)
-    → (w : ℕ) → NeedsUnit plan w u → is_marked (get_or after w Sound) ≡ true
-needers_marked plan rows u from to end units after laws are known span done members marks own w (i, One r, inside, has, about, here) =
+    → (w : ℕ) → NeedsUnit plan w u → is_marked (get_or after w Unvisited) ≡ true
+dependents_marked plan rows u from to end units after laws are known span done members marks own w (i, One r, inside, has, about, here) =
     let earlier : r < i = laws.earlier i (One r) inside has in
     let within : r < length plan.units = omega arith in
     let member = (span.exact r within).0 about in
     let before : r < to = member.1 in
-    marks.kept w (subst (λ v. is_marked (get_or units v Sound) ≡ true) here (marked_in_row plan rows units r i (One r) are (omega (arith, are.each)) inside has refl (members r member.0 (omega arith))))
-needers_marked plan rows u from to end units after laws are known span done members marks own w (i, Group v, inside, has, about, here) =
-    subst (λ x. is_marked (get_or after x Sound) ≡ true) here (marked_in_row plan rows after (length plan.units + u) i (Group v) are (omega (arith, are.each)) inside has (omega (arith, about)) own)
+    marks.kept w (subst (λ v. is_marked (get_or units v Unvisited) ≡ true) here (marked_in_row plan rows units r i (One r) are (omega (arith, are.each)) inside has refl (members r member.0 (omega arith))))
+dependents_marked plan rows u from to end units after laws are known span done members marks own w (i, Group v, inside, has, about, here) =
+    subst (λ x. is_marked (get_or after x Unvisited) ≡ true) here (marked_in_row plan rows after (length plan.units + u) i (Group v) are (omega (arith, are.each)) inside has (omega (arith, about)) own)
 
 -- marks on marks are marks
-pub marks_trans : (before between after : List Standing) → HaveMarked before between → HaveMarked between after → HaveMarked before after
+pub marks_trans : (before between after : List Mark) → HaveMarked before between → HaveMarked between after → HaveMarked before after
 marks_trans before between after first next = record {
   each = next.each ∙ first.each;
   kept = λ v marked. next.kept v (first.kept v marked);

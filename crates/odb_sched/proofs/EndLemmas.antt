@@ -19,7 +19,7 @@ use Rattle.odb_sched.proofs.KeptLemmas.{finished_idle}
 use Rattle.odb_sched.proofs.CountedLemmas.{starts_is, runs_is}
 use Rattle.odb_sched.proofs.ChoiceLemmas.{contains-passing}
 
--- a number is in the set of those below n that pass exactly where it does
+-- a number is in the set of those below n that pass exactly when it does
 pub contains_passing : (n : ℕ) (test : ℕ → Bool) (i : ℕ) → contains (positions_of (passing_below n test)) i ≡ (nat_lt i n && test i)
 contains_passing n test i = contains-from_list_nat (passing_below n test) i ∙ contains-passing n test i
 
@@ -32,7 +32,7 @@ none_at n test none i = false_from_ne_true _ (λ e.
     let parts = and_parts (nat_lt i n) (test i) (sym (contains_passing n test i) ∙ e) in
     both_ways _ (none i (ltb-true i n parts.0)) parts.1)
 
--- a number that passes, with none nearer to the end, stands at the end of the set
+-- a number that passes, with none nearer to the end, is at the end of the set
 pub end_at : (end : End) (n : ℕ) (test : ℕ → Bool) (i : ℕ) → i < n → test i ≡ true → ((j : ℕ) → j < n → IsNearer end j i → test j ≡ false) → IsAt end (positions_of (passing_below n test)) i
 end_at Least n test i within passes nearest = record {
   among = among n test i within passes;
@@ -69,14 +69,14 @@ none_starts state tracker reached are none = none_at (size state) (may_start sta
 pub none_runs : (state : State) (tracker : Tracker) → IsTracked state tracker → ((i : ℕ) → get_or tracker.progress.running i false ≡ false) → IsNone (running_set state)
 none_runs state tracker are none = none_at (size state) (λ j. is_running (phase_at state j)) (λ i within. sym (runs_is state tracker i are) ∙ none i)
 
--- what stands at the end of the ready positions may start, and stands at the end of those that may
+-- the position at the end of the ready ones may start, and is at the end of those that may
 pub starts_at : (state : State) (tracker : Tracker) (end : End) (found : Option ℕ) → IsReached state → IsTracked state tracker → IfSome found (IsEndOf end tracker.progress.ready)
     → (IsSome found → (tracker.stopped ≡ false) × (nat_lt (count_by (λ runs. runs) tracker.progress.running) state.policy.width ≡ true))
     → IfSome found (λ i. (i < size state) × (may_start state i ≡ true) × IsAt end (ready_set state) i)
-starts_at state tracker end None reached are at goes = tt
-starts_at state tracker end (Some i) reached are at goes =
+starts_at state tracker end None reached are at allowed = tt
+starts_at state tracker end (Some i) reached are at allowed =
     let within : i < size state = subst (λ n. i < n) are.counts.ready.each at.within in
-    let open_run = goes refl in
+    let open_run = allowed refl in
     let may : may_start state i ≡ true = sym (starts_is state tracker i reached are within) ∙ rw (at.among, open_run.0, open_run.1) refl in
     (within, may, end_at end (size state) (may_start state) i within may (λ j inside nearer. sym (starts_is state tracker j reached are inside) ∙ rw (at.nearest j nearer) refl))
 

@@ -1,4 +1,4 @@
--- Where a request stands after a run, by the events of the run.
+-- The phase of a request after a run, by the events of the run.
 use Rattle.std.proofs.Common.{subst, ◌≡◌, ◌≢◌, ℕ, ◌<◌, ◌≤◌, ◌+◌, ◌==◌, ◌∙◌, sym, refl, ap, arith, Bool, true, false, cond, ◌||◌, eq-eqb, List, [], ◌∷◌, length, inl, inr, ◌⊎◌, Option, None, count_by, get_or-set_same, get_or-set_other}
 use Rattle.std.specs.List.{list_any}
 use Rattle.std.proofs.lemmas.Bool.{cases_eq, true≢false, and_parts, ne_eqb}
@@ -45,10 +45,10 @@ success_among state (event ∷ es) r e = elim (success_among (after state event)
   | inr later ↦ inr (later.0, Contains-append_right (event ∷ []) es (Report r later.0) later.1, later.2)
 ]
 
--- where the request of an event stood before it and stands after it, and where the others do
+-- the phase of an event's request before the event and after it, and that the others keep theirs
 pub record IsMove (state : State) (event : Event) (before new : Phase) : Type 0 where
-  pub stood : phase_at state (event_position event) ≡ before
-  pub stands : phase_at (after state event) (event_position event) ≡ new
+  pub before_is : phase_at state (event_position event) ≡ before
+  pub after_is : phase_at (after state event) (event_position event) ≡ new
   pub others : (i : ℕ) → i ≢ event_position event → phase_at (after state event) i ≡ phase_at state i
 
 pub move_start : (state : State) (i : ℕ) → IsReached state → i < size state → may_come state (Start i) ≡ true → IsMove state (Start i) Unstarted Running
@@ -56,8 +56,8 @@ move_start state i reached within may =
     let each : length state.phases ≡ size state = reached.each in
     let start = may_start-parts state i may in
     record {
-      stood = Unstarted-from _ start.fresh;
-      stands = get_or-set_same state.phases i Running Unstarted (omega arith);
+      before_is = Unstarted-from _ start.fresh;
+      after_is = get_or-set_same state.phases i Running Unstarted (omega arith);
       others = λ j other. get_or-set_other state.phases i j Running Unstarted other;
     }
 
@@ -66,8 +66,8 @@ move_report state i outcome reached within may =
     let each : length state.phases ≡ size state = reached.each in
     let parts = and_parts (is_running (phase_at state i)) (is_status outcome.status) may in
     record {
-      stood = Running-from _ parts.0;
-      stands = get_or-set_same state.phases i (Reported outcome) Unstarted (omega arith);
+      before_is = Running-from _ parts.0;
+      after_is = get_or-set_same state.phases i (Reported outcome) Unstarted (omega arith);
       others = λ j other. get_or-set_other state.phases i j (Reported outcome) Unstarted other;
     }
 
@@ -77,10 +77,10 @@ left Unstarted = 2
 left Running = 1
 left (Reported outcome) = 0
 
--- an event takes one from what its request has left
+-- an event takes one of the remaining events of its request
 left_by : (state : State) (event : Event) (before new : Phase) (i : ℕ) → IsMove state event before new → left new + 1 ≡ left before → cond (event_position event == i) 1 0 + left (phase_at (after state event) i) ≤ left (phase_at state i)
 left_by state event before new i move fewer = elim (cases_eq (event_position event) i) [
-  | inl here ↦ rw (eq-eqb _ _ here, ← here, move.stood, move.stands) (omega arith)
+  | inl here ↦ rw (eq-eqb _ _ here, ← here, move.before_is, move.after_is) (omega arith)
   | inr elsewhere ↦ rw (ne_eqb _ _ elsewhere, move.others i (λ e. elsewhere (sym e))) (omega arith)
 ]
 
@@ -95,7 +95,7 @@ few_events state (event ∷ es) i reached run =
     let first : cond (event_position event == i) 1 0 + left (phase_at (after state event) i) ≤ left (phase_at state i) = left_after state event i reached run.0 run.1 in
     rw (sum_by-cons (λ e. cond (event_position e == i) 1 0) event es) (omega arith)
 
--- where a request stands by where it stood, its first report since, and whether it has started since
+-- the phase of a request by its earlier phase, its first report since, and whether it has started since
 abbrev phase_since : Phase → Option Outcome → Bool → Phase
 phase_since Unstarted report started = phase_by report started
 phase_since Running report started = phase_by report true
@@ -109,11 +109,11 @@ phase_since-none (Reported outcome) = refl
 phase_by_event : (state : State) (event : Event) (i : ℕ) (report : Option Outcome) (started : Bool) → IsReached state → event_position event < size state → may_come state event ≡ true
     → phase_since (phase_at (after state event) i) report started ≡ phase_since (phase_at state i) (or_later (report_of i event) report) (starts i event || started)
 phase_by_event state (Start j) i report started reached within may = elim (cases_eq i j) [
-  | inl here ↦ let move = move_start state j reached within may in rw (eq-eqb _ _ here, here, move.stood, move.stands) refl
+  | inl here ↦ let move = move_start state j reached within may in rw (eq-eqb _ _ here, here, move.before_is, move.after_is) refl
   | inr elsewhere ↦ let move = move_start state j reached within may in rw (ne_eqb _ _ elsewhere, move.others i elsewhere) refl
 ]
 phase_by_event state (Report j outcome) i report started reached within may = elim (cases_eq i j) [
-  | inl here ↦ let move = move_report state j outcome reached within may in rw (eq-eqb _ _ here, here, move.stood, move.stands) refl
+  | inl here ↦ let move = move_report state j outcome reached within may in rw (eq-eqb _ _ here, here, move.before_is, move.after_is) refl
   | inr elsewhere ↦ let move = move_report state j outcome reached within may in rw (ne_eqb _ _ elsewhere, move.others i elsewhere) refl
 ]
 

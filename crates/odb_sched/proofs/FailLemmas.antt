@@ -1,4 +1,4 @@
--- A request that ran has failed: what is counted of the successes stays, and its unit waits on the worklist.
+-- A running request fails: the counts of the successes stay, and its unit is put on the worklist.
 use Rattle.std.proofs.Common.{◌≡◌, ◌⊎◌, ℕ, ◌<◌, ◌∙◌, sym, ap, refl, subst, arith, Bool, true, false, ◌&&◌, ◌||◌, not, eqb, List, length, get_or, set, map, get_or-set_other, get_or-set_same, length-set, inl, inr, count_by, if◌then◌else◌}
 use Rattle.std.proofs.Math.Path.{fun_ext}
 use Rattle.std.proofs.lemmas.Bool.{cases_eq, cases_lt, both_ways, true≢false, not-true}
@@ -6,89 +6,89 @@ use Rattle.std.proofs.lemmas.List.{get_or_past}
 use Rattle.odb_check.specs.declared.need.Need.{Need}
 use Rattle.odb_check.specs.declared.need.Need.TheVariants.{One, Group}
 use Rattle.odb_check.specs.Shape.{Shape, IsPlan, unit_of, needs_of}
-use Rattle.odb_dense.specs.declared.worklist.Standing.{Standing}
-use Rattle.odb_dense.specs.declared.worklist.Standing.TheVariants.{Sound, Waiting, Passed}
+use Rattle.odb_dense.specs.declared.worklist.Mark.{Mark}
+use Rattle.odb_dense.specs.declared.worklist.Mark.TheVariants.{Unvisited, Queued, Visited}
 use Rattle.odb_sched.specs.declared.phase.Phase.{Phase}
 use Rattle.odb_sched.specs.declared.phase.Phase.TheVariants.{Unstarted, Running, Reported}
 use Rattle.odb_sched.specs.declared.progress.Progress.{Progress}
 use Rattle.odb_sched.specs.Below.{all_below}
 use Rattle.odb_sched.specs.Phases.{is_running, has_succeeded, has_failed}
 use Rattle.odb_sched.specs.Failing.{own}
-use Rattle.odb_sched.specs.Steps.{met_in, failed_in}
-use Rattle.odb_dense.specs.Standings.{is_marked, is_passed, marked}
-use Rattle.odb_sched.specs.ProgressCounts.{is_gone, unmet_in, pending_in, ArePassed, AreReady, AreCounts, open_count}
-use Rattle.odb_sched.specs.Passing.{NeedsUnit, HaveMarked, ArePassing}
+use Rattle.odb_sched.specs.Steps.{satisfied_in, failed_in}
+use Rattle.odb_dense.specs.Marks.{is_marked, is_visited, marked}
+use Rattle.odb_sched.specs.ProgressCounts.{is_skipped, unmet_in, pending_in, ArePropagated, AreReady, AreCounts, open_count}
+use Rattle.odb_sched.specs.Propagation.{NeedsUnit, HaveMarked, ArePropagating}
 use Rattle.odb_sched.proofs.CountLemmas.{count_same}
 use Rattle.odb_sched.proofs.FailingLemmas.{Fails-from_fails, fails-from_Fails, Fails-as}
-use Rattle.odb_sched.proofs.PropagateLemmas.{own_fails, need_fails, gone_marked}
+use Rattle.odb_sched.proofs.PropagateLemmas.{own_fails, need_fails, skipped_marked}
 
 failed_not_succeeded : (phase : Phase) → has_failed phase ≡ true → has_succeeded phase ≡ false
 failed_not_succeeded Unstarted e = refl
 failed_not_succeeded Running e = refl
 failed_not_succeeded (Reported outcome) e = not-true _ e
 
--- a test that a running request and this one answer alike says what it said before
+-- a test that has the same answer for a running request and for this one has the answer that it had before
 pub as_before : (test : Phase → Bool) (phases : List Phase) (i : ℕ) → i < length phases → test Running ≡ test (get_or phases i Unstarted) → (j : ℕ) → test (get_or (set phases i Running) j Unstarted) ≡ test (get_or phases j Unstarted)
 as_before test phases i within same j = elim (cases_eq j i) [
   | inl here ↦ rw (here, get_or-set_same phases i Running Unstarted within) same
   | inr elsewhere ↦ ap test (get_or-set_other phases i j Running Unstarted elsewhere)
 ]
 
--- if the same requests have succeeded, the same is satisfied
-pub met_same : (plan : Shape) (phases other : List Phase) → ((j : ℕ) → has_succeeded (get_or phases j Unstarted) ≡ has_succeeded (get_or other j Unstarted)) → (need : Need) → met_in plan phases need ≡ met_in plan other need
-met_same plan phases other same (One r) = same r
-met_same plan phases other same (Group u) = ap (λ (f : ℕ → Bool). all_below (length plan.units) (λ j. not (eqb (unit_of plan j) u) || f j)) (fun_ext same)
+-- if the same requests have succeeded, the same needs are satisfied
+pub satisfied_same : (plan : Shape) (phases other : List Phase) → ((j : ℕ) → has_succeeded (get_or phases j Unstarted) ≡ has_succeeded (get_or other j Unstarted)) → (need : Need) → satisfied_in plan phases need ≡ satisfied_in plan other need
+satisfied_same plan phases other same (One r) = same r
+satisfied_same plan phases other same (Group u) = ap (λ (f : ℕ → Bool). all_below (length plan.units) (λ j. not (eqb (unit_of plan j) u) || f j)) (fun_ext same)
 
 pub unmet_same : (plan : Shape) (phases other : List Phase) → ((j : ℕ) → has_succeeded (get_or phases j Unstarted) ≡ has_succeeded (get_or other j Unstarted)) → (i : ℕ) → unmet_in plan phases i ≡ unmet_in plan other i
-unmet_same plan phases other same i = ap (λ (f : Need → Bool). count_by (λ need. not (f need)) (needs_of plan i)) (fun_ext (met_same plan phases other same))
+unmet_same plan phases other same i = ap (λ (f : Need → Bool). count_by (λ need. not (f need)) (needs_of plan i)) (fun_ext (satisfied_same plan phases other same))
 
 pub pending_same : (plan : Shape) (phases other : List Phase) → ((j : ℕ) → has_succeeded (get_or phases j Unstarted) ≡ has_succeeded (get_or other j Unstarted)) → (u : ℕ) → pending_in plan phases u ≡ pending_in plan other u
 pending_same plan phases other same u = count_same (length plan.units) _ _ (λ j below. ap (λ b. eqb (unit_of plan j) u && not b) (same j))
 
 -- a unit that is put on the worklist
-not_passed : (s : Standing) → is_marked s ≡ false → is_passed s ≡ false
-not_passed Sound e = refl
-not_passed Waiting e = refl
-not_passed Passed e = e
+not_visited : (s : Mark) → is_marked s ≡ false → is_visited s ≡ false
+not_visited Unvisited e = refl
+not_visited Queued e = refl
+not_visited Visited e = e
 
-put_written : (units : List Standing) (u : ℕ) → u < length units → is_marked (get_or units u Sound) ≡ false → HaveMarked units (set units u Waiting)
+put_written : (units : List Mark) (u : ℕ) → u < length units → is_marked (get_or units u Unvisited) ≡ false → HaveMarked units (set units u Queued)
 put_written units u within fresh = record {
-  each = length-set units u Waiting;
+  each = length-set units u Queued;
   kept = λ v before. elim (cases_eq v u) [
-    | inl here ↦ absurd (both_ways (is_marked (get_or units u Sound)) fresh (subst (λ x. is_marked (get_or units x Sound) ≡ true) here before))
-    | inr elsewhere ↦ ap is_marked (get_or-set_other units u v Waiting Sound elsewhere) ∙ before
+    | inl here ↦ absurd (both_ways (is_marked (get_or units u Unvisited)) fresh (subst (λ x. is_marked (get_or units x Unvisited) ≡ true) here before))
+    | inr elsewhere ↦ ap is_marked (get_or-set_other units u v Queued Unvisited elsewhere) ∙ before
   ];
   same = λ v. elim (cases_eq v u) [
-    | inl here ↦ rw (here, get_or-set_same units u Waiting Sound within) (sym (not_passed _ fresh))
-    | inr elsewhere ↦ ap is_passed (get_or-set_other units u v Waiting Sound elsewhere)
+    | inl here ↦ rw (here, get_or-set_same units u Queued Unvisited within) (sym (not_visited _ fresh))
+    | inr elsewhere ↦ ap is_visited (get_or-set_other units u v Queued Unvisited elsewhere)
   ];
 }
 
-kept_all : (units : List Standing) → HaveMarked units units
+kept_all : (units : List Mark) → HaveMarked units units
 kept_all units = record { each = refl; kept = λ v before. before; same = λ v. refl }
 
-put_marks : (units : List Standing) (u : ℕ) → u < length units → HaveMarked units (marked units u)
-put_marks units u within = at (is_marked (get_or units u Sound)) refl
+put_marks : (units : List Mark) (u : ℕ) → u < length units → HaveMarked units (marked units u)
+put_marks units u within = at (is_marked (get_or units u Unvisited)) refl
   where
-    at : (b : Bool) → is_marked (get_or units u Sound) ≡ b → HaveMarked units (if b then units else set units u Waiting)
+    at : (b : Bool) → is_marked (get_or units u Unvisited) ≡ b → HaveMarked units (if b then units else set units u Queued)
     at true e = kept_all units
     at false e = put_written units u within e
 
-put_here : (units : List Standing) (u : ℕ) → u < length units → is_marked (get_or (marked units u) u Sound) ≡ true
-put_here units u within = at (is_marked (get_or units u Sound)) refl
+put_here : (units : List Mark) (u : ℕ) → u < length units → is_marked (get_or (marked units u) u Unvisited) ≡ true
+put_here units u within = at (is_marked (get_or units u Unvisited)) refl
   where
-    at : (b : Bool) → is_marked (get_or units u Sound) ≡ b → is_marked (get_or (if b then units else set units u Waiting) u Sound) ≡ true
+    at : (b : Bool) → is_marked (get_or units u Unvisited) ≡ b → is_marked (get_or (if b then units else set units u Queued) u Unvisited) ≡ true
     at true e = e
-    at false e = ap is_marked (get_or-set_same units u Waiting Sound within)
+    at false e = ap is_marked (get_or-set_same units u Queued Unvisited within)
 
-put_only : (units : List Standing) (u v : ℕ) → is_marked (get_or (marked units u) v Sound) ≡ true → (is_marked (get_or units v Sound) ≡ true) ⊎ (v ≡ u)
-put_only units u v = at (is_marked (get_or units u Sound))
+put_only : (units : List Mark) (u v : ℕ) → is_marked (get_or (marked units u) v Unvisited) ≡ true → (is_marked (get_or units v Unvisited) ≡ true) ⊎ (v ≡ u)
+put_only units u v = at (is_marked (get_or units u Unvisited))
   where
-    at : (b : Bool) → is_marked (get_or (if b then units else set units u Waiting) v Sound) ≡ true → (is_marked (get_or units v Sound) ≡ true) ⊎ (v ≡ u)
+    at : (b : Bool) → is_marked (get_or (if b then units else set units u Queued) v Unvisited) ≡ true → (is_marked (get_or units v Unvisited) ≡ true) ⊎ (v ≡ u)
     at true now = inl now
     at false now = elim (cases_eq v u) [
       | inl here ↦ inr here
-      | inr elsewhere ↦ inl (sym (ap is_marked (get_or-set_other units u v Waiting Sound elsewhere)) ∙ now)
+      | inr elsewhere ↦ inl (sym (ap is_marked (get_or-set_other units u v Queued Unvisited elsewhere)) ∙ now)
     ]
 
 -- what had failed fails still
@@ -105,27 +105,27 @@ fails_still plan phases i v laws within failed =
       | inr elsewhere ↦ sym (ap has_failed (get_or-set_other phases i j Running Unstarted elsewhere)) ∙ bad
     ]
 
-marked_within : (units : List Standing) (v : ℕ) → is_marked (get_or units v Sound) ≡ true → v < length units
+marked_within : (units : List Mark) (v : ℕ) → is_marked (get_or units v Unvisited) ≡ true → v < length units
 marked_within units v e = elim (cases_lt v (length units)) [
   | inl within ↦ within
-  | inr past ↦ absurd (true≢false (sym e ∙ ap is_marked (get_or_past units v Sound past)))
+  | inr past ↦ absurd (true≢false (sym e ∙ ap is_marked (get_or_past units v Unvisited past)))
 ]
 
--- the unit of the request waits, and the others that failed were taken
-pub passing_failed : (plan : Shape) (phases : List Phase) (units : List Standing) (i : ℕ) → IsPlan plan → i < length plan.units → length phases ≡ length plan.units → has_failed (get_or phases i Unstarted) ≡ true → ArePassed plan (set phases i Running) units
-    → ArePassing plan phases (marked units (unit_of plan i))
-passing_failed plan phases units i laws within as_long failed are = record {
+-- the unit of the request is on the worklist, and the other failed ones were taken from it
+pub propagating_failed : (plan : Shape) (phases : List Phase) (units : List Mark) (i : ℕ) → IsPlan plan → i < length plan.units → length phases ≡ length plan.units → has_failed (get_or phases i Unstarted) ≡ true → ArePropagated plan (set phases i Running) units
+    → ArePropagating plan phases (marked units (unit_of plan i))
+propagating_failed plan phases units i laws within as_long failed are = record {
   each = marks.each ∙ are.each;
   failed = λ v now. elim (put_only units (unit_of plan i) v now) [
     | inl before ↦ fails_still plan phases i v laws (omega arith) (sym (are.failed v (subst (λ n. v < n) are.each (marked_within units v before))) ∙ sym (are.marked v) ∙ before)
     | inr here ↦ subst (λ x. failed_in plan phases x ≡ true) (sym here) (own_fails plan phases i laws within failed)
   ];
   own = λ j below bad. elim (cases_eq j i) [
-    | inl here ↦ subst (λ k. is_marked (get_or (marked units (unit_of plan i)) (unit_of plan k) Sound) ≡ true) (sym here) (put_here units (unit_of plan i) known)
+    | inl here ↦ subst (λ k. is_marked (get_or (marked units (unit_of plan i)) (unit_of plan k) Unvisited) ≡ true) (sym here) (put_here units (unit_of plan i) known)
     | inr elsewhere ↦ taken (unit_of plan j) (laws.counted j below) (own_fails plan (set phases i Running) j laws below (ap has_failed (get_or-set_other phases i j Running Unstarted elsewhere) ∙ bad))
   ];
-  passed = λ v w needs now.
-      let before : is_passed (get_or units v Sound) ≡ true = sym (marks.same v) ∙ now in
+  propagated = λ v w needs now.
+      let before : is_visited (get_or units v Unvisited) ≡ true = sym (marks.same v) ∙ now in
       let below : v < plan.unit_count = subst (λ n. v < n) are.each (marked_within units v (are.marked v ∙ before)) in
       taken w (of_plan w v needs) (need_fails plan (set phases i Running) v w laws needs (sym (are.failed v below) ∙ before));
 }
@@ -139,12 +139,12 @@ passing_failed plan phases units i laws within as_long failed are = record {
     of_plan : (w v : ℕ) → NeedsUnit plan w v → w < plan.unit_count
     of_plan w v (j, need, below, has, about, here) = subst (λ x. x < plan.unit_count) here (laws.counted j below)
 
-    taken : (v : ℕ) → v < plan.unit_count → failed_in plan (set phases i Running) v ≡ true → is_marked (get_or (marked units (unit_of plan i)) v Sound) ≡ true
+    taken : (v : ℕ) → v < plan.unit_count → failed_in plan (set phases i Running) v ≡ true → is_marked (get_or (marked units (unit_of plan i)) v Unvisited) ≡ true
     taken v below bad = marks.kept v (are.marked v ∙ are.failed v below ∙ bad)
 
 -- the counts are right again
 pub counts_failed : (plan : Shape) (phases : List Phase) (i : ℕ) (before t : Progress) → i < length phases → has_failed (get_or phases i Unstarted) ≡ true → AreCounts plan (set phases i Running) before
-    → t.unmet.items ≡ before.unmet.items → t.pending.items ≡ before.pending.items → t.running ≡ map is_running phases → ArePassed plan phases t.units → AreReady plan (is_gone plan t.units) phases t.unmet.items t.ready → t.left ≡ open_count plan (is_gone plan t.units) phases
+    → t.unmet.items ≡ before.unmet.items → t.pending.items ≡ before.pending.items → t.running ≡ map is_running phases → ArePropagated plan phases t.units → AreReady plan (is_skipped plan t.units) phases t.unmet.items t.ready → t.left ≡ open_count plan (is_skipped plan t.units) phases
     → AreCounts plan phases t
 counts_failed plan phases i before t within failed counts unmet pending running units ready left = record {
   unmet = λ j below. ap (λ xs. get_or xs j 0) unmet ∙ counts.unmet j below ∙ unmet_same plan (set phases i Running) phases same j;
@@ -160,9 +160,9 @@ counts_failed plan phases i before t within failed counts unmet pending running 
     same = as_before has_succeeded phases i within (sym (failed_not_succeeded (get_or phases i Unstarted) failed))
 
 -- the unit of the request is put on the worklist as it was before
-pub put_unit : (plan : Shape) (units between after : List Standing) (i u : ℕ) → between ≡ units → u ≡ unit_of plan i → after ≡ marked between u → after ≡ marked units (unit_of plan i)
+pub put_unit : (plan : Shape) (units between after : List Mark) (i u : ℕ) → between ≡ units → u ≡ unit_of plan i → after ≡ marked between u → after ≡ marked units (unit_of plan i)
 put_unit plan units between after i u same unit_is put = put ∙ ap (λ us. marked us u) same ∙ ap (marked units) unit_is
 
--- the same requests are gone
-pub gone_put : (plan : Shape) (units after : List Standing) (i : ℕ) → unit_of plan i < length units → after ≡ marked units (unit_of plan i) → (j : ℕ) → is_gone plan units j ≡ is_gone plan after j
-gone_put plan units after i known put j = gone_marked plan units after j (subst (HaveMarked units) (sym put) (put_marks units (unit_of plan i) known))
+-- the same requests are skipped
+pub skipped_put : (plan : Shape) (units after : List Mark) (i : ℕ) → unit_of plan i < length units → after ≡ marked units (unit_of plan i) → (j : ℕ) → is_skipped plan units j ≡ is_skipped plan after j
+skipped_put plan units after i known put j = skipped_marked plan units after j (subst (HaveMarked units) (sym put) (put_marks units (unit_of plan i) known))

@@ -7,7 +7,7 @@ use Rattle.odb_check.specs.Shape.{Shape, IsPlan, unit_of, needs_of}
 use Rattle.odb_doc.specs.declared.outcome.Outcome.{Outcome}
 use Rattle.odb_sched.specs.Statuses.{is_success}
 use Rattle.odb_sched.specs.Laws.{SucceedsByMembers}
-use Rattle.odb_sched.specs.Failing.{Fails, own, passed, fails, fails_within, needs_failed, unit_needed}
+use Rattle.odb_sched.specs.Failing.{Fails, own, propagated, fails, fails_within, needs_failed, unit_needed}
 use Rattle.odb_sched.proofs.BelowLemmas.{any_below-Decides, list_any-from, list_any-some}
 
 -- what a request needs of another unit is of an earlier one
@@ -40,7 +40,7 @@ Fails-from_fails_within plan bad (suc rounds) u e = whole ((any_below-Decides (l
         let here : unit_of plan i ≡ u = eqb-true _ _ parts.0 in
         subst (Fails plan bad) here (elim (or_cases (bad i) (needs_failed plan (fails_within plan bad rounds) i) parts.1) [
           | inl is_bad ↦ own i within is_bad
-          | inr needs ↦ let (need, has, other, failed) = needs_failed-some plan (fails_within plan bad rounds) i needs in passed i need within has other (fewer (unit_needed plan need) failed)
+          | inr needs ↦ let (need, has, other, failed) = needs_failed-some plan (fails_within plan bad rounds) i needs in propagated i need within has other (fewer (unit_needed plan need) failed)
         ])
 
 fails_within-at : (plan : Shape) (bad : ℕ → Bool) (rounds i : ℕ) → i < length plan.units → (bad i || needs_failed plan (fails_within plan bad rounds) i) ≡ true → fails_within plan bad (suc rounds) (unit_of plan i) ≡ true
@@ -49,14 +49,14 @@ fails_within-at plan bad rounds i within e = (any_below-Decides (length plan.uni
 pub fails_within-from_Fails : (plan : Shape) (bad : ℕ → Bool) (u : ℕ) → IsPlan plan → Fails plan bad u → (rounds : ℕ) → u < rounds → fails_within plan bad rounds u ≡ true
 fails_within-from_Fails plan bad _ laws (own i within is_bad) zero below = absurd (omega arith)
 fails_within-from_Fails plan bad _ laws (own i within is_bad) (suc rounds) below = fails_within-at plan bad rounds i within (or_left _ _ is_bad)
-fails_within-from_Fails plan bad _ laws (passed i need within has other failing) zero below = absurd (omega arith)
-fails_within-from_Fails plan bad _ laws (passed i need within has other failing) (suc rounds) below =
+fails_within-from_Fails plan bad _ laws (propagated i need within has other failing) zero below = absurd (omega arith)
+fails_within-from_Fails plan bad _ laws (propagated i need within has other failing) (suc rounds) below =
     let earlier : unit_needed plan need < unit_of plan i = earlier_unit plan i need laws within has other in
     fails_within-at plan bad rounds i within (or_right _ _ (needs_failed-from plan (fails_within plan bad rounds) i need has other (fails_within-from_Fails plan bad (unit_needed plan need) laws failing rounds (omega arith))))
 
 Fails-counted : (plan : Shape) (bad : ℕ → Bool) (u : ℕ) → IsPlan plan → Fails plan bad u → u < plan.unit_count
 Fails-counted plan bad _ laws (own i within is_bad) = laws.counted i within
-Fails-counted plan bad _ laws (passed i need within has other failing) = laws.counted i within
+Fails-counted plan bad _ laws (propagated i need within has other failing) = laws.counted i within
 
 pub Fails-from_fails : (plan : Shape) (bad : ℕ → Bool) (u : ℕ) → fails plan bad u ≡ true → Fails plan bad u
 Fails-from_fails plan bad u e = Fails-from_fails_within plan bad plan.unit_count u e
@@ -64,17 +64,17 @@ Fails-from_fails plan bad u e = Fails-from_fails_within plan bad plan.unit_count
 pub fails-from_Fails : (plan : Shape) (bad : ℕ → Bool) (u : ℕ) → IsPlan plan → Fails plan bad u → fails plan bad u ≡ true
 fails-from_Fails plan bad u laws failing = fails_within-from_Fails plan bad u laws failing plan.unit_count (Fails-counted plan bad u laws failing)
 
--- where each bad request is of a unit that fails otherwise, so does each failing unit
+-- if the unit of each bad request fails under another test, so does each failing unit
 pub Fails-as : (plan : Shape) (bad other_bad : ℕ → Bool) (u : ℕ) → ((i : ℕ) → i < length plan.units → bad i ≡ true → Fails plan other_bad (unit_of plan i)) → Fails plan bad u → Fails plan other_bad u
 Fails-as plan bad other_bad _ each (own i within is_bad) = each i within is_bad
-Fails-as plan bad other_bad _ each (passed i need within has other failing) = passed i need within has other (Fails-as plan bad other_bad (unit_needed plan need) each failing)
+Fails-as plan bad other_bad _ each (propagated i need within has other failing) = propagated i need within has other (Fails-as plan bad other_bad (unit_needed plan need) each failing)
 
 -- no unit fails of which each member is good and needs other units only that do not fail
 pub unless_good : (plan : Shape) (bad : ℕ → Bool) (u : ℕ) → Fails plan bad u
     → ((i : ℕ) → i < length plan.units → unit_of plan i ≡ u → (bad i ≡ false) × ((need : Need) → Contains (needs_of plan i) need → unit_needed plan need ≢ u → fails plan bad (unit_needed plan need) ≡ false))
     → IsPlan plan → ⊥
 unless_good plan bad _ (own i within is_bad) each laws = both_ways _ (each i within refl).0 is_bad
-unless_good plan bad _ (passed i need within has other failing) each laws = both_ways _ ((each i within refl).1 need has other) (fails-from_Fails plan bad (unit_needed plan need) laws failing)
+unless_good plan bad _ (propagated i need within has other failing) each laws = both_ways _ ((each i within refl).1 need has other) (fails-from_Fails plan bad (unit_needed plan need) laws failing)
 
 pub succeeds_by_members : (plan : Shape) (table : ℕ → Outcome) (u : ℕ) → IsPlan plan → SucceedsByMembers plan table u
 succeeds_by_members plan table u laws = (
@@ -82,7 +82,7 @@ succeeds_by_members plan table u laws = (
     not-false _ (false_from_ne_true _ (λ is_bad. both_ways _ (not-true _ good) (subst (λ v. fails plan bad v ≡ true) here (fails-from_Fails plan bad (unit_of plan i) laws (own i within is_bad))))),
     (λ need has other. not_from_false _ (false_from_ne_true _ (λ failing. both_ways _ (not-true _ good)
         (subst (λ v. fails plan bad v ≡ true) here (fails-from_Fails plan bad (unit_of plan i) laws
-        (passed i need within has (λ same. other (same ∙ here)) (Fails-from_fails plan bad (unit_needed plan need) failing))))))),
+        (propagated i need within has (λ same. other (same ∙ here)) (Fails-from_fails plan bad (unit_needed plan need) failing))))))),
   )),
   (λ each. not_from_false _ (false_from_ne_true _ (λ failing. unless_good plan bad u (Fails-from_fails plan bad u failing)
       (λ i within here. let (good, needs) = each i within here in (not_from_true _ good, (λ need has other. not-true _ (needs need has other)))) laws))),

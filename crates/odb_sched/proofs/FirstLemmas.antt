@@ -8,17 +8,17 @@ use Rattle.odb_check.specs.declared.need.Need.{Need}
 use Rattle.odb_check.specs.declared.need.Need.TheVariants.{One, Group}
 use Rattle.odb_check.specs.Firsts.{count_below, list_below}
 use Rattle.odb_check.specs.Shape.{Shape, IsPlan, unit_of, needs_of}
-use Rattle.odb_dense.specs.declared.worklist.Standing.TheVariants.{Sound}
-use Rattle.odb_dense.specs.Standings.{is_marked, is_passed}
+use Rattle.odb_dense.specs.declared.worklist.Mark.TheVariants.{Unvisited}
+use Rattle.odb_dense.specs.Marks.{is_marked, is_visited}
 use Rattle.odb_sched.specs.declared.phase.Phase.{Phase}
 use Rattle.odb_sched.specs.declared.phase.Phase.TheVariants.{Unstarted}
 use Rattle.odb_sched.specs.declared.progress.Progress.{Progress}
 use Rattle.odb_sched.specs.Phases.{is_running, is_unstarted, is_reported, has_succeeded, has_failed}
-use Rattle.odb_sched.specs.Failing.{Fails, own, passed, unit_needed}
+use Rattle.odb_sched.specs.Failing.{Fails, own, propagated, unit_needed}
 use Rattle.odb_sched.specs.FirstCounts.{needs_in, members_in, need_counts, member_counts}
 use Rattle.odb_sched.specs.Plans.{IsSpan, IsNeed}
-use Rattle.odb_sched.specs.Steps.{met_in, failed_in}
-use Rattle.odb_sched.specs.ProgressCounts.{AreCounts, AreReady, ArePassed, is_gone, open_count, pending_in, unmet_in}
+use Rattle.odb_sched.specs.Steps.{satisfied_in, failed_in}
+use Rattle.odb_sched.specs.ProgressCounts.{AreCounts, AreReady, ArePropagated, is_skipped, open_count, pending_in, unmet_in}
 use Rattle.odb_sched.proofs.CountLemmas.{count_same, count_none}
 use Rattle.odb_sched.proofs.FailingLemmas.{Fails-from_fails}
 use Rattle.odb_sched.proofs.PhaseLemmas.{get_or-replicate_Unstarted}
@@ -26,7 +26,7 @@ use Rattle.odb_sched.proofs.PlanLemmas.{length-list_below, get_or-list_below}
 use Rattle.odb_sched.proofs.SpanLemmas.{known_needs}
 use Rattle.odb_sched.proofs.UnmetLemmas.{none_pending}
 
--- where a test passes from one number up to another, so many are counted
+-- if a test passes from one number up to another, so many are counted
 count_from : (n from : ℕ) (test : ℕ → Bool) → from ≤ n → ((i : ℕ) → i < n → (test i ≡ true) ↔ (from ≤ i)) → count_below n test ≡ n - from
 count_from zero from test within exact = omega arith
 count_from (suc n) from test within exact = elim (cases_lt n from) [
@@ -60,12 +60,12 @@ counted_more n count value counts before here =
     let next : suc n ≡ n + 1 = omega arith in
     ap (λ ns. ns ++ count ∷ []) before ∙ ap (λ m. list_below n value ++ m ∷ []) here ∙ ap (λ m. list_below m value) next
 
--- where each number passes, all are counted
+-- if each number passes, all are counted
 count_each : (n : ℕ) (test : ℕ → Bool) → ((i : ℕ) → i < n → test i ≡ true) → count_below n test ≡ n
 count_each zero test each = refl
 count_each (suc n) test each = rw (each n (omega arith), count_each n test (λ i below. each i (omega arith))) refl
 
--- where each element passes, all are counted
+-- if each element passes, all are counted
 count_elements : {X : Type 0} (test : X → Bool) (xs : List X) → All (λ x. test x ≡ true) xs → count_by test xs ≡ length xs
 count_elements test [] each = refl
 count_elements test (x ∷ xs) each =
@@ -80,7 +80,7 @@ fresh plan = replicate (length plan.units) Unstarted
 fresh_at : (plan : Shape) (i : ℕ) → get_or (fresh plan) i Unstarted ≡ Unstarted
 fresh_at plan i = get_or-replicate_Unstarted (length plan.units) i
 
--- so all members are left
+-- so all members are pending
 pending_first : (plan : Shape) (u : ℕ) → pending_in plan (fresh plan) u ≡ members_in plan u
 pending_first plan u = count_same (length plan.units) _ _ (λ i below. rw (ap has_succeeded (fresh_at plan i)) (at (unit_of plan i == u)))
   where
@@ -89,66 +89,66 @@ pending_first plan u = count_same (length plan.units) _ _ (λ i below. rw (ap ha
     at false = refl
 
 -- and nothing is satisfied
-not_met : (plan : Shape) (need : Need) → ((u : ℕ) → u < plan.unit_count → 0 < members_in plan u) → IsNeed plan need → met_in plan (fresh plan) need ≡ false
-not_met plan (One r) some known = ap has_succeeded (fresh_at plan r)
-not_met plan (Group u) some known =
+not_satisfied : (plan : Shape) (need : Need) → ((u : ℕ) → u < plan.unit_count → 0 < members_in plan u) → IsNeed plan need → satisfied_in plan (fresh plan) need ≡ false
+not_satisfied plan (One r) some known = ap has_succeeded (fresh_at plan r)
+not_satisfied plan (Group u) some known =
     let left : 0 < members_in plan u = some u known in
     sym (none_pending plan (fresh plan) u) ∙ ne_eqb _ 0 (λ none. omega (arith, pending_first plan u))
 
 unmet_first : (plan : Shape) (i : ℕ) → IsPlan plan → ((u : ℕ) → u < plan.unit_count → 0 < members_in plan u) → i < length plan.units → needs_in plan i ≡ unmet_in plan (fresh plan) i
-unmet_first plan i laws some within = sym (count_elements (λ need. not (met_in plan (fresh plan) need)) (needs_of plan i) (λ k d below.
-    ap not (not_met plan (get_or (needs_of plan i) k d) some (known_needs plan i laws within k d below))))
+unmet_first plan i laws some within = sym (count_elements (λ need. not (satisfied_in plan (fresh plan) need)) (needs_of plan i) (λ k d below.
+    ap not (not_satisfied plan (get_or (needs_of plan i) k d) some (known_needs plan i laws within k d below))))
 
--- no unit fails where no request is bad
+-- no unit fails if no request is bad
 none_fails : (plan : Shape) (bad : ℕ → Bool) (u : ℕ) → ((i : ℕ) → bad i ≡ false) → Fails plan bad u → ⊥
 none_fails plan bad _ good (own i within is_bad) = both_ways _ (good i) is_bad
-none_fails plan bad _ good (passed i need within has other failing) = none_fails plan bad (unit_needed plan need) good failing
+none_fails plan bad _ good (propagated i need within has other failing) = none_fails plan bad (unit_needed plan need) good failing
 
 none_failed : (plan : Shape) (u : ℕ) → failed_in plan (fresh plan) u ≡ false
 none_failed plan u = false_from_ne_true _ (λ failing. none_fails plan (λ i. has_failed (get_or (fresh plan) i Unstarted)) u (λ i. ap has_failed (fresh_at plan i)) (Fails-from_fails plan _ u failing))
 
--- each unit of a new worklist is sound, those past the end too
-sound_at : (n u : ℕ) → get_or (replicate n Sound) u Sound ≡ Sound
+-- each unit of a new worklist is unvisited, those past the end too
+sound_at : (n u : ℕ) → get_or (replicate n Unvisited) u Unvisited ≡ Unvisited
 sound_at n u = elim (cases_lt u n) [
-  | inl within ↦ get_or-replicate n u Sound Sound within
-  | inr past ↦ get_or_past (replicate n Sound) u Sound (rw (length-replicate n Sound) past)
+  | inl within ↦ get_or-replicate n u Unvisited Unvisited within
+  | inr past ↦ get_or_past (replicate n Unvisited) u Unvisited (rw (length-replicate n Unvisited) past)
 ]
 
-passed_first : (plan : Shape) → ArePassed plan (fresh plan) (replicate plan.unit_count Sound)
-passed_first plan = record {
-  each = length-replicate plan.unit_count Sound;
-  failed = λ u inside. ap is_passed (sound_at plan.unit_count u) ∙ sym (none_failed plan u);
-  marked = λ u. ap is_marked (sound_at plan.unit_count u) ∙ sym (ap is_passed (sound_at plan.unit_count u));
+propagated_first : (plan : Shape) → ArePropagated plan (fresh plan) (replicate plan.unit_count Unvisited)
+propagated_first plan = record {
+  each = length-replicate plan.unit_count Unvisited;
+  failed = λ u inside. ap is_visited (sound_at plan.unit_count u) ∙ sym (none_failed plan u);
+  marked = λ u. ap is_marked (sound_at plan.unit_count u) ∙ sym (ap is_visited (sound_at plan.unit_count u));
 }
 
--- and no request is gone
-not_gone : (plan : Shape) (i : ℕ) → is_gone plan (replicate plan.unit_count Sound) i ≡ false
-not_gone plan i = ap is_passed (sound_at plan.unit_count (unit_of plan i))
+-- and no request is skipped
+not_skipped : (plan : Shape) (i : ℕ) → is_skipped plan (replicate plan.unit_count Unvisited) i ≡ false
+not_skipped plan i = ap is_visited (sound_at plan.unit_count (unit_of plan i))
 
 none_running : (n : ℕ) → replicate n false ≡ map is_running (replicate n Unstarted)
 none_running zero = refl
 none_running (suc n) = ap (λ (bs : List Bool). false ∷ bs) (none_running n)
 
 ready_first : (plan : Shape) (free : List Bool) → length free ≡ length plan.units → ((i : ℕ) → i < length plan.units → get_or free i false ≡ (needs_in plan i == 0))
-    → AreReady plan (is_gone plan (replicate plan.unit_count Sound)) (fresh plan) (need_counts plan) free
+    → AreReady plan (is_skipped plan (replicate plan.unit_count Unvisited)) (fresh plan) (need_counts plan) free
 ready_first plan free each exact = record {
   counted = length-list_below (length plan.units) (needs_in plan);
   each = each;
-  exact = λ i within. exact i within ∙ rw (ap is_unstarted (fresh_at plan i), not_gone plan i, get_or-list_below (length plan.units) i (needs_in plan) 0 within) refl;
+  exact = λ i within. exact i within ∙ rw (ap is_unstarted (fresh_at plan i), not_skipped plan i, get_or-list_below (length plan.units) i (needs_in plan) 0 within) refl;
 }
 
-open_first : (plan : Shape) → length plan.units ≡ open_count plan (is_gone plan (replicate plan.unit_count Sound)) (fresh plan)
-open_first plan = sym (count_each (length plan.units) _ (λ i within. rw (ap is_reported (fresh_at plan i), not_gone plan i) refl))
+open_first : (plan : Shape) → length plan.units ≡ open_count plan (is_skipped plan (replicate plan.unit_count Unvisited)) (fresh plan)
+open_first plan = sym (count_each (length plan.units) _ (λ i within. rw (ap is_reported (fresh_at plan i), not_skipped plan i) refl))
 
 -- the counts of needs and members are right before any event
-pub first_counts : (plan : Shape) (t : Progress) → IsPlan plan → t.unmet.items ≡ need_counts plan → t.pending.items ≡ member_counts plan → All (λ count. 0 < count) t.pending.items → t.units ≡ replicate plan.unit_count Sound
+pub first_counts : (plan : Shape) (t : Progress) → IsPlan plan → t.unmet.items ≡ need_counts plan → t.pending.items ≡ member_counts plan → All (λ count. 0 < count) t.pending.items → t.units ≡ replicate plan.unit_count Unvisited
     → length t.ready ≡ length plan.units → ((i : ℕ) → i < length plan.units → get_or t.ready i false ≡ (needs_in plan i == 0)) → t.running ≡ replicate (length plan.units) false → t.left ≡ length plan.units
     → AreCounts plan (fresh plan) t
 first_counts plan t laws unmet pending some units each exact running left = record {
   unmet = λ i within. ap (λ ns. get_or ns i 0) unmet ∙ get_or-list_below (length plan.units) i (needs_in plan) 0 within ∙ unmet_first plan i laws populated within;
   members = ap length pending ∙ length-list_below plan.unit_count (members_in plan);
   pending = λ u inside. member_count u inside ∙ sym (pending_first plan u);
-  units = rw units (passed_first plan);
+  units = rw units (propagated_first plan);
   ready = rw (units, unmet) (ready_first plan t.ready each exact);
   running = running ∙ none_running (length plan.units);
   left = rw units (left ∙ open_first plan);

@@ -32,35 +32,35 @@ may_report-none state i outcome e = sym (report_refusal-may_report state i outco
 pub may_report-some : (state : State) (i : ℕ) (outcome : Outcome) (cause : ReportRefusal) → report_refusal state i outcome ≡ Some cause → may_report state i outcome ≡ false
 may_report-some state i outcome cause e = sym (report_refusal-may_report state i outcome) ∙ ap is_none e
 
--- what stood before a write is there again after a second
+-- a second write restores the phase before the first
 pub set_back : (phases : List Phase) (i : ℕ) (before new : Phase) → get_or phases i Unstarted ≡ before → set (set phases i new) i before ≡ phases
 set_back [] i before new e = refl
 set_back (phase ∷ phases) zero before new e = ap (λ p. p ∷ phases) (sym e)
 set_back (phase ∷ phases) (suc i) before new e = ap (λ ps. phase ∷ ps) (set_back phases i before new e)
 
--- after a write, what stood before it is what its place had
-pub written_back : (s : Inside) (i : ℕ) (before new : Phase) (written told : List Phase) → written ≡ set s.phases.items i new → length written ≡ s.phases.len → told ≡ (with_items s.phases written).items → get_or s.phases.items i Unstarted ≡ before
-    → set told i before ≡ s.phases.items
-written_back s i before new written told write len tell stood = ap (λ phases. set phases i before) (tell ∙ with_items_is s.phases written len ∙ write) ∙ set_back s.phases.items i before new stood
+-- writing the old phase back restores the phases
+pub written_back : (s : Inside) (i : ℕ) (before new : Phase) (written new_phases : List Phase) → written ≡ set s.phases.items i new → length written ≡ s.phases.len → new_phases ≡ (with_items s.phases written).items → get_or s.phases.items i Unstarted ≡ before
+    → set new_phases i before ≡ s.phases.items
+written_back s i before new written new_phases write len new_is was = ap (λ phases. set phases i before) (new_is ∙ with_items_is s.phases written len ∙ write) ∙ set_back s.phases.items i before new was
 
 -- a request's new phase is written, and the tracker follows
-pub kept_written : (s : Inside) (i : ℕ) (new : Phase) (written told : List Phase) (tracker : Tracker) → written ≡ set s.phases.items i new → length written ≡ s.phases.len
-    → IsReached (state_of s.plan.now s.policy (set s.phases.items i new)) → told ≡ (with_items s.phases written).items → IsTracked (state_of s.plan.now s.policy told) tracker
+pub kept_written : (s : Inside) (i : ℕ) (new : Phase) (written new_phases : List Phase) (tracker : Tracker) → written ≡ set s.phases.items i new → length written ≡ s.phases.len
+    → IsReached (state_of s.plan.now s.policy (set s.phases.items i new)) → new_phases ≡ (with_items s.phases written).items → IsTracked (state_of s.plan.now s.policy new_phases) tracker
     → IsKept (record { plan = s.plan; policy = s.policy; phases = with_items s.phases written; tracker = tracker })
-kept_written s i new written told tracker write len reached tell are = record {
+kept_written s i new written new_phases tracker write len reached new_is are = record {
   reached = subst (λ phases. IsReached (state_of s.plan.now s.policy phases)) (sym (with_items_is s.phases written len ∙ write)) reached;
-  tracker = subst (λ phases. IsTracked (state_of s.plan.now s.policy phases) tracker) tell are;
+  tracker = subst (λ phases. IsTracked (state_of s.plan.now s.policy phases) tracker) new_is are;
 }
 
--- a run is finished exactly where none may start and none runs
+-- a run is finished exactly when none may start and none runs
 pub finished_idle : (state : State) → IsReached state → IsTrue (is_finished state) ↔ ((i : ℕ) → i < size state → (may_start state i ≡ false) × (is_running (phase_at state i) ≡ false))
 finished_idle state reached = (
   (λ finished i within. (none_starts state i finished within, none_runs state i finished within)),
-  (λ idle. true_from_ne_false _ (λ unfinished. some_goes (never_stuck state reached unfinished) idle)),
+  (λ idle. true_from_ne_false _ (λ unfinished. not_idle (never_stuck state reached unfinished) idle)),
 )
   where
-    some_goes : (i : ℕ) × (i < size state) × ((is_running (phase_at state i) ≡ true) ⊎ (may_start state i ≡ true)) → ((i : ℕ) → i < size state → (may_start state i ≡ false) × (is_running (phase_at state i) ≡ false)) → ⊥
-    some_goes (i, within, some) idle = elim some [
+    not_idle : (i : ℕ) × (i < size state) × ((is_running (phase_at state i) ≡ true) ⊎ (may_start state i ≡ true)) → ((i : ℕ) → i < size state → (may_start state i ≡ false) × (is_running (phase_at state i) ≡ false)) → ⊥
+    not_idle (i, within, some) idle = elim some [
       | inl runs ↦ both_ways _ (idle i within).1 runs
       | inr starts ↦ both_ways _ (idle i within).0 starts
     ]

@@ -2,7 +2,7 @@ pub mod BelowLemmas
 pub mod FailingLemmas
 pub mod PlanLemmas
 pub mod PhaseLemmas
-pub mod MetLemmas
+pub mod SatisfiedLemmas
 pub mod StartLemmas
 pub mod CauseLemmas
 pub mod StuckLemmas
@@ -16,7 +16,7 @@ pub mod ListLemmas
 pub mod CountLemmas
 pub mod CompletingLemmas
 pub mod PropagateLemmas
-pub mod NeederLemmas
+pub mod DependentLemmas
 pub mod NeedPairLemmas
 pub mod FirstLemmas
 pub mod SkippedLemmas

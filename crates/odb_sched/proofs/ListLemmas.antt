@@ -6,14 +6,14 @@ use Rattle.std.proofs.lemmas.List.{take_all}
 use Rattle.odb_dense.specs.Lists.{ListsOnce}
 use Rattle.odb_sched.proofs.BelowLemmas.{find-all}
 
--- where the tests agree, so do the lists
+-- if the tests agree, so do the lists
 pub lists_alike : (n : ℕ) (test other : ℕ → Bool) (xs : List ℕ) → ((i : ℕ) → i < n → test i ≡ other i) → ListsOnce n test xs → ListsOnce n other xs
 lists_alike n test other xs same listed i = listed i ∙ elim (cases_lt i n) [
   | inl within ↦ rw (same i within) refl
   | inr past ↦ rw (le-ltb i n past) refl
 ]
 
--- nothing passes where nothing is listed
+-- nothing passes if nothing is listed
 pub none_listed : (n : ℕ) (test : ℕ → Bool) (i : ℕ) → ListsOnce n test [] → i < n → test i ≡ false
 none_listed n test i listed within = at (test i) (subst (λ b. ◌≡◌ {A = ℕ} 0 (if b && test i then 1 else 0)) (lt-ltb i n within) (listed i))
   where
@@ -23,10 +23,10 @@ none_listed n test i listed within = at (test i) (subst (λ b. ◌≡◌ {A = �
 
 -- the first element that does not pass, after a prefix that does
 pub find_first : {X : Type 0} (test : X → Bool) (xs : List X) (k : ℕ) (d : X) → k < length xs → list_all test (take k xs) ≡ true → test (get_or xs k d) ≡ false → find (λ x. not (test x)) xs ≡ Some (get_or xs k d)
-find_first test [] k d within front here = absurd (omega arith)
-find_first test (x ∷ xs) zero d within front here = rw here refl
-find_first test (x ∷ xs) (suc k) d within front here =
-    let parts = and_parts (test x) (list_all test (take k xs)) front in
+find_first test [] k d within before here = absurd (omega arith)
+find_first test (x ∷ xs) zero d within before here = rw here refl
+find_first test (x ∷ xs) (suc k) d within before here =
+    let parts = and_parts (test x) (list_all test (take k xs)) before in
     rw parts.0 (find_first test xs k d (omega arith) parts.1 here)
 
 none_from : {X : Type 0} (found : Option X) → is_none found ≡ true → None ≡ found
@@ -35,4 +35,4 @@ none_from (Some x) e = absurd (true≢false (sym e))
 
 -- all elements pass
 pub find_nothing : {X : Type 0} (test : X → Bool) (xs : List X) (k : ℕ) → length xs ≤ k → list_all test (take k xs) ≡ true → None ≡ find (λ x. not (test x)) xs
-find_nothing test xs k done front = none_from _ (find-all test xs ∙ subst (λ ys. list_all test ys ≡ true) (take_all k xs done) front)
+find_nothing test xs k done before = none_from _ (find-all test xs ∙ subst (λ ys. list_all test ys ≡ true) (take_all k xs done) before)

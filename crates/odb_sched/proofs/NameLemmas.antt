@@ -10,13 +10,13 @@ use Rattle.odb_sched.specs.declared.event.Event.{Event}
 use Rattle.odb_sched.specs.declared.event.Event.TheVariants.{Start}
 use Rattle.odb_sched.specs.Phases.{has_succeeded}
 use Rattle.odb_sched.specs.State.{State, phase_at, shape, at_first}
-use Rattle.odb_sched.specs.Steps.{is_met, all_met}
+use Rattle.odb_sched.specs.Steps.{is_satisfied, all_satisfied}
 use Rattle.odb_sched.specs.Runs.{IsRun, state_after}
 use Rattle.odb_sched.specs.Laws.{HasSuccess, HaveSucceeded, StartsLast}
 use Rattle.odb_sched.proofs.PlanLemmas.{length-shape, group_at-within}
 use Rattle.odb_sched.proofs.BelowLemmas.{list_all-each}
 use Rattle.odb_sched.proofs.PhaseLemmas.{get_or-replicate_Unstarted}
-use Rattle.odb_sched.proofs.MetLemmas.{member_succeeded}
+use Rattle.odb_sched.proofs.SatisfiedLemmas.{member_succeeded}
 use Rattle.odb_sched.proofs.StartLemmas.{may_start-parts}
 use Rattle.odb_sched.proofs.RunLemmas.{shape-after_all, cut}
 use Rattle.odb_sched.proofs.EventLemmas.{success_among}
@@ -29,23 +29,23 @@ success_in source policy events r done = elim (success_among (at_first source po
 ]
 
 -- if the dependencies of a request are satisfied, what it names has succeeded
-pub named-succeeded : (source : Plan) (state : State) (i : ℕ) → HasNamesAsNeeds (plan_records source) (shape source) → state.shape ≡ shape source → all_met state i ≡ true → HaveSucceeded (plan_records source) state i
-named-succeeded source state i named same met =
+pub named-succeeded : (source : Plan) (state : State) (i : ℕ) → HasNamesAsNeeds (plan_records source) (shape source) → state.shape ≡ shape source → all_satisfied state i ≡ true → HaveSucceeded (plan_records source) state i
+named-succeeded source state i named same satisfied =
     record {
       ids = λ name r has at. one r (named.names_id i name r has at);
       groups = λ name j has at. member_succeeded state.shape state.phases (unit_of state.shape j) j
-          (list_all-each (is_met state) (needs_of state.shape i) (Group (unit_of state.shape j)) met (rw same (named.names_group i name j has at)))
+          (list_all-each (is_satisfied state) (needs_of state.shape i) (Group (unit_of state.shape j)) satisfied (rw same (named.names_group i name j has at)))
           (rw (same, length-shape source) (group_at-within (plan_records source) j name at)) refl;
       references = λ name r refers at. one r (named.refers i name r refers at);
     }
   where
     one : (r : ℕ) → Contains (needs_of (shape source) i) (One r) → has_succeeded (phase_at state r) ≡ true
-    one r has = list_all-each (is_met state) (needs_of state.shape i) (One r) met (rw same has)
+    one r has = list_all-each (is_satisfied state) (needs_of state.shape i) (One r) satisfied (rw same has)
 
 pub dependencies_first : (source : Plan) (policy : Policy) (events : List Event) → HasNamesAsNeeds (plan_records source) (shape source) → IsRun source policy events → StartsLast (plan_records source) events
 dependencies_first source policy events named run before later i whole =
     let parts = cut (at_first source policy) before (Start i) later (subst (IsRun source policy) whole run) in
-    let done = named-succeeded source (state_after source policy before) i named (shape-after_all (at_first source policy) before) (may_start-parts (state_after source policy before) i parts.may).met in
+    let done = named-succeeded source (state_after source policy before) i named (shape-after_all (at_first source policy) before) (may_start-parts (state_after source policy before) i parts.may).satisfied in
     record {
       ids = λ name r has at. success_in source policy before r (done.ids name r has at);
       groups = λ name j has at. success_in source policy before j (done.groups name j has at);

@@ -1,4 +1,4 @@
--- The rows of the pairs of all needs have who needs what, as often as it does.
+-- The rows of the pairs of all needs have the dependents of each key, as often as they need it.
 use Rattle.std.proofs.Common.{◌≡◌, ◌≢◌, ℕ, zero, suc, ◌<◌, ◌≤◌, ◌+◌, ◌==◌, ◌∙◌, sym, ap, refl, subst, arith, Bool, true, false, cond, if◌then◌else◌, eq-eqb, ne_eqb, List, [], ◌∷◌, ◌++◌, length, get_or, map, inl, inr, All, count_by, Result, Ok, Err, IfOk}
 use Rattle.std.proofs.lemmas.Bool.{cases_lt}
 use Rattle.std.proofs.lemmas.List.Sums.{sum_by-cons, sum_by-append}
@@ -9,7 +9,7 @@ use Rattle.odb_check.specs.Firsts.{joined_below}
 use Rattle.odb_check.specs.Shape.{Shape, IsPlan, needs_of}
 use Rattle.odb_dense.specs.ByKey.{of_key, HaveKeys}
 use Rattle.odb_sched.specs.Plans.{IsNeed}
-use Rattle.odb_sched.specs.ProgressCounts.{AreNeeders, key_of, need_count}
+use Rattle.odb_sched.specs.ProgressCounts.{AreDependents, key_of, need_count}
 use Rattle.odb_sched.specs.NeedPairs.{need_pairs, all_pairs}
 use Rattle.odb_sched.proofs.SpanLemmas.{known_needs}
 
@@ -22,7 +22,7 @@ of_key-append key (p ∷ ps) qs = at (p.0 == key) (of_key-append key ps qs)
     at true rest = ap (λ (xs : List ℕ). p.1 ∷ xs) rest
     at false rest = rest
 
--- a request stands in the row of its own pairs once for each need with the key
+-- a request is in the row of its own pairs once for each need with the key
 count_own : (plan : Shape) (key i : ℕ) (needs : List Need) → count_by (λ j. j == i) (of_key key (map (λ need. (key_of plan need, i)) needs)) ≡ count_by (λ need. key_of plan need == key) needs
 count_own plan key i [] = refl
 count_own plan key i (need ∷ needs) =
@@ -56,7 +56,7 @@ count_before : (plan : Shape) (key i n : ℕ) → n ≤ i → count_by (λ j. j 
 count_before plan key i zero before = refl
 count_before plan key i (suc n) before = count_next plan key i n ∙ rw (count_before plan key i n (omega arith), count_other plan key i n (needs_of plan n) (λ e. omega arith)) refl
 
--- a request stands in a row as often as it needs what has the key
+-- a request is in a row as often as it needs what has the key
 count_all : (plan : Shape) (key i n : ℕ) → i < n → count_by (λ j. j == i) (of_key key (joined_below n (need_pairs plan))) ≡ need_count plan key i
 count_all plan key i zero within = absurd (omega arith)
 count_all plan key i (suc n) within = count_next plan key i n ∙ elim (cases_lt i n) [
@@ -87,7 +87,7 @@ pairs_within : (plan : Shape) → All (λ (p : ℕ × ℕ). p.1 < length plan.un
 pairs_within plan = each_joined (λ p. p.1 < length plan.units) (length plan.units) (need_pairs plan) (λ i within.
     All-map (λ p. p.1 < length plan.units) (λ need. (key_of plan need, i)) (needs_of plan i) (λ k d below. within))
 
--- what is needed has a key
+-- each need has a key
 key_within : (plan : Shape) (need : Need) → IsNeed plan need → key_of plan need < length plan.units + plan.unit_count
 key_within plan (One r) known = omega arith
 key_within plan (Group u) known = omega arith
@@ -99,15 +99,15 @@ pairs_keyed plan keys ps laws all are = λ k below. All-get_or (λ (p : ℕ × �
     All-map (λ p. p.0 < length plan.units + plan.unit_count) (λ need. (key_of plan need, i)) (needs_of plan i)
     (All-weaker (IsNeed plan) (λ need. key_of plan need < length plan.units + plan.unit_count) (key_within plan) (needs_of plan i) (known_needs plan i laws within)))))
 
--- the rows of all pairs are those of the needers
-rows_are : (plan : Shape) (rows : List (List ℕ)) → length rows ≡ length plan.units + plan.unit_count → ((key : ℕ) → key < length rows → get_or rows key [] ≡ of_key key (all_pairs plan)) → AreNeeders plan rows
+-- the rows of all pairs are those of the dependents
+rows_are : (plan : Shape) (rows : List (List ℕ)) → length rows ≡ length plan.units + plan.unit_count → ((key : ℕ) → key < length rows → get_or rows key [] ≡ of_key key (all_pairs plan)) → AreDependents plan rows
 rows_are plan rows each are = record {
   each = each;
   within = λ key below. subst (All (λ i. i < length plan.units)) (sym (are key below)) (row_within key (length plan.units) (all_pairs plan) (pairs_within plan));
   exact = λ key i below inside. ap (count_by (λ j. j == i)) (are key below) ∙ count_all plan key i (length plan.units) inside;
 }
 
-pub needers_are : {E : Type 0} (plan : Shape) (keys : ℕ) (ps : List (ℕ × ℕ)) (result : Result (List (List ℕ)) E) → keys ≡ length plan.units + plan.unit_count → ps ≡ all_pairs plan
-    → IfOk result (λ rows. length rows ≡ keys) → IfOk result (λ rows. (key : ℕ) → key < keys → get_or rows key [] ≡ of_key key ps) → IfOk result (AreNeeders plan)
-needers_are plan keys ps (Ok rows) all are each of = rows_are plan rows (each ∙ all) (λ key below. of key (subst (λ n. key < n) each below) ∙ ap (of_key key) are)
-needers_are plan keys ps (Err e) all are each of = _
+pub dependents_are : {E : Type 0} (plan : Shape) (keys : ℕ) (ps : List (ℕ × ℕ)) (result : Result (List (List ℕ)) E) → keys ≡ length plan.units + plan.unit_count → ps ≡ all_pairs plan
+    → IfOk result (λ rows. length rows ≡ keys) → IfOk result (λ rows. (key : ℕ) → key < keys → get_or rows key [] ≡ of_key key ps) → IfOk result (AreDependents plan)
+dependents_are plan keys ps (Ok rows) all are each of = rows_are plan rows (each ∙ all) (λ key below. of key (subst (λ n. key < n) each below) ∙ ap (of_key key) are)
+dependents_are plan keys ps (Err e) all are each of = _

@@ -45,17 +45,17 @@ step_one order.Wide ready running (step.Start i) (step.Report j) a b = absurd (b
 step_one order.Wide ready running (step.Report i) (step.Start j) a b = absurd (both_ways _ (a.0 j) b.among)
 step_one order.Wide ready running (step.Report i) (step.Report j) a b = ap step.Report (least_one running i j a.1 b.1)
 
--- no event may come where the run is finished
+-- no event may come if the run is finished
 none_comes : (state : State) (event : Event) → is_finished state ≡ true → event_position event < size state → may_come state event ≡ true → ⊥
 none_comes state (Start i) finished within may = both_ways _ (none_starts state i finished within) may
 none_comes state (Report i outcome) finished within may = both_ways _ (none_runs state i finished within) (and_parts _ (is_status outcome.status) may).0
 
--- no report takes the answer
+-- no event reports the answer
 abbrev IsRefused : Result Outcome ServiceFault → Type 0
 IsRefused (Ok outcome) = is_status outcome.status ≡ false
 IsRefused (Err cause) = Unit {0}
 
--- the fault that such an answer is
+-- the fault of such an answer
 abbrev fault_of : ℕ → Result Outcome ServiceFault → ExecFault
 fault_of i (Ok outcome) = fault.BadStatus i
 fault_of i (Err service.NoOutcome) = fault.NoOutcome i
@@ -93,7 +93,7 @@ module _ (name : Order) (noted : List (Option Outcome)) where
       let equal : outcome ≡ other = outcome_one (Ok outcome) outcome other refl (answer_one i j (Ok outcome) (Ok other) here x y) in
       cc
 
-  -- a report that is allowed and refused leaves no event
+  -- after a report that is allowed and refused there is no event
   none_after : (state : State) (e : Event) (i : ℕ) (a : Result Outcome ServiceFault) → IsAllowed (AllowsOrder name) state (step_of e) → IsOffered (OffersRecorded noted) e → may_come state e ≡ true
       → IsAllowed (AllowsOrder name) state (step.Report i) → OffersRecorded noted i a → IsRefused a → ⊥
   none_after state (Start j) i a comes offered may due given refused =
@@ -117,7 +117,7 @@ module _ (name : Order) (noted : List (Option Outcome)) where
       (subst (λ g. is_finished (after_all (after state g) fs) ≡ true) (sym same) finished') in
       cc
 
-  -- no run is finished where another is due a report that is refused
+  -- no run finishes if another is due a report that is refused
   never_both : (es fs : List Event) (state : State) (i : ℕ) (a : Result Outcome ServiceFault)
       → IsRunFrom state es → AreChosen (AllowsOrder name) (OffersRecorded noted) state es → is_finished (after_all state es) ≡ true
       → IsRunFrom state fs → AreChosen (AllowsOrder name) (OffersRecorded noted) state fs

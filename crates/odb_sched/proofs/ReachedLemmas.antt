@@ -15,11 +15,11 @@ use Rattle.odb_sched.specs.declared.event.Event.TheVariants.{Start, Report}
 use Rattle.odb_sched.specs.Statuses.{is_status}
 use Rattle.odb_sched.specs.Phases.{is_unstarted, is_running, has_succeeded}
 use Rattle.odb_sched.specs.State.{State, size, phase_at, shape, at_first, started, reported, after}
-use Rattle.odb_sched.specs.Steps.{all_met, may_start, may_report, may_come}
+use Rattle.odb_sched.specs.Steps.{all_satisfied, may_start, may_report, may_come}
 use Rattle.odb_sched.specs.Runs.{event_position}
 use Rattle.odb_sched.specs.Reached.{IsReached}
 use Rattle.odb_sched.proofs.PhaseLemmas.{Unstarted-from, Running-from, get_or-replicate_Unstarted}
-use Rattle.odb_sched.proofs.MetLemmas.{all_met-set}
+use Rattle.odb_sched.proofs.SatisfiedLemmas.{all_satisfied-set}
 use Rattle.odb_sched.proofs.StartLemmas.{may_start-parts}
 
 -- what a phase adds to the count of running requests
@@ -38,11 +38,11 @@ reached_first source policy laws = record {
 count_after : (phases : List Phase) (i : ℕ) (new : Phase) → i < length phases → count_by is_running (set phases i new) + weight (get_or phases i Unstarted) ≡ count_by is_running phases + weight new
 count_after phases i new within = sum_by-set weight phases i new Unstarted within
 
--- the needs of each request that has started stay met, where a request is written whose needs are
-needs_after : (state : State) (i : ℕ) (new : Phase) → IsReached state → has_succeeded (phase_at state i) ≡ false → all_met state i ≡ true
-    → (j : ℕ) → j < size state → is_unstarted (get_or (set state.phases i new) j Unstarted) ≡ false → all_met (record state { phases = set state.phases i new }) j ≡ true
-needs_after state i new reached fresh met j within begun = all_met-set state.shape state.phases i j new fresh (elim (cases_eq j i) [
-  | inl same ↦ rw same met
+-- the needs of each request that has started stay satisfied when the phase of a request is written whose needs are
+needs_after : (state : State) (i : ℕ) (new : Phase) → IsReached state → has_succeeded (phase_at state i) ≡ false → all_satisfied state i ≡ true
+    → (j : ℕ) → j < size state → is_unstarted (get_or (set state.phases i new) j Unstarted) ≡ false → all_satisfied (record state { phases = set state.phases i new }) j ≡ true
+needs_after state i new reached fresh satisfied j within begun = all_satisfied-set state.shape state.phases i j new fresh (elim (cases_eq j i) [
+  | inl same ↦ rw same satisfied
   | inr other ↦ reached.needs j within (ap is_unstarted (sym (get_or-set_other state.phases i j new Unstarted other)) ∙ begun)
 ])
 
@@ -56,7 +56,7 @@ reached_started state i reached within may =
       laws = reached.laws;
       each = length-set state.phases i Running ∙ reached.each;
       narrow = let count = count_after state.phases i Running (omega arith) in let none : weight (phase_at state i) ≡ 0 = rw here refl in omega arith;
-      needs = needs_after state i Running reached (rw here refl) start.met;
+      needs = needs_after state i Running reached (rw here refl) start.satisfied;
     }
 
 pub reached_reported : (state : State) (i : ℕ) (outcome : Outcome) → IsReached state → i < size state → may_report state i outcome ≡ true → IsReached (reported state i outcome)

@@ -35,7 +35,7 @@ or_else-none : {X : Type 0} (a b : Option X) → or_else a b ≡ None → (a ≡
 or_else-none None b e = (refl, e)
 or_else-none (Some y) b e = absurd (true≢false (ap is_some e))
 
--- the first number that passes does so, and where there is none, none passes
+-- the first number that passes does so, and if there is none, none passes
 first_passes : (n : ℕ) (test : ℕ → Bool) (i : ℕ) → first_below n test ≡ Some i → (i < n) × (test i ≡ true)
 first_passes zero test i e = absurd (true≢false (sym (ap is_some e)))
 first_passes (suc n) test i e = elim (or_else-cases (first_below n test) (cond (test n) (Some n) None) i e) [
@@ -60,7 +60,7 @@ first_none (suc n) test e j within =
     at true same = absurd (true≢false (ap is_some same))
     at false same = refl
 
--- no identifier stands at two positions
+-- no two positions have the same identifier
 same_place : (batch : List Record) (id : List ℕ) (i j : ℕ) → HasGoodNames batch → id_at batch i ≡ Some id → id_at batch j ≡ Some id → i ≡ j
 same_place batch id i j good here there = elim (cases_eq i j) [
   | inl same ↦ same
@@ -94,7 +94,7 @@ recorded-found : (batch : List Record) (id : List ℕ) (outcome : Outcome) (rest
     → recorded_for batch ((id, outcome) ∷ rest) ≡ set (recorded_for batch rest) i (Some outcome)
 recorded-found batch id outcome rest i good found =
     let (within, passes) = first_passes (length batch) (λ j. is_text id (id_at batch j)) i found in
-    let stands : id_at batch i ≡ Some id = is_text-same id (id_at batch i) passes in
+    let has_id : id_at batch i ≡ Some id = is_text-same id (id_at batch i) passes in
     same_lists None (recorded_for batch ((id, outcome) ∷ rest)) (set (recorded_for batch rest) i (Some outcome))
     (length-recorded batch ((id, outcome) ∷ rest) ∙ sym (length-set (recorded_for batch rest) i (Some outcome) ∙ length-recorded batch rest))
     (λ k inside.
@@ -106,7 +106,7 @@ recorded-found batch id outcome rest i good found =
           let is : bytes_eq id request.id ≡ true = ap (is_text id) (sym name ∙ ap (id_at batch) same) ∙ passes in
           outcome-first id request.id outcome rest true is ∙ rw same (sym (get_or-set_same (recorded_for batch rest) i (Some outcome) None (subst (λ n. i < n) (sym (length-recorded batch rest)) within)))
       | inr other ↦
-          let is_not : bytes_eq id request.id ≡ false = false_from_ne_true (bytes_eq id request.id) (λ e. other (same_place batch id k i good (name ∙ ap Some (sym ((bytes_eq-Decides id request.id).0 e))) stands)) in
+          let is_not : bytes_eq id request.id ≡ false = false_from_ne_true (bytes_eq id request.id) (λ e. other (same_place batch id k i good (name ∙ ap Some (sym ((bytes_eq-Decides id request.id).0 e))) has_id)) in
           outcome-first id request.id outcome rest false is_not ∙ sym (recorded-at batch rest k request here) ∙ sym (get_or-set_other (recorded_for batch rest) i k (Some outcome) None other)
     ])
 
@@ -127,7 +127,7 @@ pub recorded-none : (batch : List Record) → recorded_for batch [] ≡ replicat
 recorded-none [] = refl
 recorded-none (request ∷ batch) = ap (λ rest. None ∷ rest) (recorded-none batch)
 
--- an outcome is noted where its request stands, if it is one of the batch
+-- an outcome is noted at the position of its request, if it is one of the batch
 pub recorded-more : (batch : List Record) (id : List ℕ) (outcome : Outcome) (rest : List (List ℕ × Outcome)) → HasGoodNames batch
     → recorded_for batch ((id, outcome) ∷ rest) ≡ noted_at (position_of batch id) (recorded_for batch rest) outcome
 recorded-more batch id outcome rest good = at (position_of batch id) refl
@@ -143,7 +143,7 @@ position-within batch id i found = (first_passes (length batch) (λ j. is_text i
 pub position-is : (batch : List Record) (id : List ℕ) (i : ℕ) → position_of batch id ≡ Some i → id_at batch i ≡ Some id
 position-is batch id i found = is_text-same id (id_at batch i) (first_passes (length batch) (λ j. is_text id (id_at batch j)) i found).1
 
--- where nothing is found, it is no identifier
+-- if nothing is found, it is not an identifier of the batch
 pub position-none : (batch : List Record) (id : List ℕ) → position_of batch id ≡ None → ¬ IsId batch id
 position-none batch id none is =
     let (j, here) = is in
@@ -153,7 +153,7 @@ position-none batch id none is =
       | inr past ↦ true≢false (sym (ap is_some here) ∙ ap (λ found. is_some (option_map (λ r. r.id) found)) (slice_get_past batch j past))
     ]
 
--- the last of all entries are noted, and the others are left
+-- the last of all entries are noted, and the others are not yet
 pub record AreNoted (batch : List Record) (all left : List (List ℕ × Outcome)) (outcomes : List (Option Outcome)) : Type 0 where
   pub noted : List (List ℕ × Outcome)
   pub whole : all ≡ left ++ noted

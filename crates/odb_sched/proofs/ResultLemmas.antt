@@ -1,4 +1,4 @@
--- What a request is answered, and why all orders of events give one result.
+-- The answer to a request, and why all orders of events give one result.
 use Rattle.std.proofs.Common.{◌≡◌, ℕ, ◌<◌, ◌∙◌, sym, refl, subst, arith, Bool, true, false, not, ◌&&◌, ◌||◌, inl, inr, Some, None, Contains, if◌then◌else◌}
 use Rattle.std.proofs.lemmas.Bool.{both_ways, true≢false, and_parts, and_from, or_cases, false_from_ne_true, not-true, not_from_false}
 use Rattle.odb_doc.specs.declared.outcome.Outcome.{Outcome}
@@ -12,21 +12,21 @@ use Rattle.odb_sched.specs.Below.{any_below, all_below}
 use Rattle.odb_sched.specs.Statuses.{is_success}
 use Rattle.odb_sched.specs.Phases.{is_unstarted, is_running, is_reported, has_succeeded, has_failed}
 use Rattle.odb_sched.specs.State.{State, size, phase_at}
-use Rattle.odb_sched.specs.Failing.{Fails, own, passed, unit_needed, succeeds}
-use Rattle.odb_sched.specs.Steps.{is_stopped, is_met, unit_succeeded, unit_failed, is_finished}
+use Rattle.odb_sched.specs.Failing.{Fails, own, propagated, unit_needed, succeeds}
+use Rattle.odb_sched.specs.Steps.{is_stopped, is_satisfied, unit_succeeded, unit_failed, is_finished}
 use Rattle.odb_sched.specs.Answers.{answer_of, answer, is_answered_2xx}
 use Rattle.odb_sched.specs.Laws.{Agrees, HasOneResult, HasSoundResult, IsAllOrNone, IsSound}
 use Rattle.odb_sched.specs.Reached.{IsReached}
 use Rattle.odb_sched.proofs.BelowLemmas.{all_below-Decides, list_all-each}
 use Rattle.odb_sched.proofs.FailingLemmas.{Fails-from_fails, fails-from_Fails, Fails-as}
 use Rattle.odb_sched.proofs.PhaseLemmas.{Reported-from, Failed-from, has_succeeded-from}
-use Rattle.odb_sched.proofs.MetLemmas.{member_succeeded, succeeded_in-from}
+use Rattle.odb_sched.proofs.SatisfiedLemmas.{member_succeeded, succeeded_in-from}
 
 -- the table has no success for the request
 abbrev is_bad_in : (ℕ → Outcome) → ℕ → Bool
 is_bad_in table i = not (is_success (table i).status)
 
--- a request is answered with a success where it and its unit have succeeded
+-- a request is answered with a success if it and its unit have succeeded
 answered_2xx_is : (phase : Phase) (succeeded : Bool) → is_answered_2xx (answer_of phase succeeded) ≡ (has_succeeded phase && succeeded)
 answered_2xx_is Unstarted succeeded = refl
 answered_2xx_is Running succeeded = refl
@@ -52,28 +52,28 @@ begun Unstarted e = absurd (true≢false (sym e))
 begun Running e = refl
 begun (Reported outcome) e = refl
 
--- a member of a unit that has succeeded had its needs met
-met_of : (state : State) (i : ℕ) (need : Need) → IsReached state → i < size state → unit_succeeded state (unit_of state.shape i) ≡ true → Contains (needs_of state.shape i) need → is_met state need ≡ true
-met_of state i need reached within whole has =
-    list_all-each (is_met state) (needs_of state.shape i) need
+-- the needs of a member of a unit that has succeeded were satisfied
+satisfied_of : (state : State) (i : ℕ) (need : Need) → IsReached state → i < size state → unit_succeeded state (unit_of state.shape i) ≡ true → Contains (needs_of state.shape i) need → is_satisfied state need ≡ true
+satisfied_of state i need reached within whole has =
+    list_all-each (is_satisfied state) (needs_of state.shape i) need
     (reached.needs i within (begun (phase_at state i) (member_succeeded state.shape state.phases (unit_of state.shape i) i whole within refl))) has
 
 -- the unit that a member of a succeeded unit needs has succeeded
-unit_met : (state : State) (i : ℕ) (need : Need) → IsReached state → i < size state → unit_succeeded state (unit_of state.shape i) ≡ true → Contains (needs_of state.shape i) need → unit_succeeded state (unit_needed state.shape need) ≡ true
-unit_met state i (One r) reached within whole has = elim (reached.laws.listed i r within has) [
+unit_satisfied : (state : State) (i : ℕ) (need : Need) → IsReached state → i < size state → unit_succeeded state (unit_of state.shape i) ≡ true → Contains (needs_of state.shape i) need → unit_succeeded state (unit_needed state.shape need) ≡ true
+unit_satisfied state i (One r) reached within whole has = elim (reached.laws.listed i r within has) [
   | inl same ↦ rw same whole
-  | inr (inl alone) ↦ succeeded_in-from state.shape state.phases (unit_of state.shape r) (λ j inside here. rw (alone j inside here) (met_of state i (One r) reached within whole has))
-  | inr (inr group) ↦ met_of state i (Group (unit_of state.shape r)) reached within whole group
+  | inr (inl alone) ↦ succeeded_in-from state.shape state.phases (unit_of state.shape r) (λ j inside here. rw (alone j inside here) (satisfied_of state i (One r) reached within whole has))
+  | inr (inr group) ↦ satisfied_of state i (Group (unit_of state.shape r)) reached within whole group
 ]
-unit_met state i (Group u) reached within whole has = met_of state i (Group u) reached within whole has
+unit_satisfied state i (Group u) reached within whole has = satisfied_of state i (Group u) reached within whole has
 
 pub sound_answers : (state : State) → IsReached state → IsSound state
 sound_answers state reached i within e =
     let whole = answered-unit state i e in (
       (λ r has.
           let earlier : r < i = reached.laws.earlier i (One r) within has in
-          answered-from state r (omega arith) (unit_met state i (One r) reached within whole has)),
-      (λ u j has inside here. answered-from state j inside (rw here (unit_met state i (Group u) reached within whole has))),
+          answered-from state r (omega arith) (unit_satisfied state i (One r) reached within whole has)),
+      (λ u j has inside here. answered-from state j inside (rw here (unit_satisfied state i (Group u) reached within whole has))),
     )
 
 -- the table has what a request that has succeeded has reported
@@ -87,8 +87,8 @@ good_in_table state table i agrees within done =
 succeeded_sound : (state : State) (table : ℕ → Outcome) (u : ℕ) → IsReached state → Agrees state table → Fails state.shape (is_bad_in table) u → unit_succeeded state u ≡ true → ⊥
 succeeded_sound state table _ reached agrees (own i within bad) whole =
     both_ways _ (not-true _ bad) (good_in_table state table i agrees within (member_succeeded state.shape state.phases (unit_of state.shape i) i whole within refl)).0
-succeeded_sound state table _ reached agrees (passed i need within has other failing) whole =
-    succeeded_sound state table (unit_needed state.shape need) reached agrees failing (unit_met state i need reached within whole has)
+succeeded_sound state table _ reached agrees (propagated i need within has other failing) whole =
+    succeeded_sound state table (unit_needed state.shape need) reached agrees failing (unit_satisfied state i need reached within whole has)
 
 pub succeeds-from : (state : State) (table : ℕ → Outcome) (u : ℕ) → IsReached state → Agrees state table → unit_succeeded state u ≡ true → succeeds state.shape table u ≡ true
 succeeds-from state table u reached agrees whole = not_from_false _ (false_from_ne_true _ (λ failing. succeeded_sound state table u reached agrees (Fails-from_fails state.shape (is_bad_in table) u failing) whole))
@@ -114,10 +114,10 @@ failed_sound state table u agrees failed = Fails-as state.shape (λ i. has_faile
 
 -- in a finished run that is not stopped each request is over
 each_over : (state : State) (i : ℕ) → is_finished state ≡ true → is_stopped state ≡ false → i < size state → unit_failed state (unit_of state.shape i) ≡ false → is_reported (phase_at state i) ≡ true
-each_over state i finished goes within sound =
+each_over state i finished unstopped within sound =
     let parts = and_parts (not (any_below (size state) (λ j. is_running (phase_at state j)))) (is_stopped state || all_below (size state) (λ j. is_reported (phase_at state j) || unit_failed state (unit_of state.shape j))) finished in
     elim (or_cases (is_stopped state) (all_below (size state) (λ j. is_reported (phase_at state j) || unit_failed state (unit_of state.shape j))) parts.1) [
-      | inl stopped ↦ absurd (both_ways _ goes stopped)
+      | inl stopped ↦ absurd (both_ways _ unstopped stopped)
       | inr over ↦ elim (or_cases (is_reported (phase_at state i)) (unit_failed state (unit_of state.shape i)) ((all_below-Decides (size state) (λ j. is_reported (phase_at state j) || unit_failed state (unit_of state.shape j))).0 over i within)) [
         | inl reported ↦ reported
         | inr failed ↦ absurd (both_ways _ sound failed)
@@ -126,19 +126,19 @@ each_over state i finished goes within sound =
 
 -- a unit that succeeds under the table has succeeded in a finished run that is not stopped
 unit_succeeded-from : (state : State) (table : ℕ → Outcome) (u : ℕ) → IsReached state → is_finished state ≡ true → is_stopped state ≡ false → Agrees state table → succeeds state.shape table u ≡ true → unit_succeeded state u ≡ true
-unit_succeeded-from state table u reached finished goes agrees good = succeeded_in-from state.shape state.phases u (λ i within here.
+unit_succeeded-from state table u reached finished unstopped agrees good = succeeded_in-from state.shape state.phases u (λ i within here.
     let sound : unit_failed state u ≡ false = false_from_ne_true _ (λ failed. both_ways _ (not-true _ good) (fails-from_Fails state.shape (is_bad_in table) u reached.laws (failed_sound state table u agrees failed))) in
-    has_succeeded-from (phase_at state i) (each_over state i finished goes within (rw here sound))
+    has_succeeded-from (phase_at state i) (each_over state i finished unstopped within (rw here sound))
     (false_from_ne_true _ (λ failed. both_ways _ sound (subst (λ v. unit_failed state v ≡ true) here (fails-from_Fails state.shape (λ j. has_failed (phase_at state j)) (unit_of state.shape i) reached.laws (own i within failed))))))
 
-goes_on : (state : State) → state.policy.mode ≡ Continue → is_stopped state ≡ false
-goes_on state mode = rw mode refl
+never_stopped : (state : State) → state.policy.mode ≡ Continue → is_stopped state ≡ false
+never_stopped state mode = rw mode refl
 
 pub one_result : (state : State) → IsReached state → is_finished state ≡ true → state.policy.mode ≡ Continue → HasOneResult state
 one_result state reached finished mode table agrees i within = (
   (
     (λ e. (sound_result state reached table agrees i within e).0),
-    (λ good. answered-from state i within (unit_succeeded-from state table (unit_of state.shape i) reached finished (goes_on state mode) agrees good)),
+    (λ good. answered-from state i within (unit_succeeded-from state table (unit_of state.shape i) reached finished (never_stopped state mode) agrees good)),
   ),
   (λ e. (sound_result state reached table agrees i within e).1),
 )

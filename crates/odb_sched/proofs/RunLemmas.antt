@@ -47,7 +47,7 @@ cut state (e ∷ es) event later run =
     let inner = cut (after state e) es event later run.2 in
     record { run = (run.0, run.1, inner.run); within = inner.within; may = inner.may; rest = inner.rest }
 
--- a run goes on with an event that may come
+-- a run continues with an event that may come
 pub joined : (state : State) (before : List Event) (event : Event) → IsRunFrom state before → event_position event < size (after_all state before) → may_come (after_all state before) event ≡ true → IsRunFrom state (before ++ event ∷ [])
 joined state [] event run within may = (within, may, tt)
 joined state (e ∷ es) event run within may = (run.0, run.1, joined (after state e) es event run.2 within may)

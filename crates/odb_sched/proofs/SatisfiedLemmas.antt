@@ -8,7 +8,7 @@ use Rattle.odb_check.specs.Shape.{Shape, unit_of, needs_of}
 use Rattle.odb_sched.specs.declared.phase.Phase.{Phase}
 use Rattle.odb_sched.specs.declared.phase.Phase.TheVariants.{Unstarted}
 use Rattle.odb_sched.specs.Phases.{has_succeeded}
-use Rattle.odb_sched.specs.Steps.{succeeded_in, met_in}
+use Rattle.odb_sched.specs.Steps.{succeeded_in, satisfied_in}
 use Rattle.odb_sched.proofs.BelowLemmas.{all_below-Decides, list_all-each, list_all-from}
 use Rattle.odb_sched.proofs.PhaseLemmas.{get_or-set_cases}
 
@@ -35,10 +35,10 @@ has_succeeded-set phases i j phase fresh done = elim (get_or-set_cases phases i 
   | inr kept ↦ ap has_succeeded kept ∙ done
 ]
 
-pub met_in-set : (plan : Shape) (phases : List Phase) (i : ℕ) (phase : Phase) (need : Need) → has_succeeded (get_or phases i Unstarted) ≡ false → met_in plan phases need ≡ true → met_in plan (set phases i phase) need ≡ true
-met_in-set plan phases i phase (One r) fresh met = has_succeeded-set phases i r phase fresh met
-met_in-set plan phases i phase (Group u) fresh met = succeeded_in-from plan (set phases i phase) u (λ j within here. has_succeeded-set phases i j phase fresh (member_succeeded plan phases u j met within here))
+pub satisfied_in-set : (plan : Shape) (phases : List Phase) (i : ℕ) (phase : Phase) (need : Need) → has_succeeded (get_or phases i Unstarted) ≡ false → satisfied_in plan phases need ≡ true → satisfied_in plan (set phases i phase) need ≡ true
+satisfied_in-set plan phases i phase (One r) fresh satisfied = has_succeeded-set phases i r phase fresh satisfied
+satisfied_in-set plan phases i phase (Group u) fresh satisfied = succeeded_in-from plan (set phases i phase) u (λ j within here. has_succeeded-set phases i j phase fresh (member_succeeded plan phases u j satisfied within here))
 
--- what was met stays met
-pub all_met-set : (plan : Shape) (phases : List Phase) (i j : ℕ) (phase : Phase) → has_succeeded (get_or phases i Unstarted) ≡ false → list_all (met_in plan phases) (needs_of plan j) ≡ true → list_all (met_in plan (set phases i phase)) (needs_of plan j) ≡ true
-all_met-set plan phases i j phase fresh met = list_all-from (met_in plan (set phases i phase)) (needs_of plan j) (λ need has. met_in-set plan phases i phase need fresh (list_all-each (met_in plan phases) (needs_of plan j) need met has))
+-- a need that was satisfied stays satisfied
+pub all_satisfied-set : (plan : Shape) (phases : List Phase) (i j : ℕ) (phase : Phase) → has_succeeded (get_or phases i Unstarted) ≡ false → list_all (satisfied_in plan phases) (needs_of plan j) ≡ true → list_all (satisfied_in plan (set phases i phase)) (needs_of plan j) ≡ true
+all_satisfied-set plan phases i j phase fresh satisfied = list_all-from (satisfied_in plan (set phases i phase)) (needs_of plan j) (λ need has. satisfied_in-set plan phases i phase need fresh (list_all-each (satisfied_in plan phases) (needs_of plan j) need satisfied has))

@@ -1,4 +1,4 @@
--- A walk over the members of a unit, against what is said of all positions.
+-- A walk over the members of a unit, against a statement of all positions.
 use Rattle.std.proofs.Common.{ℕ, ◌<◌, arith, length, get_or, Contains, All}
 use Rattle.std.proofs.lemmas.List.Elements.{Contains-get_or}
 use Rattle.odb_check.specs.declared.need.Need.{Need}
@@ -6,7 +6,7 @@ use Rattle.odb_check.specs.declared.need.Need.TheVariants.{One, Group}
 use Rattle.odb_check.specs.Shape.{Shape, IsPlan, unit_of, needs_of}
 use Rattle.odb_sched.specs.Plans.{IsNeed}
 
--- what a request needs is a request or a unit that there is
+-- each need of a request is a request or a unit of the plan
 known_need : (plan : Shape) (i : ℕ) (need : Need) → IsPlan plan → i < length plan.units → Contains (needs_of plan i) need → IsNeed plan need
 known_need plan i (One r) laws within has = let earlier : r < i = laws.earlier i (One r) within has in omega arith
 known_need plan i (Group u) laws within has =

@@ -15,49 +15,49 @@ use Rattle.odb_sched.specs.declared.refusal.ReportRefusal.TheVariants as report
 use Rattle.odb_sched.specs.Statuses.{is_status}
 use Rattle.odb_sched.specs.Phases.{is_unstarted, is_running}
 use Rattle.odb_sched.specs.State.{State, size, phase_at}
-use Rattle.odb_sched.specs.Steps.{is_stopped, unit_failed, is_met, all_met, running_count, may_start, may_report}
+use Rattle.odb_sched.specs.Steps.{is_stopped, unit_failed, is_satisfied, all_satisfied, running_count, may_start, may_report}
 use Rattle.odb_sched.specs.CauseTests.{waiting_refusal, start_refusal, report_refusal}
 use Rattle.odb_sched.proofs.BelowLemmas.{find-all}
 
 pub record MayStart (state : State) (i : ℕ) : Type 0 where
   pub fresh : is_unstarted (phase_at state i) ≡ true
-  pub goes : is_stopped state ≡ false
+  pub unstopped : is_stopped state ≡ false
   pub sound : unit_failed state (unit_of state.shape i) ≡ false
-  pub met : all_met state i ≡ true
+  pub satisfied : all_satisfied state i ≡ true
   pub room : running_count state < state.policy.width
 
 pub may_start-from : (state : State) (i : ℕ) → MayStart state i → may_start state i ≡ true
 may_start-from state i parts =
-    and_from _ _ (and_from _ _ (and_from _ _ (and_from _ _ parts.fresh (not_from_false _ parts.goes)) (not_from_false _ parts.sound)) parts.met) (lt-ltb _ _ parts.room)
+    and_from _ _ (and_from _ _ (and_from _ _ (and_from _ _ parts.fresh (not_from_false _ parts.unstopped)) (not_from_false _ parts.sound)) parts.satisfied) (lt-ltb _ _ parts.room)
 
 pub may_start-parts : (state : State) (i : ℕ) → may_start state i ≡ true → MayStart state i
 may_start-parts state i may =
-    let room = and_parts (is_unstarted (phase_at state i) && not (is_stopped state) && not (unit_failed state (unit_of state.shape i)) && all_met state i) (nat_lt (running_count state) state.policy.width) may in
-    let met = and_parts (is_unstarted (phase_at state i) && not (is_stopped state) && not (unit_failed state (unit_of state.shape i))) (all_met state i) room.0 in
-    let sound = and_parts (is_unstarted (phase_at state i) && not (is_stopped state)) (not (unit_failed state (unit_of state.shape i))) met.0 in
+    let room = and_parts (is_unstarted (phase_at state i) && not (is_stopped state) && not (unit_failed state (unit_of state.shape i)) && all_satisfied state i) (nat_lt (running_count state) state.policy.width) may in
+    let satisfied = and_parts (is_unstarted (phase_at state i) && not (is_stopped state) && not (unit_failed state (unit_of state.shape i))) (all_satisfied state i) room.0 in
+    let sound = and_parts (is_unstarted (phase_at state i) && not (is_stopped state)) (not (unit_failed state (unit_of state.shape i))) satisfied.0 in
     let fresh = and_parts (is_unstarted (phase_at state i)) (not (is_stopped state)) sound.0 in
-    record { fresh = fresh.0; goes = not-true _ fresh.1; sound = not-true _ sound.1; met = met.1; room = ltb-true _ _ room.1 }
+    record { fresh = fresh.0; unstopped = not-true _ fresh.1; sound = not-true _ sound.1; satisfied = satisfied.1; room = ltb-true _ _ room.1 }
 
--- a start is refused or not as its tests say
-refused_by : (fresh stopped failed : Bool) (unmet : Option Need) (met : Bool) (full room : Bool) → is_none unmet ≡ met → not full ≡ room
-    → is_none (if not fresh then Some start.AlreadyStarted else if stopped then Some start.Stopped else if failed then Some start.UnitFailed else waiting_refusal unmet full) ≡ (fresh && not stopped && not failed && met && room)
-refused_by false stopped failed unmet met full room e f = refl
-refused_by true true failed unmet met full room e f = refl
-refused_by true false true unmet met full room e f = refl
-refused_by true false false (Some need) met full room e f = rw (← e) refl
-refused_by true false false None met true room e f = rw (← e, ← f) refl
-refused_by true false false None met false room e f = rw (← e, ← f) refl
+-- a start is refused if and only if one of its tests fails
+refused_by : (fresh stopped failed : Bool) (unmet : Option Need) (satisfied : Bool) (full room : Bool) → is_none unmet ≡ satisfied → not full ≡ room
+    → is_none (if not fresh then Some start.AlreadyStarted else if stopped then Some start.Stopped else if failed then Some start.UnitFailed else waiting_refusal unmet full) ≡ (fresh && not stopped && not failed && satisfied && room)
+refused_by false stopped failed unmet satisfied full room e f = refl
+refused_by true true failed unmet satisfied full room e f = refl
+refused_by true false true unmet satisfied full room e f = refl
+refused_by true false false (Some need) satisfied full room e f = rw (← e) refl
+refused_by true false false None satisfied true room e f = rw (← e, ← f) refl
+refused_by true false false None satisfied false room e f = rw (← e, ← f) refl
 
 not_full : (count width : ℕ) → not (nat_le width count) ≡ nat_lt count width
 not_full count width = grind (arith, nat_tests)
 
--- a start is refused exactly where it may not come
+-- a start is refused exactly when it may not come
 pub start_refusal-may_start : (state : State) (i : ℕ) → is_none (start_refusal state i) ≡ may_start state i
 start_refusal-may_start state i =
-    refused_by (is_unstarted (phase_at state i)) (is_stopped state) (unit_failed state (unit_of state.shape i)) (find (λ need. not (is_met state need)) (needs_of state.shape i)) (all_met state i) (nat_le state.policy.width (running_count state)) (nat_lt (running_count state) state.policy.width)
-    (find-all (is_met state) (needs_of state.shape i)) (not_full (running_count state) state.policy.width)
+    refused_by (is_unstarted (phase_at state i)) (is_stopped state) (unit_failed state (unit_of state.shape i)) (find (λ need. not (is_satisfied state need)) (needs_of state.shape i)) (all_satisfied state i) (nat_le state.policy.width (running_count state)) (nat_lt (running_count state) state.policy.width)
+    (find-all (is_satisfied state) (needs_of state.shape i)) (not_full (running_count state) state.policy.width)
 
--- a report is refused exactly where it may not come
+-- a report is refused exactly when it may not come
 pub report_refusal-may_report : (state : State) (i : ℕ) (outcome : Outcome) → is_none (report_refusal state i outcome) ≡ may_report state i outcome
 report_refusal-may_report state i outcome = by_tests (is_running (phase_at state i)) (is_status outcome.status)
   where
@@ -74,7 +74,7 @@ Unstarted-not_running (Reported outcome) e = absurd (true≢false (sym e))
 abbrev weight : Phase → ℕ
 weight phase = cond (is_running phase) 1 0
 
--- where one of the phases does not run, fewer run than there are
+-- if one of the phases is not running, fewer run than there are
 fewer_run : (phases : List Phase) (i : ℕ) → i < length phases → is_running (get_or phases i Unstarted) ≡ false → count_by is_running phases < length phases
 fewer_run phases i within idle =
     let more : count_by is_running (set phases i Running) + weight (get_or phases i Unstarted) ≡ count_by is_running phases + 1 = sum_by-set weight phases i Running Unstarted within in
@@ -107,7 +107,7 @@ width_refusal true false false None false e = absurd (true≢false (sym (ap is_s
 -- a width for all requests holds none back
 pub not_held_back : (state : State) (i : ℕ) → length state.phases ≡ size state → i < size state → size state ≤ state.policy.width → start_refusal state i ≢ Some start.WidthReached
 not_held_back state i each within wide e =
-    let (fresh, full) = width_refusal (is_unstarted (phase_at state i)) (is_stopped state) (unit_failed state (unit_of state.shape i)) (find (λ need. not (is_met state need)) (needs_of state.shape i)) (nat_le state.policy.width (running_count state)) e in
+    let (fresh, full) = width_refusal (is_unstarted (phase_at state i)) (is_stopped state) (unit_failed state (unit_of state.shape i)) (find (λ need. not (is_satisfied state need)) (needs_of state.shape i)) (nat_le state.policy.width (running_count state)) e in
     let fewer : running_count state < length state.phases = fewer_run state.phases i (omega arith) (Unstarted-not_running (phase_at state i) fresh) in
     let most : state.policy.width ≤ running_count state = grind (arith, nat_tests) in
     absurd (omega arith)

@@ -8,12 +8,12 @@ use Rattle.odb_check.specs.Firsts.{count_below}
 use Rattle.odb_check.specs.Shape.{Shape, unit_of, needs_of}
 use Rattle.odb_sched.specs.declared.phase.Phase.{Phase}
 use Rattle.odb_sched.specs.declared.phase.Phase.TheVariants.{Unstarted, Running}
-use Rattle.odb_dense.specs.declared.worklist.Standing.{Standing}
+use Rattle.odb_dense.specs.declared.worklist.Mark.{Mark}
 use Rattle.odb_sched.specs.Below.{all_below}
 use Rattle.odb_sched.specs.Failing.{fails}
 use Rattle.odb_sched.specs.Phases.{is_unstarted, is_running, is_reported, has_succeeded, has_failed}
-use Rattle.odb_sched.specs.Steps.{met_in}
-use Rattle.odb_sched.specs.ProgressCounts.{AreReady, ArePassed, unmet_in, pending_in, open_count}
+use Rattle.odb_sched.specs.Steps.{satisfied_in}
+use Rattle.odb_sched.specs.ProgressCounts.{AreReady, ArePropagated, unmet_in, pending_in, open_count}
 use Rattle.odb_sched.proofs.PhaseLemmas.{Running-from}
 
 -- a test that is the same for a running request and an unstarted one has the same value before the start
@@ -23,30 +23,30 @@ same_by_start test phases i j within alike runs = elim (cases_eq j i) [
   | inr elsewhere ↦ ap test (get_or-set_other phases i j Unstarted Unstarted elsewhere)
 ]
 
--- and so each word that depends on such a test alone
+-- and so has each function of such a test alone
 pub same_tests : (test : Phase → Bool) (phases : List Phase) (i : ℕ) → i < length phases → test Unstarted ≡ test Running → is_running (get_or phases i Unstarted) ≡ true → ◌≡◌ {A = ℕ → Bool} (λ j. test (get_or (set phases i Unstarted) j Unstarted)) (λ j. test (get_or phases j Unstarted))
 same_tests test phases i within alike runs = fun_ext (λ j. same_by_start test phases i j within alike runs)
 
-met_by_start : (plan : Shape) (phases : List Phase) (i : ℕ) (need : Need) → i < length phases → is_running (get_or phases i Unstarted) ≡ true → met_in plan (set phases i Unstarted) need ≡ met_in plan phases need
-met_by_start plan phases i (One r) within runs = same_by_start has_succeeded phases i r within refl runs
-met_by_start plan phases i (Group u) within runs = ap (λ done. all_below (length plan.units) (λ j. not (unit_of plan j == u) || done j)) (same_tests has_succeeded phases i within refl runs)
+satisfied_by_start : (plan : Shape) (phases : List Phase) (i : ℕ) (need : Need) → i < length phases → is_running (get_or phases i Unstarted) ≡ true → satisfied_in plan (set phases i Unstarted) need ≡ satisfied_in plan phases need
+satisfied_by_start plan phases i (One r) within runs = same_by_start has_succeeded phases i r within refl runs
+satisfied_by_start plan phases i (Group u) within runs = ap (λ done. all_below (length plan.units) (λ j. not (unit_of plan j == u) || done j)) (same_tests has_succeeded phases i within refl runs)
 
 -- what is unmet, pending, failed and open before a start is so after it
 pub unmet_by_start : (plan : Shape) (phases : List Phase) (i j : ℕ) → i < length phases → is_running (get_or phases i Unstarted) ≡ true → unmet_in plan (set phases i Unstarted) j ≡ unmet_in plan phases j
-unmet_by_start plan phases i j within runs = ap (λ met. count_by (λ need. not (met need)) (needs_of plan j)) (fun_ext (λ need. met_by_start plan phases i need within runs))
+unmet_by_start plan phases i j within runs = ap (λ satisfied. count_by (λ need. not (satisfied need)) (needs_of plan j)) (fun_ext (λ need. satisfied_by_start plan phases i need within runs))
 
 pub pending_by_start : (plan : Shape) (phases : List Phase) (i u : ℕ) → i < length phases → is_running (get_or phases i Unstarted) ≡ true → pending_in plan (set phases i Unstarted) u ≡ pending_in plan phases u
 pending_by_start plan phases i u within runs = ap (λ done. count_below (length plan.units) (λ j. (unit_of plan j == u) && not (done j))) (same_tests has_succeeded phases i within refl runs)
 
-pub passed_by_start : (plan : Shape) (phases : List Phase) (i : ℕ) (units : List Standing) → i < length phases → is_running (get_or phases i Unstarted) ≡ true → ArePassed plan (set phases i Unstarted) units → ArePassed plan phases units
-passed_by_start plan phases i units within runs are = record {
+pub propagated_by_start : (plan : Shape) (phases : List Phase) (i : ℕ) (units : List Mark) → i < length phases → is_running (get_or phases i Unstarted) ≡ true → ArePropagated plan (set phases i Unstarted) units → ArePropagated plan phases units
+propagated_by_start plan phases i units within runs are = record {
   each = are.each;
   failed = λ u inside. are.failed u inside ∙ ap (λ bad. fails plan bad u) (same_tests has_failed phases i within refl runs);
   marked = are.marked;
 }
 
-pub left_by_start : (plan : Shape) (gone : ℕ → Bool) (phases : List Phase) (i : ℕ) → i < length phases → is_running (get_or phases i Unstarted) ≡ true → open_count plan gone (set phases i Unstarted) ≡ open_count plan gone phases
-left_by_start plan gone phases i within runs = ap (λ reported. count_below (length plan.units) (λ j. not (reported j) && not (gone j))) (same_tests is_reported phases i within refl runs)
+pub left_by_start : (plan : Shape) (skipped : ℕ → Bool) (phases : List Phase) (i : ℕ) → i < length phases → is_running (get_or phases i Unstarted) ≡ true → open_count plan skipped (set phases i Unstarted) ≡ open_count plan skipped phases
+left_by_start plan skipped phases i within runs = ap (λ reported. count_below (length plan.units) (λ j. not (reported j) && not (skipped j))) (same_tests is_reported phases i within refl runs)
 
 -- the running requests are those before, and the one that has started
 pub running_in : (phases : List Phase) (i : ℕ) → is_running (get_or phases i Unstarted) ≡ true → set (map is_running (set phases i Unstarted)) i true ≡ map is_running phases
@@ -58,13 +58,13 @@ not_unstarted : (phase : Phase) → is_running phase ≡ true → is_unstarted p
 not_unstarted phase e = ap is_unstarted (Running-from phase e)
 
 -- what is ready is as before, but for the one that has started
-pub ready_out : (plan : Shape) (gone : ℕ → Bool) (phases : List Phase) (i : ℕ) (unmet : List ℕ) (ready : List Bool) → i < length plan.units → is_running (get_or phases i Unstarted) ≡ true
-    → AreReady plan gone (set phases i Unstarted) unmet ready → AreReady plan gone phases unmet (set ready i false)
-ready_out plan gone phases i unmet ready within runs are = record {
+pub ready_out : (plan : Shape) (skipped : ℕ → Bool) (phases : List Phase) (i : ℕ) (unmet : List ℕ) (ready : List Bool) → i < length plan.units → is_running (get_or phases i Unstarted) ≡ true
+    → AreReady plan skipped (set phases i Unstarted) unmet ready → AreReady plan skipped phases unmet (set ready i false)
+ready_out plan skipped phases i unmet ready within runs are = record {
   counted = are.counted;
   each = length-set ready i false ∙ are.each;
   exact = λ j inside. elim (cases_eq j i) [
     | inl here ↦ rw (here, get_or-set_same ready i false false (rw are.each within), not_unstarted (get_or phases i Unstarted) runs) refl
-    | inr elsewhere ↦ get_or-set_other ready i j false false elsewhere ∙ are.exact j inside ∙ ap (λ phase. is_unstarted phase && not (gone j) && (get_or unmet j 0 == 0)) (get_or-set_other phases i j Unstarted Unstarted elsewhere)
+    | inr elsewhere ↦ get_or-set_other ready i j false false elsewhere ∙ are.exact j inside ∙ ap (λ phase. is_unstarted phase && not (skipped j) && (get_or unmet j 0 == 0)) (get_or-set_other phases i j Unstarted Unstarted elsewhere)
   ];
 }

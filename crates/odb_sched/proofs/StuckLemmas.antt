@@ -9,21 +9,21 @@ use Rattle.odb_sched.specs.declared.phase.Phase.TheVariants.{Unstarted}
 use Rattle.odb_sched.specs.Below.{any_below, all_below}
 use Rattle.odb_sched.specs.Phases.{is_running, is_reported, has_succeeded, has_failed}
 use Rattle.odb_sched.specs.State.{State, size, phase_at}
-use Rattle.odb_sched.specs.Failing.{own, passed, unit_needed}
-use Rattle.odb_sched.specs.Steps.{is_stopped, is_met, unit_failed, may_start, running_count, is_finished}
+use Rattle.odb_sched.specs.Failing.{own, propagated, unit_needed}
+use Rattle.odb_sched.specs.Steps.{is_stopped, is_satisfied, unit_failed, may_start, running_count, is_finished}
 use Rattle.odb_sched.specs.Laws.{IsNeverStuck}
 use Rattle.odb_sched.specs.Reached.{IsReached}
 use Rattle.odb_sched.proofs.BelowLemmas.{any_below-Decides, all_below-Decides, IsFirstFalse, first_false, list_all-from, count_by-none}
 use Rattle.odb_sched.proofs.FailingLemmas.{Fails-from_fails, fails-from_Fails}
 use Rattle.odb_sched.proofs.PhaseLemmas.{is_unstarted-from, is_unstarted-reported, has_succeeded-from}
-use Rattle.odb_sched.proofs.MetLemmas.{succeeded_in-from}
+use Rattle.odb_sched.proofs.SatisfiedLemmas.{succeeded_in-from}
 use Rattle.odb_sched.proofs.StartLemmas.{may_start-from, may_start-parts}
 
 -- the request is reported or of a failed unit
 abbrev is_over : State → ℕ → Bool
 is_over state i = is_reported (phase_at state i) || unit_failed state (unit_of state.shape i)
 
--- what is over and of a unit that has not failed has succeeded
+-- a request that is over and whose unit has not failed has succeeded
 over_succeeded : (state : State) (j : ℕ) → IsPlan state.shape → j < size state → is_over state j ≡ true → unit_failed state (unit_of state.shape j) ≡ false → has_succeeded (phase_at state j) ≡ true
 over_succeeded state j laws within over sound = has_succeeded-from (phase_at state j)
     (elim (or_cases (is_reported (phase_at state j)) (unit_failed state (unit_of state.shape j)) over) [
@@ -32,20 +32,20 @@ over_succeeded state j laws within over sound = has_succeeded-from (phase_at sta
     ])
     (false_from_ne_true (has_failed (phase_at state j)) (λ failed. both_ways _ sound (fails-from_Fails state.shape (λ i. has_failed (phase_at state i)) (unit_of state.shape j) laws (own j within failed))))
 
--- a unit that a request of a sound unit needs is sound
+-- if the unit of a request has not failed, no unit that the request needs has
 sound_needed : (state : State) (i : ℕ) (need : Need) → IsPlan state.shape → i < size state → Contains (needs_of state.shape i) need → unit_failed state (unit_of state.shape i) ≡ false → unit_failed state (unit_needed state.shape need) ≡ false
 sound_needed state i need laws within has sound = elim (cases_eq (unit_needed state.shape need) (unit_of state.shape i)) [
   | inl same ↦ rw same sound
   | inr other ↦ false_from_ne_true _ (λ failed. both_ways _ sound (fails-from_Fails state.shape (λ j. has_failed (phase_at state j)) (unit_of state.shape i) laws
-      (passed i need within has other (Fails-from_fails state.shape (λ j. has_failed (phase_at state j)) (unit_needed state.shape need) failed))))
+      (propagated i need within has other (Fails-from_fails state.shape (λ j. has_failed (phase_at state j)) (unit_needed state.shape need) failed))))
 ]
 
--- where all before a request are over, and its unit is sound, its needs are met
-met_at_first : (state : State) (i : ℕ) (need : Need) → IsPlan state.shape → i < size state → unit_failed state (unit_of state.shape i) ≡ false → ((j : ℕ) → j < i → is_over state j ≡ true) → Contains (needs_of state.shape i) need → is_met state need ≡ true
-met_at_first state i (One r) laws within sound before has =
+-- if all requests before a request are over, and its unit has not failed, its needs are satisfied
+satisfied_at_first : (state : State) (i : ℕ) (need : Need) → IsPlan state.shape → i < size state → unit_failed state (unit_of state.shape i) ≡ false → ((j : ℕ) → j < i → is_over state j ≡ true) → Contains (needs_of state.shape i) need → is_satisfied state need ≡ true
+satisfied_at_first state i (One r) laws within sound before has =
     let earlier : r < i = laws.earlier i (One r) within has in
     over_succeeded state r laws (omega arith) (before r earlier) (sound_needed state i (One r) laws within has sound)
-met_at_first state i (Group u) laws within sound before has =
+satisfied_at_first state i (Group u) laws within sound before has =
     let earlier : u < unit_of state.shape i = laws.earlier i (Group u) within has in
     succeeded_in-from state.shape state.phases u (λ j inside here.
     elim (cases_lt j i) [
@@ -58,9 +58,9 @@ none_counted : (state : State) → length state.phases ≡ size state → any_be
 none_counted state each none = count_by-none is_running state.phases (λ k d within.
     false_from_ne_true _ (λ runs. both_ways _ none ((any_below-Decides (size state) (λ i. is_running (phase_at state i))).1 (k, omega arith, ap is_running (get_or_default state.phases k Unstarted d within) ∙ runs))))
 
--- none runs and the run goes on, so the first request that is not over may start
+-- none runs and the run is not finished, so the first request that is not over may start
 first_may_start : (state : State) → IsReached state → any_below (size state) (λ i. is_running (phase_at state i)) ≡ false → is_stopped state ≡ false → (i : ℕ) → IsFirstFalse (size state) (is_over state) i → may_start state i ≡ true
-first_may_start state reached none goes i first =
+first_may_start state reached none unstopped i first =
     let wide : 0 < state.policy.width = state.policy.wide in
     let within : i < size state = first.below in
     let open_parts = or_parts (is_reported (phase_at state i)) (unit_failed state (unit_of state.shape i)) first.fails in
@@ -68,9 +68,9 @@ first_may_start state reached none goes i first =
     let count : running_count state ≡ 0 = none_counted state reached.each none in
     may_start-from state i (record {
       fresh = is_unstarted-from (phase_at state i) open_parts.0 idle;
-      goes = goes;
+      unstopped = unstopped;
       sound = open_parts.1;
-      met = list_all-from (is_met state) (needs_of state.shape i) (λ need has. met_at_first state i need reached.laws within open_parts.1 first.before has);
+      satisfied = list_all-from (is_satisfied state) (needs_of state.shape i) (λ need has. satisfied_at_first state i need reached.laws within open_parts.1 first.before has);
       room = rw count wide;
     })
 
@@ -103,7 +103,7 @@ none_starts state i finished within =
     false_from_ne_true _ (λ starts.
     let start = may_start-parts state i starts in
     elim (or_cases (is_stopped state) (all_below (size state) (is_over state)) parts.1) [
-      | inl stopped ↦ both_ways _ start.goes stopped
+      | inl stopped ↦ both_ways _ start.unstopped stopped
       | inr over ↦ elim (or_cases (is_reported (phase_at state i)) (unit_failed state (unit_of state.shape i)) ((all_below-Decides (size state) (is_over state)).0 over i within)) [
         | inl reported ↦ both_ways _ (is_unstarted-reported (phase_at state i) start.fresh) reported
         | inr failed ↦ both_ways _ start.sound failed

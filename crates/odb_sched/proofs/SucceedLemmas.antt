@@ -5,10 +5,10 @@ use Rattle.std.proofs.lemmas.Bool.{cases_eq, true≢false}
 use Rattle.odb_check.specs.Shape.{Shape, IsPlan, unit_of}
 use Rattle.odb_sched.specs.declared.phase.Phase.{Phase}
 use Rattle.odb_sched.specs.declared.phase.Phase.TheVariants.{Unstarted, Running, Reported}
-use Rattle.odb_dense.specs.declared.worklist.Standing.{Standing}
+use Rattle.odb_dense.specs.declared.worklist.Mark.{Mark}
 use Rattle.odb_sched.specs.Failing.{fails}
 use Rattle.odb_sched.specs.Phases.{has_succeeded, has_failed}
-use Rattle.odb_sched.specs.ProgressCounts.{AreUnmet, ArePending, ArePassed, need_count, unmet_in, met_by_unit, pending_in}
+use Rattle.odb_sched.specs.ProgressCounts.{AreUnmet, ArePending, ArePropagated, need_count, unmet_in, satisfied_by_unit, pending_in}
 use Rattle.odb_sched.proofs.UnmetLemmas.{unmet_falls, pending_own, pending_other}
 
 success_failed : (phase : Phase) → has_succeeded phase ≡ true → has_failed phase ≡ false
@@ -17,8 +17,8 @@ success_failed Running e = absurd (true≢false (sym e))
 success_failed (Reported outcome) e = rw e refl
 
 -- the units that have failed while a request runs have failed after its success, and no others
-pub passed_kept : (plan : Shape) (phases : List Phase) (i : ℕ) (units : List Standing) → i < length phases → has_succeeded (get_or phases i Unstarted) ≡ true → ArePassed plan (set phases i Running) units → ArePassed plan phases units
-passed_kept plan phases i units within done are = record {
+pub propagated_kept : (plan : Shape) (phases : List Phase) (i : ℕ) (units : List Mark) → i < length phases → has_succeeded (get_or phases i Unstarted) ≡ true → ArePropagated plan (set phases i Running) units → ArePropagated plan phases units
+propagated_kept plan phases i units within done are = record {
   each = are.each;
   failed = λ u inside. are.failed u inside ∙ ap (λ bad. fails plan bad u) (fun_ext same);
   marked = are.marked;
@@ -30,25 +30,25 @@ passed_kept plan phases i units within done are = record {
       | inr elsewhere ↦ ap has_failed (get_or-set_other phases i j Running Unstarted elsewhere)
     ]
 
--- the unit of the request has one member less to wait for, and each other unit as many as before
-pub pending_settled : (plan : Shape) (phases : List Phase) (i : ℕ) (before pending : List ℕ) → IsPlan plan → i < length plan.units → length phases ≡ length plan.units → has_succeeded (get_or phases i Unstarted) ≡ true
+-- the unit of the request has one pending member less, and each other unit as many as before
+pub pending_after : (plan : Shape) (phases : List Phase) (i : ℕ) (before pending : List ℕ) → IsPlan plan → i < length plan.units → length phases ≡ length plan.units → has_succeeded (get_or phases i Unstarted) ≡ true
     → length before ≡ plan.unit_count → ArePending plan (set phases i Running) before → pending ≡ set before (unit_of plan i) (get_or before (unit_of plan i) 0 - 1) → ArePending plan phases pending
-pending_settled plan phases i before pending laws within each done members are e u inside = rw e (elim (cases_eq u (unit_of plan i)) [
+pending_after plan phases i before pending laws within each done members are e u inside = rw e (elim (cases_eq u (unit_of plan i)) [
   | inl here ↦
       let counted : get_or before (unit_of plan i) 0 ≡ suc (pending_in plan phases (unit_of plan i)) = are (unit_of plan i) (laws.counted i within) ∙ pending_own plan phases i within each done in
       rw (here, get_or-set_same before (unit_of plan i) (get_or before (unit_of plan i) 0 - 1) 0 (rw members (laws.counted i within))) (omega arith)
   | inr elsewhere ↦ get_or-set_other before (unit_of plan i) u _ 0 elsewhere ∙ are u inside ∙ pending_other plan phases i u elsewhere
 ])
 
--- what is unmet while a request runs was met by the request, by its unit, or is unmet still
-pub unmet_met : (plan : Shape) (phases : List Phase) (i : ℕ) (row before met last : List ℕ) → IsPlan plan → i < length plan.units → length phases ≡ length plan.units → has_succeeded (get_or phases i Unstarted) ≡ true
+-- a need that is unmet while a request runs is satisfied by the request, or by its unit, or is still unmet
+pub unmet_satisfied : (plan : Shape) (phases : List Phase) (i : ℕ) (row before satisfied last : List ℕ) → IsPlan plan → i < length plan.units → length phases ≡ length plan.units → has_succeeded (get_or phases i Unstarted) ≡ true
     → ((j : ℕ) → j < length plan.units → count_by (λ k. k == j) row ≡ need_count plan i j)
     → AreUnmet plan (set phases i Running) before
-    → ((j : ℕ) → j < length plan.units → get_or met j 0 + count_by (λ k. k == j) row ≡ get_or before j 0)
-    → ((j : ℕ) → j < length plan.units → get_or last j 0 + met_by_unit plan phases (unit_of plan i) j ≡ get_or met j 0)
+    → ((j : ℕ) → j < length plan.units → get_or satisfied j 0 + count_by (λ k. k == j) row ≡ get_or before j 0)
+    → ((j : ℕ) → j < length plan.units → get_or last j 0 + satisfied_by_unit plan phases (unit_of plan i) j ≡ get_or satisfied j 0)
     → AreUnmet plan phases last
-unmet_met plan phases i row before met last laws within each done listed are first second j inside =
-    let counted : get_or before j 0 ≡ unmet_in plan phases j + (need_count plan i j + met_by_unit plan phases (unit_of plan i) j) = are j inside ∙ unmet_falls plan phases i j laws within inside each done in
-    let by_request : get_or met j 0 + need_count plan i j ≡ get_or before j 0 = subst (λ n. get_or met j 0 + n ≡ get_or before j 0) (listed j inside) (first j inside) in
-    let by_unit : get_or last j 0 + met_by_unit plan phases (unit_of plan i) j ≡ get_or met j 0 = second j inside in
+unmet_satisfied plan phases i row before satisfied last laws within each done listed are first second j inside =
+    let counted : get_or before j 0 ≡ unmet_in plan phases j + (need_count plan i j + satisfied_by_unit plan phases (unit_of plan i) j) = are j inside ∙ unmet_falls plan phases i j laws within inside each done in
+    let by_request : get_or satisfied j 0 + need_count plan i j ≡ get_or before j 0 = subst (λ n. get_or satisfied j 0 + n ≡ get_or before j 0) (listed j inside) (first j inside) in
+    let by_unit : get_or last j 0 + satisfied_by_unit plan phases (unit_of plan i) j ≡ get_or satisfied j 0 = second j inside in
     omega arith

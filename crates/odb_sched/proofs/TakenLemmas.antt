@@ -1,4 +1,4 @@
--- The front of a list of events that a run has taken.
+-- The prefix of a list of events that a run has taken.
 use Rattle.std.proofs.Common.{◌≡◌, ℕ, ◌<◌, ◌+◌, ◌∙◌, sym, refl, ap, subst, arith, true, List, [], ◌∷◌, ◌++◌, length, false, All, append_assoc, append-nil, length-append}
 use Rattle.std.proofs.lemmas.List.Elements.{All-contains, Contains-append_right}
 use Rattle.odb_sched.specs.declared.event.Event.{Event}
@@ -12,7 +12,7 @@ use Rattle.odb_sched.proofs.CauseLemmas.{start_caused, report_caused}
 use Rattle.odb_sched.proofs.KeptLemmas.{may_start-some, may_report-some}
 use Rattle.odb_sched.proofs.RunLemmas.{after_all-push, joined, shape-after_all}
 
--- the events before the rest are a run that leaves this state
+-- the events before the rest are a run that ends in this state
 pub record HasTaken (first : State) (events rest : List Event) (count : ℕ) (now : State) : Type 0 where
   pub before : List Event
   pub whole : events ≡ before ++ rest

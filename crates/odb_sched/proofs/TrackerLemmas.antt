@@ -1,4 +1,4 @@
--- What the tracker of a run say of its state.
+-- What the tracker of a run determines of its state.
 use Rattle.std.proofs.Common.{◌≡◌, ℕ, zero, suc, ◌<◌, ◌∙◌, sym, ap, refl, arith, Bool, true, false, ◌&&◌, ◌||◌, List, [], ◌∷◌, length, get_or, set, replicate}
 use Rattle.std.specs.List.{list_any}
 use Rattle.std.proofs.lemmas.Bool.{true≢false}
@@ -18,7 +18,7 @@ erred_by_start [] i runs = refl
 erred_by_start (phase ∷ phases) zero runs = rw (running_not_erred phase runs) refl
 erred_by_start (phase ∷ phases) (suc i) runs = ap (λ b. has_erred phase || b) (erred_by_start phases i runs)
 
--- a run is stopped after a start where it was before
+-- a run is stopped after a start if it was before
 pub stopped_by_start : (mode : Mode) (phases : List Phase) (i : ℕ) → is_running (get_or phases i Unstarted) ≡ true → stopped_in mode (set phases i Unstarted) ≡ stopped_in mode phases
 stopped_by_start mode phases i runs = ap (λ b. stops mode && b) (erred_by_start phases i runs)
 
@@ -37,7 +37,7 @@ erred_by_report (phase ∷ phases) (suc i) within = at (has_erred phase) ∙ ap 
     at true = refl
     at false = refl
 
--- a run is stopped after a report where it was before, or by the report
+-- a run is stopped after a report if it was before, or by the report
 pub stopped_by_report : (mode : Mode) (phases : List Phase) (i : ℕ) → i < length phases → (stopped_in mode (set phases i Running) || (stops mode && has_erred (get_or phases i Unstarted))) ≡ stopped_in mode phases
 stopped_by_report mode phases i within = at (stops mode) ∙ ap (λ b. stops mode && b) (erred_by_report phases i within)
   where

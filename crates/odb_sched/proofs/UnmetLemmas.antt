@@ -12,14 +12,14 @@ use Rattle.odb_sched.specs.declared.phase.Phase.TheVariants.{Unstarted, Running}
 use Rattle.odb_sched.specs.Below.{all_below}
 use Rattle.odb_sched.specs.Phases.{has_succeeded}
 use Rattle.odb_sched.specs.Plans.{IsNeed}
-use Rattle.odb_sched.specs.Steps.{succeeded_in, met_in}
-use Rattle.odb_sched.specs.ProgressCounts.{AreNeeders, key_of, need_count, unmet_in, met_by_unit, pending_in}
+use Rattle.odb_sched.specs.Steps.{succeeded_in, satisfied_in}
+use Rattle.odb_sched.specs.ProgressCounts.{AreDependents, key_of, need_count, unmet_in, satisfied_by_unit, pending_in}
 use Rattle.odb_sched.proofs.BelowLemmas.{count_by-none}
 use Rattle.odb_sched.proofs.CountLemmas.{count_same, count_less}
-use Rattle.odb_sched.proofs.MetLemmas.{member_succeeded}
+use Rattle.odb_sched.proofs.SatisfiedLemmas.{member_succeeded}
 use Rattle.odb_sched.proofs.SpanLemmas.{known_needs}
 
--- none is counted exactly where all pass the contrary test
+-- none is counted exactly when all pass the contrary test
 pub none_counted : (n : ℕ) (test contrary : ℕ → Bool) → ((i : ℕ) → contrary i ≡ not (test i)) → (count_below n test == 0) ≡ all_below n contrary
 none_counted zero test contrary turned = refl
 none_counted (suc n) test contrary turned = rw (turned n, ← none_counted n test contrary turned) (at (test n))
@@ -33,11 +33,11 @@ not_both true true = refl
 not_both true false = refl
 not_both false b = refl
 
--- no member is left exactly where the unit has succeeded
+-- no member is pending exactly when the unit has succeeded
 pub none_pending : (plan : Shape) (phases : List Phase) (u : ℕ) → (pending_in plan phases u == 0) ≡ succeeded_in plan phases u
 none_pending plan phases u = none_counted (length plan.units) _ _ (λ i. not_both (unit_of plan i == u) (has_succeeded (get_or phases i Unstarted)))
 
--- where each element is counted by one test as by three others, so is the list
+-- if each element is counted by one test as by three others, so is the list
 three : {X : Type 0} (whole first second third : X → Bool) (xs : List X) → All (λ x. cond (whole x) 1 0 ≡ cond (first x) 1 0 + (cond (second x) 1 0 + cond (third x) 1 0)) xs
     → count_by whole xs ≡ count_by first xs + (count_by second xs + count_by third xs)
 three whole first second third [] each = refl
@@ -46,7 +46,7 @@ three whole first second third (x ∷ xs) each =
     let rest : count_by whole xs ≡ count_by first xs + (count_by second xs + count_by third xs) = three whole first second third xs (λ k d within. each (suc k) d (omega arith)) in
     rw (sum_by-cons (λ y. cond (whole y) 1 0) x xs, sum_by-cons (λ y. cond (first y) 1 0) x xs, sum_by-cons (λ y. cond (second y) 1 0) x xs, sum_by-cons (λ y. cond (third y) 1 0) x xs) (omega arith)
 
--- what is counted only where something holds
+-- what is counted only if something holds
 counted_if : {X : Type 0} (holds : Bool) (test : X → Bool) (xs : List X) → count_by (λ x. holds && test x) xs ≡ (if holds then count_by test xs else 0)
 counted_if true test xs = refl
 counted_if false test xs = count_by-none (λ x. false) xs (λ k d within. refl)
@@ -74,10 +74,10 @@ other_unit plan phases i u other = all_alike (length plan.units) _ _ (λ j withi
   | inr elsewhere ↦ ap (λ b. not (unit_of plan j == u) || b) (others_succeeded phases i j elsewhere)
 ])
 
--- a need that is not met while a request runs is not met afterwards, or is of the request, or of its unit where that has succeeded
+-- a need that is not satisfied while a request runs is not satisfied afterwards, or is of the request, or of its unit if that has succeeded
 one_need : (plan : Shape) (phases : List Phase) (i : ℕ) (need : Need) → i < length plan.units → length phases ≡ length plan.units → has_succeeded (get_or phases i Unstarted) ≡ true → IsNeed plan need
-    → cond (not (met_in plan (set phases i Running) need)) 1 0
-    ≡ cond (not (met_in plan phases need)) 1 0 + (cond (key_of plan need == i) 1 0 + cond (succeeded_in plan phases (unit_of plan i) && (key_of plan need == length plan.units + unit_of plan i)) 1 0)
+    → cond (not (satisfied_in plan (set phases i Running) need)) 1 0
+    ≡ cond (not (satisfied_in plan phases need)) 1 0 + (cond (key_of plan need == i) 1 0 + cond (succeeded_in plan phases (unit_of plan i) && (key_of plan need == length plan.units + unit_of plan i)) 1 0)
 one_need plan phases i (One r) within each done known =
     rw (ne_eqb r (length plan.units + unit_of plan i) (λ e. omega arith)) (elim (cases_eq r i) [
       | inl here ↦ rw (here, not_yet phases i (rw each within), done, eq-eqb i i refl) (last (succeeded_in plan phases (unit_of plan i)))
@@ -109,14 +109,14 @@ one_need plan phases i (Group u) within each done known =
     none false true = refl
     none false false = refl
 
--- a request that has succeeded takes from what is not met the needs of it, and of its unit where that has succeeded
+-- a request that has succeeded satisfies the needs of it, and those of its unit if that has succeeded
 pub unmet_falls : (plan : Shape) (phases : List Phase) (i j : ℕ) → IsPlan plan → i < length plan.units → j < length plan.units → length phases ≡ length plan.units → has_succeeded (get_or phases i Unstarted) ≡ true
-    → unmet_in plan (set phases i Running) j ≡ unmet_in plan phases j + (need_count plan i j + met_by_unit plan phases (unit_of plan i) j)
+    → unmet_in plan (set phases i Running) j ≡ unmet_in plan phases j + (need_count plan i j + satisfied_by_unit plan phases (unit_of plan i) j)
 unmet_falls plan phases i j laws within inside each done =
     three _ _ _ _ (needs_of plan j) (λ k d inner. one_need plan phases i _ within each done (known_needs plan j laws inside k d inner))
     ∙ ap (λ m. unmet_in plan phases j + (need_count plan i j + m)) (counted_if (succeeded_in plan phases (unit_of plan i)) (λ need. key_of plan need == length plan.units + unit_of plan i) (needs_of plan j))
 
--- the request's own unit has one member less to wait for
+-- the request's own unit has one pending member less
 pub pending_own : (plan : Shape) (phases : List Phase) (i : ℕ) → i < length plan.units → length phases ≡ length plan.units → has_succeeded (get_or phases i Unstarted) ≡ true
     → pending_in plan (set phases i Running) (unit_of plan i) ≡ suc (pending_in plan phases (unit_of plan i))
 pending_own plan phases i within each done = count_less (length plan.units) i _ _ within
@@ -131,18 +131,18 @@ pending_other plan phases i u other = count_same (length plan.units) _ _ (λ j w
   | inr elsewhere ↦ ap (λ b. (unit_of plan j == u) && not b) (others_succeeded phases i j elsewhere)
 ])
 
--- what is read of the members that are left says whether the unit has succeeded
+-- the unit has succeeded if and only if no member is read as pending
 pub succeeded_read : (plan : Shape) (phases : List Phase) (u read : ℕ) (pending : List ℕ) → read ≡ get_or pending u read → u < length pending → get_or pending u 0 ≡ pending_in plan phases u → read ≡ 0 → succeeded_in plan phases u ≡ true
 succeeded_read plan phases u read pending e within counted none = sym (none_pending plan phases u) ∙ eq-eqb _ 0 (sym counted ∙ sym (get_or_read pending u read within e 0) ∙ none)
 
 pub unfinished_read : (plan : Shape) (phases : List Phase) (u read : ℕ) (pending : List ℕ) → read ≡ get_or pending u read → u < length pending → get_or pending u 0 ≡ pending_in plan phases u → (read ≡ 0 → ⊥) → succeeded_in plan phases u ≡ false
 unfinished_read plan phases u read pending e within counted some = sym (none_pending plan phases u) ∙ ne_eqb _ 0 (λ none. some (get_or_read pending u read within e 0 ∙ counted ∙ none))
 
--- the row of a unit that has succeeded has what the unit meets
-pub unit_row : (plan : Shape) (phases : List Phase) (u key i : ℕ) (rows : List (List ℕ)) (row : List ℕ) → AreNeeders plan rows → u < plan.unit_count → i < length plan.units → succeeded_in plan phases u ≡ true → key ≡ length plan.units + u → row ≡ get_or rows key []
-    → count_by (λ j. j == i) row ≡ met_by_unit plan phases u i
-unit_row plan phases u key i rows row needers counted inside done key_is row_is = rw (row_is, key_is, done) (needers.exact (length plan.units + u) i (rw needers.each (omega arith)) inside)
+-- the row of a unit that has succeeded has the needs that the unit satisfies
+pub unit_row : (plan : Shape) (phases : List Phase) (u key i : ℕ) (rows : List (List ℕ)) (row : List ℕ) → AreDependents plan rows → u < plan.unit_count → i < length plan.units → succeeded_in plan phases u ≡ true → key ≡ length plan.units + u → row ≡ get_or rows key []
+    → count_by (λ j. j == i) row ≡ satisfied_by_unit plan phases u i
+unit_row plan phases u key i rows row dependents counted inside done key_is row_is = rw (row_is, key_is, done) (dependents.exact (length plan.units + u) i (rw dependents.each (omega arith)) inside)
 
--- the row of a request has what needs it
-pub request_row : (plan : Shape) (r i : ℕ) (rows : List (List ℕ)) (row : List ℕ) → AreNeeders plan rows → r < length plan.units → i < length plan.units → row ≡ get_or rows r [] → count_by (λ j. j == i) row ≡ need_count plan r i
-request_row plan r i rows row needers within inside row_is = rw row_is (needers.exact r i (rw needers.each (omega arith)) inside)
+-- the row of a request has its dependents
+pub request_row : (plan : Shape) (r i : ℕ) (rows : List (List ℕ)) (row : List ℕ) → AreDependents plan rows → r < length plan.units → i < length plan.units → row ≡ get_or rows r [] → count_by (λ j. j == i) row ≡ need_count plan r i
+request_row plan r i rows row dependents within inside row_is = rw row_is (dependents.exact r i (rw dependents.each (omega arith)) inside)

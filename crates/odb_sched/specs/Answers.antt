@@ -12,13 +12,13 @@ use Rattle.odb_sched.specs.Phases.{has_succeeded}
 use Rattle.odb_sched.specs.State.{State, size, phase_at}
 use Rattle.odb_sched.specs.Steps.{unit_succeeded}
 
--- The answer of a request that stands so, where its unit succeeded or not. None is a failed dependency.
+-- The answer of a request with this phase, by whether its unit succeeded. None is a failed dependency.
 abbrev pub answer_of : Phase → Bool → Option Outcome
 answer_of Unstarted succeeded = None
 answer_of Running succeeded = None
 answer_of (Reported outcome) succeeded = if is_success outcome.status && not succeeded then None else Some outcome
 
--- the outcome of a request that stands so
+-- the outcome of a request with this phase
 abbrev pub outcome_of : Phase → Option Outcome
 outcome_of Unstarted = None
 outcome_of Running = None

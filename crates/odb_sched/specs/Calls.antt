@@ -59,7 +59,7 @@ reported_by (step.Report i ∷ steps) = i ∷ reported_by steps
 abbrev pub Writes : {S X : Type 0} → Performing S → (S → List X) → (Call → X) → Type 0
 Writes {S = S} performs log entry = (old new : S) (i : ℕ) (request : Record) (outcome : Outcome) → performs old i request (Ok outcome) new → log new ≡ log old ++ entry (i, request, outcome) ∷ []
 
--- an execution: its course, what each request waited for, and each call of the service
+-- an execution: its course, the dependencies that ended before each start, and each call of the service
 pub record IsExecution {S : Type 0} (allows : Allowance) (offers : Offer) (performs : Performing S) (requests : List Record) (state : State) (old new : S) (steps : List Step) (last : State) : Type 0 where
   pub course : IsFinishedBy allows offers state steps last
   pub dependencies_first : StartsLast requests course.events

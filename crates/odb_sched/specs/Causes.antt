@@ -10,7 +10,7 @@ use Rattle.odb_sched.specs.declared.refusal.ReportRefusal.TheVariants as report
 use Rattle.odb_sched.specs.Statuses.{is_status}
 use Rattle.odb_sched.specs.Phases.{is_unstarted, is_running}
 use Rattle.odb_sched.specs.State.{State, phase_at}
-use Rattle.odb_sched.specs.Steps.{is_stopped, unit_failed, is_met, running_count}
+use Rattle.odb_sched.specs.Steps.{is_stopped, unit_failed, is_satisfied, running_count}
 
 -- the number of a cause, as in S1 to S5
 abbrev pub start_number : StartRefusal → ℕ
@@ -20,12 +20,12 @@ start_number start.UnitFailed = 3
 start_number (start.Waiting need) = 4
 start_number start.WidthReached = 5
 
--- what each cause says of the request. A need that it waits for is the first of its needs that is not satisfied.
+-- when each cause bars the start of the request. A need that it waits for is the first of its needs that is not satisfied.
 abbrev pub BarsStart : StartRefusal → State → ℕ → Type 0
 BarsStart start.AlreadyStarted state i = is_unstarted (phase_at state i) ≡ false
 BarsStart start.Stopped state i = is_stopped state ≡ true
 BarsStart start.UnitFailed state i = unit_failed state (unit_of state.shape i) ≡ true
-BarsStart (start.Waiting need) state i = find (λ other. not (is_met state other)) (needs_of state.shape i) ≡ Some need
+BarsStart (start.Waiting need) state i = find (λ other. not (is_satisfied state other)) (needs_of state.shape i) ≡ Some need
 BarsStart start.WidthReached state i = state.policy.width ≤ running_count state
 
 -- the first cause against a start: it applies, and none with a smaller number does
@@ -37,7 +37,7 @@ abbrev pub report_number : ReportRefusal → ℕ
 report_number report.NotRunning = 1
 report_number report.BadStatus = 2
 
--- what each cause says of the request and its outcome
+-- when each cause bars the report of the request with this outcome
 abbrev pub BarsReport : ReportRefusal → State → ℕ → Outcome → Type 0
 BarsReport report.NotRunning state i outcome = is_running (phase_at state i) ≡ false
 BarsReport report.BadStatus state i outcome = is_status outcome.status ≡ false

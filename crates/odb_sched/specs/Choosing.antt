@@ -17,7 +17,7 @@ Positions = FinSet nat_cmp
 abbrev pub positions_of : List ℕ → Positions
 positions_of xs = from_list xs
 
--- the place that is chosen lies in its list
+-- the chosen place is within its list
 abbrev pub IsInRange : List ℕ → List ℕ → Choice → Type 0
 IsInRange ready running (choice.Start place) = place < length ready
 IsInRange ready running (choice.Report place) = place < length running
@@ -43,7 +43,7 @@ pub record IsGreatest (positions : Positions) (i : ℕ) : Type 0 where
 abbrev pub IsNone : Positions → Type 0
 IsNone positions = (i : ℕ) → contains positions i ≡ false
 
--- the least that runs is reported; where none runs, the least that may start is started
+-- the least running position is reported; if none is running, the least ready one is started
 abbrev pub AllowsFirst : Positions → Positions → Step → Type 0
 AllowsFirst ready running (step.Report i) = IsLeast running i
 AllowsFirst ready running (step.Start i) = IsNone running × IsLeast ready i
@@ -53,7 +53,7 @@ abbrev pub AllowsLast : Positions → Positions → Step → Type 0
 AllowsLast ready running (step.Report i) = IsGreatest running i
 AllowsLast ready running (step.Start i) = IsNone running × IsGreatest ready i
 
--- the least that may start is started; where none may start, the least that runs is reported
+-- the least ready position is started; if none is ready, the least running one is reported
 abbrev pub AllowsWide : Positions → Positions → Step → Type 0
 AllowsWide ready running (step.Start i) = IsLeast ready i
 AllowsWide ready running (step.Report i) = IsNone ready × IsLeast running i

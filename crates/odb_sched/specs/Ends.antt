@@ -17,17 +17,17 @@ pub record IsEndOf (end : End) (members : List Bool) (i : ℕ) : Type 0 where
   pub among : slice_index_or members i false ≡ true
   pub nearest : (j : ℕ) → IsNearer end j i → slice_index_or members j false ≡ false
 
--- the position stands at the end of a set
+-- the position is at the end of a set
 abbrev pub IsAt : End → Positions → ℕ → Type 0
 IsAt Least = IsLeast
 IsAt Greatest = IsGreatest
 
--- what runs at the end is reported; where none runs, what may start there is started
+-- the running position at the end is reported; if none is running, the ready one at the end is started
 abbrev pub ReportsFirst : End → Positions → Positions → Step → Type 0
 ReportsFirst end ready running (step.Report i) = IsAt end running i
 ReportsFirst end ready running (step.Start i) = IsNone running × IsAt end ready i
 
--- what may start at the end is started; where none may start, what runs there is reported
+-- the ready position at the end is started; if none is ready, the running one at the end is reported
 abbrev pub StartsFirst : End → Positions → Positions → Step → Type 0
 StartsFirst end ready running (step.Start i) = IsAt end ready i
 StartsFirst end ready running (step.Report i) = IsNone ready × IsAt end running i

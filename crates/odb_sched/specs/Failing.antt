@@ -1,4 +1,4 @@
--- Which units fail where some requests are bad (OData Protocol 4.01, section 11.7).
+-- Which units fail if some requests are bad (OData Protocol 4.01, section 11.7).
 use Rattle.std.specs.Prelude.{◌≡◌, ◌≢◌, ℕ, zero, suc, ◌<◌, ◌==◌, ◌&&◌, ◌||◌, Bool, true, false, not, length, Contains}
 use Rattle.std.specs.List.{list_any}
 use Rattle.odb_doc.specs.declared.outcome.Outcome.{Outcome}
@@ -13,21 +13,21 @@ abbrev pub unit_needed : Shape → Need → ℕ
 unit_needed plan (One r) = unit_of plan r
 unit_needed plan (Group u) = u
 
--- a unit fails: a member is bad, or needs something of another unit that fails
+-- a unit fails: a member is bad, or depends on something of another unit that fails
 pub data Fails (plan : Shape) (bad : ℕ → Bool) : ℕ → Type 0 where
   own : (i : ℕ) → i < length plan.units → bad i ≡ true → Fails plan bad (unit_of plan i)
-  passed : (i : ℕ) (need : Need) → i < length plan.units → Contains (needs_of plan i) need → unit_needed plan need ≢ unit_of plan i → Fails plan bad (unit_needed plan need) → Fails plan bad (unit_of plan i)
+  propagated : (i : ℕ) (need : Need) → i < length plan.units → Contains (needs_of plan i) need → unit_needed plan need ≢ unit_of plan i → Fails plan bad (unit_needed plan need) → Fails plan bad (unit_of plan i)
 
 -- whether a request needs something of another unit that has failed
 abbrev pub needs_failed : Shape → (ℕ → Bool) → ℕ → Bool
 needs_failed plan failed i = list_any (λ need. not (unit_needed plan need == unit_of plan i) && failed (unit_needed plan need)) (needs_of plan i)
 
--- whether a unit fails in so many rounds, each of which passes on the failures of those before it
+-- whether a unit fails within so many rounds, each of which propagates the failures of those before it
 abbrev pub fails_within : Shape → (ℕ → Bool) → ℕ → ℕ → Bool
 fails_within plan bad zero u = false
 fails_within plan bad (suc rounds) u = any_below (length plan.units) (λ i. unit_of plan i == u && (bad i || needs_failed plan (fails_within plan bad rounds) i))
 
--- Whether a unit fails. A failure is passed on to later units alone, so there are as many rounds as units.
+-- Whether a unit fails. A failure is propagated to later units alone, so there are as many rounds as units.
 abbrev pub fails : Shape → (ℕ → Bool) → ℕ → Bool
 fails plan bad u = fails_within plan bad plan.unit_count u
 

@@ -6,11 +6,11 @@ use Rattle.odb_sched.specs.State.{State}
 use Rattle.odb_sched.specs.Steps.{is_stopped}
 use Rattle.odb_sched.specs.Plans.{state_of}
 use Rattle.odb_sched.specs.Reached.{IsReached}
-use Rattle.odb_sched.specs.ProgressCounts.{AreNeeders, AreCounts}
+use Rattle.odb_sched.specs.ProgressCounts.{AreDependents, AreCounts}
 
 -- the rows, the counts and the stop are those of the state
 pub record IsTracked (state : State) (tracker : Tracker) : Type 0 where
-  pub needers : AreNeeders state.shape tracker.needers
+  pub dependents : AreDependents state.shape tracker.dependents
   pub counts : AreCounts state.shape state.phases tracker.progress
   pub stopped : tracker.stopped ≡ is_stopped state
 

@@ -52,7 +52,7 @@ HasFewEvents events = (i : ℕ) → count_by (λ e. event_position e == i) event
 abbrev pub Agrees : State → (ℕ → Outcome) → Type 0
 Agrees state table = (i : ℕ) (outcome : Outcome) → i < size state → phase_at state i ≡ Reported outcome → outcome ≡ table i
 
--- a request is answered with a success exactly where its unit succeeds under the table, and then with the table's outcome
+-- a request is answered with a success exactly when its unit succeeds under the table, and then with the table's outcome
 abbrev pub HasOneResult : State → Type 0
 HasOneResult state = (table : ℕ → Outcome) → Agrees state table → (i : ℕ) → i < size state
     → (IsTrue (is_answered_2xx (answer state i)) ↔ IsTrue (succeeds state.shape table (unit_of state.shape i)))
@@ -74,7 +74,7 @@ IsSound state = (i : ℕ) → i < size state → IsTrue (is_answered_2xx (answer
     → ((r : ℕ) → Contains (needs_of state.shape i) (One r) → IsTrue (is_answered_2xx (answer state r)))
     × ((u j : ℕ) → Contains (needs_of state.shape i) (Group u) → j < size state → unit_of state.shape j ≡ u → IsTrue (is_answered_2xx (answer state j)))
 
--- A unit succeeds under a table exactly where each member has a success there, and each other unit that a member needs
+-- A unit succeeds under a table exactly when each member has a success there, and each other unit that a member needs
 -- succeeds.
 abbrev pub SucceedsByMembers : Shape → (ℕ → Outcome) → ℕ → Type 0
 SucceedsByMembers plan table u = IsTrue (succeeds plan table u) ↔ ((i : ℕ) → i < length plan.units → unit_of plan i ≡ u

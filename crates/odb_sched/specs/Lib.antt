@@ -26,7 +26,7 @@ pub mod Reached
 pub mod ProgressCounts
 pub mod NeedPairs
 pub mod FirstCounts
-pub mod Passing
+pub mod Propagation
 pub mod Kept
 pub mod Ended
 pub mod Ends

@@ -27,6 +27,6 @@ HasOneCourse order recorded state = (steps others : List Step) (last end : State
 abbrev pub HasOneFault : Order → List (Option Outcome) → State → Type 0
 HasOneFault order recorded state = (cause other : ExecFault) → Faults order recorded state cause → Faults order recorded state other → cause ≡ other
 
--- where a course leads to a fault, none finishes the run
+-- if a course leads to a fault, none finishes the run
 abbrev pub FaultsOrFinishes : Order → List (Option Outcome) → State → Type 0
 FaultsOrFinishes order recorded state = (cause : ExecFault) (steps : List Step) (last : State) → Faults order recorded state cause → Finishes order recorded state steps last → ⊥

@@ -6,6 +6,6 @@ use Rattle.odb_sched.specs.declared.policy.Policy.{Policy}
 use Rattle.odb_sched.specs.declared.phase.Phase.{Phase}
 use Rattle.odb_sched.specs.State.{State, shape}
 
--- the state of a run of this plan under this policy, where its requests stand so
+-- the state of a run of this plan under this policy, with these phases
 abbrev pub state_of : Plan → Policy → List Phase → State
 state_of plan policy phases = record { plan = plan; shape = shape plan; policy = policy; phases = phases }

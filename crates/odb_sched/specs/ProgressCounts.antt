@@ -1,8 +1,8 @@
 -- Private: what a scheduler counts beside the phases of its requests.
 use Rattle.std.specs.Prelude.{◌≡◌, ℕ, ◌<◌, ◌==◌, ◌&&◌, ◌+◌, Bool, false, not, List, [], length, map, slice_index_or, count_by, All, if◌then◌else◌}
-use Rattle.odb_dense.specs.declared.worklist.Standing.{Standing}
-use Rattle.odb_dense.specs.declared.worklist.Standing.TheVariants.{Sound}
-use Rattle.odb_dense.specs.Standings.{is_marked, is_passed}
+use Rattle.odb_dense.specs.declared.worklist.Mark.{Mark}
+use Rattle.odb_dense.specs.declared.worklist.Mark.TheVariants.{Unvisited}
+use Rattle.odb_dense.specs.Marks.{is_marked, is_visited}
 use Rattle.odb_check.specs.declared.need.Need.{Need}
 use Rattle.odb_check.specs.declared.need.Need.TheVariants.{One, Group}
 use Rattle.odb_check.specs.Firsts.{count_below}
@@ -11,7 +11,7 @@ use Rattle.odb_sched.specs.declared.phase.Phase.{Phase}
 use Rattle.odb_sched.specs.declared.phase.Phase.TheVariants.{Unstarted}
 use Rattle.odb_sched.specs.declared.progress.Progress.{Progress}
 use Rattle.odb_sched.specs.Phases.{is_unstarted, is_running, is_reported, has_succeeded}
-use Rattle.odb_sched.specs.Steps.{succeeded_in, met_in, failed_in}
+use Rattle.odb_sched.specs.Steps.{succeeded_in, satisfied_in, failed_in}
 
 -- the key of what is needed: a position, or a unit, whose keys come after those of all positions
 abbrev pub key_of : Shape → Need → ℕ
@@ -23,20 +23,20 @@ abbrev pub need_count : Shape → ℕ → ℕ → ℕ
 need_count plan key i = count_by (λ need. key_of plan need == key) (needs_of plan i)
 
 -- the row of each key has each request as often as it needs what has the key
-pub record AreNeeders (plan : Shape) (rows : List (List ℕ)) : Type 0 where
+pub record AreDependents (plan : Shape) (rows : List (List ℕ)) : Type 0 where
   pub each : length rows ≡ length plan.units + plan.unit_count
   pub within : (key : ℕ) → key < length rows → All (λ i. i < length plan.units) (slice_index_or rows key [])
   pub exact : (key i : ℕ) → key < length rows → i < length plan.units → count_by (λ j. j == i) (slice_index_or rows key []) ≡ need_count plan key i
 
--- how many needs of a request are not met
+-- how many needs of a request are not satisfied
 abbrev pub unmet_in : Shape → List Phase → ℕ → ℕ
-unmet_in plan phases i = count_by (λ need. not (met_in plan phases need)) (needs_of plan i)
+unmet_in plan phases i = count_by (λ need. not (satisfied_in plan phases need)) (needs_of plan i)
 
--- how many needs of a request a unit meets
-abbrev pub met_by_unit : Shape → List Phase → ℕ → ℕ → ℕ
-met_by_unit plan phases u i = if succeeded_in plan phases u then need_count plan (length plan.units + u) i else 0
+-- how many needs of a request a unit satisfies
+abbrev pub satisfied_by_unit : Shape → List Phase → ℕ → ℕ → ℕ
+satisfied_by_unit plan phases u i = if succeeded_in plan phases u then need_count plan (length plan.units + u) i else 0
 
--- of each request, how many of its needs are not met
+-- of each request, how many of its needs are not satisfied
 abbrev pub AreUnmet : Shape → List Phase → List ℕ → Type 0
 AreUnmet plan phases unmet = (i : ℕ) → i < length plan.units → slice_index_or unmet i 0 ≡ unmet_in plan phases i
 
@@ -49,31 +49,31 @@ abbrev pub ArePending : Shape → List Phase → List ℕ → Type 0
 ArePending plan phases pending = (u : ℕ) → u < plan.unit_count → slice_index_or pending u 0 ≡ pending_in plan phases u
 
 -- whether the unit of a request was taken from the worklist
-abbrev pub is_gone : Shape → List Standing → ℕ → Bool
-is_gone plan units i = is_passed (slice_index_or units (unit_of plan i) Sound)
+abbrev pub is_skipped : Shape → List Mark → ℕ → Bool
+is_skipped plan units i = is_visited (slice_index_or units (unit_of plan i) Unvisited)
 
--- the set has what is unstarted, is not gone and has no unmet need
-pub record AreReady (plan : Shape) (gone : ℕ → Bool) (phases : List Phase) (unmet : List ℕ) (ready : List Bool) : Type 0 where
+-- the set has the requests that are unstarted, are not skipped and have no unmet need
+pub record AreReady (plan : Shape) (skipped : ℕ → Bool) (phases : List Phase) (unmet : List ℕ) (ready : List Bool) : Type 0 where
   pub counted : length unmet ≡ length plan.units
   pub each : length ready ≡ length plan.units
-  pub exact : (i : ℕ) → i < length plan.units → slice_index_or ready i false ≡ (is_unstarted (slice_index_or phases i Unstarted) && not (gone i) && (slice_index_or unmet i 0 == 0))
+  pub exact : (i : ℕ) → i < length plan.units → slice_index_or ready i false ≡ (is_unstarted (slice_index_or phases i Unstarted) && not (skipped i) && (slice_index_or unmet i 0 == 0))
 
--- how many requests are neither reported nor gone
+-- how many requests are neither reported nor skipped
 abbrev pub open_count : Shape → (ℕ → Bool) → List Phase → ℕ
-open_count plan gone phases = count_below (length plan.units) (λ i. not (is_reported (slice_index_or phases i Unstarted)) && not (gone i))
+open_count plan skipped phases = count_below (length plan.units) (λ i. not (is_reported (slice_index_or phases i Unstarted)) && not (skipped i))
 
 -- the units that have failed were taken from the worklist, and no others were ever on it
-pub record ArePassed (plan : Shape) (phases : List Phase) (units : List Standing) : Type 0 where
+pub record ArePropagated (plan : Shape) (phases : List Phase) (units : List Mark) : Type 0 where
   pub each : length units ≡ plan.unit_count
-  pub failed : (u : ℕ) → u < plan.unit_count → is_passed (slice_index_or units u Sound) ≡ failed_in plan phases u
-  pub marked : (u : ℕ) → is_marked (slice_index_or units u Sound) ≡ is_passed (slice_index_or units u Sound)
+  pub failed : (u : ℕ) → u < plan.unit_count → is_visited (slice_index_or units u Unvisited) ≡ failed_in plan phases u
+  pub marked : (u : ℕ) → is_marked (slice_index_or units u Unvisited) ≡ is_visited (slice_index_or units u Unvisited)
 
--- what is counted is so where the requests stand so
+-- the counts are those of the requests in these phases
 pub record AreCounts (plan : Shape) (phases : List Phase) (t : Progress) : Type 0 where
   pub unmet : AreUnmet plan phases t.unmet.items
   pub members : length t.pending.items ≡ plan.unit_count
   pub pending : ArePending plan phases t.pending.items
-  pub units : ArePassed plan phases t.units
-  pub ready : AreReady plan (is_gone plan t.units) phases t.unmet.items t.ready
+  pub units : ArePropagated plan phases t.units
+  pub ready : AreReady plan (is_skipped plan t.units) phases t.unmet.items t.ready
   pub running : t.running ≡ map is_running phases
-  pub left : t.left ≡ open_count plan (is_gone plan t.units) phases
+  pub left : t.left ≡ open_count plan (is_skipped plan t.units) phases

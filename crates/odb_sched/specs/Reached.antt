@@ -3,7 +3,7 @@ use Rattle.std.specs.Prelude.{◌≡◌, ℕ, ◌<◌, ◌≤◌, true, false, l
 use Rattle.odb_check.specs.Shape.{IsPlan}
 use Rattle.odb_sched.specs.Phases.{is_unstarted}
 use Rattle.odb_sched.specs.State.{State, size, phase_at}
-use Rattle.odb_sched.specs.Steps.{all_met, running_count}
+use Rattle.odb_sched.specs.Steps.{all_satisfied, running_count}
 
 -- what holds of a state before any event, and after each event that may come
 pub record IsReached (state : State) : Type 0 where
@@ -11,5 +11,5 @@ pub record IsReached (state : State) : Type 0 where
   pub each : length state.phases ≡ size state
   -- no more requests run than the width allows
   pub narrow : running_count state ≤ state.policy.width
-  -- what a request needs was met before it started
-  pub needs : (i : ℕ) → i < size state → is_unstarted (phase_at state i) ≡ false → all_met state i ≡ true
+  -- the needs of a request were satisfied before it started
+  pub needs : (i : ℕ) → i < size state → is_unstarted (phase_at state i) ≡ false → all_satisfied state i ≡ true

@@ -15,7 +15,7 @@ outcome_for entries id = option_map (λ entry. entry.1) (find (λ entry. bytes_e
 abbrev pub recorded_for : List Record → List (List ℕ × Outcome) → List (Option Outcome)
 recorded_for batch entries = map (λ request. outcome_for entries request.id) batch
 
--- the same where an outcome is noted at a position, if there is one
+-- the same with an outcome noted at a position, if there is one
 abbrev pub noted_at : Option ℕ → List (Option Outcome) → Outcome → List (Option Outcome)
 noted_at None outcomes outcome = outcomes
 noted_at (Some i) outcomes outcome = slice_set outcomes i (Some outcome)
@@ -29,6 +29,6 @@ offered None = Err NoOutcome
 abbrev pub OffersRecorded : List (Option Outcome) → Offer
 OffersRecorded outcomes i answer = answer ≡ offered (slice_index_or outcomes i None)
 
--- a call answers what is recorded for the position, and that is then gone
+-- a call answers what is recorded for the position, and takes it out of the record
 abbrev pub PerformsRecorded : Performing (List (Option Outcome))
 PerformsRecorded before i request answer later = (answer ≡ offered (slice_index_or before i None)) × (later ≡ slice_set before i None)

@@ -32,7 +32,7 @@ IsRunFrom state (e ∷ es) = (event_position e < size state) × (may_come state 
 abbrev pub IsRun : Plan → Policy → List Event → Type 0
 IsRun plan policy events = IsRunFrom (at_first plan policy) events
 
--- the state that a run leaves
+-- the state after a run
 abbrev pub state_after : Plan → Policy → List Event → State
 state_after plan policy events = after_all (at_first plan policy) events
 
@@ -58,7 +58,7 @@ phase_by (Some outcome) started = Reported outcome
 phase_by None true = Running
 phase_by None false = Unstarted
 
--- where a request stands after events: by its start and its first report among them
+-- the phase of a request after events: by its start and its first report among them
 abbrev pub phase_of : ℕ → List Event → Phase
 phase_of i events = phase_by (first_report i events) (list_any (starts i) events)
 
@@ -81,7 +81,7 @@ pub record StopsAt (state : State) (events : List Event) (cause : RunRefusal) : 
   pub barred : may_come (after_all state before) event ≡ false
   pub refused : RefusesEvent (after_all state before) (length before) event cause
 
--- why a list of events is no run. Out of memory says nothing
+-- why a list of events is not a run. Out of memory says nothing
 abbrev pub Refuses : State → List Event → RunRefusal → Type 0
 Refuses state events refusal.OutOfMemory = Unit {0}
 Refuses state events cause = StopsAt state events cause

@@ -1,4 +1,4 @@
--- The state of a run: its plan, its policy, and where each request stands.
+-- The state of a run: its plan, its policy, and the phase of each request.
 use Rattle.std.specs.Prelude.{ℕ, List, length, replicate, slice_index_or, slice_set}
 use Rattle.odb_doc.specs.declared.outcome.Outcome.{Outcome}
 use Rattle.odb_check.specs.declared.plan.Plan.{Plan}
@@ -21,7 +21,7 @@ pub record State : Type 0 where
 abbrev pub size : State → ℕ
 size state = length state.shape.units
 
--- where the request at a position stands
+-- the phase of the request at a position
 abbrev pub phase_at : State → ℕ → Phase
 phase_at state i = slice_index_or state.phases i Unstarted
 

@@ -1,4 +1,4 @@
--- What a status says (OData JSON Format 4.01, section 19.4; OData Protocol 4.01, section 11.7).
+-- What a status means (OData JSON Format 4.01, section 19.4; OData Protocol 4.01, section 11.7).
 use Rattle.std.specs.Prelude.{ℕ, Bool, ◌&&◌, nat_lt, nat_le}
 
 -- a status from 200 to 299

@@ -22,9 +22,9 @@ abbrev pub succeeded_in : Shape → List Phase → ℕ → Bool
 succeeded_in plan phases u = all_below (length plan.units) (λ i. not (unit_of plan i == u) || has_succeeded (slice_index_or phases i Unstarted))
 
 -- what is needed has reported a success: a request, or each member of a group
-abbrev pub met_in : Shape → List Phase → Need → Bool
-met_in plan phases (One r) = has_succeeded (slice_index_or phases r Unstarted)
-met_in plan phases (Group u) = succeeded_in plan phases u
+abbrev pub satisfied_in : Shape → List Phase → Need → Bool
+satisfied_in plan phases (One r) = has_succeeded (slice_index_or phases r Unstarted)
+satisfied_in plan phases (Group u) = succeeded_in plan phases u
 
 -- a unit has failed: a member reported no success, or needs something of another unit that has failed
 abbrev pub failed_in : Shape → List Phase → ℕ → Bool
@@ -33,11 +33,11 @@ failed_in plan phases u = fails plan (λ i. has_failed (slice_index_or phases i 
 abbrev pub unit_succeeded : State → ℕ → Bool
 unit_succeeded state u = succeeded_in state.shape state.phases u
 
-abbrev pub is_met : State → Need → Bool
-is_met state need = met_in state.shape state.phases need
+abbrev pub is_satisfied : State → Need → Bool
+is_satisfied state need = satisfied_in state.shape state.phases need
 
-abbrev pub all_met : State → ℕ → Bool
-all_met state i = list_all (is_met state) (needs_of state.shape i)
+abbrev pub all_satisfied : State → ℕ → Bool
+all_satisfied state i = list_all (is_satisfied state) (needs_of state.shape i)
 
 abbrev pub unit_failed : State → ℕ → Bool
 unit_failed state u = failed_in state.shape state.phases u
@@ -60,7 +60,7 @@ running_count state = count_by is_running state.phases
 
 -- the start of a request may come
 abbrev pub may_start : State → ℕ → Bool
-may_start state i = is_unstarted (phase_at state i) && not (is_stopped state) && not (unit_failed state (unit_of state.shape i)) && all_met state i && nat_lt (running_count state) state.policy.width
+may_start state i = is_unstarted (phase_at state i) && not (is_stopped state) && not (unit_failed state (unit_of state.shape i)) && all_satisfied state i && nat_lt (running_count state) state.policy.width
 
 -- the report of a request may come
 abbrev pub may_report : State → ℕ → Outcome → Bool

@@ -3,7 +3,7 @@ ghost use Rattle.odb_check.specs.Shape as shapes;
 ghost use Rattle.odb_sched.specs.NeedPairs.{need_pairs, all_pairs};
 ghost use Rattle.odb_sched.specs.Plans.{IsNeed};
 ghost use Rattle.odb_sched.specs.State.{shape};
-ghost use Rattle.odb_sched.specs.ProgressCounts as tallies;
+ghost use Rattle.odb_sched.specs.ProgressCounts as counting;
 
 use odb_check::{Need, Plan};
 use odb_dense::Rows;
@@ -21,7 +21,7 @@ pub(crate) fn unit_key(plan: &Plan<'_>, u: u32) -> u32
 /// Returns the key of a dependency.
 fn key_of(plan: &Plan<'_>, need: Need) -> u32
     requires { IsNeed (shape plan.now) need }
-    ensures { result ≡ tallies.key_of (shape plan.now) need }
+    ensures { result ≡ counting.key_of (shape plan.now) need }
 {
     match need {
         Need::One(r) => r,
@@ -56,8 +56,8 @@ fn pairs_of(alloc: Global, plan: &Plan<'_>) -> Result<Vec<(u32, u32)>, AllocErro
 /// # Errors
 ///
 /// If memory for the keys and the needs cannot be allocated.
-pub(crate) fn needers_of(alloc: Global, plan: &Plan<'_>) -> Result<Rows, AllocError>
-    ensures { IfOk result (tallies.AreNeeders (shape plan.now)) }
+pub(crate) fn dependents_of(alloc: Global, plan: &Plan<'_>) -> Result<Rows, AllocError>
+    ensures { IfOk result (counting.AreDependents (shape plan.now)) }
 {
     odb_check::laws::every_plan(plan);
     let keys = plan.len() as usize + plan.unit_count() as usize;

@@ -110,7 +110,7 @@ impl<'p> Done<'p> {
         self.plan
     }
 
-    /// What holds of the answers of every finished run, as [`crate::laws::every_result`] says it of
+    /// What holds of the answers of every finished run, as [`crate::laws::every_result`] states it of
     /// lists of events. It changes nothing.
     pub fn laws(&self)
         ensures finished { steps.is_finished self.now ≡ true }

@@ -190,7 +190,7 @@ fn prepared<'a: 'p, 'p>(
     Ok((scheduler, steps))
 }
 
-/// Runs a plan to its end. The chooser says what comes next, and the service gives the outcome of a
+/// Runs a plan to its end. The chooser picks each step, and the service returns the outcome of a
 /// request when its report is chosen (OData JSON Format 4.01, section 19.4; OData Protocol 4.01,
 /// section 11.7).
 ///

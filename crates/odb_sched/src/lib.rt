@@ -12,12 +12,12 @@
 
 mod chooser;
 mod completing;
+mod dependents;
 mod done;
 mod event;
 mod execution;
 mod fault;
 pub mod laws;
-mod needers;
 mod order;
 mod phase;
 mod policy;

@@ -3,7 +3,7 @@ ghost use Rattle.std.specs.Prelude.{◌≡◌, ◌<◌, ◌↔◌, IsSome, IfSom
 /// The greatest width that makes a difference: a batch has no more requests.
 pub const MAX_WIDTH: u32 = 10_000;
 
-/// Whether a run goes on after an error (OData Protocol 4.01, section 8.2.8.3, the preference
+/// Whether a run continues after an error (OData Protocol 4.01, section 8.2.8.3, the preference
 /// `continue-on-error`).
 #[derive(Clone, Copy, Debug, PartialEq, Eq)]
 pub enum Mode {

@@ -2,11 +2,11 @@ ghost use Rattle.std.specs.Prelude.{◌≡◌, ◌<◌, ◌≤◌, ◌+◌, ◌-
 ghost use Rattle.odb_check.specs.Shape as shapes;
 ghost use Rattle.odb_sched.specs.declared.phase.Phase.TheVariants.{Unstarted, Running};
 ghost use Rattle.odb_sched.specs.State.{shape};
-ghost use Rattle.odb_sched.specs.ProgressCounts as tallies;
+ghost use Rattle.odb_sched.specs.ProgressCounts as counting;
 ghost use Rattle.odb_sched.specs.Phases as tests;
 
 use crate::completing::complete;
-use crate::needers::unit_key;
+use crate::dependents::unit_key;
 use crate::phase::Phase;
 use crate::progress::Progress;
 use odb_check::Plan;
@@ -20,9 +20,9 @@ fn satisfy(plan: &Plan<'_>, phases: &[Phase], i: u32, progress: &mut Progress)
     requires request { i < length (shape plan.now).units }
     requires units { length progress.old.units ≡ (shape plan.now).unit_count }
     requires some { 0 < slice_index_or progress.old.unmet.items i 0 }
-    requires ready { tallies.AreReady (shape plan.now) (tallies.is_gone (shape plan.now) progress.old.units)
+    requires ready { counting.AreReady (shape plan.now) (counting.is_skipped (shape plan.now) progress.old.units)
         phases.now progress.old.unmet.items progress.old.ready }
-    ensures ready { tallies.AreReady (shape plan.now) (tallies.is_gone (shape plan.now) progress.old.units)
+    ensures ready { counting.AreReady (shape plan.now) (counting.is_skipped (shape plan.now) progress.old.units)
         phases.now progress.new.unmet.items progress.new.ready }
     ensures unmet { progress.new.unmet.items
         ≡ slice_set progress.old.unmet.items i (slice_index_or progress.old.unmet.items i 0 - 1) }
@@ -32,7 +32,7 @@ fn satisfy(plan: &Plan<'_>, phases: &[Phase], i: u32, progress: &mut Progress)
     progress.unmet[at] -= 1;
     if progress.unmet[at] == 0
         && phases[at].is_unstarted()
-        && !progress.units.is_passed(plan.unit_of(i))
+        && !progress.units.is_visited(plan.unit_of(i))
     {
         progress.ready.insert(i);
     }
@@ -46,9 +46,9 @@ fn satisfy_each(plan: &Plan<'_>, phases: &[Phase], list: &[u32], progress: &mut 
     requires within { All (λ i. i < length (shape plan.now).units) list.now }
     requires enough { (i : ℕ) → i < length (shape plan.now).units
         → count_by (λ j. j == i) list.now ≤ slice_index_or progress.old.unmet.items i 0 }
-    requires ready { tallies.AreReady (shape plan.now) (tallies.is_gone (shape plan.now) progress.old.units)
+    requires ready { counting.AreReady (shape plan.now) (counting.is_skipped (shape plan.now) progress.old.units)
         phases.now progress.old.unmet.items progress.old.ready }
-    ensures ready { tallies.AreReady (shape plan.now) (tallies.is_gone (shape plan.now) progress.old.units)
+    ensures ready { counting.AreReady (shape plan.now) (counting.is_skipped (shape plan.now) progress.old.units)
         phases.now progress.new.unmet.items progress.new.ready }
     ensures fallen { (i : ℕ) → i < length (shape plan.now).units
         → slice_index_or progress.new.unmet.items i 0 + count_by (λ j. j == i) list.now
@@ -61,34 +61,40 @@ fn satisfy_each(plan: &Plan<'_>, phases: &[Phase], list: &[u32], progress: &mut 
 }
 
 /// Takes one satisfied need off each dependent of a unit, if all members of the unit have succeeded.
-fn satisfy_unit(plan: &Plan<'_>, phases: &[Phase], needers: &Rows, u: u32, progress: &mut Progress)
+fn satisfy_unit(
+    plan: &Plan<'_>,
+    phases: &[Phase],
+    dependents: &Rows,
+    u: u32,
+    progress: &mut Progress,
+)
     requires laws { shapes.IsPlan (shape plan.now) }
     requires each { length phases.now ≡ length (shape plan.now).units }
-    requires needers { tallies.AreNeeders (shape plan.now) needers.now }
+    requires dependents { counting.AreDependents (shape plan.now) dependents.now }
     requires unit { u < (shape plan.now).unit_count }
     requires units { length progress.old.units ≡ (shape plan.now).unit_count }
     requires members { length progress.old.pending.items ≡ (shape plan.now).unit_count }
     requires pending { slice_index_or progress.old.pending.items u 0
-        ≡ tallies.pending_in (shape plan.now) phases.now u }
+        ≡ counting.pending_in (shape plan.now) phases.now u }
     requires enough { (i : ℕ) → i < length (shape plan.now).units
-        → tallies.met_by_unit (shape plan.now) phases.now u i
+        → counting.satisfied_by_unit (shape plan.now) phases.now u i
         ≤ slice_index_or progress.old.unmet.items i 0 }
-    requires ready { tallies.AreReady (shape plan.now) (tallies.is_gone (shape plan.now) progress.old.units)
+    requires ready { counting.AreReady (shape plan.now) (counting.is_skipped (shape plan.now) progress.old.units)
         phases.now progress.old.unmet.items progress.old.ready }
-    ensures ready { tallies.AreReady (shape plan.now) (tallies.is_gone (shape plan.now) progress.old.units)
+    ensures ready { counting.AreReady (shape plan.now) (counting.is_skipped (shape plan.now) progress.old.units)
         phases.now progress.new.unmet.items progress.new.ready }
     ensures fallen { (i : ℕ) → i < length (shape plan.now).units
         → slice_index_or progress.new.unmet.items i 0
-        + tallies.met_by_unit (shape plan.now) phases.now u i
+        + counting.satisfied_by_unit (shape plan.now) phases.now u i
         ≡ slice_index_or progress.old.unmet.items i 0 }
     ensures rest { progress.new ≡ record progress.old { unmet = progress.new.unmet; ready = progress.new.ready } }
 {
     if progress.pending[u as usize] == 0 {
-        satisfy_each(plan, phases, needers.row(unit_key(plan, u)), progress);
+        satisfy_each(plan, phases, dependents.row(unit_key(plan, u)), progress);
     }
 }
 
-/// Takes a member that has succeeded off those that its unit waits for.
+/// Counts a member that has succeeded off the pending members of its unit.
 fn count_success(u: u32, progress: &mut Progress)
     requires unit { u < length progress.old.pending.items }
     requires some { 0 < slice_index_or progress.old.pending.items u 0 }
@@ -104,21 +110,21 @@ fn count_success(u: u32, progress: &mut Progress)
 pub(crate) fn succeed(
     plan: &Plan<'_>,
     phases: &[Phase],
-    needers: &Rows,
+    dependents: &Rows,
     i: u32,
     progress: &mut Progress,
 )
     requires laws { shapes.IsPlan (shape plan.now) }
     requires each { length phases.now ≡ length (shape plan.now).units }
     requires request { i < length (shape plan.now).units }
-    requires needers { tallies.AreNeeders (shape plan.now) needers.now }
+    requires dependents { counting.AreDependents (shape plan.now) dependents.now }
     requires succeeded { tests.has_succeeded (slice_index_or phases.now i Unstarted) ≡ true }
-    requires counts { tallies.AreCounts (shape plan.now) (slice_set phases.now i Running) progress.old }
-    ensures { tallies.AreCounts (shape plan.now) phases.now progress.new }
+    requires counts { counting.AreCounts (shape plan.now) (slice_set phases.now i Running) progress.old }
+    ensures { counting.AreCounts (shape plan.now) phases.now progress.new }
 {
     complete(plan, phases, i, progress);
     let unit = plan.unit_of(i);
     count_success(unit, progress);
-    satisfy_each(plan, phases, needers.row(i), progress);
-    satisfy_unit(plan, phases, needers, unit, progress);
+    satisfy_each(plan, phases, dependents.row(i), progress);
+    satisfy_unit(plan, phases, dependents, unit, progress);
 }

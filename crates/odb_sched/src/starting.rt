@@ -2,7 +2,7 @@ ghost use Rattle.std.specs.Prelude.{◌≡◌, ◌<◌, true, length, slice_inde
 ghost use Rattle.odb_check.specs.Shape as shapes;
 ghost use Rattle.odb_sched.specs.declared.phase.Phase.TheVariants.{Unstarted};
 ghost use Rattle.odb_sched.specs.State.{shape};
-ghost use Rattle.odb_sched.specs.ProgressCounts as tallies;
+ghost use Rattle.odb_sched.specs.ProgressCounts as counting;
 ghost use Rattle.odb_sched.specs.Phases as tests;
 
 use crate::phase::Phase;
@@ -16,8 +16,8 @@ pub(crate) fn begin(plan: &Plan<'_>, phases: &[Phase], i: u32, progress: &mut Pr
     requires each { length phases.now ≡ length (shape plan.now).units }
     requires request { i < length (shape plan.now).units }
     requires runs { tests.is_running (slice_index_or phases.now i Unstarted) ≡ true }
-    requires counts { tallies.AreCounts (shape plan.now) (slice_set phases.now i Unstarted) progress.old }
-    ensures { tallies.AreCounts (shape plan.now) phases.now progress.new }
+    requires counts { counting.AreCounts (shape plan.now) (slice_set phases.now i Unstarted) progress.old }
+    ensures { counting.AreCounts (shape plan.now) phases.now progress.new }
 {
     progress.ready.remove(i);
     progress.running.insert(i);

@@ -1,8 +1,8 @@
 ghost use Rattle.std.specs.Prelude.{◌≡◌, ◌<◌, ◌&&◌, ◌||◌, ◌==◌, true, false, not, nat_lt, length, slice_index_or, slice_set, count_by, IfOk, IfSome, IsSome, None, ℕ};
 ghost use Rattle.odb_check.specs.Shape as shapes;
-ghost use Rattle.odb_dense.specs.declared.worklist.Standing.TheVariants.{Sound};
+ghost use Rattle.odb_dense.specs.declared.worklist.Mark.TheVariants.{Unvisited};
 ghost use Rattle.odb_dense.specs.Lists.{ListsOnce};
-ghost use Rattle.odb_dense.specs.Standings.{is_passed};
+ghost use Rattle.odb_dense.specs.Marks.{is_visited};
 ghost use Rattle.odb_sched.specs.declared.phase.Phase.TheVariants.{Unstarted, Running};
 ghost use Rattle.odb_sched.specs.Phases as tests;
 ghost use Rattle.odb_sched.specs.State as states;
@@ -10,9 +10,9 @@ ghost use Rattle.odb_sched.specs.State.{shape};
 ghost use Rattle.odb_sched.specs.Steps.{stops};
 ghost use Rattle.odb_sched.specs.Plans.{state_of};
 ghost use Rattle.odb_sched.specs.Ends.{IsEndOf};
-ghost use Rattle.odb_sched.specs.ProgressCounts as tallies;
+ghost use Rattle.odb_sched.specs.ProgressCounts as counting;
 
-use crate::needers::needers_of;
+use crate::dependents::dependents_of;
 use crate::order::End;
 use crate::phase::Phase;
 use crate::policy::{Mode, Policy};
@@ -32,19 +32,25 @@ fn is_stopped(stopped: bool, policy: Policy, phase: &Phase) -> bool
 }
 
 /// Handles the report of a request. `phases[i]` already holds the outcome.
-fn take_report(plan: &Plan<'_>, phases: &[Phase], needers: &Rows, i: u32, progress: &mut Progress)
+fn take_report(
+    plan: &Plan<'_>,
+    phases: &[Phase],
+    dependents: &Rows,
+    i: u32,
+    progress: &mut Progress,
+)
     requires laws { shapes.IsPlan (shape plan.now) }
     requires each { length phases.now ≡ length (shape plan.now).units }
     requires request { i < length (shape plan.now).units }
-    requires needers { tallies.AreNeeders (shape plan.now) needers.now }
+    requires dependents { counting.AreDependents (shape plan.now) dependents.now }
     requires reported { tests.is_reported (slice_index_or phases.now i Unstarted) ≡ true }
-    requires counts { tallies.AreCounts (shape plan.now) (slice_set phases.now i Running) progress.old }
-    ensures { tallies.AreCounts (shape plan.now) phases.now progress.new }
+    requires counts { counting.AreCounts (shape plan.now) (slice_set phases.now i Running) progress.old }
+    ensures { counting.AreCounts (shape plan.now) phases.now progress.new }
 {
     if phases[i as usize].has_succeeded() {
-        succeed(plan, phases, needers, i, progress);
+        succeed(plan, phases, dependents, i, progress);
     } else {
-        fail(plan, phases, needers, i, progress);
+        fail(plan, phases, dependents, i, progress);
     }
 }
 
@@ -52,7 +58,7 @@ fn take_report(plan: &Plan<'_>, phases: &[Phase], needers: &Rows, i: u32, progre
 /// an error has stopped it.
 #[derive(Drop)]
 pub(crate) struct Tracker {
-    pub(crate) needers: Rows,
+    pub(crate) dependents: Rows,
     pub(crate) progress: Progress,
     pub(crate) stopped: bool,
 }
@@ -65,7 +71,7 @@ impl Tracker {
         ensures { IfOk result (IsTracked (states.at_first plan.now policy)) }
     {
         Ok(Tracker {
-            needers: needers_of(alloc, plan)?,
+            dependents: dependents_of(alloc, plan)?,
             progress: Progress::new(alloc, plan)?,
             stopped: false,
         })
@@ -92,7 +98,7 @@ impl Tracker {
         requires tracker { IsTracked (state_of plan.now policy (slice_set phases.now i Running)) self.old }
         ensures { IsTracked (state_of plan.now policy phases.now) self.new }
     {
-        take_report(plan, phases, &self.needers, i, &mut self.progress);
+        take_report(plan, phases, &self.dependents, i, &mut self.progress);
         self.stopped = is_stopped(self.stopped, policy, &phases[i as usize]);
     }
 
@@ -106,9 +112,9 @@ impl Tracker {
     /// Returns whether a unit has failed.
     pub(crate) fn failed(&self, u: u32) -> bool
         requires { u < length self.now.progress.units }
-        ensures { result ≡ is_passed (slice_index_or self.now.progress.units u Sound) }
+        ensures { result ≡ is_visited (slice_index_or self.now.progress.units u Unvisited) }
     {
-        self.progress.units.is_passed(u)
+        self.progress.units.is_visited(u)
     }
 
     /// For each unit the number of its members that have not succeeded.
@@ -163,7 +169,7 @@ impl Tracker {
             → (slice_index_or self.old.progress.ready i false && not self.old.stopped
             && nat_lt (count_by (λ runs. runs) self.old.progress.running) policy.width) ≡ false }
         ensures some { IfSome result (IsEndOf end self.old.progress.ready) }
-        ensures goes { IsSome result → (self.old.stopped ≡ false)
+        ensures allowed { IsSome result → (self.old.stopped ≡ false)
             × (nat_lt (count_by (λ runs. runs) self.old.progress.running) policy.width ≡ true) }
     {
         if self.is_closed(policy) {

@@ -236,7 +236,7 @@ fn goes_up_and_down(rt: &impl Abort, alloc: Global, bound: u32) -> Result<(), Al
 
 // Where a step of the set forgot how far the walks came, this would take longer than a test may.
 #[test]
-fn passes_no_number_again(rt: HostRuntime) -> Result<(), Fail> {
+fn visits_no_number_again(rt: HostRuntime) -> Result<(), Fail> {
     goes_up_and_down(&rt, rt.alloc(), 1_000_000)?;
     Ok(())
 }

@@ -1,8 +1,8 @@
--- The rows of the pairs are those of the needers.
+-- The rows of the pairs are those of the dependents.
 use Rattle.std.proofs.Common.{◌≡◌, ◌+◌, ◌∙◌, arith, length}
 use Rattle.odb_sched.specs.State.{shape}
-use Rattle.odb_sched.proofs.NeedPairLemmas.{pairs_keyed, needers_are}
-use Rattle.odb_sched.proofs.needers.needers_of.Goals as goal
+use Rattle.odb_sched.proofs.NeedPairLemmas.{pairs_keyed, dependents_are}
+use Rattle.odb_sched.proofs.dependents.dependents_of.Goals as goal
 
 pub of-requires : goal.of-requires
 of-requires c =
@@ -12,4 +12,4 @@ of-requires c =
 pub returns : goal.returns
 returns c =
     let keys : c.len.result + c.unit_count.result ≡ length (shape c.args.plan.now).units + (shape c.args.plan.now).unit_count = omega (arith, c.len.ensures.size, c.unit_count.ensures.size) in
-    needers_are (shape c.args.plan.now) _ _ c.of.result keys (c.deref.ensures.value ∙ c.in_ok-pairs_of.ensures) c.of.ensures.len c.of.ensures.rows
+    dependents_are (shape c.args.plan.now) _ _ c.of.result keys (c.deref.ensures.value ∙ c.in_ok-pairs_of.ensures) c.of.ensures.len c.of.ensures.rows

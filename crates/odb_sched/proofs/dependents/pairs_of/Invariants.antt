@@ -2,7 +2,7 @@ use Rattle.std.proofs.Common.{◌≡◌}
 use Rattle.odb_check.specs.Firsts.{joined_below}
 use Rattle.odb_sched.specs.State.{shape}
 use Rattle.odb_sched.specs.NeedPairs.{need_pairs}
-use Rattle.odb_sched.proofs.needers.pairs_of.Given as goal
+use Rattle.odb_sched.proofs.dependents.pairs_of.Given as goal
 
 -- the requests so far have their pairs
 abbrev pub invariant-loop-i : goal.invariant-loop-i

@@ -1,7 +1,7 @@
 use Rattle.std.proofs.Common.{◌≡◌, ◌++◌, map, take}
 use Rattle.odb_sched.specs.State.{shape}
 use Rattle.odb_sched.specs.ProgressCounts.{key_of}
-use Rattle.odb_sched.proofs.needers.push_needs.Given as goal
+use Rattle.odb_sched.proofs.dependents.push_needs.Given as goal
 
 -- the needs so far have their pairs
 abbrev pub invariant-loop-need : goal.invariant-loop-need

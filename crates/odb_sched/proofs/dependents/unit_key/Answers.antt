@@ -1,7 +1,7 @@
 -- The keys of all requests and all units fit.
 use Rattle.std.proofs.Common.{◌≡◌, ◌<◌, ◌≤◌, length, arith}
 use Rattle.odb_sched.specs.State.{shape}
-use Rattle.odb_sched.proofs.needers.unit_key.Goals as goal
+use Rattle.odb_sched.proofs.dependents.unit_key.Goals as goal
 
 pub overflow_add-result : goal.overflow_add-result
 overflow_add-result c =

@@ -1,4 +1,4 @@
--- The events that were taken are the front of the list, and all of it at the end.
+-- The events that were taken are a prefix of the list, and all of it at the end.
 use Rattle.std.proofs.Common.{refl, ◌≡◌, ◌∙◌, sym, ap, arith, rules, length}
 use Rattle.std.proofs.lemmas.List.{nil_from_length}
 use Rattle.std.specs.Iterator.Adapters.{enumerate_source, enumerate_count}
@@ -41,7 +41,7 @@ loop-at-preserved c =
     record {
       next = search rules;
       ends = tt;
-      left = let gone = c.in-Some.ensures.steps.0.1 in let short = ap length c.in-Some.ensures.steps.0.0 in let was = c.loop-at.invariant.left in omega arith;
+      left = let fewer = c.in-Some.ensures.steps.0.1 in let short = ap length c.in-Some.ensures.steps.0.0 in let was = c.loop-at.invariant.left in omega arith;
       taken = taken_as first c.args.events.items later later _ _ c.take.new.scheduler refl (sym c.in-Some.ensures.steps.2)
           (taken_more first c.args.events.items c.in-Some.event later count c.loop-at.scheduler c.take.new.scheduler taken within c.in_ok-take.ensures.allowed c.in_ok-take.ensures.state);
     }

@@ -1,4 +1,4 @@
--- An execution that goes on is a course so far, and has room for the steps that are left.
+-- An execution that continues is a course so far, and has room for the remaining steps.
 use Rattle.std.proofs.Common.{refl, ◌≡◌, ◌≤◌, ◌+◌, ◌∙◌, ap, subst, arith, rules, [], ◌∷◌, ◌++◌, length, is_ok, if◌then◌else◌}
 use Rattle.std.proofs.lemmas.List.{length-append}
 use Rattle.std.specs.Vec.{vec_capacity, vec_len}
@@ -84,7 +84,7 @@ loop-step-preserved g c =
     let offers_later = g.S.Service.offers c.take.new.service in
     let first = at_first plan c.args.policy in
     let items : c.push.new.self.items ≡ c.loop-step.steps.items ++ c.in-Some.step ∷ [] =
-    subst (λ told. c.push.new.self.items ≡ (if is_ok told then c.loop-step.steps.items ++ c.in-Some.step ∷ [] else c.loop-step.steps.items)) c.unwrap.ensures c.push.ensures.items in
+    subst (λ returned. c.push.new.self.items ≡ (if is_ok returned then c.loop-step.steps.items ++ c.in-Some.step ∷ [] else c.loop-step.steps.items)) c.unwrap.ensures c.push.ensures.items in
     let longer : length c.push.new.self.items ≡ length c.loop-step.steps.items + 1 = ap length items ∙ length-append c.loop-step.steps.items (c.in-Some.step ∷ []) in
     let more : vec_capacity c.loop-step.steps ≤ vec_capacity c.push.new.self = c.push.ensures.capacity in
     record {

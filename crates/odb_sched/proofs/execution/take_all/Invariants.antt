@@ -6,7 +6,7 @@ use Rattle.odb_sched.specs.Calls.{AsksAll}
 use Rattle.odb_sched.proofs.CourseLemmas.{SoFar, events_left}
 use Rattle.odb_sched.proofs.execution.take_all.Given as goal
 
--- the steps so far, and room for those that are left
+-- the steps so far, and room for the remaining ones
 abbrev pub invariant-loop-step : goal.invariant-loop-step
 invariant-loop-step g l = record {
   far : SoFar ((goal.Chooser-dyn g l.fn.chooser.now).allows l.fn.chooser.now.1) ((goal.Chooser-dyn g l.chooser.now).allows l.chooser.now.1)

@@ -1,4 +1,4 @@
--- The clauses are the laws of the lemmas, at the state that the run leaves.
+-- The clauses are the laws of the lemmas, at the state after the run.
 use Rattle.odb_sched.specs.declared.policy.Policy.{Policy}
 use Rattle.std.proofs.Common.{ap, ◌∙◌}
 use Rattle.odb_sched.specs.Runs.{state_after}

@@ -3,7 +3,7 @@ use Rattle.odb_sched.specs.State.{shape}
 use Rattle.odb_sched.specs.FirstCounts.{needs_in}
 use Rattle.odb_sched.proofs.progress.without_needs.Given as goal
 
--- the requests so far that need nothing are in the set, and none further on
+-- the requests so far that need nothing are in the set, and none of the later ones
 abbrev pub invariant-loop-i : goal.invariant-loop-i
 invariant-loop-i l = record {
   each : length l.free ≡ length (shape l.plan).units;

@@ -1,16 +1,16 @@
 use Rattle.std.proofs.Common.{◌≡◌, ◌⊎◌, ℕ, ◌<◌, ◌≤◌, true, slice_index_or}
-use Rattle.odb_dense.specs.declared.worklist.Standing.TheVariants.{Sound}
-use Rattle.odb_dense.specs.Standings.{is_marked}
+use Rattle.odb_dense.specs.declared.worklist.Mark.TheVariants.{Unvisited}
+use Rattle.odb_dense.specs.Marks.{is_marked}
 use Rattle.odb_sched.specs.State.{shape}
-use Rattle.odb_sched.specs.Passing.{HaveMarked, NeedsUnit}
-use Rattle.odb_sched.proofs.NeederLemmas.{IsMarkedRow}
+use Rattle.odb_sched.specs.Propagation.{HaveMarked, NeedsUnit}
+use Rattle.odb_sched.proofs.DependentLemmas.{IsMarkedRow}
 use Rattle.odb_sched.proofs.propagating.mark_dependents.Given as goal
 
--- who needs a member so far is marked
+-- the dependents of the members so far are marked
 abbrev pub invariant-loop-r : goal.invariant-loop-r
 invariant-loop-r l = record {
   marks : HaveMarked l.initial.progress.units l.progress.units;
-  marked : (r : ℕ) → l.initial.r ≤ r → r < l.r → IsMarkedRow (shape l.plan) l.needers l.progress.units r;
-  only : (v : ℕ) → is_marked (slice_index_or l.progress.units v Sound) ≡ true → (is_marked (slice_index_or l.initial.progress.units v Sound) ≡ true) ⊎ NeedsUnit (shape l.plan) v l.u;
+  marked : (r : ℕ) → l.initial.r ≤ r → r < l.r → IsMarkedRow (shape l.plan) l.dependents l.progress.units r;
+  only : (v : ℕ) → is_marked (slice_index_or l.progress.units v Unvisited) ≡ true → (is_marked (slice_index_or l.initial.progress.units v Unvisited) ≡ true) ⊎ NeedsUnit (shape l.plan) v l.u;
   rest : l.progress ≡ record l.initial.progress { units = l.progress.units };
 }

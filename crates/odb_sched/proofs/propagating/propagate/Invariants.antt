@@ -1,16 +1,16 @@
 use Rattle.std.proofs.Common.{◌≡◌}
 use Rattle.odb_sched.specs.State.{shape}
-use Rattle.odb_sched.specs.ProgressCounts.{AreReady, open_count, is_gone}
-use Rattle.odb_sched.specs.Passing.{ArePassing}
+use Rattle.odb_sched.specs.ProgressCounts.{AreReady, open_count, is_skipped}
+use Rattle.odb_sched.specs.Propagation.{ArePropagating}
 use Rattle.odb_sched.proofs.PropagateLemmas.{waiting_count}
 use Rattle.odb_sched.proofs.propagating.propagate.Given as goal
 
--- failures are passed on, and what is gone is neither ready nor open
+-- failures are propagated, and a skipped request is neither ready nor open
 abbrev pub invariant-loop-u : goal.invariant-loop-u
 invariant-loop-u l = record {
-  passing : ArePassing (shape l.plan) l.phases l.progress.units;
-  ready : AreReady (shape l.plan) (is_gone (shape l.plan) l.progress.units) l.phases l.progress.unmet.items l.progress.ready;
-  left : l.progress.left ≡ open_count (shape l.plan) (is_gone (shape l.plan) l.progress.units) l.phases;
+  propagating : ArePropagating (shape l.plan) l.phases l.progress.units;
+  ready : AreReady (shape l.plan) (is_skipped (shape l.plan) l.progress.units) l.phases l.progress.unmet.items l.progress.ready;
+  left : l.progress.left ≡ open_count (shape l.plan) (is_skipped (shape l.plan) l.progress.units) l.phases;
   rest : l.progress ≡ record l.initial.progress { units = l.progress.units; ready = l.progress.ready; left = l.progress.left };
 }
 

@@ -24,7 +24,7 @@ loop-event-preserved c =
     let found : units.position_of batch (named_id c.in-Some.event) ≡ Some c.in-Some-position_of.i = ap (units.position_of batch) (sym c.id_of.ensures) ∙ sym c.position_of.ensures ∙ c.in-Some-position_of.is in
     let so_far = resolved_as batch (entries c.args.events) _ _ c.loop-event.found.items c.in-Some.ensures.steps.0 c.loop-event.invariant.resolved in
     record {
-      left = let gone = c.in-Some.ensures.steps.1 in let short = ap length c.in-Some.ensures.steps.0 in let was = c.loop-event.invariant.left in omega arith;
+      left = let fewer = c.in-Some.ensures.steps.1 in let short = ap length c.in-Some.ensures.steps.0 in let was = c.loop-event.invariant.left in omega arith;
       resolved = rw c.in_ok-push-in-Some-position_of.ensures.items
           (resolved_more batch (entries c.args.events) c.in-Some.event (into_iter_items c.next.new.self) c.loop-event.found.items c.at_position.result so_far
           (c.at_position.ensures.same batch (position-is batch (named_id c.in-Some.event) c.in-Some-position_of.i found))

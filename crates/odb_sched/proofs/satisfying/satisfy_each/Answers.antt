@@ -3,7 +3,7 @@ use Rattle.std.proofs.Common.{◌≡◌, ◌∙◌, ◌+◌, ◌==◌, sym, ap, 
 use Rattle.std.proofs.lemmas.List.{take_all}
 use Rattle.odb_sched.specs.declared.progress.Progress.{Progress}
 use Rattle.odb_sched.specs.State.{shape}
-use Rattle.odb_sched.specs.ProgressCounts.{AreReady, is_gone}
+use Rattle.odb_sched.specs.ProgressCounts.{AreReady, is_skipped}
 use Rattle.odb_sched.proofs.SatisfyingLemmas.{some_left, fallen_more}
 use Rattle.odb_sched.proofs.satisfying.satisfy_each.Goals as goal
 
@@ -17,7 +17,7 @@ loop-i-preserved c =
     let within = c.requires.within c.loop-i.i-index 0 c.loop-i-test.true in
     record {
       rest = c.satisfy.ensures.rest ∙ ap (λ (t : Progress). record t { unmet = c.satisfy.new.progress.unmet; ready = c.satisfy.new.progress.ready }) c.loop-i.invariant.rest;
-      ready = subst (λ units. AreReady (shape c.args.plan.now) (is_gone (shape c.args.plan.now) units) c.args.phases.now c.satisfy.new.progress.unmet.items c.satisfy.new.progress.ready)
+      ready = subst (λ units. AreReady (shape c.args.plan.now) (is_skipped (shape c.args.plan.now) units) c.args.phases.now c.satisfy.new.progress.unmet.items c.satisfy.new.progress.ready)
           (ap (λ (t : Progress). t.units) c.loop-i.invariant.rest) c.satisfy.ensures.ready;
       fallen = λ i inside. subst (λ unmet. get_or unmet i 0 + count_by (λ j. j == i) (take (c.loop-i.i-index + 1) c.args.list.now) ≡ get_or c.args.progress.now.unmet.items i 0) (sym c.satisfy.ensures.unmet)
           (fallen_more _ c.loop-i.i-index i c.loop-i.progress.unmet.items c.args.list.now c.loop-i-test.true
@@ -27,5 +27,5 @@ loop-i-preserved c =
     }
 
 pub returns-clause-fallen : goal.returns-clause-fallen
-returns-clause-fallen c = λ i inside. subst (λ front. get_or c.loop-i.progress.unmet.items i 0 + count_by (λ j. j == i) front ≡ get_or c.args.progress.now.unmet.items i 0)
+returns-clause-fallen c = λ i inside. subst (λ prefix. get_or c.loop-i.progress.unmet.items i 0 + count_by (λ j. j == i) prefix ≡ get_or c.args.progress.now.unmet.items i 0)
     (take_all c.loop-i.i-index c.args.list.now c.loop-i-test.false) (c.loop-i.invariant.fallen i inside)

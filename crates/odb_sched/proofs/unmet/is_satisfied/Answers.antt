@@ -2,12 +2,12 @@
 use Rattle.std.proofs.Common.{◌==◌, ◌∙◌, sym, ap, subst}
 use Rattle.odb_sched.specs.Plans.{IsNeed}
 use Rattle.odb_sched.specs.State.{shape}
-use Rattle.odb_sched.specs.Steps.{met_in}
+use Rattle.odb_sched.specs.Steps.{satisfied_in}
 use Rattle.odb_sched.proofs.UnmetLemmas.{none_pending}
-use Rattle.odb_sched.proofs.unmet.is_met.Goals as goal
+use Rattle.odb_sched.proofs.unmet.is_satisfied.Goals as goal
 
 pub returns-in-Group : goal.returns-in-Group
 returns-in-Group c =
     ap (λ left. left == 0) (c.requires.pending c.in-Group.u (subst (IsNeed (shape c.args.plan.now)) c.in-Group.is c.requires.known))
     ∙ none_pending (shape c.args.plan.now) c.args.phases.now c.in-Group.u
-    ∙ sym (ap (met_in (shape c.args.plan.now) c.args.phases.now) c.in-Group.is)
+    ∙ sym (ap (satisfied_in (shape c.args.plan.now) c.args.phases.now) c.in-Group.is)

@@ -3,6 +3,6 @@ use Rattle.odb_sched.specs.Below.{passing_below}
 use Rattle.odb_sched.specs.Answers.{is_undone, undone}
 use Rattle.odb_sched.proofs.done.Done.undone.Given as goal
 
--- the undone positions from the last on, and then those that are left
+-- the undone positions from the last on, and then the remaining ones
 abbrev pub invariant-loop-i : goal.invariant-loop-i
 invariant-loop-i l = l.positions.items ++ passing_below l.i (is_undone l.self) ≡ undone l.self

@@ -1,4 +1,4 @@
--- No member is left exactly where the unit has succeeded.
+-- No member is pending exactly when the unit has succeeded.
 use Rattle.std.proofs.Common.{◌≡◌, ◌<◌, ◌==◌, ◌∙◌, ap, subst, length}
 use Rattle.std.proofs.lemmas.List.{get_or_read}
 use Rattle.odb_check.specs.Shape.{unit_of}

@@ -1,4 +1,4 @@
--- No position may start and none runs exactly where the run is finished.
+-- No position may start and none runs exactly when the run is finished.
 use Rattle.std.proofs.Common.{◌↔◌, ◌∙◌, ap, sym, subst, ℕ, ◌<◌, ◌≡◌, false, IsTrue}
 use Rattle.odb_sched.specs.Phases.{is_running}
 use Rattle.odb_sched.specs.State.{size, phase_at}

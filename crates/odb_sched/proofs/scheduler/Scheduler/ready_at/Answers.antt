@@ -20,4 +20,4 @@ returns-clause-finished c = λ none running. subst (λ state. is_finished state 
 
 pub returns-clause-some : goal.returns-clause-some
 returns-clause-some c = subst (λ state. IfSome c.ready_at.result (λ i. (i < size state) × (may_start state i ≡ true) × IsAt c.args.end (ready_set state) i)) c.self.view_is
-    (starts_at _ c.self.inside.tracker c.args.end c.ready_at.result c.self.invariant.reached c.self.invariant.tracker c.ready_at.ensures.some c.ready_at.ensures.goes)
+    (starts_at _ c.self.inside.tracker c.args.end c.ready_at.result c.self.invariant.reached c.self.invariant.tracker c.ready_at.ensures.some c.ready_at.ensures.allowed)

@@ -5,7 +5,7 @@ use Rattle.odb_sched.proofs.tracker.Tracker.new.Goals as goal
 
 pub returns : goal.returns
 returns c = record {
-  needers = c.in_ok-needers_of.ensures;
+  dependents = c.in_ok-dependents_of.ensures;
   counts = c.in_ok-new.ensures;
   stopped = sym (stopped_first c.args.policy.mode (length (shape c.args.plan.now).units));
 }

@@ -10,7 +10,7 @@ pub returns : goal.returns
 returns c =
     let within : c.args.i < length c.args.phases.now = rw c.requires.each c.requires.request in
     record {
-      needers = c.requires.tracker.needers;
+      dependents = c.requires.tracker.dependents;
       counts = c.take_report.ensures;
       stopped = c.is_stopped-self.ensures ∙ ap (λ b. b || (stops c.args.policy.mode && has_erred c.index-phases-i.result)) c.requires.tracker.stopped
           ∙ ap (λ phase. stopped_in c.args.policy.mode (set c.args.phases.now c.args.i Running) || (stops c.args.policy.mode && has_erred phase)) (get_or_read c.args.phases.now c.args.i c.index-phases-i.result within c.index-phases-i.is Unstarted)

@@ -4,7 +4,7 @@ use Rattle.odb_sched.proofs.tracker.Tracker.start.Goals as goal
 
 pub returns : goal.returns
 returns c = record {
-  needers = c.requires.tracker.needers;
+  dependents = c.requires.tracker.dependents;
   counts = c.begin.ensures;
   stopped = c.requires.tracker.stopped ∙ stopped_by_start c.args.policy.mode c.args.phases.now c.args.i c.requires.runs;
 }
