@@ -27,7 +27,7 @@ use Rattle.odb_reply.proofs.IdLemmas.{id_within}
 use Rattle.odb_reply.proofs.OneLemmas.{IsOnce, once_in_plan, id_of_response, responses_in-value}
 use Rattle.odb_reply.proofs.SliceLemmas.{map_some}
 
--- ---- what a response says
+-- ---- what a response has
 
 status_among : (group body headers : Option Data) (id : List ℕ) (status : ℕ)
     → members.status_of (object (with_some (codes "atomicityGroup") group (with_some (codes "body") body (with_some (codes "headers") headers (put (codes "id") (string id) (put (codes "status") (number (unsigned status)) no_members)))))) ≡ Some (unsigned status)
@@ -51,7 +51,7 @@ group_among (Some group) None (Some headers) id status = refl
 group_among (Some group) (Some body) None id status = refl
 group_among (Some group) (Some body) (Some headers) id status = refl
 
--- the entry of a request that is answered so
+-- the entry of a request with this answer
 abbrev entry_for : Record → Option Outcome → Entry
 entry_for request answered = record { id = request.id; group = request.group; status = status_of answered }
 
@@ -147,12 +147,12 @@ unit_there : (state : State) (i : ℕ) → IsShapeOf (plan_records state.plan) s
 unit_there state i same within = same.units i within
 
 -- a response to a member of the unit is to a request of the run
-met_answered : (state : State) (i : ℕ) (need : Need) → IsOnce (plan_records state.plan) → IsSound state → IsShapeOf (plan_records state.plan) state.shape → size state ≡ length (plan_records state.plan)
+satisfied_answered : (state : State) (i : ℕ) (need : Need) → IsOnce (plan_records state.plan) → IsSound state → IsShapeOf (plan_records state.plan) state.shape → size state ≡ length (plan_records state.plan)
     → i < length (plan_records state.plan) → is_answered_2xx (answer state i) ≡ true → Contains (needs_at (plan_records state.plan) i) need → IsSatisfied (plan_records state.plan) (listed state) need
-met_answered state i (One r) once sound same count within answered needed =
+satisfied_answered state i (One r) once sound same count within answered needed =
     let inside : i < size state = omega (arith, count) in
     succeeds_answered state r once ((sound i inside answered).0 r (needs_there state i (One r) same within needed))
-met_answered state i (Group u) once sound same count within answered needed = λ r unit e responds.
+satisfied_answered state i (Group u) once sound same count within answered needed = λ r unit e responds.
     let inside : i < size state = omega (arith, count) in
     let member : r < length (plan_records state.plan) = id_within (plan_records state.plan) r e.id responds.id in
     let here : r < size state = omega (arith, count) in
@@ -167,7 +167,7 @@ fits_answered state once sound same count = record {
       let rs = plan_records state.plan in
       let shows = shows_answer state i e once responds in
       let answered = success_of (answer state i) (ap is_success (sym shows.status) ∙ success) in
-      met_answered state i need once sound same count (id_within rs i e.id responds.id) answered needed;
+      satisfied_answered state i need once sound same count (id_within rs i e.id responds.id) answered needed;
 }
 
 pub ListsFit-answered : (state : State) → HasGoodNames (plan_records state.plan) → IsSound state → IsShapeOf (plan_records state.plan) state.shape → size state ≡ length (plan_records state.plan)

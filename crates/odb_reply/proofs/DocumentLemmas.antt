@@ -1,4 +1,4 @@
--- The responses that elements say, one by one, and the first element that is not a response.
+-- The responses that elements describe, one by one, and the first element that is not a response.
 use Rattle.std.proofs.Common.{◌≡◌, ◌+◌, ◌<◌, ◌≤◌, ℕ, List, [], ◌∷◌, ◌++◌, length, take, get_or, map, Some, ap, refl, subst, arith}
 use Rattle.std.specs.List.{AllZip, All}
 use Rattle.std.proofs.lemmas.List.{take_more, take_all, length-take, get_or-take}
@@ -19,7 +19,7 @@ list_of-items_of (d ∷ ds) = ap (λ rest. d ∷ rest) (list_of-items_of ds)
 pub responses_in-array : (d : Data) (vs : List Value) → array_in d ≡ Some (items_view vs) → responses_in d ≡ map view vs
 responses_in-array d vs is = rw is (list_of-items_of (map view vs))
 
--- the first n elements say these responses
+-- the first n elements describe these responses
 pub record AreReadUpTo (ds : List Data) (entries : List Entry) (n : ℕ) : Type 0 where
   pub good : All IsResponse (take n ds)
   pub says : AllZip Says (take n ds) entries
@@ -41,7 +41,7 @@ AreReadUpTo-good ds entries n end read = rw (take_all n ds end) at read.good
 pub AreReadUpTo-says : (ds : List Data) (entries : List Entry) (n : ℕ) → length ds ≤ n → AreReadUpTo ds entries n → AllZip Says ds entries
 AreReadUpTo-says ds entries n end read = rw (take_all n ds end) at read.says
 
--- an element that is not a response is the first where those before it are responses
+-- an element that is not a response is the first if those before it are responses
 pub IsFirstBad-from : (ds : List Data) (entries : List Entry) (n : ℕ) (d : Data) → n < length ds → get_or ds n d ≡ d
     → AreReadUpTo ds entries n → ¬ IsResponse d → IsFirstBad ds n
 IsFirstBad-from ds entries n d within is read bad = record {

@@ -1,4 +1,4 @@
--- The responses fit exactly where no rule is broken, and a fault of the last phase is the least where none stands before.
+-- The responses fit if and only if no rule is broken, and a fault of the last phase is the least if none comes before it.
 use Rattle.std.proofs.Common.{◌≡◌, ◌≢◌, ◌∙◌, ◌⊎◌, ◌<◌, ◌≤◌, ℕ, zero, suc, Bool, true, false, List, [], ◌∷◌, length, Option, Some, None, bytes_eq, inl, inr, refl, ap, subst, arith}
 use Rattle.std.proofs.lemmas.Bool.{cases_lt, cases_order, both_ways}
 use Rattle.std.proofs.lemmas.Slice.Eq.{bytes_eq-Decides}
@@ -15,7 +15,7 @@ use Rattle.odb_reply.specs.declared.match_fault.MatchFault.TheVariants as faults
 use Rattle.odb_reply.specs.ResponseDocuments.{Entry}
 use Rattle.odb_reply.specs.Fits.{id_in, IsOnlyOne, IsSatisfied, Fits}
 use Rattle.odb_reply.specs.LeastMatchFault.{phase, HasNoMisfit, RefusesMatch}
-use Rattle.odb_reply.specs.MatchFaults.{StandsAt, HasFailed, IsNumbered}
+use Rattle.odb_reply.specs.MatchFaults.{BreaksAt, HasFailed, IsNumbered}
 use Rattle.odb_reply.specs.Places.{IsFirstOfLast, NoneIn}
 use Rattle.odb_reply.proofs.IdLemmas.{id_within, position_id, position_none}
 
@@ -51,7 +51,7 @@ find_id (e ∷ es) id = elim (same_texts e.id id) [
     not_here e es id apart none zero is = apart (cc (is))
     not_here e es id apart none (suc k) is = none k is
 
--- ---- where no rule is broken, the responses fit
+-- ---- if no rule is broken, the responses fit
 
 only_one : (rs : List Record) (es : List Entry) (id : List ℕ) (k : ℕ) → HasNoMisfit rs es → id_in es k ≡ Some id → IsOnlyOne es id k
 only_one rs es id k none has = record {
@@ -96,39 +96,39 @@ Fits-from rs es none = record {
       satisfied_or_failed rs es need (λ failing. none UnsoundSuccess i (record { response = e; responds = responds; success = success; need = need; needed = needed; fails = failing }));
 }
 
--- ---- where they fit, none is broken
+-- ---- if they fit, none is broken
 
 satisfied_not_failed : (rs : List Record) (es : List Entry) (need : Need) → IsSatisfied rs es need → ¬ HasFailed rs es need
-satisfied_not_failed rs es (One r) met failing = failing.2 (met failing.0 failing.1)
-satisfied_not_failed rs es (Group u) met failing = let failed = failing.2 in failed.2 (met failing.0 failing.1 failed.0 failed.1)
+satisfied_not_failed rs es (One r) satisfied failing = failing.2 (satisfied failing.0 failing.1)
+satisfied_not_failed rs es (Group u) satisfied failing = let failed = failing.2 in failed.2 (satisfied failing.0 failing.1 failed.0 failed.1)
 
-none_of : (rs : List Record) (es : List Entry) → Fits rs es → (rule : MatchRule) (i : ℕ) (id : Option (List ℕ)) → (rule ≡ ResponseMissing → id_at rs i ≡ id) → (phase rule ≡ 1 → id_in es i ≡ id) → ¬ StandsAt rule rs es i
-none_of rs es fits UnknownResponse k None request response stands = rw (response refl) at stands
-none_of rs es fits UnknownResponse k (Some id) request response stands = (rw (response refl) at stands) (fits.known k id (response refl))
-none_of rs es fits ResponseTwice k None request response stands = rw (response refl) at stands
-none_of rs es fits ResponseTwice k (Some id) request response stands =
-    let twice : (j : ℕ) × (j < k) × (id_in es j ≡ Some id) = rw (response refl) at stands in
+none_of : (rs : List Record) (es : List Entry) → Fits rs es → (rule : MatchRule) (i : ℕ) (id : Option (List ℕ)) → (rule ≡ ResponseMissing → id_at rs i ≡ id) → (phase rule ≡ 1 → id_in es i ≡ id) → ¬ BreaksAt rule rs es i
+none_of rs es fits UnknownResponse k None request response broken = rw (response refl) at broken
+none_of rs es fits UnknownResponse k (Some id) request response broken = (rw (response refl) at broken) (fits.known k id (response refl))
+none_of rs es fits ResponseTwice k None request response broken = rw (response refl) at broken
+none_of rs es fits ResponseTwice k (Some id) request response broken =
+    let twice : (j : ℕ) × (j < k) × (id_in es j ≡ Some id) = rw (response refl) at broken in
     let known = fits.known k id (response refl) in
     let one = fits.one known.0 id known.1 in
     let first : twice.0 ≡ one.0 = one.1.only twice.0 twice.2 in
     let second : k ≡ one.0 = one.1.only k (response refl) in
     absurd (omega (arith, twice.1, first, second))
-none_of rs es fits ResponseMissing i None request response stands = rw (request refl) at stands
-none_of rs es fits ResponseMissing i (Some id) request response stands =
+none_of rs es fits ResponseMissing i None request response broken = rw (request refl) at broken
+none_of rs es fits ResponseMissing i (Some id) request response broken =
     let one = fits.one i id (request refl) in
-    (rw (request refl) at stands) one.0 one.1.has
-none_of rs es fits GroupDiffers i id request response stands = stands.differs (fits.groups i stands.response stands.responds)
-none_of rs es fits UnsoundSuccess i id request response stands =
-    satisfied_not_failed rs es stands.need (fits.sound i stands.response stands.need stands.responds stands.success stands.needed) stands.fails
+    (rw (request refl) at broken) one.0 one.1.has
+none_of rs es fits GroupDiffers i id request response broken = broken.differs (fits.groups i broken.response broken.responds)
+none_of rs es fits UnsoundSuccess i id request response broken =
+    satisfied_not_failed rs es broken.need (fits.sound i broken.response broken.need broken.responds broken.success broken.needed) broken.fails
 
 -- ---- the last phase
 
 last_past : (rs : List Record) (es : List Entry) (i : ℕ) → length rs ≤ i → NoneIn 3 rs es i
-last_past rs es i past UnknownResponse of_phase stands = absurd (omega arith)
-last_past rs es i past ResponseTwice of_phase stands = absurd (omega arith)
-last_past rs es i past ResponseMissing of_phase stands = absurd (omega arith)
-last_past rs es i past GroupDiffers of_phase stands = absurd (omega (arith, id_within rs i stands.response.id stands.responds.id))
-last_past rs es i past UnsoundSuccess of_phase stands = absurd (omega (arith, id_within rs i stands.response.id stands.responds.id))
+last_past rs es i past UnknownResponse of_phase broken = absurd (omega arith)
+last_past rs es i past ResponseTwice of_phase broken = absurd (omega arith)
+last_past rs es i past ResponseMissing of_phase broken = absurd (omega arith)
+last_past rs es i past GroupDiffers of_phase broken = absurd (omega (arith, id_within rs i broken.response.id broken.responds.id))
+last_past rs es i past UnsoundSuccess of_phase broken = absurd (omega (arith, id_within rs i broken.response.id broken.responds.id))
 
 phase_three : (rule : MatchRule) → (phase rule < 3) ⊎ (phase rule ≡ 3)
 phase_three UnknownResponse = inl (omega arith)
@@ -138,7 +138,7 @@ phase_three GroupDiffers = inr refl
 phase_three UnsoundSuccess = inr refl
 
 abbrev pub HasNoneBefore : List Record → List Entry → Type 0
-HasNoneBefore rs es = (rule : MatchRule) (i : ℕ) → phase rule < 3 → ¬ StandsAt rule rs es i
+HasNoneBefore rs es = (rule : MatchRule) (i : ℕ) → phase rule < 3 → ¬ BreaksAt rule rs es i
 
 pub HasNoMisfit-from : (rs : List Record) (es : List Entry) → HasNoneBefore rs es → ((i : ℕ) → i < length rs → NoneIn 3 rs es i) → HasNoMisfit rs es
 HasNoMisfit-from rs es before last rule i = elim (phase_three rule) [
@@ -151,14 +151,14 @@ HasNoMisfit-from rs es before last rule i = elim (phase_three rule) [
 
 pub RefusesMatch-last : (rs : List Record) (es : List Entry) (fault : MatchFault) → HasNoneBefore rs es → IsFirstOfLast rs es fault → RefusesMatch fault rs es
 RefusesMatch-last rs es (faults.Misfit at_place rule) before first = record {
-  stands = first.0.stands;
+  broken = first.0.broken;
   least = λ other j comes. elim comes [
     | inl less ↦ before other j (omega (arith, less, first.0.of_phase))
     | inr same ↦
         let late : phase other ≡ 3 = same.0 ∙ first.0.of_phase in
         elim same.1 [
           | inl earlier ↦ first.1 j earlier other late
-          | inr here ↦ λ stands. first.0.first other late here.1 (subst (λ (m : ℕ). StandsAt other rs es m) here.0 stands)
+          | inr here ↦ λ broken. first.0.first other late here.1 (subst (λ (m : ℕ). BreaksAt other rs es m) here.0 broken)
         ]
   ];
 }
@@ -177,7 +177,7 @@ HasNoMisfit-Fits rs es fits rule i = elim (first_rule rule) [
   | inr request ↦ none_of rs es fits rule i (id_at rs i) (λ _. refl) (λ is. absurd (omega (arith, is, request)))
 ]
 
--- where a fault is reported, the responses do not fit
+-- if a fault is reported, the responses do not fit
 pub no_fit : (rs : List Record) (es : List Entry) (fault : MatchFault) → IsNumbered fault → RefusesMatch fault rs es → ¬ Fits rs es
-no_fit rs es (faults.Misfit at_place rule) numbered refused fits = HasNoMisfit-Fits rs es fits rule at_place refused.stands
+no_fit rs es (faults.Misfit at_place rule) numbered refused fits = HasNoMisfit-Fits rs es fits rule at_place refused.broken
 no_fit rs es faults.OutOfMemory numbered refused fits = numbered refl

@@ -8,6 +8,6 @@ use Rattle.odb_reply.specs.Responses.{Headers, header_members}
 abbrev pub headers_text : Headers → List ℕ
 headers_text headers = codes "\"headers\":" ++ compact_text (object (header_members headers)) ++ codes ","
 
--- what comes of it from these headers on, after an earlier header or not
+-- its text from these headers on, after an earlier header or not
 abbrev pub headers_left : Bool → Headers → List ℕ
 headers_left later headers = members_text later (header_members headers) ++ codes ","

@@ -1,4 +1,4 @@
--- The position of an id: the request there has it, and where no id stands twice no other request has it.
+-- The position of an id: the request there has it, and if no two positions have the same id, no other request has it.
 use Rattle.std.proofs.Common.{◌≡◌, ◌∙◌, ◌⊎◌, ◌<◌, ℕ, zero, suc, Bool, true, false, cond, List, length, is_some, Option, Some, None, unwrap_or, slice_get, inl, inr, refl, ap, sym, arith}
 use Rattle.std.proofs.lemmas.Bool.{cases_eq, true≢false, both_ways}
 use Rattle.std.proofs.lemmas.Option.{slice_get_within}
@@ -30,7 +30,7 @@ first_passes (suc n) test i e = elim (or_else-cases (first_below n test) (cond (
     at_last true here same = let same : n ≡ i = ap (λ found. unwrap_or found 0) same in (omega arith, ap test (sym same) ∙ here)
     at_last false here same = absurd (true≢false (sym (ap is_some same)))
 
--- where there is none, none passes
+-- if there is none, none passes
 first_none : (n : ℕ) (test : ℕ → Bool) → first_below n test ≡ None → (j : ℕ) → j < n → test j ≡ false
 first_none zero test e j within = absurd (omega arith)
 first_none (suc n) test e j within =

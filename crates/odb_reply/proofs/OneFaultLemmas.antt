@@ -52,7 +52,7 @@ no_document_fault d faults.Document numbered refused good = refused good.array
 no_document_fault d (faults.Response at_place) numbered refused good = good_at (responses_in d) at_place good.each refused.1.bad
 no_document_fault d faults.OutOfMemory numbered refused good = numbered refl
 
--- ---- what a document says
+-- ---- what a document has
 
 one_group : (a b : Option (List ℕ)) → option_map string a ≡ option_map string b → a ≡ b
 one_group None None same = refl
@@ -113,8 +113,8 @@ order rule other i j = elim (cases_order (phase rule) (phase other)) [
 one_least : (rs : List Record) (es : List Entry) (rule other : MatchRule) (i j : ℕ) → IsLeastAt rs es rule i → IsLeastAt rs es other j → misfits.Misfit i rule ≡ misfits.Misfit j other
 one_least rs es rule other i j one two = elim (order rule other i j) [
   | inl same ↦ ap (λ r. misfits.Misfit i r) same.0 ∙ ap (λ k. misfits.Misfit k other) same.1
-  | inr (inl before) ↦ absurd (two.least rule i before one.stands)
-  | inr (inr after) ↦ absurd (one.least other j after two.stands)
+  | inr (inl before) ↦ absurd (two.least rule i before one.broken)
+  | inr (inr after) ↦ absurd (one.least other j after two.broken)
 ]
 
 pub one_match_fault : (rs : List Record) (es : List Entry) (fault other : MatchFault) → matches.IsNumbered fault → matches.IsNumbered other → RefusesMatch fault rs es → RefusesMatch other rs es → fault ≡ other

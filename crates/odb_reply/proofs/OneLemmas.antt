@@ -48,7 +48,7 @@ count_by-responses id state i (request ∷ requests) =
     sum_by-cons (λ d. cond (has_id id d) 1 0) (response request (answer state i)) (responses_from state (i + 1) requests)
     ∙ rw (has_id-response id request (answer state i), count_by-responses id state (i + 1) requests) (sym (sum_by-cons (λ (r : Record). named r.id) request requests))
 
--- no id stands twice
+-- no two positions have the same id
 abbrev pub IsOnce : List Record → Type 0
 IsOnce requests = (i j : ℕ) (id : List ℕ) → id_at requests i ≡ Some id → id_at requests j ≡ Some id → i ≡ j
 
@@ -74,7 +74,7 @@ count_one (request ∷ requests) (suc i) id once is =
     let later : IsOnce requests = λ j k name first second. omega (arith, once (suc j) (suc k) name first second) in
     sum_by-cons (λ (r : Record). cond (bytes_eq id r.id) 1 0) request requests ∙ rw (other, count_one requests i id later is) refl
 
--- the names of a plan are good, so no id stands twice
+-- the names of a plan are good, so no two positions have the same id
 pub once_in_plan : (requests : List Record) → HasGoodNames requests → IsOnce requests
 once_in_plan requests good i j id here there =
     let twice : (k l : ℕ) → k < l → id_at requests k ≡ Some id → id_at requests l ≡ Some id → ⊥ =

@@ -1,4 +1,4 @@
--- Where the responses to requests are, while they are noted.
+-- The places of the responses to requests, while they are noted.
 use Rattle.std.proofs.Common.{◌≡◌, ◌≢◌, ◌∙◌, ◌+◌, ◌<◌, ◌≤◌, ℕ, List, length, replicate, Option, Some, None, slice_get, IsSomeAnd, inl, inr, refl, ap, sym, subst, arith}
 use Rattle.std.proofs.lemmas.Bool.{cases_lt, cases_eq}
 use Rattle.std.proofs.lemmas.List.{length-set, length-replicate}
@@ -11,7 +11,7 @@ use Rattle.odb_reply.specs.declared.match_fault.MatchRule.TheVariants.{UnknownRe
 use Rattle.odb_reply.specs.ResponseDocuments.{Entry}
 use Rattle.odb_reply.specs.Fits.{id_in}
 use Rattle.odb_reply.specs.LeastMatchFault.{phase, IsLeastAt}
-use Rattle.odb_reply.specs.MatchFaults.{StandsAt, number}
+use Rattle.odb_reply.specs.MatchFaults.{BreaksAt, number}
 use Rattle.odb_reply.specs.Places.{Places, AreNoted, IsNoted, IsNotedAt, IsMisplaced, NoneIn}
 use Rattle.odb_reply.proofs.IdLemmas.{position_id, position_none}
 use Rattle.odb_reply.proofs.SliceLemmas.{slice_get-set_same, slice_get-set_other, slice_get-replicate}
@@ -70,30 +70,30 @@ pub none_noted : (rs : List Record) (es : List Entry) (n : ℕ) (found : Places)
 none_noted rs es n found noted k less = each_rule (id_in es k) refl
   where
     each_rule : (o : Option (List ℕ)) → id_in es k ≡ o → NoneIn 1 rs es k
-    each_rule None none UnknownResponse of_phase stands = absurd (subst (λ (o : Option (List ℕ)). IsSomeAnd o (λ id. ¬ IsId rs id)) none stands)
-    each_rule (Some id) has UnknownResponse of_phase stands =
-        let unknown : ¬ IsId rs id = subst (λ (o : Option (List ℕ)). IsSomeAnd o (λ id. ¬ IsId rs id)) has stands in
+    each_rule None none UnknownResponse of_phase broken = absurd (subst (λ (o : Option (List ℕ)). IsSomeAnd o (λ id. ¬ IsId rs id)) none broken)
+    each_rule (Some id) has UnknownResponse of_phase broken =
+        let unknown : ¬ IsId rs id = subst (λ (o : Option (List ℕ)). IsSomeAnd o (λ id. ¬ IsId rs id)) has broken in
         let here = noted.each k id less has in
         absurd (unknown (here.0, (position_id rs id here.0 here.1).1))
-    each_rule None none ResponseTwice of_phase stands = absurd (subst (λ (o : Option (List ℕ)). IsSomeAnd o (λ id. (j : ℕ) × (j < k) × (id_in es j ≡ Some id))) none stands)
-    each_rule (Some id) has ResponseTwice of_phase stands =
-        let twice : (j : ℕ) × (j < k) × (id_in es j ≡ Some id) = subst (λ (o : Option (List ℕ)). IsSomeAnd o (λ id. (j : ℕ) × (j < k) × (id_in es j ≡ Some id))) has stands in
+    each_rule None none ResponseTwice of_phase broken = absurd (subst (λ (o : Option (List ℕ)). IsSomeAnd o (λ id. (j : ℕ) × (j < k) × (id_in es j ≡ Some id))) none broken)
+    each_rule (Some id) has ResponseTwice of_phase broken =
+        let twice : (j : ℕ) × (j < k) × (id_in es j ≡ Some id) = subst (λ (o : Option (List ℕ)). IsSomeAnd o (λ id. (j : ℕ) × (j < k) × (id_in es j ≡ Some id))) has broken in
         let here = noted.each k id less has in
         let there = noted.each twice.0 id (omega (arith, twice.1)) twice.2 in
         let position : here.0 ≡ there.0 = cc (here.1, there.1) in
         let same : k ≡ twice.0 = cc (here.2, there.2, ap (slice_get found) position) in
         absurd (omega (arith, twice.1))
-    each_rule o is ResponseMissing of_phase stands = absurd (omega arith)
-    each_rule o is GroupDiffers of_phase stands = absurd (omega arith)
-    each_rule o is UnsoundSuccess of_phase stands = absurd (omega arith)
+    each_rule o is ResponseMissing of_phase broken = absurd (omega arith)
+    each_rule o is GroupDiffers of_phase broken = absurd (omega arith)
+    each_rule o is UnsoundSuccess of_phase broken = absurd (omega arith)
 
 -- past the responses no rule of theirs is broken
 pub none_past : (rs : List Record) (es : List Entry) (k : ℕ) → length es ≤ k → NoneIn 1 rs es k
-none_past rs es k past UnknownResponse of_phase stands = let none = slice_get_past es k past in rw none at stands
-none_past rs es k past ResponseTwice of_phase stands = let none = slice_get_past es k past in rw none at stands
-none_past rs es k past ResponseMissing of_phase stands = absurd (omega arith)
-none_past rs es k past GroupDiffers of_phase stands = absurd (omega arith)
-none_past rs es k past UnsoundSuccess of_phase stands = absurd (omega arith)
+none_past rs es k past UnknownResponse of_phase broken = let none = slice_get_past es k past in rw none at broken
+none_past rs es k past ResponseTwice of_phase broken = let none = slice_get_past es k past in rw none at broken
+none_past rs es k past ResponseMissing of_phase broken = absurd (omega arith)
+none_past rs es k past GroupDiffers of_phase broken = absurd (omega arith)
+none_past rs es k past UnsoundSuccess of_phase broken = absurd (omega arith)
 
 pub none_of_responses : (rs : List Record) (es : List Entry) (found : Places) → AreNoted rs es (length es) found → (k : ℕ) → NoneIn 1 rs es k
 none_of_responses rs es found noted k = elim (cases_lt k (length es)) [
@@ -102,31 +102,31 @@ none_of_responses rs es found noted k = elim (cases_lt k (length es)) [
 ]
 
 -- a response that cannot be noted is the first that breaks a rule
-stands_misplaced : (rs : List Record) (es : List Entry) (n : ℕ) (id : List ℕ) (found : Places) (rule : MatchRule) → AreNoted rs es n found → id_in es n ≡ Some id → IsMisplaced rs id found rule
-    → StandsAt rule rs es n
-stands_misplaced rs es n id found UnknownResponse noted has misplaced = rw has (position_none rs id misplaced)
-stands_misplaced rs es n id found ResponseTwice noted has misplaced =
+misplaced_breaks : (rs : List Record) (es : List Entry) (n : ℕ) (id : List ℕ) (found : Places) (rule : MatchRule) → AreNoted rs es n found → id_in es n ≡ Some id → IsMisplaced rs id found rule
+    → BreaksAt rule rs es n
+misplaced_breaks rs es n id found UnknownResponse noted has misplaced = rw has (position_none rs id misplaced)
+misplaced_breaks rs es n id found ResponseTwice noted has misplaced =
     let before = noted.noted misplaced.position misplaced.other misplaced.taken in
     let same : before.1.id ≡ id = cc ((position_id rs before.1.id misplaced.position before.1.is).1, (position_id rs id misplaced.position misplaced.is).1) in
     rw has (misplaced.other, before.0, before.1.has ∙ ap Some same)
-stands_misplaced rs es n id found ResponseMissing noted has misplaced = absurd misplaced
-stands_misplaced rs es n id found GroupDiffers noted has misplaced = absurd misplaced
-stands_misplaced rs es n id found UnsoundSuccess noted has misplaced = absurd misplaced
+misplaced_breaks rs es n id found ResponseMissing noted has misplaced = absurd misplaced
+misplaced_breaks rs es n id found GroupDiffers noted has misplaced = absurd misplaced
+misplaced_breaks rs es n id found UnsoundSuccess noted has misplaced = absurd misplaced
 
 first_misplaced : (rs : List Record) (es : List Entry) (n : ℕ) (id : List ℕ) (found : Places) (rule other : MatchRule) → id_in es n ≡ Some id → IsMisplaced rs id found rule
-    → phase other ≡ 1 → number other < number rule → ¬ StandsAt other rs es n
-first_misplaced rs es n id found UnknownResponse UnknownResponse has misplaced of_phase less stands = absurd (omega arith)
-first_misplaced rs es n id found UnknownResponse ResponseTwice has misplaced of_phase less stands = absurd (omega arith)
-first_misplaced rs es n id found ResponseTwice UnknownResponse has misplaced of_phase less stands =
-    let unknown : ¬ IsId rs id = subst (λ (o : Option (List ℕ)). IsSomeAnd o (λ id. ¬ IsId rs id)) has stands in
+    → phase other ≡ 1 → number other < number rule → ¬ BreaksAt other rs es n
+first_misplaced rs es n id found UnknownResponse UnknownResponse has misplaced of_phase less broken = absurd (omega arith)
+first_misplaced rs es n id found UnknownResponse ResponseTwice has misplaced of_phase less broken = absurd (omega arith)
+first_misplaced rs es n id found ResponseTwice UnknownResponse has misplaced of_phase less broken =
+    let unknown : ¬ IsId rs id = subst (λ (o : Option (List ℕ)). IsSomeAnd o (λ id. ¬ IsId rs id)) has broken in
     unknown (misplaced.position, (position_id rs id misplaced.position misplaced.is).1)
-first_misplaced rs es n id found ResponseTwice ResponseTwice has misplaced of_phase less stands = absurd (omega arith)
-first_misplaced rs es n id found ResponseMissing other has misplaced of_phase less stands = absurd misplaced
-first_misplaced rs es n id found GroupDiffers other has misplaced of_phase less stands = absurd misplaced
-first_misplaced rs es n id found UnsoundSuccess other has misplaced of_phase less stands = absurd misplaced
-first_misplaced rs es n id found rule ResponseMissing has misplaced of_phase less stands = absurd (omega arith)
-first_misplaced rs es n id found rule GroupDiffers has misplaced of_phase less stands = absurd (omega arith)
-first_misplaced rs es n id found rule UnsoundSuccess has misplaced of_phase less stands = absurd (omega arith)
+first_misplaced rs es n id found ResponseTwice ResponseTwice has misplaced of_phase less broken = absurd (omega arith)
+first_misplaced rs es n id found ResponseMissing other has misplaced of_phase less broken = absurd misplaced
+first_misplaced rs es n id found GroupDiffers other has misplaced of_phase less broken = absurd misplaced
+first_misplaced rs es n id found UnsoundSuccess other has misplaced of_phase less broken = absurd misplaced
+first_misplaced rs es n id found rule ResponseMissing has misplaced of_phase less broken = absurd (omega arith)
+first_misplaced rs es n id found rule GroupDiffers has misplaced of_phase less broken = absurd (omega arith)
+first_misplaced rs es n id found rule UnsoundSuccess has misplaced of_phase less broken = absurd (omega arith)
 
 some_phase : (rule : MatchRule) → 1 ≤ phase rule
 some_phase UnknownResponse = omega arith
@@ -145,7 +145,7 @@ misplaced_phase rs id found UnsoundSuccess misplaced = absurd misplaced
 pub IsLeastAt-misplaced : (rs : List Record) (es : List Entry) (n : ℕ) (id : List ℕ) (found : Places) (rule : MatchRule) → AreNoted rs es n found → id_in es n ≡ Some id → IsMisplaced rs id found rule
     → IsLeastAt rs es rule n
 IsLeastAt-misplaced rs es n id found rule noted has misplaced = record {
-  stands = stands_misplaced rs es n id found rule noted has misplaced;
+  broken = misplaced_breaks rs es n id found rule noted has misplaced;
   least = λ other j comes.
       let own = misplaced_phase rs id found rule misplaced in
       elim comes [
@@ -154,7 +154,7 @@ IsLeastAt-misplaced rs es n id found rule noted has misplaced = record {
             let of_phase : phase other ≡ 1 = same.0 ∙ own in
             elim same.1 [
               | inl before ↦ none_noted rs es n found noted j before other of_phase
-              | inr here ↦ λ stands. first_misplaced rs es n id found rule other has misplaced of_phase here.1 (subst (λ (m : ℕ). StandsAt other rs es m) here.0 stands)
+              | inr here ↦ λ broken. first_misplaced rs es n id found rule other has misplaced of_phase here.1 (subst (λ (m : ℕ). BreaksAt other rs es m) here.0 broken)
             ]
       ];
 }

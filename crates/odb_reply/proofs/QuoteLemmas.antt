@@ -25,7 +25,7 @@ first_plain x s is rest =
     let i : nat_lt x 32 ≡ false = le-ltb x 32 (omega (arith, plain.0)) in
     simp (a, b, c, d, f, g, h, i) (ap (λ t. 34 ∷ x ∷ t) (ap (drop 1) rest))
 
--- an identifier stands in quotes as it is
+-- the JSON text of an identifier is the identifier in quotes
 pub text-plain : (s : List ℕ) → AllPass is_unreserved s → compact_text (string s) ≡ codes "\"" ++ s ++ codes "\""
 text-plain [] each = refl
 text-plain (x ∷ s) each =

@@ -1,4 +1,4 @@
--- The table of the responses: while it is filled, and what it says of them.
+-- The table of the responses: while it is filled, and what it determines of them.
 use Rattle.std.proofs.Common.{◌≡◌, ◌∙◌, ◌⊎◌, ◌+◌, ◌<◌, ◌≤◌, ℕ, List, [], ◌∷◌, ◌++◌, length, Option, Some, None, option_map, slice_get, IsSomeAnd, inl, inr, refl, ap, sym, subst, arith}
 use Rattle.std.proofs.lemmas.Bool.{cases_lt}
 use Rattle.std.proofs.lemmas.List.{length_push}
@@ -12,7 +12,7 @@ use Rattle.odb_reply.specs.declared.match_fault.MatchFault.TheVariants as faults
 use Rattle.odb_reply.specs.ResponseDocuments.{Entry}
 use Rattle.odb_reply.specs.Fits.{id_in}
 use Rattle.odb_reply.specs.LeastMatchFault.{phase, IsLeastAt, RefusesMatch}
-use Rattle.odb_reply.specs.MatchFaults.{StandsAt, number}
+use Rattle.odb_reply.specs.MatchFaults.{BreaksAt, number}
 use Rattle.odb_reply.specs.Places.{Places, AreNoted, AreListed, IsListed, IsFirstFree, IsMissing, HasRows, NoneIn}
 use Rattle.odb_reply.proofs.IdLemmas.{position_id, position_is}
 use Rattle.odb_reply.proofs.OneLemmas.{IsOnce}
@@ -73,24 +73,24 @@ pub found_within : (rs : List Record) (es : List Entry) (found : Places) → Are
 found_within rs es found noted i k is = (noted.noted i k is).0
 
 -- a request whose place was found has a response
-none_found : (rs : List Record) (es : List Entry) (found : Places) (i k : ℕ) → AreNoted rs es (length es) found → slice_get found i ≡ Some (Some k) → ¬ StandsAt ResponseMissing rs es i
-none_found rs es found i k noted is stands =
+none_found : (rs : List Record) (es : List Entry) (found : Places) (i k : ℕ) → AreNoted rs es (length es) found → slice_get found i ≡ Some (Some k) → ¬ BreaksAt ResponseMissing rs es i
+none_found rs es found i k noted is broken =
     let there = (noted.noted i k is).1 in
     let id = (position_id rs there.id i there.is).1 in
-    let missing : (j : ℕ) → ¬ (id_in es j ≡ Some there.id) = subst (λ (o : Option (List ℕ)). IsSomeAnd o (λ name. (j : ℕ) → ¬ (id_in es j ≡ Some name))) id stands in
+    let missing : (j : ℕ) → ¬ (id_in es j ≡ Some there.id) = subst (λ (o : Option (List ℕ)). IsSomeAnd o (λ name. (j : ℕ) → ¬ (id_in es j ≡ Some name))) id broken in
     missing k there.has
 
-only_missing : (rs : List Record) (es : List Entry) (i : ℕ) → ¬ StandsAt ResponseMissing rs es i → NoneIn 2 rs es i
+only_missing : (rs : List Record) (es : List Entry) (i : ℕ) → ¬ BreaksAt ResponseMissing rs es i → NoneIn 2 rs es i
 only_missing rs es i none UnknownResponse of_phase = absurd (omega arith)
 only_missing rs es i none ResponseTwice of_phase = absurd (omega arith)
 only_missing rs es i none ResponseMissing of_phase = none
 only_missing rs es i none GroupDiffers of_phase = absurd (omega arith)
 only_missing rs es i none UnsoundSuccess of_phase = absurd (omega arith)
 
-past_requests : (rs : List Record) (es : List Entry) (i : ℕ) → length rs ≤ i → ¬ StandsAt ResponseMissing rs es i
-past_requests rs es i past stands = let none = slice_get_past rs i past in rw none at stands
+past_requests : (rs : List Record) (es : List Entry) (i : ℕ) → length rs ≤ i → ¬ BreaksAt ResponseMissing rs es i
+past_requests rs es i past broken = let none = slice_get_past rs i past in rw none at broken
 
--- where each request has a place, none lacks a response
+-- if each request has a place, none lacks a response
 pub none_missing : (rs : List Record) (es : List Entry) (found : Places) (places statuses : List ℕ) → AreNoted rs es (length es) found → AreListed es found (length found) places statuses → (i : ℕ) → NoneIn 2 rs es i
 none_missing rs es found places statuses noted listed i = elim (cases_lt i (length rs)) [
   | inl within ↦
@@ -106,9 +106,9 @@ first_two ResponseMissing = inr (inl refl)
 first_two GroupDiffers = inr (inr refl)
 first_two UnsoundSuccess = inr (inr refl)
 
--- what has one of the first two phases stands nowhere, once each response and each request has its place
+-- no rule of the first two phases is broken, once each response and each request has its place
 pub none_before_last : (rs : List Record) (es : List Entry) (found : Places) (places statuses : List ℕ) → AreNoted rs es (length es) found → AreListed es found (length found) places statuses
-    → (rule : MatchRule) (i : ℕ) → phase rule < 3 → ¬ StandsAt rule rs es i
+    → (rule : MatchRule) (i : ℕ) → phase rule < 3 → ¬ BreaksAt rule rs es i
 none_before_last rs es found places statuses noted listed rule i less = elim (first_two rule) [
   | inl one ↦ none_of_responses rs es found noted i rule one
   | inr (inl two) ↦ none_missing rs es found places statuses noted listed i rule two
@@ -116,8 +116,8 @@ none_before_last rs es found places statuses noted listed rule i less = elim (fi
 ]
 
 -- a request without a place has no response
-missing_stands : (rs : List Record) (es : List Entry) (found : Places) (i : ℕ) → IsOnce rs → AreNoted rs es (length es) found → slice_get found i ≡ Some None → StandsAt ResponseMissing rs es i
-missing_stands rs es found i once noted none =
+missing_breaks : (rs : List Record) (es : List Entry) (found : Places) (i : ℕ) → IsOnce rs → AreNoted rs es (length es) found → slice_get found i ≡ Some None → BreaksAt ResponseMissing rs es i
+missing_breaks rs es found i once noted none =
     let within : i < length rs = omega (arith, slice_get_within found i None none, noted.count) in
     let request = slice_get-some rs i within in
     let id : id_at rs i ≡ Some request.0.id = ap (option_map (λ (r : Record). r.id)) request.1 in
@@ -135,7 +135,7 @@ number_73 UnsoundSuccess of_phase less = absurd (omega arith)
 
 IsLeastAt-missing : (rs : List Record) (es : List Entry) (found : Places) (i : ℕ) → IsOnce rs → AreNoted rs es (length es) found → IsFirstFree found i → IsLeastAt rs es ResponseMissing i
 IsLeastAt-missing rs es found i once noted first = record {
-  stands = missing_stands rs es found i once noted first.free;
+  broken = missing_breaks rs es found i once noted first.free;
   least = λ other j comes. elim comes [
     | inl less ↦ elim (first_two other) [
       | inl one ↦ none_of_responses rs es found noted j other one
@@ -157,7 +157,7 @@ RefusesMatch-missing rs es found (faults.Misfit i GroupDiffers) once noted missi
 RefusesMatch-missing rs es found (faults.Misfit i UnsoundSuccess) once noted missing = absurd missing
 RefusesMatch-missing rs es found faults.OutOfMemory once noted missing = tt
 
--- the table says where the responses are, and each request has one
+-- the table has the places of the responses, and each request has one
 pub HasRows-from : (rs : List Record) (es : List Entry) (found : Places) (places statuses : List ℕ) → IsOnce rs → AreNoted rs es (length es) found → AreListed es found (length found) places statuses
     → HasRows rs es places statuses
 HasRows-from rs es found places statuses once noted listed = record {

@@ -6,7 +6,6 @@ use Rattle.std.proofs.lemmas.Option.{slice_get_within, slice_get-get_or, same_So
 use Rattle.odb_doc.specs.Records.{Record}
 use Rattle.odb_check.specs.declared.need.Need.{Need}
 use Rattle.odb_check.specs.declared.need.Need.TheVariants.{One, Group}
-use Rattle.odb_check.specs.Marks.{IsWithin}
 use Rattle.odb_check.specs.Needs.{needs_at}
 use Rattle.odb_check.specs.Positions.{group_at}
 use Rattle.odb_check.specs.Shape.{IsPlan, shape_of}
@@ -17,8 +16,8 @@ use Rattle.odb_reply.specs.declared.match_fault.MatchRule.TheVariants.{UnknownRe
 use Rattle.odb_reply.specs.ResponseDocuments.{Entry}
 use Rattle.odb_reply.specs.Fits.{Responds, IsRow}
 use Rattle.odb_reply.specs.LeastMatchFault.{phase}
-use Rattle.odb_reply.specs.MatchFaults.{StandsAt, number, Fails, HasFailed}
-use Rattle.odb_reply.specs.Places.{HasRows, AreUnits, is_satisfied, NoneIn, IsFirstIn}
+use Rattle.odb_reply.specs.MatchFaults.{BreaksAt, number, Fails, HasFailed}
+use Rattle.odb_reply.specs.Places.{HasRows, AreUnits, HasEntry, is_satisfied, NoneIn, IsFirstIn}
 use Rattle.odb_reply.proofs.IdLemmas.{id_within}
 use Rattle.odb_reply.proofs.SliceLemmas.{slice_get-some}
 use Rattle.odb_reply.proofs.UnitLemmas.{need_within}
@@ -43,7 +42,7 @@ status_of rs es places statuses i e rows responds =
     let same : row.entry ≡ e = same_Some row.entry e (sym row.given ∙ rows.only i place.0 e responds place.1) in
     sym row.status_is ∙ ap (λ (r : Entry). r.status) same
 
--- a request whose status is no success fails
+-- a request whose status is not a success fails
 fails_from : (rs : List Record) (es : List Entry) (places statuses : List ℕ) (r : ℕ) → HasRows rs es places statuses → r < length rs → is_success (get_or statuses r 0) ≡ false → Fails rs es r
 fails_from rs es places statuses r rows within failed =
     let place = slice_get-some places r (omega (arith, rows.table.places_count)) in
@@ -56,7 +55,7 @@ fails_not rs es places statuses r rows passes failed = failed.2 (ap is_success (
 -- ---- needs
 
 failed_from : (rs : List Record) (es : List Entry) (places statuses : List ℕ) (units : List Bool) (need : Need) → HasRows rs es places statuses → AreUnits rs statuses (length rs) units
-    → IsWithin need (length rs) (unit_count rs) → is_satisfied statuses units need ≡ false → HasFailed rs es need
+    → HasEntry need (length rs) (unit_count rs) → is_satisfied statuses units need ≡ false → HasFailed rs es need
 failed_from rs es places statuses units (One r) rows known within failing = fails_from rs es places statuses r rows within failing
 failed_from rs es places statuses units (Group u) rows known within failing =
     let inside : u < length units = omega (arith, known.count) in
@@ -64,12 +63,12 @@ failed_from rs es places statuses units (Group u) rows known within failing =
     (member.0, member.2, fails_from rs es places statuses member.0 rows member.1 member.3)
 
 satisfied_from : (rs : List Record) (es : List Entry) (places statuses : List ℕ) (units : List Bool) (need : Need) → HasRows rs es places statuses → AreUnits rs statuses (length rs) units
-    → IsWithin need (length rs) (unit_count rs) → is_satisfied statuses units need ≡ true → ¬ HasFailed rs es need
-satisfied_from rs es places statuses units (One r) rows known within met failing = fails_not rs es places statuses r rows met failing
-satisfied_from rs es places statuses units (Group u) rows known within met failing =
+    → HasEntry need (length rs) (unit_count rs) → is_satisfied statuses units need ≡ true → ¬ HasFailed rs es need
+satisfied_from rs es places statuses units (One r) rows known within satisfied failing = fails_not rs es places statuses r rows satisfied failing
+satisfied_from rs es places statuses units (Group u) rows known within satisfied failing =
     let inside : u < length units = omega (arith, known.count) in
     let failed = failing.2 in
-    let passes = known.passed u failing.0 (slice_get-get_or units u false inside ∙ ap Some met) (id_within rs failing.0 failed.0.id failed.1.id) failing.1 in
+    let passes = known.succeeded u failing.0 (slice_get-get_or units u false inside ∙ ap Some satisfied) (id_within rs failing.0 failed.0.id failed.1.id) failing.1 in
     fails_not rs es places statuses failing.0 rows passes failed
 
 any_first : {X : Type 0} (test : X → Bool) (x : X) (xs : List X) (b : Bool) → test x ≡ b → (b || list_any test xs) ≡ true → (list_any test xs ≡ true → (y : X) × Contains xs y × (test y ≡ true))
@@ -77,7 +76,7 @@ any_first : {X : Type 0} (test : X → Bool) (x : X) (xs : List X) (b : Bool) �
 any_first test x xs true here some rest = (x, (0, omega arith, refl), here)
 any_first test x xs false here some rest = let later = rest some in (later.0, (suc later.1.0, omega (arith, later.1.1), later.1.2), later.2)
 
--- an element passes where one does
+-- some element passes if `list_any` is true
 any_some : {X : Type 0} (test : X → Bool) (xs : List X) → list_any test xs ≡ true → (x : X) × Contains xs x × (test x ≡ true)
 any_some test [] some = absurd (true≢false (sym some))
 any_some test (x ∷ xs) some = any_first test x xs (test x) refl some (any_some test xs)
@@ -88,7 +87,7 @@ none_first test y xs x true here none rest k within is = absurd (true≢false no
 none_first test y xs x false here none rest zero within is = ap test (sym is) ∙ here
 none_first test y xs x false here none rest (suc k) within is = rest none (k, omega arith, is)
 
--- no element passes where none does
+-- no element passes if `list_any` is false
 any_none : {X : Type 0} (test : X → Bool) (xs : List X) (x : X) → list_any test xs ≡ false → Contains xs x → test x ≡ false
 any_none test [] x none among = absurd (omega (arith, among.1))
 any_none test (y ∷ xs) x none among = none_first test y xs x (test y) refl none (any_none test xs x) among.0 among.1 among.2
@@ -103,7 +102,7 @@ not_true false is = absurd (true≢false is)
 
 -- ---- the two rules
 
-pub none_last : (rs : List Record) (es : List Entry) (i : ℕ) → ¬ StandsAt GroupDiffers rs es i → ¬ StandsAt UnsoundSuccess rs es i → NoneIn 3 rs es i
+pub none_last : (rs : List Record) (es : List Entry) (i : ℕ) → ¬ BreaksAt GroupDiffers rs es i → ¬ BreaksAt UnsoundSuccess rs es i → NoneIn 3 rs es i
 none_last rs es i same sound UnknownResponse of_phase = absurd (omega arith)
 none_last rs es i same sound ResponseTwice of_phase = absurd (omega arith)
 none_last rs es i same sound ResponseMissing of_phase = absurd (omega arith)
@@ -117,7 +116,7 @@ below_74 ResponseMissing of_phase less = absurd (omega arith)
 below_74 GroupDiffers of_phase less = absurd (omega arith)
 below_74 UnsoundSuccess of_phase less = absurd (omega arith)
 
-below_75 : (rs : List Record) (es : List Entry) (i : ℕ) → ¬ StandsAt GroupDiffers rs es i → (rule : MatchRule) → phase rule ≡ 3 → number rule < 75 → ¬ StandsAt rule rs es i
+below_75 : (rs : List Record) (es : List Entry) (i : ℕ) → ¬ BreaksAt GroupDiffers rs es i → (rule : MatchRule) → phase rule ≡ 3 → number rule < 75 → ¬ BreaksAt rule rs es i
 below_75 rs es i same UnknownResponse of_phase less = absurd (omega arith)
 below_75 rs es i same ResponseTwice of_phase less = absurd (omega arith)
 below_75 rs es i same ResponseMissing of_phase less = absurd (omega arith)
@@ -132,7 +131,7 @@ first_differs rs es places statuses i k e rows place given differs =
     let same : row.entry ≡ e = same_Some row.entry e (sym row.given ∙ given) in
     record {
       of_phase = refl;
-      stands = record {
+      broken = record {
         response = e;
         responds = record { place = k; given = given; id = row.id ∙ ap (λ (r : Entry). Some r.id) same };
         differs = differs;
@@ -142,21 +141,21 @@ first_differs rs es places statuses i k e rows place given differs =
 
 -- it has the same group
 pub not_differs : (rs : List Record) (es : List Entry) (places statuses : List ℕ) (i k : ℕ) (e : Entry) → HasRows rs es places statuses → slice_get places i ≡ Some k → slice_get es k ≡ Some e
-    → e.group ≡ group_at rs i → ¬ StandsAt GroupDiffers rs es i
-not_differs rs es places statuses i k e rows place given group stands =
-    let same : e ≡ stands.response = same_Some e stands.response (sym given ∙ rows.only i k stands.response stands.responds place) in
-    stands.differs (ap (λ (r : Entry). r.group) (sym same) ∙ group)
+    → e.group ≡ group_at rs i → ¬ BreaksAt GroupDiffers rs es i
+not_differs rs es places statuses i k e rows place given group broken =
+    let same : e ≡ broken.response = same_Some e broken.response (sym given ∙ rows.only i k broken.response broken.responds place) in
+    broken.differs (ap (λ (r : Entry). r.group) (sym same) ∙ group)
 
 -- the response is a success, and a dependency has failed
 pub first_unsound : (rs : List Record) (es : List Entry) (places statuses : List ℕ) (units : List Bool) (i : ℕ) → HasRows rs es places statuses → AreUnits rs statuses (length rs) units → IsPlan (shape_of rs)
-    → i < length rs → ¬ StandsAt GroupDiffers rs es i → is_success (get_or statuses i 0) ≡ true → list_any (λ need. not (is_satisfied statuses units need)) (needs_at rs i) ≡ true → IsFirstIn 3 rs es i UnsoundSuccess
+    → i < length rs → ¬ BreaksAt GroupDiffers rs es i → is_success (get_or statuses i 0) ≡ true → list_any (λ need. not (is_satisfied statuses units need)) (needs_at rs i) ≡ true → IsFirstIn 3 rs es i UnsoundSuccess
 first_unsound rs es places statuses units i rows known laws within group passes some =
     let place = slice_get-some places i (omega (arith, rows.table.places_count)) in
     let row = row_at rs es places statuses i place.0 rows place.1 in
     let failing = any_some (λ need. not (is_satisfied statuses units need)) (needs_at rs i) some in
     record {
       of_phase = refl;
-      stands = record {
+      broken = record {
         response = row.entry;
         responds = record { place = place.0; given = row.given; id = row.id };
         success = ap is_success row.status_is ∙ passes;
@@ -167,14 +166,14 @@ first_unsound rs es places statuses units i rows known laws within group passes 
       first = below_75 rs es i group;
     }
 
--- the response is no success
-pub not_success : (rs : List Record) (es : List Entry) (places statuses : List ℕ) (i : ℕ) → HasRows rs es places statuses → is_success (get_or statuses i 0) ≡ false → ¬ StandsAt UnsoundSuccess rs es i
-not_success rs es places statuses i rows failed stands =
-    both_ways (is_success (get_or statuses i 0)) failed (ap is_success (status_of rs es places statuses i stands.response rows stands.responds) ∙ stands.success)
+-- the response is not a success
+pub not_success : (rs : List Record) (es : List Entry) (places statuses : List ℕ) (i : ℕ) → HasRows rs es places statuses → is_success (get_or statuses i 0) ≡ false → ¬ BreaksAt UnsoundSuccess rs es i
+not_success rs es places statuses i rows failed broken =
+    both_ways (is_success (get_or statuses i 0)) failed (ap is_success (status_of rs es places statuses i broken.response rows broken.responds) ∙ broken.success)
 
 -- each dependency is satisfied
 pub not_failed : (rs : List Record) (es : List Entry) (places statuses : List ℕ) (units : List Bool) (i : ℕ) → HasRows rs es places statuses → AreUnits rs statuses (length rs) units → IsPlan (shape_of rs)
-    → i < length rs → list_any (λ need. not (is_satisfied statuses units need)) (needs_at rs i) ≡ false → ¬ StandsAt UnsoundSuccess rs es i
-not_failed rs es places statuses units i rows known laws within none stands =
-    let met = any_none (λ need. not (is_satisfied statuses units need)) (needs_at rs i) stands.need none stands.needed in
-    satisfied_from rs es places statuses units stands.need rows known (need_within rs i stands.need laws within stands.needed) (not_true (is_satisfied statuses units stands.need) met) stands.fails
+    → i < length rs → list_any (λ need. not (is_satisfied statuses units need)) (needs_at rs i) ≡ false → ¬ BreaksAt UnsoundSuccess rs es i
+not_failed rs es places statuses units i rows known laws within none broken =
+    let satisfied = any_none (λ need. not (is_satisfied statuses units need)) (needs_at rs i) broken.need none broken.needed in
+    satisfied_from rs es places statuses units broken.need rows known (need_within rs i broken.need laws within broken.needed) (not_true (is_satisfied statuses units broken.need) satisfied) broken.fails

@@ -10,7 +10,7 @@ slice_get-some [] i within = absurd (omega arith)
 slice_get-some (x ∷ xs) zero within = (x, refl)
 slice_get-some (x ∷ xs) (suc i) within = slice_get-some xs i (omega arith)
 
--- what a function gives at an element comes from an element
+-- what a function returns at an element comes from an element
 pub map_some : {X Y : Type 0} (f : X → Y) (o : Option X) (y : Y) → option_map f o ≡ Some y → (x : X) × (o ≡ Some x) × (f x ≡ y)
 map_some f None y is = absurd (cc (is))
 map_some f (Some x) y is = (x, refl, cc (is))
@@ -57,7 +57,7 @@ free {X = X} xs i within none = at_found (get_or xs i None) refl
     at_found None is = slice_get-get_or xs i None within ∙ ap Some is
     at_found (Some x) some = absurd (true≢false (sym (ap is_some some) ∙ none))
 
--- a slice is written over the list that it is of
+-- a slice is written over its own list
 pub written_over : {X : Type 0} (old new : List X) (n : ℕ) → length new ≡ length old → n ≡ length old → take n (new ++ drop (length new) old) ≡ new
 written_over old new n same whole =
     let none : drop (length new) old ≡ [] = drop_all (length new) old (omega arith) in

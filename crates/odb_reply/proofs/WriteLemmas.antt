@@ -18,7 +18,7 @@ HasWritten-more old mid new text rest n before took = record {
   written = Appends-trans old mid new before.prefix (take n rest) before.written took;
 }
 
--- a text of which something is left is not empty
+-- a text with a rest is not empty
 pub HasWritten-some : (old new : Option (List ℕ)) (text rest : List ℕ) → HasWritten old new text rest → 0 < length rest → ¬ (text ≡ [])
 HasWritten-some old new text rest before some none =
     omega (arith, ap length (sym before.whole ∙ none), length-append before.prefix rest, some)
@@ -60,7 +60,7 @@ AppendsPrefix-part old new text later part = (part.0 ++ later, HasWritten-part o
 pub AppendsPrefix-after : (old mid new : Option (List ℕ)) (text rest : List ℕ) → HasWritten old mid text rest → AppendsPrefix mid new rest → AppendsPrefix old new text
 AppendsPrefix-after old mid new text rest before after = (after.0, HasWritten-trans old mid new text rest after.0 before after.1)
 
--- the text is written whole, and nothing is left
+-- the text is written whole, and no rest remains
 pub HasWritten-whole : (old new : Option (List ℕ)) (text : List ℕ) → Appends old new text → HasWritten old new text []
 HasWritten-whole old new text written = record { prefix = text; whole = sym (append-nil text); written = written }
 

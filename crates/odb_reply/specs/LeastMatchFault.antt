@@ -6,9 +6,9 @@ use Rattle.odb_reply.specs.declared.match_fault.MatchRule.TheVariants.{UnknownRe
 use Rattle.odb_reply.specs.declared.match_fault.MatchFault.{MatchFault}
 use Rattle.odb_reply.specs.declared.match_fault.MatchFault.TheVariants as faults
 use Rattle.odb_reply.specs.ResponseDocuments.{Entry}
-use Rattle.odb_reply.specs.MatchFaults.{StandsAt, number}
+use Rattle.odb_reply.specs.MatchFaults.{BreaksAt, number}
 
--- unknown and repeated responses come first, then missing ones, and then what the responses say
+-- unknown and repeated responses come first, then missing ones, and then the groups and the statuses of the responses
 abbrev pub phase : MatchRule → ℕ
 phase UnknownResponse = 1
 phase ResponseTwice = 1
@@ -22,12 +22,12 @@ ComesBefore a i b j = (phase a < phase b) ⊎ ((phase a ≡ phase b) × ((i < j)
 
 -- the rule is broken at the position, and none that comes before
 pub record IsLeastAt (rs : List Record) (es : List Entry) (rule : MatchRule) (at : ℕ) : Type 0 where
-  pub stands : StandsAt rule rs es at
-  pub least : (other : MatchRule) (j : ℕ) → ComesBefore other j rule at → ¬ StandsAt other rs es j
+  pub broken : BreaksAt rule rs es at
+  pub least : (other : MatchRule) (j : ℕ) → ComesBefore other j rule at → ¬ BreaksAt other rs es j
 
 -- no rule is broken anywhere
 abbrev pub HasNoMisfit : List Record → List Entry → Type 0
-HasNoMisfit rs es = (rule : MatchRule) (at : ℕ) → ¬ StandsAt rule rs es at
+HasNoMisfit rs es = (rule : MatchRule) (at : ℕ) → ¬ BreaksAt rule rs es at
 
 -- the fault is the least of the match. Out of memory says nothing.
 abbrev pub RefusesMatch : MatchFault → List Record → List Entry → Type 0

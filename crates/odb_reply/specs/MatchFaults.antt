@@ -1,4 +1,4 @@
--- Where responses do not fit a batch, over all pairs of responses and requests (OData JSON Format 4.01, section 19.5), and
+-- How responses do not fit a batch, over all pairs of responses and requests (OData JSON Format 4.01, section 19.5), and
 -- what is printed of it.
 use Rattle.std.specs.Prelude.{◌≡◌, ◌≢◌, ◌<◌, ℕ, List, [], Some, Contains, IsSomeAnd, IsTrue, codes}
 use Rattle.odb_doc.specs.Faults.{code_of}
@@ -43,12 +43,12 @@ pub record RestsOnFailure (rs : List Record) (es : List Entry) (i : ℕ) : Type 
   pub fails : HasFailed rs es need
 
 -- The rule is broken at a place of the responses (the first two), or at a position of the requests.
-abbrev pub StandsAt : MatchRule → List Record → List Entry → ℕ → Type 0
-StandsAt UnknownResponse rs es k = IsSomeAnd (id_in es k) (λ id. ¬ IsId rs id)
-StandsAt ResponseTwice rs es k = IsSomeAnd (id_in es k) (λ id. (j : ℕ) × (j < k) × (id_in es j ≡ Some id))
-StandsAt ResponseMissing rs es i = IsSomeAnd (id_at rs i) (λ id. (k : ℕ) → ¬ (id_in es k ≡ Some id))
-StandsAt GroupDiffers rs es i = DiffersInGroup rs es i
-StandsAt UnsoundSuccess rs es i = RestsOnFailure rs es i
+abbrev pub BreaksAt : MatchRule → List Record → List Entry → ℕ → Type 0
+BreaksAt UnknownResponse rs es k = IsSomeAnd (id_in es k) (λ id. ¬ IsId rs id)
+BreaksAt ResponseTwice rs es k = IsSomeAnd (id_in es k) (λ id. (j : ℕ) × (j < k) × (id_in es j ≡ Some id))
+BreaksAt ResponseMissing rs es i = IsSomeAnd (id_at rs i) (λ id. (k : ℕ) → ¬ (id_in es k ≡ Some id))
+BreaksAt GroupDiffers rs es i = DiffersInGroup rs es i
+BreaksAt UnsoundSuccess rs es i = RestsOnFailure rs es i
 
 -- the number in the code
 abbrev pub number : MatchRule → ℕ

@@ -1,4 +1,4 @@
--- Where a response has no text, since it holds a number that is not whole.
+-- When a response has no text, since it holds a number that is not whole.
 use Rattle.std.specs.Prelude.{◌<◌, ℕ, Option, IfSome}
 use Rattle.odb_doc.specs.WholeNumbers.{IsWhole}
 use Rattle.odb_doc.specs.declared.outcome.Outcome.{Outcome}
@@ -6,7 +6,7 @@ use Rattle.odb_sched.specs.Answers.{answer}
 use Rattle.odb_sched.specs.State.{State, size}
 use Rattle.odb_reply.specs.Responses.{answer_body}
 
--- each number in the body that is answered is whole
+-- each number in the body of an answer is whole
 abbrev pub HasWholeBody : Option Outcome → Type 0
 HasWholeBody answer = IfSome (answer_body answer) IsWhole
 

@@ -1,4 +1,4 @@
--- For invariants and private clauses: the text of a response in the parts of which it is made.
+-- For invariants and private clauses: the text of a response by its parts.
 use Rattle.std.specs.Prelude.{ℕ, List, [], ◌++◌, Option, Some, None, nat_lt, decimal, drop, codes}
 use Rattle.serde_json.specs.Data.{Data}
 use Rattle.serde_json.specs.View.{items_of}

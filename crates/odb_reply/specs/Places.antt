@@ -1,4 +1,4 @@
--- For invariants and private clauses: where the responses to requests were found, and what was found of them.
+-- For invariants and private clauses: the places at which the responses to requests were found, and their statuses.
 use Rattle.std.specs.Prelude.{◌≡◌, ◌<◌, ℕ, List, length, Option, Some, None, Bool, true, false, slice_get, slice_set, slice_index, slice_index_or}
 use Rattle.odb_doc.specs.Records.{Record}
 use Rattle.odb_check.specs.declared.need.Need.{Need}
@@ -12,9 +12,9 @@ use Rattle.odb_reply.specs.declared.match_fault.MatchFault.TheVariants as faults
 use Rattle.odb_reply.specs.ResponseDocuments.{Entry}
 use Rattle.odb_reply.specs.Fits.{id_in, Responds, IsTableOf}
 use Rattle.odb_reply.specs.LeastMatchFault.{phase}
-use Rattle.odb_reply.specs.MatchFaults.{StandsAt, number}
+use Rattle.odb_reply.specs.MatchFaults.{BreaksAt, number}
 
--- the places of responses by the positions of their requests, none where none was found
+-- the place of the response to each request, by position; none if no response was found
 abbrev pub Places : Type 0
 Places = List (Option ℕ)
 
@@ -70,7 +70,7 @@ pub record IsFirstFree (found : Places) (at_place : ℕ) : Type 0 where
   pub free : slice_get found at_place ≡ Some None
   pub before : (i : ℕ) → i < at_place → (k : ℕ) × (slice_get found i ≡ Some (Some k))
 
--- the fault is that of the first position where no place was found. Out of memory says nothing.
+-- the fault is that of the first position without a place. Out of memory says nothing.
 abbrev pub IsMissing : Places → MatchFault → Type 0
 IsMissing found (faults.Misfit at_place ResponseMissing) = IsFirstFree found at_place
 IsMissing found (faults.Misfit at_place rule) = ⊥
@@ -84,23 +84,28 @@ pub record HasRows (rs : List Record) (es : List Entry) (places statuses : List 
 -- of each unit, whether the statuses of all its members among the first n requests are successes
 pub record AreUnits (rs : List Record) (statuses : List ℕ) (n : ℕ) (units : List Bool) : Type 0 where
   pub count : length units ≡ unit_count rs
-  pub passed : (u r : ℕ) → slice_get units u ≡ Some true → r < n → unit_at rs r ≡ u → is_success (slice_index statuses r) ≡ true
+  pub succeeded : (u r : ℕ) → slice_get units u ≡ Some true → r < n → unit_at rs r ≡ u → is_success (slice_index statuses r) ≡ true
   pub failed : (u : ℕ) → slice_get units u ≡ Some false → (r : ℕ) × (r < length rs) × (unit_at rs r ≡ u) × (is_success (slice_index statuses r) ≡ false)
 
--- whether a dependency is satisfied, by the statuses of the requests and by what is known of the units
+-- a batch of so many requests and units has the request or the unit of a dependency
+abbrev pub HasEntry : Need → ℕ → ℕ → Type 0
+HasEntry (One r) requests units = r < requests
+HasEntry (Group u) requests units = u < units
+
+-- whether a dependency is satisfied, by the statuses of the requests and by the results of the units
 abbrev pub is_satisfied : List ℕ → List Bool → Need → Bool
 is_satisfied statuses units (One r) = is_success (slice_index statuses r)
 is_satisfied statuses units (Group u) = slice_index_or units u false
 
 -- no rule of this phase is broken at the position
 abbrev pub NoneIn : ℕ → List Record → List Entry → ℕ → Type 0
-NoneIn ph rs es at = (rule : MatchRule) → phase rule ≡ ph → ¬ StandsAt rule rs es at
+NoneIn ph rs es at = (rule : MatchRule) → phase rule ≡ ph → ¬ BreaksAt rule rs es at
 
 -- the rule is the first of its phase that is broken at the position
 pub record IsFirstIn (ph : ℕ) (rs : List Record) (es : List Entry) (at : ℕ) (rule : MatchRule) : Type 0 where
   pub of_phase : phase rule ≡ ph
-  pub stands : StandsAt rule rs es at
-  pub first : (other : MatchRule) → phase other ≡ ph → number other < number rule → ¬ StandsAt other rs es at
+  pub broken : BreaksAt rule rs es at
+  pub first : (other : MatchRule) → phase other ≡ ph → number other < number rule → ¬ BreaksAt other rs es at
 
 -- the fault is the first of the last phase. Out of memory says nothing.
 abbrev pub IsFirstOfLast : List Record → List Entry → MatchFault → Type 0

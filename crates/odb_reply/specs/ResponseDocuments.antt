@@ -34,7 +34,7 @@ pub record IsResponse (d : Data) : Type 0 where
   pub status : IsSomeAnd (status_of d) IsStatus
   pub group : IfSome (group_in d) (λ group. IsSome (as_str group))
 
--- a response, without where its texts lie
+-- a response by its texts, wherever they are in memory
 pub record Entry : Type 0 where
   pub id : List ℕ
   pub group : Option (List ℕ)

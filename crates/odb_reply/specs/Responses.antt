@@ -23,22 +23,22 @@ abbrev pub headers_value : Headers → Option Data
 headers_value [] = None
 headers_value (header ∷ headers) = Some (object (header_members (header ∷ headers)))
 
--- the headers that are answered. A failed dependency has none
+-- the headers of an answer. A failed dependency has none
 abbrev pub answer_headers : Option Outcome → Headers
 answer_headers None = []
 answer_headers (Some outcome) = outcome.headers.entries
 
--- the body that is answered, if any. A failed dependency has none
+-- the body of an answer, if any. A failed dependency has none
 abbrev pub answer_body : Option Outcome → Option Data
 answer_body None = None
 answer_body (Some outcome) = option_map view outcome.body
 
--- with this member, where there is a value for it
+-- with this member, if there is a value for it
 abbrev pub with_some : List ℕ → Option Data → Members → Members
 with_some name None members = members
 with_some name (Some d) members = put name d members
 
--- the members of the response to a request that is answered so
+-- the members of the response to a request with this answer
 abbrev pub response_members : Record → Option Outcome → Members
 response_members request answer =
     with_some (codes "atomicityGroup") (option_map string request.group) (
@@ -50,7 +50,7 @@ response_members request answer =
 abbrev pub response : Record → Option Outcome → Data
 response request answer = object (response_members request answer)
 
--- the responses to these requests, of which the first stands at a position
+-- the responses to these requests, of which the first is at position i
 abbrev pub responses_from : State → ℕ → List Record → List Data
 responses_from state i [] = []
 responses_from state i (request ∷ requests) = response request (answer state i) ∷ responses_from state (i + 1) requests
@@ -63,6 +63,6 @@ responses state = responses_from state 0 (plan_records state.plan)
 abbrev pub response_value : State → Data
 response_value state = object (put (codes "responses") (array (items_of (responses state))) no_members)
 
--- its text, where each number in it is whole
+-- its text, if each number in it is whole
 unfoldable pub response_text : State → List ℕ
 response_text state = compact_text (response_value state)

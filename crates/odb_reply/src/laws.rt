@@ -52,7 +52,7 @@ pub fn one_match()
 
 /// Each id of the batch is the id of exactly one response, and no response has another id. The
 /// responses fit the batch, as [`crate::match_responses`] checks those of a service: each has the
-/// group of its request, and none is a success where something that its request needs is not. If
+/// group of its request, and none is a success if a dependency of its request is not. If
 /// each status that is answered is from 100 to 599, [`crate::Responses::read`] accepts the response.
 pub fn every_response(done: &Done<'_>)
     ensures one_per_id { HasOnePerId (plan_records done.now.plan) (response_value done.now) }

@@ -6,7 +6,7 @@ use std::alloc::{AllocError, AllocFailed};
 use std::fmt::{self, Display, Formatter};
 use thiserror::Error;
 
-/// A rule that responses break where they do not fit a batch (OData JSON Format 4.01, section 19.5).
+/// A rule that responses break if they do not fit a batch (OData JSON Format 4.01, section 19.5).
 #[derive(Clone, Copy, Debug, PartialEq, Eq)]
 pub enum MatchRule {
     /// F71: the id of the response is not an id of the batch.

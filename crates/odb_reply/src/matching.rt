@@ -1,7 +1,6 @@
 ghost use Rattle.std.specs.Prelude.{◌≡◌, ◌<◌, ◌↔◌, ℕ, length, not, slice_index, IsTrue, IfOk, IfErr, IfNone, IfSome, OnOk};
 ghost use Rattle.std.specs.List.{list_any};
 ghost use Rattle.odb_doc.specs.Records.{record_of};
-ghost use Rattle.odb_check.specs.Marks.{IsWithin};
 ghost use Rattle.odb_check.specs.Needs.{needs_at};
 ghost use Rattle.odb_check.specs.Plans.{plan_records};
 ghost use Rattle.odb_sched.specs.Statuses as specs;
@@ -43,7 +42,7 @@ fn units_of(alloc: Global, plan: &Plan<'_>, table: &Table) -> Result<Vec<bool>, 
 
 /// Returns whether a dependency has succeeded.
 fn is_satisfied(table: &Table, units: &[bool], need: Need) -> bool
-    requires { IsWithin need (length (tables.statuses table.now)) (length units.now) }
+    requires { known.HasEntry need (length (tables.statuses table.now)) (length units.now) }
     ensures { result ≡ known.is_satisfied (tables.statuses table.now) units.now need }
 {
     match need {

@@ -6,7 +6,7 @@ use crate::match_fault::{MatchFault, MatchRule};
 use crate::responses::Responses;
 use std::alloc::Global;
 
-/// For each request of a batch, where its response is and which status it has.
+/// The place and the status of the response to each request of a batch.
 #[derive(Debug, Drop)]
 pub struct Table {
     pub(crate) places: Vec<usize>,

@@ -4,6 +4,6 @@ use Rattle.odb_reply.specs.Places.{is_satisfied}
 use Rattle.odb_reply.specs.Tables.{statuses}
 use Rattle.odb_reply.proofs.matching.has_failed_need.Given as goal
 
--- the needs that are left decide
+-- the result is that of the remaining needs
 abbrev pub invariant-loop-need : goal.invariant-loop-need
 invariant-loop-need l = list_any (λ need. not (is_satisfied (statuses l.table) l.units need)) (drop l.need-index l.need-items) ≡ list_any (λ need. not (is_satisfied (statuses l.table) l.units need)) l.need-items

@@ -5,7 +5,7 @@ use Rattle.odb_check.specs.Units.{unit_count}
 use Rattle.odb_sched.specs.Statuses.{is_success}
 use Rattle.odb_reply.specs.Places.{AreUnits}
 use Rattle.odb_reply.specs.Tables.{statuses}
-use Rattle.odb_reply.proofs.UnitLemmas.{AreUnits-none, AreUnits-passed, AreUnits-failed}
+use Rattle.odb_reply.proofs.UnitLemmas.{AreUnits-none, AreUnits-succeeded, AreUnits-failed}
 use Rattle.odb_reply.proofs.matching.units_of.Goals as goal
 use Rattle.odb_reply.proofs.matching.units_of.Goals.{then-not-is_success, else-not-is_success}
 
@@ -27,8 +27,8 @@ loop-i-preserved c =
           let more = AreUnits-failed rs all i c.loop-i.units.items c.loop-i.invariant (omega (arith, c.loop-i-test.true, c.len-i-end.ensures.count)) (rw w.unit_of.ensures.value at w.unit_of.ensures.within) failed in
           rw (w.units-is, w.unit_of.ensures.value) more
       | else-not-is_success w ↦
-          let passed : is_success (get_or all i 0) ≡ true = ap is_success status ∙ sym w.if-not-is_success.ensures in
-          rw w.units-is (AreUnits-passed rs all i c.loop-i.units.items c.loop-i.invariant passed)
+          let succeeded : is_success (get_or all i 0) ≡ true = ap is_success status ∙ sym w.if-not-is_success.ensures in
+          rw w.units-is (AreUnits-succeeded rs all i c.loop-i.units.items c.loop-i.invariant succeeded)
     ]
 
 pub returns : goal.returns

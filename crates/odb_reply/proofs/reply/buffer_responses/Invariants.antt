@@ -3,7 +3,7 @@ use Rattle.odb_reply.specs.Outputs.{HasWritten}
 use Rattle.odb_reply.specs.Parts.{rest_text}
 use Rattle.odb_reply.proofs.reply.buffer_responses.Given as goal
 
--- the buffer, and then the responses that are left, are what is not written of the whole
+-- the buffer, and then the remaining responses, are what is not written of the whole
 abbrev pub invariant-loop-i : goal.invariant-loop-i
 invariant-loop-i g l =
     record {
