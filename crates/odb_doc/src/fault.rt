@@ -3,7 +3,6 @@ ghost use Rattle.odb_doc.specs.declared.fault.DocFault.TheVariants.{Document, Ou
 ghost use Rattle.odb_doc.specs.declared.fault.TextFault.TheVariants as texts;
 
 use std::alloc::{AllocError, AllocFailed};
-use std::fmt::{self, Display, Formatter};
 use thiserror::Error;
 
 /// Where a fault is.
@@ -28,55 +27,75 @@ pub enum Place {
 }
 
 /// A rule that a document as a whole breaks (OData JSON Format 4.01, section 19.1).
-#[derive(Clone, Copy, Debug, PartialEq, Eq)]
+#[derive(Clone, Copy, Debug, PartialEq, Eq, Error)]
 pub enum DocumentRule {
     /// F01: the document is larger than 16,777,216 bytes.
+    #[error("the document is larger than 16,777,216 bytes")]
     TooLong,
     /// F02: the bytes are not valid JSON: not UTF-8, malformed, nested deeper than 127, or containing
     /// a number out of range.
+    #[error("the document is not JSON")]
     NotJson,
     /// F03: the document is not an object.
+    #[error("the document is not an object")]
     NotObject,
     /// F04: `requests` is missing or not an array.
+    #[error("the document has no array `requests`")]
     NoRequests,
     /// F05: a member other than `requests` has a name without `@`.
+    #[error("the document has an unknown member")]
     UnknownMember,
     /// F06: `requests` has more than 10,000 elements.
+    #[error("the document has more than 10,000 requests")]
     TooMany,
 }
 
 /// A rule that one request breaks (OData JSON Format 4.01, section 19.1).
-#[derive(Clone, Copy, Debug, PartialEq, Eq)]
+#[derive(Clone, Copy, Debug, PartialEq, Eq, Error)]
 pub enum RequestRule {
     /// F10: the element is not an object.
+    #[error("the request is not an object")]
     NotRequestObject,
     /// F11: there is a member `if`, whatever its value.
+    #[error("the request has the member `if`, which is not supported")]
     IfMember,
     /// F12: a member that requests do not have has a name without `@`.
+    #[error("the request has an unknown member")]
     UnknownRequestMember,
     /// F13: `id` is missing or not an identifier.
+    #[error("the request has no proper `id`")]
     BadId,
     /// F14: `method` is missing or not the name of a method, in any ASCII case.
+    #[error("the request has no proper `method`")]
     BadMethod,
     /// F15: `url` is missing or not a string.
+    #[error("the request has no proper `url`")]
     BadUrl,
     /// F16: `atomicityGroup` has a value other than null that is not an identifier.
+    #[error("`atomicityGroup` is not an identifier")]
     BadGroup,
     /// F17: `dependsOn` has a value other than null that is not an array of strings.
+    #[error("`dependsOn` is not an array of strings")]
     BadDependsOn,
     /// F18: `headers` has a value other than null that is not an object of strings.
+    #[error("`headers` is not an object of strings")]
     BadHeaders,
     /// F19: two names in `headers` differ in ASCII case alone.
+    #[error("`headers` has a name twice")]
     HeaderTwice,
     /// F20: a `delete` or a `get` has a `body` other than null.
+    #[error("the method takes no `body`")]
     BodyNotAllowed,
     /// F21: the headers pass F18 and F19, and their `content-type` does not allow the `body`, which is
     /// not null.
+    #[error("`body` is not of the kind that its media type asks for")]
     BadBody,
     /// F22: the last segment of the path of `url`, percent-decoded, is `$batch`.
+    #[error("`url` names a batch")]
     NestedBatch,
     /// F23: `url` begins with `$`, and then neither with a reserved name nor with an identifier
     /// that ends the segment.
+    #[error("`url` begins with `$` and refers to no request")]
     BadReference,
 }
 
@@ -109,136 +128,48 @@ pub enum TextFault {
 impl DocumentRule {
     ghost use Rattle.odb_doc.specs.Faults.{document_code, document_name};
 
-    /// The code, the name and the message.
-    fn row(self) -> (&'static str, &'static str, &'static str)
+    /// The code and the name.
+    fn row(self) -> (&'static str, &'static str)
         ensures code { result.0.now ≡ document_code self }
         ensures name { result.1.now ≡ document_name self }
     {
         match self {
-            DocumentRule::TooLong => (
-                "F01",
-                "TooLong",
-                "the document is larger than 16,777,216 bytes",
-            ),
-            DocumentRule::NotJson => ("F02", "NotJson", "the document is not JSON"),
-            DocumentRule::NotObject => ("F03", "NotObject", "the document is not an object"),
-            DocumentRule::NoRequests => (
-                "F04",
-                "NoRequests",
-                "the document has no array `requests`",
-            ),
-            DocumentRule::UnknownMember => (
-                "F05",
-                "UnknownMember",
-                "the document has an unknown member",
-            ),
-            DocumentRule::TooMany => (
-                "F06",
-                "TooMany",
-                "the document has more than 10,000 requests",
-            ),
+            DocumentRule::TooLong => ("F01", "TooLong"),
+            DocumentRule::NotJson => ("F02", "NotJson"),
+            DocumentRule::NotObject => ("F03", "NotObject"),
+            DocumentRule::NoRequests => ("F04", "NoRequests"),
+            DocumentRule::UnknownMember => ("F05", "UnknownMember"),
+            DocumentRule::TooMany => ("F06", "TooMany"),
         }
     }
-
-    /// The code that is printed, from `F01` to `F06`.
-    pub(crate) fn code(self) -> &'static str
-        ensures { result.now ≡ document_code self }
-    {
-        self.row().0
-    }
-
-    /// The name that is printed, as `NotJson`.
-    pub(crate) fn name(self) -> &'static str
-        ensures { result.now ≡ document_name self }
-    {
-        self.row().1
-    }
 }
-
-impl Display for DocumentRule {
-    fn fmt<W: fmt::Write>(&self, f: &mut Formatter<W>) -> fmt::Result {
-        f.write_str(self.row().2)
-    }
-}
-
-impl std::error::Error for DocumentRule {}
 
 impl RequestRule {
     ghost use Rattle.odb_doc.specs.Faults.{request_code, request_name};
 
-    /// The code, the name and the message.
-    fn row(self) -> (&'static str, &'static str, &'static str)
+    /// The code and the name.
+    fn row(self) -> (&'static str, &'static str)
         ensures code { result.0.now ≡ request_code self }
         ensures name { result.1.now ≡ request_name self }
     {
         match self {
-            RequestRule::NotRequestObject => (
-                "F10",
-                "NotRequestObject",
-                "the request is not an object",
-            ),
-            RequestRule::IfMember => (
-                "F11",
-                "IfMember",
-                "the request has the member `if`, which is not supported",
-            ),
-            RequestRule::UnknownRequestMember => (
-                "F12",
-                "UnknownRequestMember",
-                "the request has an unknown member",
-            ),
-            RequestRule::BadId => ("F13", "BadId", "the request has no proper `id`"),
-            RequestRule::BadMethod => ("F14", "BadMethod", "the request has no proper `method`"),
-            RequestRule::BadUrl => ("F15", "BadUrl", "the request has no proper `url`"),
-            RequestRule::BadGroup => ("F16", "BadGroup", "`atomicityGroup` is not an identifier"),
-            RequestRule::BadDependsOn => (
-                "F17",
-                "BadDependsOn",
-                "`dependsOn` is not an array of strings",
-            ),
-            RequestRule::BadHeaders => (
-                "F18",
-                "BadHeaders",
-                "`headers` is not an object of strings",
-            ),
-            RequestRule::HeaderTwice => ("F19", "HeaderTwice", "`headers` has a name twice"),
-            RequestRule::BodyNotAllowed => ("F20", "BodyNotAllowed", "the method takes no `body`"),
-            RequestRule::BadBody => (
-                "F21",
-                "BadBody",
-                "`body` is not of the kind that its media type asks for",
-            ),
-            RequestRule::NestedBatch => ("F22", "NestedBatch", "`url` names a batch"),
-            RequestRule::BadReference => (
-                "F23",
-                "BadReference",
-                "`url` begins with `$` and refers to no request",
-            ),
+            RequestRule::NotRequestObject => ("F10", "NotRequestObject"),
+            RequestRule::IfMember => ("F11", "IfMember"),
+            RequestRule::UnknownRequestMember => ("F12", "UnknownRequestMember"),
+            RequestRule::BadId => ("F13", "BadId"),
+            RequestRule::BadMethod => ("F14", "BadMethod"),
+            RequestRule::BadUrl => ("F15", "BadUrl"),
+            RequestRule::BadGroup => ("F16", "BadGroup"),
+            RequestRule::BadDependsOn => ("F17", "BadDependsOn"),
+            RequestRule::BadHeaders => ("F18", "BadHeaders"),
+            RequestRule::HeaderTwice => ("F19", "HeaderTwice"),
+            RequestRule::BodyNotAllowed => ("F20", "BodyNotAllowed"),
+            RequestRule::BadBody => ("F21", "BadBody"),
+            RequestRule::NestedBatch => ("F22", "NestedBatch"),
+            RequestRule::BadReference => ("F23", "BadReference"),
         }
     }
-
-    /// The code that is printed, from `F10` to `F23`.
-    pub(crate) fn code(self) -> &'static str
-        ensures { result.now ≡ request_code self }
-    {
-        self.row().0
-    }
-
-    /// The name that is printed, as `BadId`.
-    pub(crate) fn name(self) -> &'static str
-        ensures { result.now ≡ request_name self }
-    {
-        self.row().1
-    }
 }
-
-impl Display for RequestRule {
-    fn fmt<W: fmt::Write>(&self, f: &mut Formatter<W>) -> fmt::Result {
-        f.write_str(self.row().2)
-    }
-}
-
-impl std::error::Error for RequestRule {}
 
 impl DocFault {
     ghost use Rattle.odb_doc.specs.FaultTable.{IsNumbered, fault_code, fault_name, fault_place};
@@ -249,8 +180,8 @@ impl DocFault {
         ensures { result.now ≡ fault_code self.now }
     {
         match *self {
-            DocFault::Document(rule) => rule.code(),
-            DocFault::Request { rule, .. } => rule.code(),
+            DocFault::Document(rule) => rule.row().0,
+            DocFault::Request { rule, .. } => rule.row().0,
             DocFault::OutOfMemory => unreachable!(),
         }
     }
@@ -261,8 +192,8 @@ impl DocFault {
         ensures { result.now ≡ fault_name self.now }
     {
         match *self {
-            DocFault::Document(rule) => rule.name(),
-            DocFault::Request { rule, .. } => rule.name(),
+            DocFault::Document(rule) => rule.row().1,
+            DocFault::Request { rule, .. } => rule.row().1,
             DocFault::OutOfMemory => unreachable!(),
         }
     }

@@ -3,21 +3,24 @@ ghost use Rattle.odb_doc.specs.declared.outcome_fault.OutcomeFault.TheVariants.{
 
 use crate::fault::Place;
 use std::alloc::{AllocError, AllocFailed};
-use std::fmt::{self, Display, Formatter};
 use thiserror::Error;
 
 /// A rule that one recorded outcome breaks.
-#[derive(Clone, Copy, Debug, PartialEq, Eq)]
+#[derive(Clone, Copy, Debug, PartialEq, Eq, Error)]
 pub enum OutcomeRule {
     /// F60: the element does not have the form of an outcome: an object with a string `id`, a number
     /// `status`, maybe `headers` (strings under names that differ in more than their case), maybe a
     /// `body`, and no other member.
+    #[error("it is not an object with `id` and `status`, and maybe `headers` and `body`")]
     BadOutcomes,
     /// F61: an earlier outcome has the same `id`.
+    #[error("an earlier outcome has the same `id`")]
     OutcomeTwice,
     /// F62: the number at `status` is below 200 or above 599, or not whole.
+    #[error("`status` is not a whole number from 200 to 599")]
     BadStatus,
     /// F63: `body` holds a number that is not whole.
+    #[error("`body` holds a number that is not whole")]
     NotWhole,
 }
 
@@ -38,53 +41,19 @@ pub enum OutcomeFault {
 impl OutcomeRule {
     ghost use Rattle.odb_doc.specs.OutcomeFaults.{rule_code, rule_name};
 
-    /// The code, the name and the message.
-    fn row(self) -> (&'static str, &'static str, &'static str)
+    /// The code and the name.
+    fn row(self) -> (&'static str, &'static str)
         ensures code { result.0.now ≡ rule_code self }
         ensures name { result.1.now ≡ rule_name self }
     {
         match self {
-            OutcomeRule::BadOutcomes => (
-                "F60",
-                "BadOutcomes",
-                "it is not an object with `id` and `status`, and maybe `headers` and `body`",
-            ),
-            OutcomeRule::OutcomeTwice => (
-                "F61",
-                "OutcomeTwice",
-                "an earlier outcome has the same `id`",
-            ),
-            OutcomeRule::BadStatus => (
-                "F62",
-                "BadStatus",
-                "`status` is not a whole number from 200 to 599",
-            ),
-            OutcomeRule::NotWhole => ("F63", "NotWhole", "`body` holds a number that is not whole"),
+            OutcomeRule::BadOutcomes => ("F60", "BadOutcomes"),
+            OutcomeRule::OutcomeTwice => ("F61", "OutcomeTwice"),
+            OutcomeRule::BadStatus => ("F62", "BadStatus"),
+            OutcomeRule::NotWhole => ("F63", "NotWhole"),
         }
     }
-
-    /// The code that is printed, from `F60` to `F63`.
-    pub(crate) fn code(self) -> &'static str
-        ensures { result.now ≡ rule_code self }
-    {
-        self.row().0
-    }
-
-    /// The name that is printed, as `BadStatus`.
-    pub(crate) fn name(self) -> &'static str
-        ensures { result.now ≡ rule_name self }
-    {
-        self.row().1
-    }
 }
-
-impl Display for OutcomeRule {
-    fn fmt<W: fmt::Write>(&self, f: &mut Formatter<W>) -> fmt::Result {
-        f.write_str(self.row().2)
-    }
-}
-
-impl std::error::Error for OutcomeRule {}
 
 impl OutcomeFault {
     ghost use Rattle.odb_doc.specs.OutcomeFaults.{IsNumbered, fault_code, fault_name, fault_place};
@@ -95,8 +64,8 @@ impl OutcomeFault {
         ensures { result.now ≡ fault_code self.now }
     {
         match *self {
-            OutcomeFault::Document => OutcomeRule::BadOutcomes.code(),
-            OutcomeFault::Outcome { rule, .. } => rule.code(),
+            OutcomeFault::Document => OutcomeRule::BadOutcomes.row().0,
+            OutcomeFault::Outcome { rule, .. } => rule.row().0,
             OutcomeFault::OutOfMemory => unreachable!(),
         }
     }
@@ -107,8 +76,8 @@ impl OutcomeFault {
         ensures { result.now ≡ fault_name self.now }
     {
         match *self {
-            OutcomeFault::Document => OutcomeRule::BadOutcomes.name(),
-            OutcomeFault::Outcome { rule, .. } => rule.name(),
+            OutcomeFault::Document => OutcomeRule::BadOutcomes.row().1,
+            OutcomeFault::Outcome { rule, .. } => rule.row().1,
             OutcomeFault::OutOfMemory => unreachable!(),
         }
     }
