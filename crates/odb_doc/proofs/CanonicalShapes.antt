@@ -40,7 +40,7 @@ use Rattle.odb_doc.specs.Shapes.{HasGroup, elements, listed_names, texts_of, tex
 use Rattle.odb_doc.proofs.BatchLemmas.{AreOneReading, one_method}
 use Rattle.odb_doc.proofs.DistinctLemmas.{IsDistinct-listed}
 use Rattle.odb_doc.proofs.ElementLemmas.{list_of-items_of}
-use Rattle.odb_doc.proofs.ListedLemmas.{names_in-text_members_in}
+use Rattle.odb_doc.proofs.FoldedNames.{names_in-text_members_in}
 use Rattle.odb_doc.proofs.OneHeaders.{one_headers}
 use Rattle.odb_doc.proofs.RepeatLemmas.{distinct_same}
 

@@ -7,8 +7,7 @@ mod ElementLemmas
 mod FaultLemmas
 mod LeastLemmas
 mod HeaderLemmas
-mod ListedLemmas
-mod MovedHeaders
+mod FoldedNames
 mod PartLemmas
 mod QuoteLemmas
 mod MemberLemmas

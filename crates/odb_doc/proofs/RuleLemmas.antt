@@ -21,7 +21,7 @@ use Rattle.odb_doc.specs.Headers.{Header, HoldsHeaders, HasHeaders, IsHeaders, f
 use Rattle.odb_doc.specs.BrokenRules.{BreaksNoneBefore, IsRequestObject}
 use Rattle.odb_doc.specs.MediaTypes.{AllowsBody}
 use Rattle.odb_doc.specs.Shapes.{HasMethod, BreaksRequest}
-use Rattle.odb_doc.proofs.ListedLemmas.{names_in-text_members_in}
+use Rattle.odb_doc.proofs.FoldedNames.{names_in-text_members_in}
 use Rattle.odb_doc.proofs.OneHeaders.{one_headers}
 
 -- ---- no rule before one is broken, and neither is that one

@@ -1,5 +1,5 @@
 -- Why something could not be read from an element, and of requests, which rules have been tested: for private clauses, nothing to believe.
-use Rattle.std.specs.Prelude.{◌<◌, ℕ, List}
+use Rattle.std.specs.Prelude.{◌≡◌, ◌<◌, ℕ, List}
 use Rattle.serde_json.specs.Data.{Data}
 use Rattle.odb_doc.specs.declared.broken.Broken.{Broken}
 use Rattle.odb_doc.specs.declared.broken.Broken.TheVariants.{Rule, OutOfMemory}
@@ -15,6 +15,11 @@ use Rattle.odb_doc.specs.Shapes.{BreaksRequest}
 abbrev pub OnRule : {R : Type 0} → (R → Type 0) → Broken R → Type 0
 OnRule fits (Rule rule) = fits rule
 OnRule fits OutOfMemory = Unit {0}
+
+-- the rule is this one, and the reason holds. Out of memory may come with any.
+abbrev pub OnlyIf : {R : Type 0} → R → Type 0 → Broken R → Type 0
+OnlyIf bad reason (Rule rule) = (rule ≡ bad) × reason
+OnlyIf bad reason OutOfMemory = Unit {0}
 
 -- no rule of the request with a number below that of this one is broken
 abbrev pub BreaksNoneBefore : RequestRule → Data → Type 0

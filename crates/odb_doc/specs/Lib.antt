@@ -31,6 +31,7 @@ pub mod BodyKinds
 pub mod BrokenRules
 pub mod CanonicalParts
 pub mod EventShapes
+pub mod HeaderMaps
 pub mod Lines
 pub mod OneLeast
 pub mod OutcomeShapes

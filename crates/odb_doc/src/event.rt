@@ -80,9 +80,8 @@ fn read_report(alloc: Global, element: &mut Value) -> Result<NamedEvent, Broken<
     ensures fit { IfOk result IsSoundEvent }
     ensures first { IfErr result (OnRule (IsLeastBroken (view element.old))) }
 {
-    let Some(shape) = shape_of(alloc, Object::Report, "report", element)? else {
-        return Err(Broken::Rule(EventRule::BadEvents));
-    };
+    let bad = EventRule::BadEvents;
+    let shape = shape_of(alloc, Object::Report, "report", element, bad)?;
     match status_in(&shape) {
         Ok(status) => Ok(reported(shape, status)),
         Err(rule) => Err(Broken::Rule(rule)),

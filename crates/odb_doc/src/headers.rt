@@ -1,21 +1,16 @@
-ghost use Rattle.std.specs.Prelude.{◌≡◌, ◌↔◌, true, false, ◌∷◌, Some, IsSome, option_map, string_bytes, IsTrue, OnOk, IfOk, IfErr, IfSome, IfNone, bytes_eq};
-ghost use Rattle.std.specs.Cmp.Lexicographic.{slice_cmp};
-ghost use Rattle.std.specs.List.{list_any};
-ghost use Rattle.std.specs.List.Sorted.{IsPermutation, IsStrictlySortedBy};
-ghost use Rattle.std.specs.Map.{keys_of};
-ghost use Rattle.std.specs.Ordering.{nat_cmp};
+ghost use Rattle.std.specs.Prelude.{◌≡◌, ◌↔◌, IsSome, option_map, string_bytes, IsTrue, OnOk, IfOk, IfErr};
 ghost use Rattle.std.specs.Str.{str_to_ascii_lowercase};
-ghost use Rattle.serde_json.specs.Data.{object};
 ghost use Rattle.serde_json.specs.View.{view, members_view};
-ghost use Rattle.odb_doc.specs.Headers.{HasHeaders, HoldsHeaders, IsHeaders, folded, text_members, headers_in};
 ghost use Rattle.odb_doc.specs.declared.fault.RequestRule.TheVariants as rules;
-ghost use Rattle.odb_doc.specs.BrokenRules.{OnRule, BreaksNoneBefore, IsLeastRequestRule};
+ghost use Rattle.odb_doc.specs.BrokenRules.{OnRule, OnlyIf, BreaksNoneBefore, IsLeastRequestRule};
+ghost use Rattle.odb_doc.specs.HeaderMaps.{HoldsMembers, AreHeaders, AddsMember, RefusesMember};
+ghost use Rattle.odb_doc.specs.Headers.{HasHeaders, HoldsHeaders, IsHeaders, text_members, headers_in};
 
 use crate::broken::Broken;
 use crate::fault::RequestRule;
 use crate::member::{given, into_members, text_of, unless_null};
 use serde_json::{Map, Value};
-use std::alloc::{AllocError, Global};
+use std::alloc::Global;
 use std::collections::BTreeMap;
 
 /// Returns the text in lower case.
@@ -27,68 +22,76 @@ fn lowercase(text: String) -> String
     folded
 }
 
-/// Inserts a header under its lower-cased name. Returns false for a duplicate; the caller then
-/// discards the map.
-fn put(
+/// Inserts the header that a member is, under its lower-cased name. Returns `bad` if the value is not
+/// a string or the name is a duplicate; the caller then discards the map.
+fn put<R: Copy>(
     headers: &mut BTreeMap<String, String>,
     name: String,
-    value: String,
-) -> Result<bool, AllocError>
-    ensures added { IfOk result (λ is_new. IsTrue is_new
-        → IsPermutation (folded (string_bytes name, string_bytes value) ∷ headers_in headers.old)
-        (headers_in headers.new)) }
-    ensures ordered { IfOk result (λ _. IsStrictlySortedBy (slice_cmp nat_cmp)
-        (keys_of (headers_in headers.new))) }
-    ensures twice { IfOk result (λ is_new. is_new ≡ false
-        → list_any (bytes_eq (str_to_ascii_lowercase (string_bytes name)))
-        (keys_of (headers_in headers.old)) ≡ true) }
+    value: Value,
+    bad: R,
+) -> Result<(), Broken<R>>
+    ensures added { OnOk result (AddsMember (string_bytes name) (view value) headers.old
+        headers.new) }
+    ensures refused { IfErr result (OnlyIf bad (RefusesMember (string_bytes name) (view value)
+        headers.old)) }
 {
-    let folded = lowercase(name);
-    Ok(headers.insert(folded, value)?.is_none())
+    let Some(text) = text_of(value) else {
+        return Err(Broken::Rule(bad));
+    };
+    if headers.insert(lowercase(name), text)?.is_some() {
+        return Err(Broken::Rule(bad));
+    }
+    Ok(())
 }
 
 /// As [`put`], with copies of the name and the value.
-fn put_copy(
-    alloc: Global,
+fn put_copy<R: Copy>(
     headers: &mut BTreeMap<String, String>,
-    name: &str,
-    value: &str,
-) -> Result<bool, AllocError>
-    ensures added { IfOk result (λ is_new. IsTrue is_new
-        → IsPermutation (folded (name.now, value.now) ∷ headers_in headers.old)
-        (headers_in headers.new)) }
-    ensures ordered { IfOk result (λ _. IsStrictlySortedBy (slice_cmp nat_cmp)
-        (keys_of (headers_in headers.new))) }
-    ensures twice { IfOk result (λ is_new. is_new ≡ false
-        → list_any (bytes_eq (str_to_ascii_lowercase name.now))
-        (keys_of (headers_in headers.old)) ≡ true) }
+    name: &String,
+    value: &Value,
+    bad: R,
+) -> Result<(), Broken<R>>
+    ensures added { OnOk result (AddsMember (string_bytes name.now) (view value.now) headers.old
+        headers.new) }
+    ensures refused { IfErr result (OnlyIf bad (RefusesMember (string_bytes name.now)
+        (view value.now) headers.old)) }
 {
-    let name = String::from_str(alloc, name)?;
-    let value = String::from_str(alloc, value)?;
-    put(headers, name, value)
+    let name = name.clone()?;
+    let value = value.clone()?;
+    put(headers, name, value, bad)
 }
 
-/// Returns the headers of an object by their names in lower case, or `None` if a value is not a string
+/// Returns the headers of an object by their names in lower case, or `bad` if a value is not a string
 /// or two of these names are equal.
-fn copied_headers(
+fn copied_headers<R: Copy>(
     alloc: Global,
     members: &Map<String, Value>,
-) -> Result<Option<BTreeMap<String, String>>, AllocError>
-    ensures has { IfOk result (λ found. IfSome found (λ headers. HoldsHeaders
-        (Some (object (members_view members.now.entries))) (headers_in headers))) }
-    ensures none { IfOk result (λ found. IfNone found
-        (¬ IsHeaders (Some (object (members_view members.now.entries))))) }
+    bad: R,
+) -> Result<BTreeMap<String, String>, Broken<R>>
+    ensures has { IfOk result (HoldsMembers members.now.entries) }
+    ensures none { IfErr result (OnlyIf bad (¬ AreHeaders members.now.entries)) }
 {
     let mut headers = BTreeMap::new(alloc);
     for (name, value) in members.iter() {
-        let Some(text) = value.as_str() else {
-            return Ok(None);
-        };
-        if !put_copy(alloc, &mut headers, name.as_str(), text)? {
-            return Ok(None);
-        }
+        put_copy(&mut headers, name, value, bad)?;
     }
-    Ok(Some(headers))
+    Ok(headers)
+}
+
+/// As [`copied_headers`], with the members moved.
+fn moved_headers<R: Copy>(
+    alloc: Global,
+    members: Map<String, Value>,
+    bad: R,
+) -> Result<BTreeMap<String, String>, Broken<R>>
+    ensures has { IfOk result (HoldsMembers members.entries) }
+    ensures none { IfErr result (OnlyIf bad (¬ AreHeaders members.entries)) }
+{
+    let mut headers = BTreeMap::new(alloc);
+    for (name, value) in members {
+        put(&mut headers, name, value, bad)?;
+    }
+    Ok(headers)
 }
 
 /// Returns whether all values are strings.
@@ -120,49 +123,25 @@ pub(crate) fn headers_of(
     let Some(members) = value.as_object().filter(|members| are_texts(members)) else {
         return Err(Broken::Rule(RequestRule::BadHeaders));
     };
-    match copied_headers(alloc, members)? {
-        Some(headers) => Ok(headers),
-        None => Err(Broken::Rule(RequestRule::HeaderTwice)),
-    }
-}
-
-/// As [`copied_headers`], with the members moved.
-fn moved_headers(
-    alloc: Global,
-    members: Map<String, Value>,
-) -> Result<Option<BTreeMap<String, String>>, AllocError>
-    ensures has { IfOk result (λ found. IfSome found (λ headers. HoldsHeaders
-        (Some (object (members_view members.entries))) (headers_in headers))) }
-    ensures none { IfOk result (λ found. IfNone found
-        (¬ IsHeaders (Some (object (members_view members.entries))))) }
-{
-    let mut headers = BTreeMap::new(alloc);
-    for (name, value) in members {
-        let Some(text) = text_of(value) else {
-            return Ok(None);
-        };
-        if !put(&mut headers, name, text)? {
-            return Ok(None);
-        }
-    }
-    Ok(Some(headers))
+    copied_headers(alloc, members, RequestRule::HeaderTwice)
 }
 
 /// Moves the headers out of a member, by their names in lower case. A member that is absent or null
-/// has none. Returns `None` if it is not an object of strings, or two of these names are equal.
-pub(crate) fn headers_from(
+/// has none. Returns `bad` if it is not an object of strings, or two of these names are equal.
+pub(crate) fn headers_from<R: Copy>(
     alloc: Global,
     member: Option<Value>,
-) -> Result<Option<BTreeMap<String, String>>, AllocError>
-    ensures has { IfOk result (λ found. IfSome found (λ headers. HoldsHeaders
-        (option_map view member) (headers_in headers))) }
-    ensures none { IfOk result (λ found. IfNone found (¬ IsHeaders (option_map view member))) }
+    bad: R,
+) -> Result<BTreeMap<String, String>, Broken<R>>
+    ensures has { IfOk result (λ headers. HoldsHeaders (option_map view member)
+        (headers_in headers)) }
+    ensures none { IfErr result (OnlyIf bad (¬ IsHeaders (option_map view member))) }
 {
     let Some(value) = unless_null(member) else {
-        return Ok(Some(BTreeMap::new(alloc)));
+        return Ok(BTreeMap::new(alloc));
     };
     let Some(members) = into_members(value) else {
-        return Ok(None);
+        return Err(Broken::Rule(bad));
     };
-    moved_headers(alloc, members)
+    moved_headers(alloc, members, bad)
 }

@@ -1,14 +1,16 @@
-ghost use Rattle.std.specs.Prelude.{◌≡◌, ℕ, List, false, bytes_eq, codes, string_bytes, option_map, option_and_then, MatchOption, IfOk};
+ghost use Rattle.std.specs.Prelude.{◌≡◌, ℕ, List, false, bytes_eq, codes, string_bytes, option_map, option_and_then, MatchOption, IfOk, IfErr};
 ghost use Rattle.std.specs.BTreeMap.{get_by_text};
 ghost use Rattle.serde_json.specs.Find.{as_str, as_number};
 ghost use Rattle.serde_json.specs.View.{view, number_view};
+ghost use Rattle.odb_doc.specs.BrokenRules.{OnlyIf};
 ghost use Rattle.odb_doc.specs.Outcomes.{HasOutcome};
 ghost use Rattle.odb_doc.specs.OutcomeShapes.{ArePartsOf, HasShape};
 
+use crate::broken::Broken;
 use crate::headers::headers_from;
 use crate::member::{Object, number_of, text_of, unless_null};
 use serde_json::{Map, Number, Value};
-use std::alloc::{AllocError, Global};
+use std::alloc::Global;
 use std::collections::BTreeMap;
 
 /// How a request ended: what its service answered (OData JSON Format 4.01, section 19.5).
@@ -89,31 +91,32 @@ fn parts_of(kind: Object, name: &str, element: &mut Value) -> Option<Parts>
     })
 }
 
-/// Moves the values out of the element, or returns `None` if it does not have the shape of an outcome
+/// Moves the values out of the element, or returns `bad` if it does not have the shape of an outcome
 /// with its id at `name`.
-pub(crate) fn shape_of(
+pub(crate) fn shape_of<R: Copy>(
     alloc: Global,
     kind: Object,
     name: &str,
     element: &mut Value,
-) -> Result<Option<Shape>, AllocError>
+    bad: R,
+) -> Result<Shape, Broken<R>>
     requires status { bytes_eq name.now (codes "status") ≡ false }
     requires headers { bytes_eq name.now (codes "headers") ≡ false }
     requires body { bytes_eq name.now (codes "body") ≡ false }
-    ensures { IfOk result (λ found. MatchOption found (¬ HasOutcome kind name.now (view element.old))
-        (HasShape kind name.now (view element.old))) }
+    ensures has { IfOk result (HasShape kind name.now (view element.old)) }
+    ensures none { IfErr result (OnlyIf bad (¬ HasOutcome kind name.now (view element.old))) }
 {
     let Some(parts) = parts_of(kind, name, element) else {
-        return Ok(None);
+        return Err(Broken::Rule(bad));
     };
-    let headers = headers_from(alloc, parts.headers)?;
-    match (parts.id, parts.status, headers) {
-        (Some(id), Some(status), Some(headers)) => Ok(Some(Shape {
+    let headers = headers_from(alloc, parts.headers, bad)?;
+    match (parts.id, parts.status) {
+        (Some(id), Some(status)) => Ok(Shape {
             id,
             status,
             headers,
             body: unless_null(parts.body),
-        })),
-        _ => Ok(None),
+        }),
+        _ => Err(Broken::Rule(bad)),
     }
 }

@@ -103,9 +103,8 @@ fn read_outcome(
         → IsWatched seen.old before (ids (view element.old ∷ rest))
         → OnRule (IsLeastBroken before (view element.old)) broken) }
 {
-    let Some(shape) = shape_of(alloc, Object::Outcome, "id", element)? else {
-        return Err(Broken::Rule(OutcomeRule::BadOutcomes));
-    };
+    let bad = OutcomeRule::BadOutcomes;
+    let shape = shape_of(alloc, Object::Outcome, "id", element, bad)?;
     let status = status_in(seen, &shape)?;
     let outcome = Outcome {
         status,
