@@ -25,4 +25,3 @@ mod TypeLemmas
 mod WatchLemmas
 mod RepeatLemmas
 mod EventLemmas
-mod EventListLemmas

@@ -13,7 +13,7 @@ use Rattle.odb_doc.specs.declared.outcome_fault.OutcomeRule.TheVariants.{BadOutc
 use Rattle.odb_doc.specs.Bodies.{body_of}
 use Rattle.odb_doc.specs.LeastOutcomeFault.{BreaksOutcome}
 use Rattle.odb_doc.specs.OutcomeFaults.{rule_number}
-use Rattle.odb_doc.specs.OutcomeShapes.{texts}
+use Rattle.odb_doc.specs.RawOutcomes.{texts}
 use Rattle.odb_doc.specs.Outcomes.{IsOutcomeObject, IsStatus, id_of, status_of}
 use Rattle.odb_doc.specs.WholeNumbers.{IsWhole}
 

@@ -1,5 +1,5 @@
 -- Why something could not be read from an element, and of requests, which rules have been tested: for private clauses, nothing to believe.
-use Rattle.std.specs.Prelude.{◌≡◌, ◌<◌, ℕ, List}
+use Rattle.std.specs.Prelude.{◌≡◌, ◌<◌, ℕ}
 use Rattle.serde_json.specs.Data.{Data}
 use Rattle.odb_doc.specs.declared.broken.Broken.{Broken}
 use Rattle.odb_doc.specs.declared.broken.Broken.TheVariants.{Rule, OutOfMemory}
@@ -7,7 +7,6 @@ use Rattle.odb_doc.specs.declared.fault.RequestRule.{RequestRule}
 use Rattle.odb_doc.specs.declared.fault.DocFault.{DocFault}
 use Rattle.odb_doc.specs.declared.fault.DocFault.TheVariants as faults
 use Rattle.odb_doc.specs.Faults.{request_number}
-use Rattle.odb_doc.specs.LeastFault.{IsFirstBroken}
 use Rattle.odb_doc.specs.LeastRules.{IsLeast}
 use Rattle.odb_doc.specs.Shapes.{BreaksRequest}
 
@@ -21,6 +20,15 @@ abbrev pub OnlyIf : {R : Type 0} → R → Type 0 → Broken R → Type 0
 OnlyIf bad reason (Rule rule) = (rule ≡ bad) × reason
 OnlyIf bad reason OutOfMemory = Unit {0}
 
+-- the same of the element at a position
+abbrev pub broken_at : {R : Type 0} → ℕ → Broken R → Broken (ℕ × R)
+broken_at at (Rule rule) = Rule (at, rule)
+broken_at at OutOfMemory = OutOfMemory
+
+-- the position and the rule have the property. Out of memory may come with any.
+abbrev pub OnPlace : {R : Type 0} → (ℕ → R → Type 0) → Broken (ℕ × R) → Type 0
+OnPlace fits broken = OnRule (λ place. fits place.0 place.1) broken
+
 -- no rule of the request with a number below that of this one is broken
 abbrev pub BreaksNoneBefore : RequestRule → Data → Type 0
 BreaksNoneBefore rule d = (other : RequestRule) → request_number other < request_number rule → ¬ BreaksRequest other d
@@ -33,13 +41,7 @@ IsRequestObject d = (rule : RequestRule) → ¬ BreaksRequest rule d
 abbrev pub IsLeastRequestRule : Data → RequestRule → Type 0
 IsLeastRequestRule d rule = IsLeast request_number (λ other. BreaksRequest other d) rule
 
--- the fault of the request at the position
-abbrev pub fault_at : ℕ → Broken RequestRule → DocFault
-fault_at at (Rule rule) = faults.Request at rule
-fault_at at OutOfMemory = faults.OutOfMemory
-
--- the fault is that of the first element that has one. Out of memory may come in place of any.
-abbrev pub IsFirstFault : List Data → DocFault → Type 0
-IsFirstFault ds (faults.Document rule) = ⊥
-IsFirstFault ds (faults.Request at rule) = IsFirstBroken ds at rule
-IsFirstFault ds faults.OutOfMemory = Unit {0}
+-- the fault of a request
+abbrev pub request_fault : Broken (ℕ × RequestRule) → DocFault
+request_fault (Rule place) = faults.Request place.0 place.1
+request_fault OutOfMemory = faults.OutOfMemory

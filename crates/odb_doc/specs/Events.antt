@@ -1,31 +1,26 @@
 -- Recorded events: what the elements of `events` are, and what they mean. An event starts a request or reports how it
 -- ended (OData JSON Format 4.01, section 19.5); the document of many is this product's own.
-use Rattle.std.specs.Prelude.{◌≡◌, ◌≤◌, List, [], Option, Some, None, IsSome, IsSomeAnd, IfSome, option_and_then, option_map, unwrap_or, codes, string_bytes}
+use Rattle.std.specs.Prelude.{◌≡◌, ◌≤◌, List, Option, Some, None, IsSome, IsSomeAnd, IfSome, option_map, codes, string_bytes}
 use Rattle.std.specs.List.{AllZip}
-use Rattle.serde_json.specs.Data.{Data, Num, unsigned, negative, float, Items}
-use Rattle.serde_json.specs.Find.{get, as_array}
+use Rattle.serde_json.specs.Data.{Data, Num, unsigned, negative, float}
+use Rattle.serde_json.specs.Find.{get}
 use Rattle.serde_json.specs.View.{view}
 use Rattle.odb_doc.specs.declared.event.NamedEvent.{NamedEvent}
 use Rattle.odb_doc.specs.declared.event.NamedEvent.TheVariants.{Start, Report}
 use Rattle.odb_doc.specs.declared.member.Object.TheVariants as objects
 use Rattle.odb_doc.specs.Bodies.{body_of}
 use Rattle.odb_doc.specs.Headers.{HasHeaders, headers_in}
-use Rattle.odb_doc.specs.Members.{list_of, text_at, HasOther}
+use Rattle.odb_doc.specs.Members.{elements_at, text_at, HasOther, IsListObject}
 use Rattle.odb_doc.specs.Outcomes.{HasOutcome, status_of}
 use Rattle.odb_doc.specs.WholeNumbers.{IsWhole}
 
--- the array at `events`
-abbrev pub events_in : Data → Option Items
-events_in d = option_and_then as_array (get (codes "events") d)
-
 -- the elements of `events`
 abbrev pub elements : Data → List Data
-elements d = unwrap_or (option_map list_of (events_in d)) []
+elements d = elements_at (codes "events") d
 
 -- an object whose one member is `events`, an array
-pub record IsEventsObject (d : Data) : Type 0 where
-  pub one : ¬ HasOther objects.Events d
-  pub array : IsSome (events_in d)
+abbrev pub IsEventsObject : Data → Type 0
+IsEventsObject d = IsListObject objects.Events (codes "events") d
 
 -- a status that a report may have: a whole number of 16 bits
 abbrev pub IsReportedStatus : Num → Type 0

@@ -30,10 +30,10 @@ pub mod WholeNumbers
 pub mod BodyKinds
 pub mod BrokenRules
 pub mod CanonicalParts
-pub mod EventShapes
+pub mod RawReports
 pub mod HeaderMaps
 pub mod Lines
 pub mod OneLeast
-pub mod OutcomeShapes
+pub mod RawOutcomes
 pub mod Quoting
 pub mod Watched

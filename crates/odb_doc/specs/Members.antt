@@ -1,8 +1,8 @@
 -- Looking into the objects of a batch document and of documents of outcomes and of events.
-use Rattle.std.specs.Prelude.{◌≡◌, ◌==◌, ◌&&◌, ℕ, List, [], ◌∷◌, Option, Some, None, option_and_then, codes, bytes_eq, Bool, true, not}
+use Rattle.std.specs.Prelude.{◌≡◌, ◌==◌, ◌&&◌, ℕ, List, [], ◌∷◌, Option, Some, None, IsSome, option_and_then, option_map, unwrap_or, codes, bytes_eq, Bool, true, not}
 use Rattle.std.specs.List.{list_any}
 use Rattle.serde_json.specs.Data.{Data, null, object, Items, no_items, item, Members, no_members, member}
-use Rattle.serde_json.specs.Find.{get, as_str}
+use Rattle.serde_json.specs.Find.{get, as_array, as_str}
 use Rattle.odb_doc.specs.declared.member.Object.{Object}
 use Rattle.odb_doc.specs.declared.member.Object.TheVariants.{Document, Request, Outcomes, Outcome, Events, Start, Report}
 
@@ -28,6 +28,14 @@ abbrev pub given : Option Data → Option Data
 given None = None
 given (Some null) = None
 given (Some d) = Some d
+
+-- the array at a member
+abbrev pub array_at : List ℕ → Data → Option Items
+array_at name d = option_and_then as_array (get name d)
+
+-- the elements of the array at a member
+abbrev pub elements_at : List ℕ → Data → List Data
+elements_at name d = unwrap_or (option_map list_of (array_at name d)) []
 
 -- the names of the members that an object may have
 abbrev pub members_of : Object → List (List ℕ)
@@ -62,3 +70,8 @@ is_other known name = not (is_one_of known name)
 -- some member, also an annotation, is none that the object may have
 abbrev pub HasOther : Object → Data → Type 0
 HasOther owner d = list_any (is_other (members_of owner)) (names_in d) ≡ true
+
+-- an object whose one member is an array at this name
+pub record IsListObject (owner : Object) (name : List ℕ) (d : Data) : Type 0 where
+  pub one : ¬ HasOther owner d
+  pub array : IsSome (array_at name d)

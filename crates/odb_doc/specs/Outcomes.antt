@@ -1,31 +1,26 @@
 -- Recorded outcomes: what the elements of `outcomes` are, and what they mean. An outcome is what a service
 -- answered to a request (OData JSON Format 4.01, section 19.5); the document of many is this product's own.
-use Rattle.std.specs.Prelude.{◌≡◌, ◌≤◌, ℕ, List, [], Option, Some, IsSome, IfSome, option_and_then, option_map, unwrap_or, codes, string_bytes, String}
+use Rattle.std.specs.Prelude.{◌≡◌, ◌≤◌, ℕ, List, Option, Some, IsSome, IfSome, option_and_then, option_map, codes, string_bytes, String}
 use Rattle.std.specs.declared.alloc.Global.{Global}
 use Rattle.std.specs.List.{AllZip, filter_map}
-use Rattle.serde_json.specs.Data.{Data, Num, unsigned, negative, float, Items}
-use Rattle.serde_json.specs.Find.{get, as_array, as_number}
+use Rattle.serde_json.specs.Data.{Data, Num, unsigned, negative, float}
+use Rattle.serde_json.specs.Find.{get, as_number}
 use Rattle.serde_json.specs.View.{view}
 use Rattle.odb_doc.specs.declared.member.Object.{Object}
 use Rattle.odb_doc.specs.declared.member.Object.TheVariants as objects
 use Rattle.odb_doc.specs.declared.outcome.Outcome.{Outcome}
 use Rattle.odb_doc.specs.Bodies.{body_of}
 use Rattle.odb_doc.specs.Headers.{HasHeaders, IsHeaders, headers_in}
-use Rattle.odb_doc.specs.Members.{list_of, text_at, HasOther}
+use Rattle.odb_doc.specs.Members.{elements_at, text_at, HasOther, IsListObject}
 use Rattle.odb_doc.specs.WholeNumbers.{IsWhole}
-
--- the array at `outcomes`
-abbrev pub outcomes_in : Data → Option Items
-outcomes_in d = option_and_then as_array (get (codes "outcomes") d)
 
 -- the elements of `outcomes`
 abbrev pub elements : Data → List Data
-elements d = unwrap_or (option_map list_of (outcomes_in d)) []
+elements d = elements_at (codes "outcomes") d
 
 -- an object whose one member is `outcomes`, an array
-pub record IsOutcomesObject (d : Data) : Type 0 where
-  pub one : ¬ HasOther objects.Outcomes d
-  pub array : IsSome (outcomes_in d)
+abbrev pub IsOutcomesObject : Data → Type 0
+IsOutcomesObject d = IsListObject objects.Outcomes (codes "outcomes") d
 
 -- the string at `id`
 abbrev pub id_of : Data → Option (List ℕ)

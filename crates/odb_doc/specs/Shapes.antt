@@ -1,8 +1,8 @@
 -- The shape of a batch document: where each fault applies (OData JSON Format 4.01, section 19.1).
-use Rattle.std.specs.Prelude.{◌≡◌, ◌<◌, ℕ, false, List, [], ◌∷◌, length, Option, Some, None, IsSome, IsNone, IsSomeAnd, option_and_then, option_map, unwrap_or, bytes_eq, codes}
+use Rattle.std.specs.Prelude.{◌≡◌, ◌<◌, ℕ, false, List, [], ◌∷◌, length, Option, Some, None, IsSome, IsNone, IsSomeAnd, option_and_then, option_map, bytes_eq, codes}
 use Rattle.std.specs.List.{IsDistinct}
 use Rattle.serde_json.specs.Data.{Data, null, array, Items, no_items, item}
-use Rattle.serde_json.specs.Find.{get, as_str, as_array, as_object}
+use Rattle.serde_json.specs.Find.{get, as_str, as_object}
 use Rattle.odb_names.specs.Fronts.{HasFront, bad}
 use Rattle.odb_names.specs.Identifiers.{IsRequestId}
 use Rattle.odb_names.specs.Methods.{Names, takes_body}
@@ -15,15 +15,15 @@ use Rattle.odb_doc.specs.declared.fault.RequestRule.TheVariants as request
 use Rattle.odb_doc.specs.declared.member.Object.TheVariants.{Document, Request}
 use Rattle.odb_doc.specs.Bodies.{body_of, HasBadBody}
 use Rattle.odb_doc.specs.Headers.{listed_headers, header_names}
-use Rattle.odb_doc.specs.Members.{list_of, text_at, given, HasUnknown}
+use Rattle.odb_doc.specs.Members.{array_at, elements_at, text_at, given, HasUnknown}
 
 -- the array at `requests`
 abbrev pub requests_in : Data → Option Items
-requests_in d = option_and_then as_array (get (codes "requests") d)
+requests_in d = array_at (codes "requests") d
 
 -- the elements of `requests`
 abbrev pub elements : Data → List Data
-elements d = unwrap_or (option_map list_of (requests_in d)) []
+elements d = elements_at (codes "requests") d
 
 -- Where a rule of the document is broken. A value has been read, so the document is not too long, and is JSON.
 abbrev pub BreaksDocument : DocumentRule → Data → Type 0

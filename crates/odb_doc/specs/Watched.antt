@@ -4,7 +4,7 @@ use Rattle.std.specs.declared.alloc.Global.{Global}
 use Rattle.std.specs.BTreeSet.{BTreeSet}
 use Rattle.std.specs.List.{IsDistinct, list_any}
 use Rattle.odb_doc.specs.declared.seen.SeenIds.{SeenIds}
-use Rattle.odb_doc.specs.OutcomeShapes.{texts}
+use Rattle.odb_doc.specs.RawOutcomes.{texts}
 
 -- the same texts, whatever their order and however often each is listed
 abbrev pub AreSameTexts : List (List ℕ) → List (List ℕ) → Type 0

@@ -2,8 +2,8 @@ ghost use Rattle.std.specs.Prelude.{◌≡◌, ◌≤◌, ◌<◌, List, length,
 ghost use Rattle.std.specs.List.{AllZip};
 ghost use Rattle.serde_json.specs.View.{view};
 ghost use Rattle.odb_doc.specs.declared.fault.DocFault.TheVariants as faults;
-ghost use Rattle.odb_doc.specs.LeastFault.{IsWellShaped, IsLeastFault, IsBatchObject, IsLeastDocumentRule, BreaksRequestAt};
-ghost use Rattle.odb_doc.specs.BrokenRules.{IsFirstFault, fault_at};
+ghost use Rattle.odb_doc.specs.LeastFault.{IsWellShaped, IsLeastFault, IsBatchObject, IsFirstBroken, IsLeastDocumentRule, BreaksRequestAt};
+ghost use Rattle.odb_doc.specs.BrokenRules.{OnPlace, request_fault};
 ghost use Rattle.odb_doc.specs.LeastRules.{AreSound};
 ghost use Rattle.odb_doc.specs.Shapes.{elements, requests_in};
 ghost use Rattle.odb_doc.specs.Records.{Says, IsSoundRecord, IsBatchOf, record_of};
@@ -57,30 +57,34 @@ fn elements_of(document: &Value) -> Result<&[Value], DocumentRule>
     Ok(elements)
 }
 
-/// Returns the fault of the request at a position.
-fn fault_at(at: usize, broken: Broken<RequestRule>) -> DocFault
-    ensures { result ≡ fault_at at broken }
-{
-    match broken {
-        Broken::Rule(rule) => DocFault::Request { at, rule },
-        Broken::OutOfMemory => DocFault::OutOfMemory,
+impl From<Broken<(usize, RequestRule)>> for DocFault {
+    ghost from_gives = { λ broken fault. fault ≡ request_fault broken };
+
+    fn from(broken: Broken<(usize, RequestRule)>) -> Self {
+        match broken {
+            Broken::Rule((at, rule)) => DocFault::Request { at, rule },
+            Broken::OutOfMemory => DocFault::OutOfMemory,
+        }
     }
 }
 
-/// Returns the requests of the elements, or the first fault among them.
-fn requests_from<'a>(alloc: Global, elements: &'a [Value]) -> Result<Vec<Request<'a>>, DocFault>
+/// Returns the requests of the elements, or the first rule that one of them breaks.
+fn requests_from<'a>(
+    alloc: Global,
+    elements: &'a [Value],
+) -> Result<Vec<Request<'a>>, Broken<(usize, RequestRule)>>
     ensures sound { OnOk result (AreSound (BreaksRequestAt (map view elements.now))) }
     ensures says { IfOk result (λ found. AllZip Says (map view elements.now)
         (map record_of found.items)) }
     ensures len { IfOk result (λ found. length found.items ≡ length elements.now) }
-    ensures first { IfErr result (IsFirstFault (map view elements.now)) }
+    ensures first { IfErr result (OnPlace (IsFirstBroken (map view elements.now))) }
     ensures some { OnErr result (0 < length elements.now) }
 {
     let mut requests = Vec::with_capacity(alloc, elements.len())?;
     for (at, element) in elements.iter().enumerate() {
         match Request::read(alloc, element) {
             Ok(request) => requests.push(request)?,
-            Err(broken) => return Err(fault_at(at, broken)),
+            Err(broken) => return Err(broken.at(at)),
         }
     }
     Ok(requests)

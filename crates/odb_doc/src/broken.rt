@@ -1,5 +1,6 @@
 ghost use Rattle.std.specs.Prelude.{◌≡◌};
 ghost use Rattle.odb_doc.specs.declared.broken.Broken.TheVariants.{Rule, OutOfMemory};
+ghost use Rattle.odb_doc.specs.BrokenRules.{broken_at};
 
 use crate::fault::RequestRule;
 use std::alloc::{AllocError, AllocFailed};
@@ -11,6 +12,18 @@ pub(crate) enum Broken<R> {
     Rule(R),
     /// An allocation failed. The element may break a rule or none.
     OutOfMemory,
+}
+
+impl<R: Copy> Broken<R> {
+    /// Adds the position of the element in its list.
+    pub(crate) fn at(self, at: usize) -> Broken<(usize, R)>
+        ensures { result ≡ broken_at at self }
+    {
+        match self {
+            Broken::Rule(rule) => Broken::Rule((at, rule)),
+            Broken::OutOfMemory => Broken::OutOfMemory,
+        }
+    }
 }
 
 impl From<RequestRule> for Broken<RequestRule> {

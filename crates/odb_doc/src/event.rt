@@ -5,7 +5,7 @@ ghost use Rattle.serde_json.specs.View.{view, number_view};
 ghost use Rattle.odb_doc.specs.declared.event.NamedEvent.TheVariants.{Report};
 ghost use Rattle.odb_doc.specs.declared.event_fault.EventRule.{EventRule};
 ghost use Rattle.odb_doc.specs.BrokenRules.{OnRule};
-ghost use Rattle.odb_doc.specs.EventShapes.{IsReportOf, IsLeastBroken};
+ghost use Rattle.odb_doc.specs.RawReports.{IsReportOf, IsLeastBroken};
 ghost use Rattle.odb_doc.specs.Events.{IsReportedStatus, IsSoundEvent, IsStart, Says};
 ghost use Rattle.odb_doc.specs.LeastEventFault.{BreaksEvent};
 ghost use Rattle.odb_doc.specs.Members as members;
@@ -14,7 +14,7 @@ ghost use Rattle.odb_doc.specs.WholeNumbers.{IsWhole};
 use crate::broken::Broken;
 use crate::event_fault::EventRule;
 use crate::member::{Object, text_of};
-use crate::outcome::{Outcome, Shape, moved, shape_of};
+use crate::outcome::{Outcome, RawOutcome, moved, raw_outcome_of};
 use crate::whole::has_whole_body;
 use serde_json::{Number, Value};
 use std::alloc::Global;
@@ -53,19 +53,19 @@ fn start_of(element: &mut Value) -> Option<String>
     text_of(moved(element.as_object_mut()?, "start")?)
 }
 
-/// Returns the status of a report of this shape, or the rule that the report breaks.
-fn status_in(shape: &Shape) -> Result<u16, EventRule>
-    ensures status { IfOk result (λ code. number_view shape.now.status ≡ unsigned code) }
-    ensures whole { OnOk result (IfSome (option_map view shape.now.body) IsWhole) }
-    ensures sound { OnOk result ((d : Data) → IsReportOf d shape.now
+/// Returns the status of a report of this raw, or the rule that the report breaks.
+fn status_in(raw: &RawOutcome) -> Result<u16, EventRule>
+    ensures status { IfOk result (λ code. number_view raw.now.status ≡ unsigned code) }
+    ensures whole { OnOk result (IfSome (option_map view raw.now.body) IsWhole) }
+    ensures sound { OnOk result ((d : Data) → IsReportOf d raw.now
         → (rule : EventRule) → ¬ BreaksEvent rule d) }
-    ensures first { IfErr result (λ rule. (d : Data) → IsReportOf d shape.now
+    ensures first { IfErr result (λ rule. (d : Data) → IsReportOf d raw.now
         → IsLeastBroken d rule) }
 {
-    let Some(status) = status_of(shape.status) else {
+    let Some(status) = status_of(raw.status) else {
         return Err(EventRule::BadEvents);
     };
-    if has_whole_body(&shape.body) {
+    if has_whole_body(&raw.body) {
         Ok(status)
     } else {
         Err(EventRule::NotWhole)
@@ -81,27 +81,27 @@ fn read_report(alloc: Global, element: &mut Value) -> Result<NamedEvent, Broken<
     ensures first { IfErr result (OnRule (IsLeastBroken (view element.old))) }
 {
     let bad = EventRule::BadEvents;
-    let shape = shape_of(alloc, Object::Report, "report", element, bad)?;
-    match status_in(&shape) {
-        Ok(status) => Ok(reported(shape, status)),
+    let raw = raw_outcome_of(alloc, Object::Report, "report", element, bad)?;
+    match status_in(&raw) {
+        Ok(status) => Ok(reported(raw, status)),
         Err(rule) => Err(Broken::Rule(rule)),
     }
 }
 
-/// Returns the report of this shape.
-fn reported(shape: Shape, status: u16) -> NamedEvent
-    ensures { result ≡ Report shape.id (record {
+/// Returns the report of this raw.
+fn reported(raw: RawOutcome, status: u16) -> NamedEvent
+    ensures { result ≡ Report raw.id (record {
       status = status;
-      headers = shape.headers;
-      body = shape.body;
+      headers = raw.headers;
+      body = raw.body;
     }) }
 {
     NamedEvent::Report(
-        shape.id,
+        raw.id,
         Outcome {
             status,
-            headers: shape.headers,
-            body: shape.body,
+            headers: raw.headers,
+            body: raw.body,
         },
     )
 }

@@ -1,8 +1,6 @@
 ghost use Rattle.std.specs.Prelude.{◌≡◌};
-ghost use Rattle.odb_doc.specs.declared.event_fault.EventFault.TheVariants.{OutOfMemory};
 
 use crate::fault::Place;
-use std::alloc::{AllocError, AllocFailed};
 use thiserror::Error;
 
 /// A rule that one recorded event breaks.
@@ -84,21 +82,5 @@ impl EventFault {
             EventFault::Event { at, .. } => Place::Event(at),
             EventFault::OutOfMemory => unreachable!(),
         }
-    }
-}
-
-impl From<AllocError> for EventFault {
-    ghost from_gives = { λ _ fault. fault ≡ OutOfMemory };
-
-    fn from(_error: AllocError) -> Self {
-        EventFault::OutOfMemory
-    }
-}
-
-impl<T: Drop> From<AllocFailed<T>> for EventFault {
-    ghost from_gives = { λ _ fault. fault ≡ OutOfMemory };
-
-    fn from(_error: AllocFailed<T>) -> Self {
-        EventFault::OutOfMemory
     }
 }

@@ -4,13 +4,14 @@ ghost use Rattle.std.proofs.Props.{props};
 ghost use Rattle.serde_json.specs.View.{view};
 ghost use Rattle.odb_doc.specs.declared.event_fault.EventFault.TheVariants as faults;
 ghost use Rattle.odb_doc.specs.Events.{AreEventsOf, IsEventsObject, IsSoundEvent, Says, elements};
-ghost use Rattle.odb_doc.specs.LeastEventFault.{AreEvents, IsEventsDocument, RefusesEvents};
-ghost use Rattle.odb_doc.specs.EventShapes.{RefusesElements, fault_at};
+ghost use Rattle.odb_doc.specs.BrokenRules.{OnPlace};
+ghost use Rattle.odb_doc.specs.LeastEventFault.{AreEvents, IsEventsDocument, IsLeastEventRule, RefusesEvents};
+ghost use Rattle.odb_doc.specs.RawReports.{event_fault};
 
 use crate::broken::Broken;
 use crate::event::{NamedEvent, read_event};
 use crate::event_fault::{EventFault, EventRule};
-use crate::member::{Object, array_of, member_of};
+use crate::member::Object;
 use crate::outcomes::Leftovers;
 use serde_json::Value;
 use std::alloc::Global;
@@ -22,44 +23,36 @@ pub struct Events {
     ghost sound: { All IsSoundEvent entries.items } by { Prim.hlevel props },
 }
 
-/// Returns the fault of the element at a position.
-fn fault_at(at: usize, broken: Broken<EventRule>) -> EventFault
-    ensures { result ≡ fault_at at broken }
-{
-    match broken {
-        Broken::Rule(rule) => EventFault::Event { at, rule },
-        Broken::OutOfMemory => EventFault::OutOfMemory,
+impl From<Broken<(usize, EventRule)>> for EventFault {
+    ghost from_gives = { λ broken fault. fault ≡ event_fault broken };
+
+    fn from(broken: Broken<(usize, EventRule)>) -> Self {
+        match broken {
+            Broken::Rule((at, rule)) => EventFault::Event { at, rule },
+            Broken::OutOfMemory => EventFault::OutOfMemory,
+        }
     }
 }
 
-/// Reads the elements, moving their values out, or returns the first fault among them.
-fn events_from(alloc: Global, elements: &mut Vec<Value>) -> Result<Vec<NamedEvent>, EventFault>
+/// Reads the elements, moving their values out, or returns the first rule that one of them breaks.
+fn events_from(
+    alloc: Global,
+    elements: &mut Vec<Value>,
+) -> Result<Vec<NamedEvent>, Broken<(usize, EventRule)>>
     ensures sound { OnOk result (AreEvents (map view elements.old.items)) }
     ensures says { IfOk result (λ found. AllZip Says (map view elements.old.items) found.items) }
     ensures fit { IfOk result (λ found. All IsSoundEvent found.items) }
-    ensures first { IfErr result (λ fault. RefusesElements fault (map view elements.old.items)) }
+    ensures first { IfErr result (OnPlace (IsLeastEventRule (map view elements.old.items))) }
     ensures some { OnErr result (0 < length elements.old.items) }
 {
     let mut entries = Vec::with_capacity(alloc, elements.len())?;
     for element in elements {
         match read_event(alloc, element) {
             Ok(event) => entries.push(event)?,
-            Err(broken) => return Err(fault_at(entries.len(), broken)),
+            Err(broken) => return Err(broken.at(entries.len())),
         }
     }
     Ok(entries)
-}
-
-/// Moves out the array that is the one member of the document.
-fn elements_of(document: Value) -> Option<Vec<Value>>
-    ensures none { IfNone result (¬ IsEventsObject (view document)) }
-    ensures object { OnSome result (IsEventsObject (view document)) }
-    ensures elements { IfSome result (λ found. elements (view document) ≡ map view found.items) }
-{
-    if Object::Events.has_other(&document) {
-        return None;
-    }
-    array_of(member_of(document, "events")?)
 }
 
 impl Events {
@@ -101,7 +94,7 @@ impl Events {
         ensures memory { IfErr result (λ fault. fault ≡ faults.OutOfMemory
             → IsEventsObject (view document) × (0 < length (elements (view document)))) }
     {
-        let Some(mut elements) = elements_of(document) else {
+        let Some(mut elements) = Object::Events.elements_at(document, "events") else {
             return Err(EventFault::Document);
         };
         let entries = events_from(alloc, &mut elements)?;

@@ -1,5 +1,5 @@
 ghost use Rattle.std.specs.Prelude.{◌≡◌};
-ghost use Rattle.odb_doc.specs.declared.fault.DocFault.TheVariants.{Document, OutOfMemory};
+ghost use Rattle.odb_doc.specs.declared.fault.DocFault.TheVariants.{Document};
 ghost use Rattle.odb_doc.specs.declared.fault.TextFault.TheVariants as texts;
 
 use std::alloc::{AllocError, AllocFailed};
@@ -216,22 +216,6 @@ impl From<DocumentRule> for DocFault {
 
     fn from(rule: DocumentRule) -> Self {
         DocFault::Document(rule)
-    }
-}
-
-impl From<AllocError> for DocFault {
-    ghost from_gives = { λ _ fault. fault ≡ OutOfMemory };
-
-    fn from(_error: AllocError) -> Self {
-        DocFault::OutOfMemory
-    }
-}
-
-impl<T: Drop> From<AllocFailed<T>> for DocFault {
-    ghost from_gives = { λ _ fault. fault ≡ OutOfMemory };
-
-    fn from(_error: AllocFailed<T>) -> Self {
-        DocFault::OutOfMemory
     }
 }
 

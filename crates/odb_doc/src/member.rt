@@ -1,4 +1,4 @@
-ghost use Rattle.std.specs.Prelude.{◌≡◌, ◌↔◌, ◌∷◌, [], codes, IsTrue, option_map, string_bytes};
+ghost use Rattle.std.specs.Prelude.{◌≡◌, ◌↔◌, ◌∷◌, [], codes, IsTrue, IfNone, IfSome, OnSome, map, option_map, string_bytes};
 ghost use Rattle.std.specs.List.{list_any};
 ghost use Rattle.std.specs.BTreeMap.{keys};
 ghost use Rattle.serde_json.specs.Find.{get, as_str, as_number, as_array, as_object};
@@ -93,6 +93,19 @@ impl Object {
             None => false,
         }
     }
+
+    /// Moves out the array at `name`, which is the one member that the object may have.
+    pub(crate) fn elements_at(self, document: Value, name: &str) -> Option<Vec<Value>>
+        ensures none { IfNone result (¬ spec.IsListObject self name.now (view document)) }
+        ensures object { OnSome result (spec.IsListObject self name.now (view document)) }
+        ensures elements { IfSome result (λ found. spec.elements_at name.now (view document)
+            ≡ map view found.items) }
+    {
+        if self.has_other(&document) {
+            return None;
+        }
+        array_of(member_of(document, name)?)
+    }
 }
 
 /// Returns whether the name contains `@`, as that of an annotation does.
@@ -144,7 +157,7 @@ pub(crate) fn into_members(value: Value) -> Option<Map<String, Value>>
 }
 
 /// Moves out the elements of an array.
-pub(crate) fn array_of(value: Value) -> Option<Vec<Value>>
+fn array_of(value: Value) -> Option<Vec<Value>>
     ensures { option_map (λ elements. items_view elements.items) result ≡ as_array (view value) }
 {
     match value {
@@ -154,7 +167,7 @@ pub(crate) fn array_of(value: Value) -> Option<Vec<Value>>
 }
 
 /// Moves the value at a member out of an object.
-pub(crate) fn member_of(value: Value, name: &str) -> Option<Value>
+fn member_of(value: Value, name: &str) -> Option<Value>
     ensures { option_map view result ≡ get name.now (view value) }
 {
     let mut members = into_members(value)?;

@@ -4,7 +4,7 @@ ghost use Rattle.serde_json.specs.Find.{as_str, as_number};
 ghost use Rattle.serde_json.specs.View.{view, number_view};
 ghost use Rattle.odb_doc.specs.BrokenRules.{OnlyIf};
 ghost use Rattle.odb_doc.specs.Outcomes.{HasOutcome};
-ghost use Rattle.odb_doc.specs.OutcomeShapes.{ArePartsOf, HasShape};
+ghost use Rattle.odb_doc.specs.RawOutcomes.{ArePartsOf, HasRawOutcome};
 
 use crate::broken::Broken;
 use crate::headers::headers_from;
@@ -35,7 +35,7 @@ pub(crate) struct Parts {
 
 /// The values in an object of the shape of an outcome.
 #[derive(Drop)]
-pub(crate) struct Shape {
+pub(crate) struct RawOutcome {
     pub(crate) id: String,
     pub(crate) status: Number,
     pub(crate) headers: BTreeMap<String, String>,
@@ -93,17 +93,17 @@ fn parts_of(kind: Object, name: &str, element: &mut Value) -> Option<Parts>
 
 /// Moves the values out of the element, or returns `bad` if it does not have the shape of an outcome
 /// with its id at `name`.
-pub(crate) fn shape_of<R: Copy>(
+pub(crate) fn raw_outcome_of<R: Copy>(
     alloc: Global,
     kind: Object,
     name: &str,
     element: &mut Value,
     bad: R,
-) -> Result<Shape, Broken<R>>
+) -> Result<RawOutcome, Broken<R>>
     requires status { bytes_eq name.now (codes "status") ≡ false }
     requires headers { bytes_eq name.now (codes "headers") ≡ false }
     requires body { bytes_eq name.now (codes "body") ≡ false }
-    ensures has { IfOk result (HasShape kind name.now (view element.old)) }
+    ensures has { IfOk result (HasRawOutcome kind name.now (view element.old)) }
     ensures none { IfErr result (OnlyIf bad (¬ HasOutcome kind name.now (view element.old))) }
 {
     let Some(parts) = parts_of(kind, name, element) else {
@@ -111,7 +111,7 @@ pub(crate) fn shape_of<R: Copy>(
     };
     let headers = headers_from(alloc, parts.headers, bad)?;
     match (parts.id, parts.status) {
-        (Some(id), Some(status)) => Ok(Shape {
+        (Some(id), Some(status)) => Ok(RawOutcome {
             id,
             status,
             headers,

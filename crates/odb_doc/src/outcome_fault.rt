@@ -1,8 +1,6 @@
 ghost use Rattle.std.specs.Prelude.{◌≡◌};
-ghost use Rattle.odb_doc.specs.declared.outcome_fault.OutcomeFault.TheVariants.{OutOfMemory};
 
 use crate::fault::Place;
-use std::alloc::{AllocError, AllocFailed};
 use thiserror::Error;
 
 /// A rule that one recorded outcome breaks.
@@ -92,21 +90,5 @@ impl OutcomeFault {
             OutcomeFault::Outcome { at, .. } => Place::Outcome(at),
             OutcomeFault::OutOfMemory => unreachable!(),
         }
-    }
-}
-
-impl From<AllocError> for OutcomeFault {
-    ghost from_gives = { λ _ fault. fault ≡ OutOfMemory };
-
-    fn from(_error: AllocError) -> Self {
-        OutcomeFault::OutOfMemory
-    }
-}
-
-impl<T: Drop> From<AllocFailed<T>> for OutcomeFault {
-    ghost from_gives = { λ _ fault. fault ≡ OutOfMemory };
-
-    fn from(_error: AllocFailed<T>) -> Self {
-        OutcomeFault::OutOfMemory
     }
 }

@@ -6,16 +6,16 @@ ghost use Rattle.serde_json.specs.Data.{Data, unsigned};
 ghost use Rattle.serde_json.specs.View.{view, number_view};
 ghost use Rattle.odb_doc.specs.declared.outcome_fault.OutcomeRule.{OutcomeRule};
 ghost use Rattle.odb_doc.specs.declared.outcome_fault.OutcomeFault.TheVariants as faults;
-ghost use Rattle.odb_doc.specs.BrokenRules.{OnRule};
-ghost use Rattle.odb_doc.specs.LeastOutcomeFault.{AreOutcomes, BreaksOutcome, IsOutcomesDocument, RefusesOutcomes};
-ghost use Rattle.odb_doc.specs.OutcomeShapes.{IsLeastBroken, RefusesElements, fault_at, IsShapeOf};
+ghost use Rattle.odb_doc.specs.BrokenRules.{OnPlace, OnRule};
+ghost use Rattle.odb_doc.specs.LeastOutcomeFault.{AreOutcomes, BreaksOutcome, IsLeastOutcomeRule, IsOutcomesDocument, RefusesOutcomes};
+ghost use Rattle.odb_doc.specs.RawOutcomes.{IsLeastBroken, IsRawOutcomeOf, outcome_fault};
 ghost use Rattle.odb_doc.specs.Outcomes.{AreOutcomesOf, IsOutcomesObject, IsStatus, IsSoundOutcome, Says, elements, ids, recorded};
 ghost use Rattle.odb_doc.specs.Watched.{IsWatched};
 ghost use Rattle.odb_doc.specs.WholeNumbers.{IsWhole};
 
 use crate::broken::Broken;
-use crate::member::{Object, array_of, member_of};
-use crate::outcome::{Outcome, Shape, shape_of};
+use crate::member::Object;
+use crate::outcome::{Outcome, RawOutcome, raw_outcome_of};
 use crate::outcome_fault::{OutcomeFault, OutcomeRule};
 use crate::seen::SeenIds;
 use crate::whole::has_whole_body;
@@ -51,31 +51,31 @@ fn status_of(status: Number) -> Option<u16>
     }
 }
 
-/// Returns the status of an outcome of this shape, or the first of the rules F61 to F63 that it breaks.
-fn status_in(seen: &mut SeenIds, shape: &Shape) -> Result<u16, Broken<OutcomeRule>>
-    ensures sound { OnOk result ((d : Data) (before rest : List (List ℕ)) → IsShapeOf d shape.now
-        → IsWatched seen.old before (string_bytes shape.now.id ∷ rest)
+/// Returns the status of an outcome of this raw, or the first of the rules F61 to F63 that it breaks.
+fn status_in(seen: &mut SeenIds, raw: &RawOutcome) -> Result<u16, Broken<OutcomeRule>>
+    ensures sound { OnOk result ((d : Data) (before rest : List (List ℕ)) → IsRawOutcomeOf d raw.now
+        → IsWatched seen.old before (string_bytes raw.now.id ∷ rest)
         → (rule : OutcomeRule) → ¬ BreaksOutcome rule before d) }
-    ensures status { IfOk result (λ code. IsStatus (number_view shape.now.status)
-        × (number_view shape.now.status ≡ unsigned code)) }
-    ensures whole { OnOk result (IfSome (option_map view shape.now.body) IsWhole) }
+    ensures status { IfOk result (λ code. IsStatus (number_view raw.now.status)
+        × (number_view raw.now.status ≡ unsigned code)) }
+    ensures whole { OnOk result (IfSome (option_map view raw.now.body) IsWhole) }
     ensures is_new { OnOk result ((before rest : List (List ℕ))
-        → IsWatched seen.old before (string_bytes shape.now.id ∷ rest)
-        → list_any (bytes_eq (string_bytes shape.now.id)) before ≡ false) }
+        → IsWatched seen.old before (string_bytes raw.now.id ∷ rest)
+        → list_any (bytes_eq (string_bytes raw.now.id)) before ≡ false) }
     ensures noted { OnOk result ((before rest : List (List ℕ))
-        → IsWatched seen.old before (string_bytes shape.now.id ∷ rest)
-        → IsWatched seen.new (before ++ string_bytes shape.now.id ∷ []) rest) }
+        → IsWatched seen.old before (string_bytes raw.now.id ∷ rest)
+        → IsWatched seen.new (before ++ string_bytes raw.now.id ∷ []) rest) }
     ensures first { IfErr result (λ broken. (d : Data) (before rest : List (List ℕ))
-        → IsShapeOf d shape.now → IsWatched seen.old before (string_bytes shape.now.id ∷ rest)
+        → IsRawOutcomeOf d raw.now → IsWatched seen.old before (string_bytes raw.now.id ∷ rest)
         → OnRule (IsLeastBroken before d) broken) }
 {
-    if !seen.note(&shape.id)? {
+    if !seen.note(&raw.id)? {
         return Err(Broken::Rule(OutcomeRule::OutcomeTwice));
     }
-    let Some(status) = status_of(shape.status) else {
+    let Some(status) = status_of(raw.status) else {
         return Err(Broken::Rule(OutcomeRule::BadStatus));
     };
-    if !has_whole_body(&shape.body) {
+    if !has_whole_body(&raw.body) {
         return Err(Broken::Rule(OutcomeRule::NotWhole));
     }
     Ok(status)
@@ -104,38 +104,39 @@ fn read_outcome(
         → OnRule (IsLeastBroken before (view element.old)) broken) }
 {
     let bad = OutcomeRule::BadOutcomes;
-    let shape = shape_of(alloc, Object::Outcome, "id", element, bad)?;
-    let status = status_in(seen, &shape)?;
+    let raw = raw_outcome_of(alloc, Object::Outcome, "id", element, bad)?;
+    let status = status_in(seen, &raw)?;
     let outcome = Outcome {
         status,
-        headers: shape.headers,
-        body: shape.body,
+        headers: raw.headers,
+        body: raw.body,
     };
-    Ok((shape.id, outcome))
+    Ok((raw.id, outcome))
 }
 
-/// Returns the fault of the element at a position.
-fn fault_at(at: usize, broken: Broken<OutcomeRule>) -> OutcomeFault
-    ensures { result ≡ fault_at at broken }
-{
-    match broken {
-        Broken::Rule(rule) => OutcomeFault::Outcome { at, rule },
-        Broken::OutOfMemory => OutcomeFault::OutOfMemory,
+impl From<Broken<(usize, OutcomeRule)>> for OutcomeFault {
+    ghost from_gives = { λ broken fault. fault ≡ outcome_fault broken };
+
+    fn from(broken: Broken<(usize, OutcomeRule)>) -> Self {
+        match broken {
+            Broken::Rule((at, rule)) => OutcomeFault::Outcome { at, rule },
+            Broken::OutOfMemory => OutcomeFault::OutOfMemory,
+        }
     }
 }
 
-/// Reads the elements, moving their values out, or returns the first fault among them.
+/// Reads the elements, moving their values out, or returns the first rule that one of them breaks.
 fn outcomes_from(
     alloc: Global,
     elements: &mut Vec<Value>,
-) -> Result<Vec<(String, Outcome)>, OutcomeFault>
+) -> Result<Vec<(String, Outcome)>, Broken<(usize, OutcomeRule)>>
     ensures sound { OnOk result (AreOutcomes (map view elements.old.items)) }
     ensures says { IfOk result (λ found. AllZip Says (map view elements.old.items)
         (map recorded found.items)) }
     ensures apart { IfOk result (λ found. IsDistinct bytes_eq
         (keys_of (map recorded found.items))) }
     ensures fit { IfOk result (λ found. All IsSoundOutcome (map recorded found.items)) }
-    ensures first { IfErr result (λ fault. RefusesElements fault (map view elements.old.items)) }
+    ensures first { IfErr result (OnPlace (IsLeastOutcomeRule (map view elements.old.items))) }
     ensures some { OnErr result (0 < length elements.old.items) }
 {
     let mut seen = SeenIds::before(alloc, elements.as_slice())?;
@@ -143,22 +144,10 @@ fn outcomes_from(
     for element in elements {
         match read_outcome(alloc, &mut seen, element) {
             Ok(entry) => entries.push(entry)?,
-            Err(broken) => return Err(fault_at(entries.len(), broken)),
+            Err(broken) => return Err(broken.at(entries.len())),
         }
     }
     Ok(entries)
-}
-
-/// Moves out the array that is the one member of the document.
-fn elements_of(document: Value) -> Option<Vec<Value>>
-    ensures none { IfNone result (¬ IsOutcomesObject (view document)) }
-    ensures object { OnSome result (IsOutcomesObject (view document)) }
-    ensures elements { IfSome result (λ found. elements (view document) ≡ map view found.items) }
-{
-    if Object::Outcomes.has_other(&document) {
-        return None;
-    }
-    array_of(member_of(document, "outcomes")?)
 }
 
 impl Outcomes {
@@ -202,7 +191,7 @@ impl Outcomes {
         ensures memory { IfErr result (λ fault. fault ≡ faults.OutOfMemory
             → IsOutcomesObject (view document) × (0 < length (elements (view document)))) }
     {
-        let Some(mut elements) = elements_of(document) else {
+        let Some(mut elements) = Object::Outcomes.elements_at(document, "outcomes") else {
             return Err(OutcomeFault::Document);
         };
         let entries = outcomes_from(alloc, &mut elements)?;

@@ -1,8 +1,11 @@
-use Rattle.std.proofs.Common.{map}
+use Rattle.std.proofs.Common.{◌≡◌, length, map}
 use Rattle.serde_json.specs.View.{view}
 use Rattle.odb_doc.specs.Records.{record_of}
-use Rattle.odb_doc.proofs.RequestLemmas.{IsReadUpTo}
+use Rattle.odb_doc.proofs.RequestLemmas.{AreReadUpTo}
 use Rattle.odb_doc.proofs.batch.requests_from.Given as goal
 
 abbrev pub invariant-loop-at : goal.invariant-loop-at
-invariant-loop-at l = IsReadUpTo (map view l.elements) (map record_of l.requests.items) l.at
+invariant-loop-at l = record {
+  read : AreReadUpTo (map view l.elements) (map record_of l.requests.items) l.at;
+  count : length l.requests.items ≡ l.at;
+}

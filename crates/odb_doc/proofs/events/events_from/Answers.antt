@@ -1,17 +1,23 @@
-use Rattle.std.proofs.Common.{MutBor, ◌≡◌, ◌∙◌, ◌∷◌, ◌++◌, [], length, map, ap, sym, append_assoc, rules}
+use Rattle.std.proofs.Common.{MutBor, ◌≡◌, ◌∙◌, ◌∷◌, ◌++◌, [], length, map, ap, sym, append_assoc, rules, arith}
 use Rattle.std.specs.Slice.Iter.{iter_mut_rest}
 use Rattle.std.proofs.lemmas.List.{map-append}
+use Rattle.std.proofs.lemmas.List.Elements.{All-push}
 use Rattle.std.proofs.lemmas.Option.{MatchOption-at_some}
 use Rattle.serde_json.specs.View.{view}
 use Rattle.serde_json.specs.declared.value.Value.{Value}
-use Rattle.odb_doc.specs.EventShapes.{RefusesElements, fault_at}
-use Rattle.odb_doc.proofs.EventListLemmas.{AreRead-none, AreRead-more, RefusesElements-from}
+use Rattle.odb_doc.specs.BrokenRules.{OnPlace, broken_at}
+use Rattle.odb_doc.specs.EventFaults.{rule_number}
+use Rattle.odb_doc.specs.Events.{Says, IsSoundEvent}
+use Rattle.odb_doc.specs.LeastEventFault.{IsLeastEventRule}
+use Rattle.odb_doc.proofs.EventLemmas.{Breaks}
+use Rattle.odb_doc.proofs.LeastLemmas.{AreRead-none, AreRead-more, first_broken}
 use Rattle.odb_doc.proofs.events.events_from.Goals as goal
 
 pub loop-element-init : goal.loop-element-init
 loop-element-init c = record {
   split = search rules;
-  read = rw c.in_ok-entries.ensures.items AreRead-none;
+  read = rw c.in_ok-entries.ensures.items (AreRead-none rule_number Breaks Says);
+  fit = rw c.in_ok-entries.ensures.items (λ k d less. absurd (omega arith));
 }
 
 pub returns-in-Err-clause-first : goal.returns-in-Err-clause-first
@@ -24,9 +30,9 @@ returns-in-Err-clause-first c =
     let whole : map view c.args.elements.now.items ≡ done ++ view element ∷ rest =
     ap (map view) (c.loop-element.invariant.split ∙ ap (λ others. yielded ++ others) first) ∙ map-append view yielded (element ∷ iter_mut_rest c.next.new.self) in
     let place : c.len-in-Err.result ≡ length c.loop-element.entries.items = search rules in
-    let fails = RefusesElements-from done c.loop-element.entries.items (view element) rest c.len-in-Err.result c.in-Err.broken c.loop-element.invariant.read place c.in-Err.ensures.first in
-    let refused : RefusesElements (fault_at c.len-in-Err.result c.in-Err.broken) (map view c.args.elements.now.items) = rw whole fails in
-    search (rules, refused)
+    let fails : OnPlace (IsLeastEventRule (map view c.args.elements.now.items)) (broken_at c.len-in-Err.result c.in-Err.broken) =
+    rw whole (first_broken rule_number Breaks Says done c.loop-element.entries.items (view element) rest c.len-in-Err.result c.in-Err.broken c.loop-element.invariant.read place c.in-Err.ensures.first) in
+    search (rules, fails)
 
 pub loop-element-preserved : goal.loop-element-preserved
 loop-element-preserved c =
@@ -37,10 +43,11 @@ loop-element-preserved c =
     let done = map view yielded in
     let first = MatchOption-at_some _ _ _ c.in-Some.is c.next.ensures.steps in
     let more : c.push.new.self.items ≡ events ++ event ∷ [] = c.in_ok-push-in-Ok.ensures.items in
-    let read = AreRead-more done events (view element) event c.loop-element.invariant.read c.in-Ok.ensures.sound c.in-Ok.ensures.says c.in-Ok.ensures.fit in
+    let read = AreRead-more rule_number Breaks Says done events (view element) event c.loop-element.invariant.read c.in-Ok.ensures.sound c.in-Ok.ensures.says in
     let grown : map (λ (y : MutBor Value). y.now) (c.loop-element.yielded ++ c.in-Some.element ∷ []) ≡ yielded ++ element ∷ [] =
     map-append (λ (y : MutBor Value). y.now) c.loop-element.yielded (c.in-Some.element ∷ []) in
     record {
       split = c.loop-element.invariant.split ∙ ap (λ others. yielded ++ others) first ∙ sym (append_assoc yielded (element ∷ []) (iter_mut_rest c.next.new.self)) ∙ sym (ap (λ front. front ++ iter_mut_rest c.next.new.self) grown);
       read = rw (grown, more, map-append view yielded (element ∷ [])) read;
+      fit = rw more (All-push IsSoundEvent events event c.loop-element.invariant.fit c.in-Ok.ensures.fit);
     }

@@ -1,7 +1,7 @@
 use Rattle.std.proofs.Common.{◌∙◌, not, ap, String, string_bytes}
 use Rattle.std.specs.declared.alloc.Global.{Global}
 use Rattle.odb_doc.specs.Watched.{AreSameTexts}
-use Rattle.odb_doc.specs.OutcomeShapes.{texts}
+use Rattle.odb_doc.specs.RawOutcomes.{texts}
 use Rattle.odb_doc.proofs.SetLemmas.{any_at, same_texts_more}
 use Rattle.odb_doc.proofs.WatchLemmas.{distinct_new}
 use Rattle.odb_doc.proofs.seen.SeenIds.note.Goals as goal

@@ -5,7 +5,7 @@ use Rattle.odb_doc.specs.Headers.{headers_in}
 use Rattle.odb_doc.specs.Members.{given, text_at}
 use Rattle.odb_doc.specs.Outcomes.{status_of}
 use Rattle.odb_doc.proofs.RuleLemmas.{IsHeaders-from}
-use Rattle.odb_doc.proofs.outcome.shape_of.Goals as goal
+use Rattle.odb_doc.proofs.outcome.raw_outcome_of.Goals as goal
 
 pub returns-in-Some-Some-clause-has : goal.returns-in-Some-Some-clause-has
 returns-in-Some-Some-clause-has g c =

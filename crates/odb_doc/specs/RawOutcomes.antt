@@ -9,13 +9,13 @@ use Rattle.odb_doc.specs.declared.broken.Broken.TheVariants as broken
 use Rattle.odb_doc.specs.declared.member.Object.{Object}
 use Rattle.odb_doc.specs.declared.member.Object.TheVariants as objects
 use Rattle.odb_doc.specs.declared.outcome.Parts.{Parts}
-use Rattle.odb_doc.specs.declared.outcome.Shape.{Shape}
+use Rattle.odb_doc.specs.declared.outcome.RawOutcome.{RawOutcome}
 use Rattle.odb_doc.specs.declared.outcome_fault.OutcomeRule.{OutcomeRule}
 use Rattle.odb_doc.specs.declared.outcome_fault.OutcomeFault.{OutcomeFault}
 use Rattle.odb_doc.specs.declared.outcome_fault.OutcomeFault.TheVariants as faults
 use Rattle.odb_doc.specs.Bodies.{body_of}
 use Rattle.odb_doc.specs.Headers.{HasHeaders, headers_in}
-use Rattle.odb_doc.specs.LeastOutcomeFault.{BreaksOutcome, IsLeastOutcomeRule}
+use Rattle.odb_doc.specs.LeastOutcomeFault.{BreaksOutcome}
 use Rattle.odb_doc.specs.LeastRules.{IsLeast}
 use Rattle.odb_doc.specs.Members.{HasOther, text_at}
 use Rattle.odb_doc.specs.OutcomeFaults.{rule_number}
@@ -33,28 +33,22 @@ pub record ArePartsOf (kind : Object) (name : List ℕ) (d : Data) (parts : Part
   pub body : option_map view parts.body ≡ get (codes "body") d
 
 -- the element has the shape of an outcome with a string at this member, and these values
-pub record HasShape (kind : Object) (name : List ℕ) (d : Data) (shape : Shape) : Type 0 where
+pub record HasRawOutcome (kind : Object) (name : List ℕ) (d : Data) (raw : RawOutcome) : Type 0 where
   pub object : HasOutcome kind name d
-  pub id : text_at name d ≡ Some (string_bytes shape.id)
-  pub status : status_of d ≡ Some (number_view shape.status)
-  pub headers : HasHeaders d (headers_in shape.headers)
-  pub body : body_of d ≡ option_map view shape.body
+  pub id : text_at name d ≡ Some (string_bytes raw.id)
+  pub status : status_of d ≡ Some (number_view raw.status)
+  pub headers : HasHeaders d (headers_in raw.headers)
+  pub body : body_of d ≡ option_map view raw.body
 
 -- the element has the shape of an outcome, and these values
-abbrev pub IsShapeOf : Data → Shape → Type 0
-IsShapeOf d shape = HasShape objects.Outcome (codes "id") d shape
+abbrev pub IsRawOutcomeOf : Data → RawOutcome → Type 0
+IsRawOutcomeOf d raw = HasRawOutcome objects.Outcome (codes "id") d raw
 
 -- the rule is broken by an element after others with these ids, and none with a smaller number is
 abbrev pub IsLeastBroken : List (List ℕ) → Data → OutcomeRule → Type 0
 IsLeastBroken before d rule = IsLeast rule_number (λ other. BreaksOutcome other before d) rule
 
--- the fault of the element at the position
-abbrev pub fault_at : ℕ → Broken OutcomeRule → OutcomeFault
-fault_at at (broken.Rule rule) = faults.Outcome at rule
-fault_at at broken.OutOfMemory = faults.OutOfMemory
-
--- the fault is that of the first element that has one. Out of memory may come in place of any.
-abbrev pub RefusesElements : OutcomeFault → List Data → Type 0
-RefusesElements faults.Document ds = ⊥
-RefusesElements (faults.Outcome at rule) ds = IsLeastOutcomeRule ds at rule
-RefusesElements faults.OutOfMemory ds = Unit {0}
+-- the fault of an outcome
+abbrev pub outcome_fault : Broken (ℕ × OutcomeRule) → OutcomeFault
+outcome_fault (broken.Rule place) = faults.Outcome place.0 place.1
+outcome_fault broken.OutOfMemory = faults.OutOfMemory
