@@ -1,5 +1,5 @@
 -- A value is one batch.
-use Rattle.std.proofs.Common.{◌≡◌, ◌∙◌, ℕ, List, [], ◌∷◌, Option, None, Some, option_and_then, codes, refl, ap, sym, subst}
+use Rattle.std.proofs.Common.{◌≡◌, ◌∙◌, ℕ, List, [], ◌∷◌, Option, None, Some, option_and_then, codes, refl, sym, subst}
 use Rattle.std.specs.List.{AllZip}
 use Rattle.serde_json.specs.Data.{Data, null, boolean, number, string, array, object}
 use Rattle.serde_json.specs.Find.{get, as_str}
@@ -45,7 +45,7 @@ one_reference texts url None (Some id) one two = absurd (one id two)
 one_reference texts url (Some id) None one two = absurd (two id one)
 one_reference texts url (Some id) (Some id') one two = cc (texts.front url (reference id) (reference id') one two)
 
--- a record of these parts, to go from one record to another part by part
+-- a record of these parts
 abbrev made : List ℕ → Method → List ℕ → Option (List ℕ) → List (List ℕ) → Option (List ℕ) → List Header → Option Data → Record
 made id method url group names referred headers body = record {
   id = id;
@@ -68,14 +68,8 @@ one_record texts d r s one two =
     let referred = one_reference texts s.url r.reference s.reference (subst (λ (u : List ℕ). RefersTo u r.reference) url one.reference) two.reference in
     let headers = one_headers d s.headers r.headers two.headers one.headers in
     let body : r.body ≡ s.body = sym one.body ∙ two.body in
-    ap (λ (x : List ℕ). made x r.method r.url r.group r.names r.reference r.headers r.body) id
-    ∙ ap (λ (x : Method). made s.id x r.url r.group r.names r.reference r.headers r.body) method
-    ∙ ap (λ (x : List ℕ). made s.id s.method x r.group r.names r.reference r.headers r.body) url
-    ∙ ap (λ (x : Option (List ℕ)). made s.id s.method s.url x r.names r.reference r.headers r.body) group
-    ∙ ap (λ (x : List (List ℕ)). made s.id s.method s.url s.group x r.reference r.headers r.body) names
-    ∙ ap (λ (x : Option (List ℕ)). made s.id s.method s.url s.group s.names x r.headers r.body) referred
-    ∙ ap (λ (x : List Header). made s.id s.method s.url s.group s.names s.reference x r.body) headers
-    ∙ ap (λ (x : Option Data). made s.id s.method s.url s.group s.names s.reference s.headers x) body
+    let same : made r.id r.method r.url r.group r.names r.reference r.headers r.body ≡ made s.id s.method s.url s.group s.names s.reference s.headers s.body = cc (id, method, url, group, names, referred, headers, body) in
+    same
 
 pub one_batch : AreOneReading → (ds : List Data) (rs ss : List Record) → AllZip Says ds rs → AllZip Says ds ss → rs ≡ ss
 one_batch texts [] [] [] one two = refl

@@ -1,19 +1,15 @@
 -- The canonical value of a batch has no fault of shape, and is that batch.
-use Rattle.std.proofs.Common.{◌≡◌, ◌∙◌, ℕ, zero, suc, false, List, [], ◌∷◌, length, map, Option, None, Some, option_map, option_and_then, codes, bytes_eq, get_or, refl, ap, sym, subst, arith}
+use Rattle.std.proofs.Common.{◌≡◌, ◌∙◌, ℕ, zero, suc, false, List, [], ◌∷◌, length, map, Option, None, Some, option_map, option_and_then, codes, get_or, refl, ap, sym, subst, arith}
 use Rattle.std.specs.Prelude.{IsSome, IsNone, IsSomeAnd}
 use Rattle.std.specs.Char.{to_ascii_lowercase}
-use Rattle.std.specs.Cmp.Lexicographic.{slice_cmp}
-use Rattle.std.specs.List.{All, AllZip, AllByRecursion, IsDistinct, list_any}
-use Rattle.std.specs.List.Sorted.{IsPermutation, IsStrictlySortedBy}
-use Rattle.std.specs.Map.{keys_of}
-use Rattle.std.specs.Ordering.{is_eq, nat_cmp}
+use Rattle.std.specs.List.{All, AllZip, list_any}
+use Rattle.std.specs.List.Sorted.{IsPermutation}
 use Rattle.std.specs.Str.{str_to_ascii_lowercase}
-use Rattle.std.specs.declared.cmp.Ordering.TheVariants.{Less}
 use Rattle.std.proofs.lemmas.Bool.Decides.{nat_tests}
 use Rattle.std.proofs.lemmas.List.{length-map}
 use Rattle.std.proofs.lemmas.List.Elements.{All-head, All-rest, All-map}
 use Rattle.std.proofs.lemmas.List.Sorted.{IsPermutation-refl, All-permutation}
-use Rattle.std.proofs.lemmas.Map.Text.{is_eq-slice_cmp}
+use Rattle.std.proofs.lemmas.Slice.Zip.{AllZip-long}
 use Rattle.serde_json.specs.Data.{Data, null, boolean, number, string, array, object, put, no_members}
 use Rattle.serde_json.specs.Find.{get, as_str}
 use Rattle.serde_json.specs.View.{items_of}
@@ -29,7 +25,7 @@ use Rattle.odb_doc.specs.declared.member.Object.TheVariants.{Request}
 use Rattle.odb_doc.specs.Bodies.{content_type}
 use Rattle.odb_doc.specs.MediaTypes.{AllowsBody}
 use Rattle.odb_doc.specs.Canonical.{names_value, header_members, headers_value, with_some, request_value, canonical_value}
-use Rattle.odb_doc.specs.Headers.{Header, folded, text_members, listed_in, header_names, HasHeaders}
+use Rattle.odb_doc.specs.Headers.{Header, folded, text_members, listed_in, HasHeaders}
 use Rattle.odb_doc.specs.LeastFault.{IsBatchObject, IsWellShaped, BreaksRequestAt}
 use Rattle.odb_doc.specs.BrokenRules.{IsRequestObject}
 use Rattle.odb_doc.specs.LeastRules.{AreSound}
@@ -40,9 +36,9 @@ use Rattle.odb_doc.specs.Shapes.{HasGroup, elements, listed_names, texts_of, tex
 use Rattle.odb_doc.proofs.BatchLemmas.{AreOneReading, one_method}
 use Rattle.odb_doc.proofs.DistinctLemmas.{IsDistinct-listed}
 use Rattle.odb_doc.proofs.ElementLemmas.{list_of-items_of}
-use Rattle.odb_doc.proofs.FoldedNames.{names_in-text_members_in}
 use Rattle.odb_doc.proofs.OneHeaders.{one_headers}
 use Rattle.odb_doc.proofs.RepeatLemmas.{distinct_same}
+use Rattle.odb_doc.proofs.RuleLemmas.{HoldsHeaders-apart}
 
 -- ---- what stands at the members of a request's value
 
@@ -179,21 +175,6 @@ value-says e r says =
 
 -- ---- it has no fault
 
-apart-below : (name : List ℕ) (names : List (List ℕ)) → AllByRecursion (λ y. slice_cmp nat_cmp name y ≡ Less) names → AllByRecursion (λ y. bytes_eq name y ≡ false) names
-apart-below name [] below = tt
-apart-below name (other ∷ names) below = (sym (is_eq-slice_cmp name other) ∙ ap is_eq below.0, apart-below name names below.1)
-
-distinct-sorted : (names : List (List ℕ)) → IsStrictlySortedBy (slice_cmp nat_cmp) names → IsDistinct bytes_eq names
-unfolding IsStrictlySortedBy IsDistinct
-distinct-sorted [] ordered = tt
-distinct-sorted (name ∷ names) ordered = (apart-below name names ordered.0, distinct-sorted names ordered.1)
-
-own-apart : (e : Data) (r : Record) → Says e r → IsDistinct bytes_eq (header_names (request_value r))
-own-apart e r says =
-    let named = names_in-text_members_in (get (codes "headers") (request_value r)) r.headers (own-text_members r) in
-    let folds : keys_of (map folded r.headers) ≡ keys_of r.headers = ap keys_of (folded-headers e r.headers says.headers) in
-    subst (IsDistinct bytes_eq) (sym (named ∙ folds)) (distinct-sorted (keys_of r.headers) says.headers.ordered)
-
 -- a request's value breaks no rule, as the element that says the request
 pub value-object : AreOneReading → (e : Data) (r : Record) → IsRequestObject e → Says e r → IsRequestObject (request_value r)
 value-object texts e r sound says rules.NotRequestObject = λ broken. cc (broken)
@@ -205,7 +186,7 @@ value-object texts e r sound says rules.BadUrl = λ broken. cc (subst IsNone (va
 value-object texts e r sound says rules.BadGroup = λ broken. broken.1 r.group (value-says e r says).group
 value-object texts e r sound says rules.BadDependsOn = λ broken. cc (subst IsNone (own-listed r) broken.1)
 value-object texts e r sound says rules.BadHeaders = λ broken. cc (subst IsNone (own-holds e r says).are broken.1)
-value-object texts e r sound says rules.HeaderTwice = λ broken. broken (own-apart e r says)
+value-object texts e r sound says rules.HeaderTwice = λ broken. broken (HoldsHeaders-apart (get (codes "headers") (request_value r)) r.headers (own-holds e r says))
 value-object texts e r sound says rules.BodyNotAllowed = λ broken.
     let own = value-says e r says in
     let method = one_method texts (request_value r) broken.method r.method broken.has own.method in
@@ -236,12 +217,6 @@ all-says [] (r ∷ rs) says = absurd says
 all-says (d ∷ ds) [] says = absurd says
 all-says (d ∷ ds) (r ∷ rs) says = (value-says d r says.0, all-says ds rs says.1)
 
-same-length : (ds : List Data) (rs : List Record) → AllZip Says ds rs → length rs ≡ length ds
-same-length [] [] says = refl
-same-length [] (r ∷ rs) says = absurd says
-same-length (d ∷ ds) [] says = absurd says
-same-length (d ∷ ds) (r ∷ rs) says = ap suc (same-length ds rs says.1)
-
 sound-at : AreOneReading → (ds : List Data) (rs : List Record) → AllZip Says ds rs → AreSound (BreaksRequestAt ds) → (rule : RequestRule) (i : ℕ) → ¬ BreaksRequestAt (map request_value rs) rule i
 sound-at texts [] [] says sound rule i = λ broken. broken
 sound-at texts [] (r ∷ rs) says sound rule i = absurd says
@@ -261,7 +236,7 @@ own-document value rs whole says document.NotObject = λ broken. cc (broken)
 own-document value rs whole says document.NoRequests = λ broken. cc (broken.1)
 own-document value rs whole says document.UnknownMember = λ broken. cc (broken)
 own-document value rs whole says document.TooMany = λ broken.
-    let count : length (elements (canonical_value rs)) ≡ length (elements value) = ap length (own-elements rs) ∙ length-map rs request_value ∙ same-length (elements value) rs says in
+    let count : length (elements (canonical_value rs)) ≡ length (elements value) = ap length (own-elements rs) ∙ length-map rs request_value ∙ AllZip-long Says (elements value) rs says in
     whole document.TooMany (omega (arith, broken, count))
 
 pub canonical-batch : (value : Data) (rs : List Record) → IsBatchOf value rs → IsBatchOf (canonical_value rs) rs

@@ -1,5 +1,5 @@
 -- The rules of an event: what breaks them, and what keeps an element from breaking them.
-use Rattle.std.proofs.Common.{◌≡◌, ◌<◌, List, Option, None, Some, IsSome, IsNone, IsSomeAnd, IfSome, MatchOption, option_map, is_some, true, codes, String, string_bytes, refl, arith}
+use Rattle.std.proofs.Common.{◌≡◌, ◌<◌, List, Option, None, Some, IsSome, IsNone, IsSomeAnd, IfSome, MatchOption, option_map, is_some, true, codes, String, string_bytes, refl, subst, arith}
 use Rattle.std.specs.declared.alloc.Global.{Global}
 use Rattle.serde_json.specs.Data.{Data}
 use Rattle.serde_json.specs.Find.{get}
@@ -32,14 +32,10 @@ none_before d BadEvents less = absurd (omega arith)
 
 -- ---- starts
 
-not_some : {T : Type 0} (o : Option T) → o ≡ None → ¬ IsSome o
-not_some None is = λ some. absurd (cc (some))
-not_some (Some x) is = absurd (cc (is))
-
 -- a start is what has a string at `start` and nothing else
 pub start-from : (d : Data) (found : Option (String Global)) → ¬ HasOther objects.Start d → text_at (codes "start") d ≡ option_map string_bytes found
     → MatchOption found (¬ IsStart d) (λ id. IsStart d × (text_at (codes "start") d ≡ Some (string_bytes id)))
-start-from d None one is = λ start. not_some (text_at (codes "start") d) is start.id
+start-from d None one is = λ start. cc (subst IsSome is start.id)
 start-from d (Some id) one is = (record { one = one; id = rw is refl }, is)
 
 event-start : (start : Option Data) (d : Data) → is_some start ≡ true → IsStart d → IsEventBy start d

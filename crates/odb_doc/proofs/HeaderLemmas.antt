@@ -130,14 +130,10 @@ AddsMember-from name d k v old new key text absent inserted ordered = λ es e na
       ordered = ordered_entries new.entries ordered;
     }
 
-no_some : {X : Type 0} (o : Option X) → o ≡ None → IsSome o → ⊥
-no_some None is some = absurd (cc (some))
-no_some (Some x) is some = absurd (cc (is))
-
 -- a value that is not a string
 pub RefusesMember-other : (name : List ℕ) (d : Data) (old : Headers) → as_str d ≡ None → RefusesMember name d old
 RefusesMember-other name d old is = λ es rest e name_is d_is before headers.
-    no_some (text_members (members_view (es ++ e ∷ rest))) (text_members-other es e rest (ap as_str d_is ∙ is)) headers.texts
+    cc (subst IsSome (text_members-other es e rest (ap as_str d_is ∙ is)) headers.texts)
 
 -- a name that is among those before it
 pub RefusesMember-twice : (name : List ℕ) (d : Data) (k : String Global) (old : Headers) → string_bytes k ≡ str_to_ascii_lowercase name → is_some (tree.get string_cmp old k) ≡ true → RefusesMember name d old

@@ -14,10 +14,13 @@ pub list_any-names_of : (test : List ℕ → Bool) (ms : List (String Global × 
 list_any-names_of test [] = refl
 list_any-names_of test (m ∷ ms) = ap (λ b. test (string_bytes m.0) || b) (list_any-names_of test ms)
 
+pub object-from : (d : Data) (ms : Members) → as_object d ≡ Some ms → d ≡ object ms
+object-from null ms is = absurd (cc (is))
+object-from (boolean b) ms is = absurd (cc (is))
+object-from (number n) ms is = absurd (cc (is))
+object-from (string s) ms is = absurd (cc (is))
+object-from (array ds) ms is = absurd (cc (is))
+object-from (object xs) ms is = let same : xs ≡ ms = cc (is) in ap object same
+
 pub names_in-as_object : (d : Data) (ms : Members) → as_object d ≡ Some ms → names_in d ≡ names_of ms
-names_in-as_object null ms is = cc
-names_in-as_object (boolean b) ms is = cc
-names_in-as_object (number n) ms is = cc
-names_in-as_object (string s) ms is = cc
-names_in-as_object (array ds) ms is = cc
-names_in-as_object (object xs) ms is = let same : xs ≡ ms = cc in ap names_of same
+names_in-as_object d ms is = ap names_in (object-from d ms is)

@@ -1,21 +1,13 @@
 -- Names appended one by one, each unless the list has it, are the distinct names.
-use Rattle.std.proofs.Common.{◌≡◌, ◌∙◌, ◌||◌, ◌&&◌, ◌+◌, ◌<◌, ℕ, Bool, true, false, cond, not, Option, None, Some, option_map, List, [], ◌∷◌, ◌++◌, length, drop, get_or, fold, filter, bytes_eq, if◌then◌else◌, refl, ap, sym, append_assoc, append-nil, Bor}
+use Rattle.std.proofs.Common.{◌≡◌, ◌∙◌, ◌||◌, ◌&&◌, ℕ, Bool, true, false, cond, not, List, [], ◌∷◌, ◌++◌, fold, filter, bytes_eq, if◌then◌else◌, refl, ap, sym, append_assoc, append-nil, Bor}
 use Rattle.std.specs.List.{list_any}
-use Rattle.std.proofs.lemmas.List.{map-append, at_drop_more}
+use Rattle.std.proofs.lemmas.List.Elements.{filter_agree}
 use Rattle.std.proofs.lemmas.List.Folds.{list_any-append}
 use Rattle.std.proofs.lemmas.Bool.Decides.{same_from_decides}
 use Rattle.std.proofs.lemmas.Slice.Eq.{bytes_eq-Decides}
-use Rattle.serde_json.specs.Find.{as_str}
-use Rattle.serde_json.specs.View.{view, items_view}
-use Rattle.serde_json.specs.declared.value.Value.{Value}
 use Rattle.odb_doc.specs.Names.{without, distinct, with_name, texts_in}
-use Rattle.odb_doc.specs.Shapes.{texts_of}
 
 -- ---- filters
-
-filter-same : {X : Type 0} (p q : X → Bool) → ((x : X) → p x ≡ q x) → (xs : List X) → filter p xs ≡ filter q xs
-filter-same p q same [] = refl
-filter-same p q same (x ∷ xs) = rw (same x, filter-same p q same xs) refl
 
 filter-filter : {X : Type 0} (p q : X → Bool) (xs : List X) → filter p (filter q xs) ≡ filter (λ x. q x && p x) xs
 filter-filter p q [] = refl
@@ -67,12 +59,12 @@ fold-with_name_step : (among : Bool) (names added : List (List ℕ)) (name : Lis
     ≡ names ++ cond (not among) (name ∷ filter (is_new names) (without name (distinct added))) (filter (is_new names) (without name (distinct added)))
 fold-with_name_step true names added name among rest =
     rest names ∙ ap (λ xs. names ++ xs) (
-    sym (filter-same _ _ (stays_out names name among) (distinct added))
+    sym (filter_agree _ _ (stays_out names name among) (distinct added))
     ∙ sym (filter-filter (is_new names) (λ other. not (bytes_eq other name)) (distinct added))
     )
 fold-with_name_step false names added name among rest =
     rest (names ++ name ∷ []) ∙ append_assoc names (name ∷ []) _ ∙ ap (λ xs. names ++ name ∷ xs) (
-    filter-same _ _ (is_new-push names name) (distinct added)
+    filter_agree _ _ (is_new-push names name) (distinct added)
     ∙ sym (filter-filter (is_new names) (λ other. not (bytes_eq other name)) (distinct added))
     )
 
@@ -87,53 +79,11 @@ pub fold-with_name-nil : (names : List (List ℕ)) → fold with_name [] names �
 unfolding is_new
 fold-with_name-nil names = fold-with_name [] names ∙ filter-all (distinct names)
 
--- ---- names in an array of values
-
--- the names, and then the strings of the values one by one
-abbrev pub read_on : List (List ℕ) → List Value → Option (List (List ℕ))
-read_on names vs = option_map (fold with_name names) (texts_of (items_view vs))
-
-map-fold : (o : Option (List (List ℕ))) → option_map (fold with_name []) o ≡ option_map distinct o
-map-fold None = refl
-map-fold (Some names) = ap Some (fold-with_name-nil names)
-
-pub read_on-nil : (vs : List Value) → read_on [] vs ≡ option_map distinct (texts_of (items_view vs))
-read_on-nil vs = map-fold (texts_of (items_view vs))
-
-fold-map : (names : List (List ℕ)) (name : List ℕ) (o : Option (List (List ℕ)))
-    → option_map (fold with_name names) (option_map (λ texts. name ∷ texts) o) ≡ option_map (fold with_name (with_name names name)) o
-fold-map names name None = refl
-fold-map names name (Some texts) = refl
-
-pub read_on-text : (names : List (List ℕ)) (v : Value) (vs : List Value) (name : List ℕ) → as_str (view v) ≡ Some name
-    → read_on names (v ∷ vs) ≡ read_on (with_name names name) vs
-read_on-text names v vs name is = rw is (fold-map names name (texts_of (items_view vs)))
-
-pub read_on-other : (names : List (List ℕ)) (v : Value) (vs : List Value) → as_str (view v) ≡ None → read_on names (v ∷ vs) ≡ None
-read_on-other names v vs is = rw is refl
-
--- ---- names as a set of references holds them
-
-texts_in-put : (among : Bool) (keys : List (Bor (List ℕ))) (text : Bor (List ℕ))
-    → texts_in (if among then keys else keys ++ text ∷ []) ≡ (if among then texts_in keys else texts_in keys ++ text.now ∷ [])
-texts_in-put true keys text = refl
-texts_in-put false keys text = map-append (λ (t : Bor (List ℕ)). t.now) keys (text ∷ [])
+-- ---- names as a list of references holds them
 
 pub list_any-texts_in : (name : List ℕ) (keys : List (Bor (List ℕ))) → list_any (bytes_eq name) (texts_in keys) ≡ list_any (λ key. bytes_eq name key.now) keys
 list_any-texts_in name [] = refl
 list_any-texts_in name (key ∷ keys) = ap (λ b. bytes_eq name key.now || b) (list_any-texts_in name keys)
-
-pub texts_in-insert : (keys : List (Bor (List ℕ))) (text : Bor (List ℕ))
-    → texts_in (if list_any (λ key. bytes_eq text.now key.now) keys then keys else keys ++ text ∷ []) ≡ with_name (texts_in keys) text.now
-texts_in-insert keys text = rw (list_any-texts_in text.now keys) (texts_in-put _ keys text)
-
--- the value at a place goes first of what is left from there
-pub read_on-drop : (names : List (List ℕ)) (vs : List Value) (i : ℕ) (v : Value) → i < length vs → v ≡ get_or vs i v
-    → read_on names (drop i vs) ≡ read_on names (v ∷ drop (i + 1) vs)
-read_on-drop names vs i v within is =
-    at_drop_more (read_on names) vs i v within ∙ ap (λ x. read_on names (x ∷ drop (i + 1) vs)) (sym is)
-
--- ---- names as a list of references holds them
 
 bytes_eq-comm : (xs ys : List ℕ) → bytes_eq xs ys ≡ bytes_eq ys xs
 bytes_eq-comm xs ys =
@@ -143,8 +93,3 @@ bytes_eq-comm xs ys =
 pub list_any-comm : (name : List ℕ) (keys : List (Bor (List ℕ))) → list_any (λ key. bytes_eq key.now name) keys ≡ list_any (λ key. bytes_eq name key.now) keys
 list_any-comm name [] = refl
 list_any-comm name (key ∷ keys) = rw (bytes_eq-comm key.now name, list_any-comm name keys) refl
-
--- the text is appended if the list does not have it
-pub texts_in-contains : (keys : List (Bor (List ℕ))) (text : Bor (List ℕ)) (among : Bool) → among ≡ list_any (λ key. bytes_eq key.now text.now) keys
-    → texts_in (if among then keys else keys ++ text ∷ []) ≡ with_name (texts_in keys) text.now
-texts_in-contains keys text among is = rw (is, list_any-comm text.now keys) (texts_in-insert keys text)

@@ -1,8 +1,6 @@
 -- The rules of an outcome, one after the other: what breaks them, and what keeps an element from breaking them.
-use Rattle.std.proofs.Common.{◌≡◌, ◌||◌, ◌<◌, ℕ, true, false, Option, None, Some, IsSomeAnd, IfSome, List, [], ◌∷◌, bytes_eq, String, string_bytes, Contains, refl, ap, arith}
-use Rattle.std.specs.declared.alloc.Global.{Global}
+use Rattle.std.proofs.Common.{◌≡◌, ◌<◌, ℕ, true, false, Option, None, Some, IsSomeAnd, IfSome, List, bytes_eq, Contains, arith}
 use Rattle.std.specs.List.{list_any}
-use Rattle.std.specs.String.{string_eq}
 use Rattle.std.proofs.lemmas.Bool.{both_ways}
 use Rattle.std.proofs.lemmas.Cmp.{nat_list_eq_equiv}
 use Rattle.std.proofs.lemmas.Map.Views.{list_any-from_Contains, Contains-from_any}
@@ -13,15 +11,8 @@ use Rattle.odb_doc.specs.declared.outcome_fault.OutcomeRule.TheVariants.{BadOutc
 use Rattle.odb_doc.specs.Bodies.{body_of}
 use Rattle.odb_doc.specs.LeastOutcomeFault.{BreaksOutcome}
 use Rattle.odb_doc.specs.OutcomeFaults.{rule_number}
-use Rattle.odb_doc.specs.RawOutcomes.{texts}
 use Rattle.odb_doc.specs.Outcomes.{IsOutcomeObject, IsStatus, id_of, status_of}
 use Rattle.odb_doc.specs.WholeNumbers.{IsWhole}
-
--- ---- ids that a set holds
-
-pub list_any-texts : (id : String Global) (ids : List (String Global)) → list_any (string_eq id) ids ≡ list_any (bytes_eq (string_bytes id)) (texts ids)
-list_any-texts id [] = refl
-list_any-texts id (other ∷ ids) = ap (λ b. bytes_eq (string_bytes id) (string_bytes other) || b) (list_any-texts id ids)
 
 -- ---- each rule
 

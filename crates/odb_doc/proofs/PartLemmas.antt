@@ -1,16 +1,17 @@
 -- The members of an object once others were moved out of it.
-use Rattle.std.proofs.Common.{◌≡◌, ◌∙◌, ℕ, false, None, Some, Option, IsSome, List, option_map, cond, bytes_eq, String, string_bytes, BTreeMap, refl, ap, sym}
+use Rattle.std.proofs.Common.{◌≡◌, ◌∙◌, ℕ, false, Some, Option, IsSome, List, option_map, cond, bytes_eq, String, string_bytes, BTreeMap, ap, sym}
 use Rattle.std.specs.declared.alloc.Global.{Global}
 use Rattle.std.specs.BTreeMap as tree
 use Rattle.std.specs.Cmp.Lexicographic.{slice_cmp}
 use Rattle.std.specs.Ordering.{nat_cmp}
 use Rattle.std.specs.String.{string_cmp}
 use Rattle.std.proofs.lemmas.Map.Text.{btree_map_updates_text}
-use Rattle.serde_json.specs.Data.{Data, null, boolean, number, string, array, object, Members}
-use Rattle.serde_json.specs.Find.{get, get_member, as_object}
+use Rattle.serde_json.specs.Data.{Data}
+use Rattle.serde_json.specs.Find.{get, as_object}
 use Rattle.serde_json.specs.View.{view, members_view}
 use Rattle.serde_json.specs.declared.value.Value.{Value}
 use Rattle.serde_json.proofs.Views.{view-lookup}
+use Rattle.odb_doc.proofs.MemberLemmas.{object-from}
 
 abbrev pub Object : Type 0
 Object = BTreeMap (String Global) Value
@@ -26,23 +27,6 @@ Writes name m value n = tree.WritesThrough string_cmp (λ k. slice_cmp nat_cmp n
 pub at-writes : (name : List ℕ) (m n : Object) (value : Value) → Writes name m value n → IsSome (at name m) → (other : List ℕ) → bytes_eq name other ≡ false → at other n ≡ at other m
 at-writes name m n value writes there other apart = btree_map_updates_text name m n (Some value) (writes.3 there) other ∙ ap (λ b. cond b (Some value) (at other m)) apart
 
-get-as_object : (name : List ℕ) (d : Data) (ms : Members) → as_object d ≡ Some ms → get name d ≡ get_member name ms
-get-as_object name null ms is = absurd (cc (is))
-get-as_object name (boolean b) ms is = absurd (cc (is))
-get-as_object name (number n) ms is = absurd (cc (is))
-get-as_object name (string s) ms is = absurd (cc (is))
-get-as_object name (array ds) ms is = absurd (cc (is))
-get-as_object name (object xs) ms is = let same : xs ≡ ms = cc (is) in ap (get_member name) same
-
 -- what the map has at a name is what the object has there
 pub get-at : (name : List ℕ) (d : Data) (m : Object) → as_object d ≡ Some (members_view m.entries) → option_map view (at name m) ≡ get name d
-get-at name d m is = view-lookup name m.entries ∙ sym (get-as_object name d (members_view m.entries) is)
-
--- a value that is no object has nothing anywhere
-pub get-none : (name : List ℕ) (d : Data) → as_object d ≡ None → get name d ≡ None
-get-none name null is = refl
-get-none name (boolean b) is = refl
-get-none name (number n) is = refl
-get-none name (string s) is = refl
-get-none name (array ds) is = refl
-get-none name (object ms) is = absurd (cc (is))
+get-at name d m is = view-lookup name m.entries ∙ ap (get name) (sym (object-from d (members_view m.entries) is))

@@ -1,14 +1,16 @@
 -- The rules from F18 on, one after the other: what keeps a request from breaking them.
-use Rattle.std.proofs.Common.{◌≡◌, ◌∙◌, Bool, true, false, List, [], ◌∷◌, Option, None, Some, IsSome, IsNone, codes, map, get_or, ◌==◌, bytes_eq, refl, ap, sym, subst, arith}
+use Rattle.std.proofs.Common.{◌≡◌, ◌∙◌, ℕ, true, false, List, [], ◌∷◌, Option, Some, IsSome, IsNone, codes, map, get_or, ◌==◌, bytes_eq, refl, ap, sym, subst, arith}
 use Rattle.std.specs.Char.{to_ascii_lowercase}
+use Rattle.std.specs.declared.cmp.Ordering.TheVariants.{Less}
 use Rattle.std.specs.Cmp.Lexicographic.{slice_cmp}
 use Rattle.std.specs.List.{IsDistinct, AllByRecursion}
+use Rattle.std.specs.List.Sorted.{IsStrictlySortedBy}
 use Rattle.std.specs.Map.{keys_of}
-use Rattle.std.specs.Ordering.{nat_cmp, eq_by_cmp}
+use Rattle.std.specs.Ordering.{is_eq, nat_cmp}
 use Rattle.std.proofs.lemmas.Bool.{both_ways}
 use Rattle.std.proofs.lemmas.Cmp.{nat_list_eq_equiv}
 use Rattle.std.proofs.lemmas.List.Sorted.{IsPermutation-sym, IsPermutation-map}
-use Rattle.std.proofs.lemmas.Map.Keys.{IsDistinct-from_sorted, IsDistinct-IsPermutation}
+use Rattle.std.proofs.lemmas.Map.Keys.{IsDistinct-IsPermutation}
 use Rattle.std.proofs.lemmas.Map.Text.{is_eq-slice_cmp}
 use Rattle.serde_json.specs.Data.{Data}
 use Rattle.serde_json.specs.Find.{get}
@@ -17,7 +19,7 @@ use Rattle.odb_names.specs.declared.method.Method.{Method}
 use Rattle.odb_names.specs.declared.method.Method.TheVariants.{Delete, Get, Patch, Post, Put}
 use Rattle.odb_doc.specs.declared.fault.RequestRule.TheVariants as request
 use Rattle.odb_doc.specs.Bodies.{body_of, content_type}
-use Rattle.odb_doc.specs.Headers.{Header, HoldsHeaders, HasHeaders, IsHeaders, folded, folded_names, listed_in, listed_headers}
+use Rattle.odb_doc.specs.Headers.{Header, HoldsHeaders, HasHeaders, IsHeaders, folded, folded_names, listed_headers}
 use Rattle.odb_doc.specs.BrokenRules.{BreaksNoneBefore, IsRequestObject}
 use Rattle.odb_doc.specs.MediaTypes.{AllowsBody}
 use Rattle.odb_doc.specs.Shapes.{HasMethod, BreaksRequest}
@@ -56,27 +58,22 @@ breaks_none d before here rule = before rule (omega arith)
 
 -- ---- headers
 
-listed_some : (o : Option (List Header)) (listed : List Header) → o ≡ Some listed → IsNone o → ⊥
-listed_some None listed is none = absurd (cc (is))
-listed_some (Some other) listed is none = cc (none)
-
 listed_not_bad : (d : Data) (listed : List Header) → listed_headers d ≡ Some listed → ¬ BreaksRequest request.BadHeaders d
-listed_not_bad d listed is bad = listed_some (listed_headers d) listed is bad.1
+listed_not_bad d listed is bad = cc (subst IsNone is bad.1)
 
-All-same : {X : Type 0} (e f : X → Bool) → ((x : X) → e x ≡ f x) → (xs : List X) → AllByRecursion (λ x. e x ≡ false) xs → AllByRecursion (λ x. f x ≡ false) xs
-All-same e f same [] all = tt
-All-same e f same (x ∷ xs) all = (sym (same x) ∙ all.0, All-same e f same xs all.1)
+apart-below : (name : List ℕ) (names : List (List ℕ)) → AllByRecursion (λ y. slice_cmp nat_cmp name y ≡ Less) names → AllByRecursion (λ y. bytes_eq name y ≡ false) names
+apart-below name [] below = tt
+apart-below name (other ∷ names) below = (sym (is_eq-slice_cmp name other) ∙ ap is_eq below.0, apart-below name names below.1)
 
-IsDistinct-same : {X : Type 0} (e f : X → X → Bool) → ((x y : X) → e x y ≡ f x y) → (xs : List X) → IsDistinct e xs → IsDistinct f xs
-unfolding IsDistinct
-IsDistinct-same e f same [] distinct = tt
-IsDistinct-same e f same (x ∷ xs) distinct = (All-same (e x) (f x) (same x) xs distinct.0, IsDistinct-same e f same xs distinct.1)
+distinct-sorted : (names : List (List ℕ)) → IsStrictlySortedBy (slice_cmp nat_cmp) names → IsDistinct bytes_eq names
+unfolding IsStrictlySortedBy IsDistinct
+distinct-sorted [] ordered = tt
+distinct-sorted (name ∷ names) ordered = (apart-below name names ordered.0, distinct-sorted names ordered.1)
 
 -- headers in order of their names have each name once, and so has what says them
 pub HoldsHeaders-apart : (o : Option Data) (headers : List Header) → HoldsHeaders o headers → IsDistinct bytes_eq (folded_names o)
 HoldsHeaders-apart o headers has =
-    let sorted = IsDistinct-from_sorted (slice_cmp nat_cmp) (keys_of headers) has.ordered in
-    let apart = IsDistinct-same (eq_by_cmp (slice_cmp nat_cmp)) bytes_eq is_eq-slice_cmp (keys_of headers) sorted in
+    let apart = distinct-sorted (keys_of headers) has.ordered in
     let names = IsPermutation-map (λ (h : Header). h.0) headers (map folded has.listed) (IsPermutation-sym (map folded has.listed) headers has.same) in
     let before = IsDistinct-IsPermutation bytes_eq nat_list_eq_equiv.symm (keys_of headers) (keys_of (map folded has.listed)) names apart in
     subst (IsDistinct bytes_eq) (sym (names_in-text_members_in o has.listed has.are)) before
@@ -88,12 +85,8 @@ headers_not_twice d headers has twice = twice (HoldsHeaders-apart (get (codes "h
 pub headers_sound : (d : Data) (headers : List Header) → BreaksNoneBefore request.BadHeaders d → HasHeaders d headers → BreaksNoneBefore request.BodyNotAllowed d
 headers_sound d headers before has = before_body d (before_twice d before (listed_not_bad d has.listed has.are)) (headers_not_twice d headers has)
 
-texts_some : (o : Option (List Header)) (listed : List Header) → o ≡ Some listed → IsSome o
-texts_some None listed is = absurd (cc (is))
-texts_some (Some other) listed is = refl
-
 pub IsHeaders-from : (o : Option Data) (headers : List Header) → HoldsHeaders o headers → IsHeaders o
-IsHeaders-from o headers has = record { texts = texts_some (listed_in o) has.listed has.are; apart = HoldsHeaders-apart o headers has }
+IsHeaders-from o headers has = record { texts = subst IsSome (sym has.are) refl; apart = HoldsHeaders-apart o headers has }
 
 -- ---- the body
 
