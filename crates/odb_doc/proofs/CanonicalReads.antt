@@ -1,11 +1,11 @@
 -- The canonical text of a batch that was read is read back as the canonical value.
-use Rattle.std.proofs.Common.{◌≡◌, ℕ, suc, ◌≤◌, false, List, [], ◌∷◌, map, Option, None, Some, option_map, option_and_then, unwrap_or, codes, Ordering, Less, Equal, Greater, refl, subst, arith}
+use Rattle.std.proofs.Common.{◌≡◌, ℕ, suc, ◌≤◌, false, List, [], ◌∷◌, map, Option, None, Some, option_map, option_and_then, unwrap_or, codes, Less, refl, subst, arith}
 use Rattle.std.specs.Prelude.{IfSome}
 use Rattle.std.specs.Cmp.Lexicographic.{slice_cmp}
 use Rattle.std.specs.List.{AllZip, AllByRecursion}
 use Rattle.std.specs.List.Sorted.{IsStrictlySortedBy}
 use Rattle.std.specs.Map.{keys_of}
-use Rattle.std.specs.Ordering.{match_ordering, nat_cmp}
+use Rattle.std.specs.Ordering.{nat_cmp}
 use Rattle.std.proofs.lemmas.Bool.{or_from, or_parts}
 use Rattle.serde_json.specs.Data.{Data, null, boolean, number, string, array, object, Items, no_items, item, Members, no_members, member, put, depth, items_depth, members_depth}
 use Rattle.serde_json.specs.Find.{get, get_member, as_array}
@@ -20,7 +20,7 @@ use Rattle.odb_doc.specs.Members.{list_of, given}
 use Rattle.odb_doc.specs.Records.{Record, Says, IsBatchOf}
 use Rattle.odb_doc.specs.Shapes.{elements}
 use Rattle.odb_doc.specs.WholeNumbers.{IsWhole}
-use Rattle.odb_doc.proofs.ReadBackLemmas.{AreOrdered, IsBelow, IsReadable, AreItemsReadable, AreMembersReadable, ordered-put, readable-put, readable-read, read_back}
+use Rattle.odb_doc.proofs.ReadBackLemmas.{AreOrdered, IsBelow, IsReadable, AreItemsReadable, AreMembersReadable, by_order, ordered-put, readable-put, readable-read, read_back}
 
 -- ---- values that are written without loss, nested at most so deep
 
@@ -35,27 +35,17 @@ record AreSafe (n : ℕ) (ms : Members) : Type 0 where
   whole : members_have_float ms ≡ false
   shallow : members_depth ms ≤ n
 
-whole-at : (o : Ordering) (k l : List ℕ) (d e : Data) (ms : Members) → has_float d ≡ false → has_float e ≡ false → members_have_float ms ≡ false → members_have_float (put k d ms) ≡ false
-    → members_have_float (match_ordering o (member k d (member l e ms)) (member l d ms) (member l e (put k d ms))) ≡ false
-whole-at Less k l d e ms new old rest more = or_from (has_float d) _ new (or_from (has_float e) _ old rest)
-whole-at Equal k l d e ms new old rest more = or_from (has_float d) _ new rest
-whole-at Greater k l d e ms new old rest more = or_from (has_float e) _ old more
-
 whole-put : (k : List ℕ) (d : Data) (ms : Members) → has_float d ≡ false → members_have_float ms ≡ false → members_have_float (put k d ms) ≡ false
 whole-put k d no_members new rest = or_from (has_float d) false new refl
 whole-put k d (member l e ms) new rest =
     let parts = or_parts (has_float e) (members_have_float ms) rest in
-    whole-at (slice_cmp nat_cmp k l) k l d e ms new parts.0 parts.1 (whole-put k d ms new parts.1)
-
-shallow-at : (o : Ordering) (n : ℕ) (a b c : Members) → members_depth a ≤ n → members_depth b ≤ n → members_depth c ≤ n → members_depth (match_ordering o a b c) ≤ n
-shallow-at Less n a b c first second third = first
-shallow-at Equal n a b c first second third = second
-shallow-at Greater n a b c first second third = third
+    by_order (λ all. members_have_float all ≡ false) (slice_cmp nat_cmp k l) _ _ _
+    (or_from (has_float d) _ new rest) (or_from (has_float d) _ new parts.1) (or_from (has_float e) _ parts.0 (whole-put k d ms new parts.1))
 
 shallow-put : (n : ℕ) (k : List ℕ) (d : Data) (ms : Members) → depth d ≤ n → members_depth ms ≤ n → members_depth (put k d ms) ≤ n
 shallow-put n k d no_members new rest = omega arith
 shallow-put n k d (member l e ms) new rest =
-    shallow-at (slice_cmp nat_cmp k l) n (member k d (member l e ms)) (member l d ms) (member l e (put k d ms)) (omega arith) (omega arith) (omega (arith, shallow-put n k d ms new (omega arith)))
+    by_order (λ all. members_depth all ≤ n) (slice_cmp nat_cmp k l) _ _ _ (omega arith) (omega arith) (omega (arith, shallow-put n k d ms new (omega arith)))
 
 safe-put : (n : ℕ) (k : List ℕ) (d : Data) (ms : Members) → IsSafe n d → AreSafe n ms → AreSafe n (put k d ms)
 safe-put n k d ms new rest = record {
@@ -147,15 +137,11 @@ record IsRead (n : ℕ) (d : Data) : Type 0 where
   readable : IsReadable d
   shallow : depth d ≤ n
 
-member-read-at : (o : Ordering) (n : ℕ) (found : Option Data) (e : Data) → IfSome found (IsRead n) → IsRead n e → IfSome (match_ordering o found (Some e) found) (IsRead n)
-member-read-at Less n found e rest here = rest
-member-read-at Equal n found e rest here = here
-member-read-at Greater n found e rest here = rest
-
 member-read : (n : ℕ) (k : List ℕ) (ms : Members) → AreMembersReadable ms → members_depth ms ≤ n → IfSome (get_member k ms) (IsRead n)
 member-read n k no_members readable shallow = tt
 member-read n k (member l e ms) readable shallow =
-    member-read-at (slice_cmp nat_cmp k l) n (get_member k ms) e (member-read n k ms readable.1 (omega arith)) (record { readable = readable.0; shallow = omega arith })
+    let rest = member-read n k ms readable.1 (omega arith) in
+    by_order (λ found. IfSome found (IsRead n)) (slice_cmp nat_cmp k l) (get_member k ms) (Some e) (get_member k ms) rest (record { readable = readable.0; shallow = omega arith }) rest
 
 get-read : (n : ℕ) (k : List ℕ) (d : Data) → IsRead (suc n) d → IfSome (get k d) (IsRead n)
 get-read n k null safe = tt

@@ -1,5 +1,5 @@
 -- The rules of an event: what breaks them, and what keeps an element from breaking them.
-use Rattle.std.proofs.Common.{◌≡◌, ◌<◌, List, Option, None, Some, IsSome, IsNone, IsSomeAnd, IfSome, MatchOption, option_map, is_some, true, codes, String, string_bytes, refl, subst, arith}
+use Rattle.std.proofs.Common.{◌≡◌, ◌<◌, List, [], Option, None, Some, IsSome, IsNone, IfSome, MatchOption, option_map, is_some, true, codes, String, string_bytes, refl, subst, arith}
 use Rattle.std.specs.declared.alloc.Global.{Global}
 use Rattle.serde_json.specs.Data.{Data}
 use Rattle.serde_json.specs.Find.{get}
@@ -8,14 +8,13 @@ use Rattle.odb_doc.specs.declared.event_fault.EventRule.{EventRule}
 use Rattle.odb_doc.specs.declared.event_fault.EventRule.TheVariants.{NotWhole, BadEvents}
 use Rattle.odb_doc.specs.declared.member.Object.TheVariants as objects
 use Rattle.odb_doc.specs.declared.outcome.RawOutcome.{RawOutcome}
-use Rattle.odb_doc.specs.Bodies.{body_of}
 use Rattle.odb_doc.specs.EventFaults.{rule_number}
 use Rattle.odb_doc.specs.Events.{IsEventBy, IsReport, IsReportedStatus, IsStart}
 use Rattle.odb_doc.specs.RawReports.{IsReportOf, IsLeastBroken}
 use Rattle.odb_doc.specs.LeastEventFault.{BreaksEvent, HasBrokenNumber}
 use Rattle.odb_doc.specs.Members.{HasOther, text_at}
 use Rattle.odb_doc.specs.WholeNumbers.{IsWhole}
-use Rattle.odb_doc.proofs.OutcomeLemmas.{some_not_whole, all_whole}
+use Rattle.odb_doc.proofs.OutcomeLemmas.{BreaksOutcome-not_whole, BreaksOutcome-whole}
 
 -- what an event breaks, whatever is before it
 abbrev pub Breaks : EventRule → List Data → Data → Type 0
@@ -74,18 +73,12 @@ report-of d raw is status = record { outcome = is.says.object; status = rw is.sa
 pub status-bad : (d : Data) (raw : RawOutcome) → IsReportOf d raw → ¬ IsReportedStatus (number_view raw.status) → IsLeastBroken d BadEvents
 status-bad d raw is bad = not_report-bad d is.reports (λ report. bad (rw is.says.status at report.status))
 
-some_not_whole-of : (body read : Option Data) → body ≡ read → ¬ IfSome read IsWhole → IsSomeAnd body (λ d. ¬ IsWhole d)
-some_not_whole-of body read is not_whole = rw is (some_not_whole read not_whole)
-
-all_whole-of : (body read : Option Data) → body ≡ read → IfSome read IsWhole → IsSomeAnd body (λ d. ¬ IsWhole d) → ⊥
-all_whole-of body read is whole = rw is (all_whole read whole)
-
 pub report-not_whole : (d : Data) (raw : RawOutcome) → IsReportOf d raw → IsReportedStatus (number_view raw.status) → ¬ IfSome (option_map view raw.body) IsWhole → IsLeastBroken d NotWhole
 report-not_whole d raw is status body = record {
-  broken = record { reports = rw is.reports refl; report = report-of d raw is status; body = some_not_whole-of (body_of d) (option_map view raw.body) is.says.body body };
+  broken = record { reports = rw is.reports refl; report = report-of d raw is status; body = BreaksOutcome-not_whole [] d (option_map view raw.body) is.says.body body };
   least = λ other less broken. none_before d other less broken;
 }
 
 pub report-sound : (d : Data) (raw : RawOutcome) → IsReportOf d raw → IsReportedStatus (number_view raw.status) → IfSome (option_map view raw.body) IsWhole → (rule : EventRule) → ¬ BreaksEvent rule d
-report-sound d raw is status whole NotWhole = λ broken. all_whole-of (body_of d) (option_map view raw.body) is.says.body whole broken.body
+report-sound d raw is status whole NotWhole = λ broken. BreaksOutcome-whole [] d (option_map view raw.body) is.says.body whole broken.body
 report-sound d raw is status whole BadEvents = λ bad. bad (rw is.reports (report-of d raw is status))

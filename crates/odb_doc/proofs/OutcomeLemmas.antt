@@ -1,5 +1,5 @@
 -- The rules of an outcome, one after the other: what breaks them, and what keeps an element from breaking them.
-use Rattle.std.proofs.Common.{◌≡◌, ◌<◌, ℕ, true, false, Option, None, Some, IsSomeAnd, IfSome, List, bytes_eq, Contains, arith}
+use Rattle.std.proofs.Common.{◌≡◌, ◌<◌, ℕ, true, false, Option, None, Some, IsSomeAnd, IfSome, List, bytes_eq, Contains, subst, arith}
 use Rattle.std.specs.List.{list_any}
 use Rattle.std.proofs.lemmas.Bool.{both_ways}
 use Rattle.std.proofs.lemmas.Cmp.{nat_list_eq_equiv}
@@ -19,24 +19,16 @@ use Rattle.odb_doc.specs.WholeNumbers.{IsWhole}
 pub BreaksOutcome-twice : (before : List (List ℕ)) (d : Data) (id : List ℕ) → id_of d ≡ Some id → list_any (bytes_eq id) before ≡ true → BreaksOutcome OutcomeTwice before d
 BreaksOutcome-twice before d id is any = rw is (Contains-from_any (λ x y. (bytes_eq-Decides x y).0) id before any)
 
-no_Contains : (before : List (List ℕ)) (o : Option (List ℕ)) (id : List ℕ) → o ≡ Some id → list_any (bytes_eq id) before ≡ false → IsSomeAnd o (Contains before) → ⊥
-no_Contains before None id is any among = absurd (cc (is))
-no_Contains before (Some other) id is any among =
-    let same : other ≡ id = cc (is) in
-    both_ways (list_any (bytes_eq id) before) any (rw (← same) (list_any-from_Contains nat_list_eq_equiv other before among))
-
 pub BreaksOutcome-not_twice : (before : List (List ℕ)) (d : Data) (id : List ℕ) → id_of d ≡ Some id → list_any (bytes_eq id) before ≡ false → ¬ BreaksOutcome OutcomeTwice before d
-BreaksOutcome-not_twice before d id is any = no_Contains before (id_of d) id is any
+BreaksOutcome-not_twice before d id is any = λ twice.
+    let among : Contains before id = subst (λ (o : Option (List ℕ)). IsSomeAnd o (Contains before)) is twice in
+    both_ways (list_any (bytes_eq id) before) any (list_any-from_Contains nat_list_eq_equiv id before among)
 
 pub BreaksOutcome-status : (before : List (List ℕ)) (d : Data) (status : Num) → status_of d ≡ Some status → ¬ IsStatus status → BreaksOutcome BadStatus before d
 BreaksOutcome-status before d status is bad = rw is bad
 
-no_status : (o : Option Num) (status : Num) → o ≡ Some status → IsStatus status → IsSomeAnd o (λ n. ¬ IsStatus n) → ⊥
-no_status None status is good bad = absurd (cc (is))
-no_status (Some other) status is good bad = let same : other ≡ status = cc (is) in bad (rw same good)
-
 pub BreaksOutcome-good_status : (before : List (List ℕ)) (d : Data) (status : Num) → status_of d ≡ Some status → IsStatus status → ¬ BreaksOutcome BadStatus before d
-BreaksOutcome-good_status before d status is good = no_status (status_of d) status is good
+BreaksOutcome-good_status before d status is good = λ bad. subst (λ (o : Option Num). IsSomeAnd o (λ n. ¬ IsStatus n)) is bad good
 
 pub some_not_whole : (o : Option Data) → ¬ IfSome o IsWhole → IsSomeAnd o (λ body. ¬ IsWhole body)
 some_not_whole None none = absurd (none tt)

@@ -60,15 +60,15 @@ abbrev mutual
 
 -- ---- one more member
 
-below-at : (o : Ordering) (name k l : List ℕ) (d e : Data) (ms : Members) → slice_cmp nat_cmp name k ≡ Less → slice_cmp nat_cmp name l ≡ Less → IsBelow name ms → IsBelow name (put k d ms)
-    → IsBelow name (match_ordering o (member k d (member l e ms)) (member l d ms) (member l e (put k d ms)))
-below-at Less name k l d e ms first second below more = (first, (second, below))
-below-at Equal name k l d e ms first second below more = (second, below)
-below-at Greater name k l d e ms first second below more = (second, more)
+-- what holds of each of three holds of the one that the order chooses
+pub by_order : {X : Type 0} (P : X → Type 0) (o : Ordering) (less equal greater : X) → P less → P equal → P greater → P (match_ordering o less equal greater)
+by_order P Less less equal greater first second third = first
+by_order P Equal less equal greater first second third = second
+by_order P Greater less equal greater first second third = third
 
 below-put : (name k : List ℕ) (d : Data) (ms : Members) → slice_cmp nat_cmp name k ≡ Less → IsBelow name ms → IsBelow name (put k d ms)
 below-put name k d no_members less below = (less, tt)
-below-put name k d (member l e ms) less below = below-at (slice_cmp nat_cmp k l) name k l d e ms less below.0 below.1 (below-put name k d ms less below.1)
+below-put name k d (member l e ms) less below = by_order (IsBelow name) (slice_cmp nat_cmp k l) _ _ _ (less, below) below (below.0, below-put name k d ms less below.1)
 
 below-less : (k l : List ℕ) (ms : Members) → slice_cmp nat_cmp k l ≡ Less → IsBelow l ms → IsBelow k ms
 below-less k l no_members less below = tt
@@ -88,15 +88,9 @@ pub ordered-put : (k : List ℕ) (d : Data) (ms : Members) → AreOrdered ms →
 ordered-put k d no_members ordered = (tt, tt)
 ordered-put k d (member l e ms) ordered = ordered-at _ k l d e ms refl ordered (ordered-put k d ms ordered.1)
 
-readable-at : (o : Ordering) (k l : List ℕ) (d e : Data) (ms : Members) → IsReadable d → IsReadable e → AreMembersReadable ms → AreMembersReadable (put k d ms)
-    → AreMembersReadable (match_ordering o (member k d (member l e ms)) (member l d ms) (member l e (put k d ms)))
-readable-at Less k l d e ms new old rest more = (new, (old, rest))
-readable-at Equal k l d e ms new old rest more = (new, rest)
-readable-at Greater k l d e ms new old rest more = (old, more)
-
 pub readable-put : (k : List ℕ) (d : Data) (ms : Members) → IsReadable d → AreMembersReadable ms → AreMembersReadable (put k d ms)
 readable-put k d no_members new rest = (new, tt)
-readable-put k d (member l e ms) new rest = readable-at (slice_cmp nat_cmp k l) k l d e ms new rest.0 rest.1 (readable-put k d ms new rest.1)
+readable-put k d (member l e ms) new rest = by_order AreMembersReadable (slice_cmp nat_cmp k l) _ _ _ (new, rest) (new, rest.1) (rest.0, readable-put k d ms new rest.1)
 
 -- ---- what was read is readable
 
