@@ -1,55 +1,49 @@
 -- What the first number that passes is, and how many pass.
 use Rattle.std.proofs.Common.{◌≡◌, ◌≤◌, ◌<◌, ℕ, zero, suc, Bool, true, false, cond, Option, Some, None, refl, ap, subst, inl, inr, arith}
-use Rattle.std.proofs.lemmas.Bool.{cases_lt, cases_order, both_ways}
+use Rattle.std.specs.Bool.{Decides}
+use Rattle.std.proofs.lemmas.Bool.{cases_lt, cases_order}
+use Rattle.std.proofs.lemmas.Bool.Decides.{not_from_Decides}
 use Rattle.odb_check.specs.Firsts.{or_else, first_below, count_below}
 
--- b passes, and no smaller number
-pub record IsFirst (test : ℕ → Bool) (b : ℕ) : Type 0 where
-  pub passes : test b ≡ true
-  pub before : (k : ℕ) → k < b → test k ≡ false
+-- P holds of b, and of no smaller number
+pub record IsFirst (P : ℕ → Type 0) (b : ℕ) : Type 0 where
+  pub here : P b
+  pub before : (k : ℕ) → k < b → ¬ P k
 
 -- what the first number below n may be
-abbrev pub FirstCases : ℕ → (ℕ → Bool) → Option ℕ → Type 0
-FirstCases n test None = (k : ℕ) → k < n → test k ≡ false
-FirstCases n test (Some b) = (b < n) × IsFirst test b
+abbrev pub FirstCases : ℕ → (ℕ → Type 0) → Option ℕ → Type 0
+FirstCases n P None = (k : ℕ) → k < n → ¬ P k
+FirstCases n P (Some b) = (b < n) × IsFirst P b
 
 -- what holds below n and at n holds below the next number
 pub below_more : (n : ℕ) (P : ℕ → Type 0) → ((k : ℕ) → k < n → P k) → P n → (k : ℕ) → k < suc n → P k
 below_more n P below here k h = elim (cases_lt k n) [ inl less ↦ below k less | inr more ↦ let same : n ≡ k = omega arith in subst P same here ]
 
-last_one : (n : ℕ) (test : ℕ → Bool) → ((k : ℕ) → k < n → test k ≡ false) → (v : Bool) → test n ≡ v → FirstCases (suc n) test (cond v (Some n) None)
-last_one n test below true e = (omega arith, record { passes = e; before = below })
-last_one n test below false e = below_more n (λ k. test k ≡ false) below e
+one_more : (n : ℕ) (P : ℕ → Type 0) (found : Option ℕ) (v : Bool) → Decides v (P n) → FirstCases n P found → FirstCases (suc n) P (or_else found (cond v (Some n) None))
+one_more n P None true decides below = (omega arith, record { here = decides.0 refl; before = below })
+one_more n P None false decides below = below_more n (λ k. ¬ P k) below (not_from_Decides false decides refl)
+one_more n P (Some b) v decides first = (omega (arith, first.0), first.1)
 
-one_more : (n : ℕ) (test : ℕ → Bool) (found : Option ℕ) → FirstCases n test found → FirstCases (suc n) test (or_else found (cond (test n) (Some n) None))
-one_more n test None below = last_one n test below (test n) refl
-one_more n test (Some b) first = (omega (arith, first.0), first.1)
+pub first_cases : (n : ℕ) (test : ℕ → Bool) (P : ℕ → Type 0) → ((k : ℕ) → Decides (test k) (P k)) → FirstCases n P (first_below n test)
+first_cases zero test P decides = λ k h. absurd (omega arith)
+first_cases (suc n) test P decides = one_more n P (first_below n test) (test n) (decides n) (first_cases n test P decides)
 
-pub first_cases : (n : ℕ) (test : ℕ → Bool) → FirstCases n test (first_below n test)
-first_cases zero test = λ k h. absurd (omega arith)
-first_cases (suc n) test = one_more n test (first_below n test) (first_cases n test)
-
--- the first number that passes is one
-pub first_alone : (test : ℕ → Bool) (b c : ℕ) → IsFirst test b → IsFirst test c → b ≡ c
-first_alone test b c first other =
+-- the first number is one
+pub first_alone : (P : ℕ → Type 0) (b c : ℕ) → IsFirst P b → IsFirst P c → b ≡ c
+first_alone P b c first other =
     elim (cases_order b c) [
       | inl same ↦ same
-      | inr (inl less) ↦ absurd (both_ways (test b) (other.before b less) first.passes)
-      | inr (inr more) ↦ absurd (both_ways (test c) (first.before c more) other.passes)
+      | inr (inl less) ↦ absurd (other.before b less first.here)
+      | inr (inr more) ↦ absurd (first.before c more other.here)
     ]
 
-found_first : (n : ℕ) (test : ℕ → Bool) (b : ℕ) → b < n → IsFirst test b → (found : Option ℕ) → FirstCases n test found → found ≡ Some b
-found_first n test b within first None below = absurd (both_ways (test b) (below b within) first.passes)
-found_first n test b within first (Some c) other = ap Some (first_alone test c b other.1 first)
+pub found_first : (n : ℕ) (P : ℕ → Type 0) (b : ℕ) → b < n → IsFirst P b → (found : Option ℕ) → FirstCases n P found → found ≡ Some b
+found_first n P b within first None below = absurd (below b within first.here)
+found_first n P b within first (Some c) other = ap Some (first_alone P c b other.1 first)
 
-pub first_some : (n : ℕ) (test : ℕ → Bool) (b : ℕ) → b < n → IsFirst test b → first_below n test ≡ Some b
-first_some n test b within first = found_first n test b within first (first_below n test) (first_cases n test)
-
-pub first_of : (n : ℕ) (test : ℕ → Bool) (b : ℕ) → first_below n test ≡ Some b → (b < n) × IsFirst test b
-first_of n test b e = subst (FirstCases n test) e (first_cases n test)
-
-pub none_below : (n : ℕ) (test : ℕ → Bool) → first_below n test ≡ None → (k : ℕ) → k < n → test k ≡ false
-none_below n test e = subst (FirstCases n test) e (first_cases n test)
+pub found_none : (n : ℕ) (P : ℕ → Type 0) → ((k : ℕ) → k < n → ¬ P k) → (found : Option ℕ) → FirstCases n P found → found ≡ None
+found_none n P never None below = refl
+found_none n P never (Some b) first = absurd (never b first.0 first.1.here)
 
 -- a count does not fall
 count_step : (v : Bool) (m : ℕ) → m ≤ cond v (suc m) m
@@ -70,19 +64,14 @@ count_more test m zero h = let same : zero ≡ m = omega arith in subst (λ j. c
 count_more test m (suc n) h =
     elim (cases_lt n m) [
       | inl more ↦ let same : suc n ≡ m = omega arith in subst (λ j. count_below j test ≤ count_below (suc n) test) same (omega arith)
-      | inr less ↦ let before : count_below m test ≤ count_below n test = count_more test m n less in let step : count_below n test ≤ cond (test n) (suc (count_below n test)) (count_below n test) = count_step (test n) (count_below n test) in omega arith
+      | inr less ↦ let step : count_below n test ≤ count_below (suc n) test = count_step (test n) (count_below n test) in omega (arith, count_more test m n less)
     ]
-
-count_grows : (v : Bool) (m : ℕ) → v ≡ true → m < cond v (suc m) m
-count_grows true m e = omega arith
-count_grows false m e = cc
 
 -- a number that passes is counted after it
 pub count_less : (test : ℕ → Bool) (b n : ℕ) → test b ≡ true → b < n → count_below b test < count_below n test
 count_less test b n passes h =
-    let step : count_below b test < cond (test b) (suc (count_below b test)) (count_below b test) = count_grows (test b) (count_below b test) passes in
-    let more : count_below (suc b) test ≤ count_below n test = count_more test (suc b) n (omega arith) in
-    omega arith
+    let step : count_below (suc b) test ≡ suc (count_below b test) = rw passes refl in
+    omega (arith, count_more test (suc b) n (omega arith))
 
 -- two numbers that pass and have as many before them are one
 pub count_same : (test : ℕ → Bool) (b c : ℕ) → test b ≡ true → test c ≡ true → count_below b test ≡ count_below c test → b ≡ c

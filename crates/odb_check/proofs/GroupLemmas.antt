@@ -1,10 +1,14 @@
 -- The different groups of the first requests: how many they are, and that in the end they are all.
-use Rattle.std.proofs.Common.{◌≡◌, ◌∙◌, ◌||◌, ◌+◌, ◌≤◌, ◌<◌, ℕ, zero, suc, Bool, true, false, cond, is_some, Option, None, Some, List, [], ◌∷◌, ◌++◌, length, drop, fold, if◌then◌else◌, refl, ap, sym, subst, inl, inr, bytes_eq, arith, length-append}
+use Rattle.std.proofs.Common.{◌≡◌, ◌∙◌, ◌||◌, ◌+◌, ◌≤◌, ℕ, zero, suc, Bool, true, false, cond, is_some, Option, None, Some, List, [], ◌∷◌, ◌++◌, length, take, fold, if◌then◌else◌, refl, ap, sym, inl, inr, bytes_eq, arith, length-append}
 use Rattle.std.specs.Prelude.{option_and_then}
 use Rattle.std.specs.List.{list_any, filter_map, cons_option}
-use Rattle.std.proofs.lemmas.List.{drop_more, at_drop_all}
-use Rattle.std.proofs.lemmas.List.Folds.{list_any-append}
-use Rattle.std.proofs.lemmas.Option.{get_or_from_slice_get, slice_get_cases}
+use Rattle.std.proofs.Math.Bool.{or-false}
+use Rattle.std.proofs.Math.Seq.{take-suc}
+use Rattle.std.proofs.lemmas.Bool.{cases_Bool}
+use Rattle.std.proofs.lemmas.List.{take_all}
+use Rattle.std.proofs.lemmas.List.Elements.{filter_map-append}
+use Rattle.std.proofs.lemmas.List.Sums.{fold-append}
+use Rattle.std.proofs.lemmas.Option.{slice_get_cases}
 use Rattle.std.proofs.lemmas.Slice.Eq.{bytes_eq-Decides}
 use Rattle.odb_doc.specs.Names.{distinct, with_name}
 use Rattle.odb_doc.specs.Records.{Record}
@@ -13,26 +17,19 @@ use Rattle.odb_check.specs.Groups.{groups_of}
 use Rattle.odb_check.specs.Positions.{group_at}
 use Rattle.odb_check.specs.Units.{first_in_group}
 use Rattle.odb_check.specs.Tables.{with_group, groups_below}
+use Rattle.odb_check.proofs.AnyLemmas.{any_more}
 
 -- ---- a group is among those of the first n requests where one of these is in it
 
-or-nil : (a b : Bool) → (a || (b || false)) ≡ (a || b)
-or-nil true b = refl
-or-nil false true = refl
-or-nil false false = refl
-
-any_again : (same : Bool) (names : List (List ℕ)) (group q : List ℕ) → bytes_eq q group ≡ same → list_any (bytes_eq group) names ≡ true
-    → list_any (bytes_eq q) names ≡ (list_any (bytes_eq q) names || same)
-any_again true names group q is among =
-    let found : list_any (bytes_eq q) names ≡ true = rw ((bytes_eq-Decides q group).0 is) among in
-    rw found refl
-any_again false names group q is among =
-    elim (list_any (bytes_eq q) names) as (λ b. b ≡ (b || false)) [ true ↦ refl | false ↦ refl ]
-
-any-with : (among : Bool) (names : List (List ℕ)) (group q : List ℕ) → list_any (bytes_eq group) names ≡ among
-    → list_any (bytes_eq q) (if among then names else names ++ group ∷ []) ≡ (list_any (bytes_eq q) names || bytes_eq q group)
-any-with true names group q is = any_again (bytes_eq q group) names group q refl is
-any-with false names group q is = list_any-append (bytes_eq q) names (group ∷ []) ∙ or-nil (list_any (bytes_eq q) names) (bytes_eq q group)
+any-with : (names : List (List ℕ)) (group q : List ℕ) → list_any (bytes_eq q) (with_name names group) ≡ (list_any (bytes_eq q) names || bytes_eq q group)
+any-with names group q =
+    elim (cases_Bool (list_any (bytes_eq group) names)) [
+      | inl among ↦ rw among (elim (cases_Bool (bytes_eq q group)) [
+        | inl same ↦ let found : list_any (bytes_eq q) names ≡ true = rw ((bytes_eq-Decides q group).0 same) among in rw found refl
+        | inr other ↦ rw other (sym (or-false (list_any (bytes_eq q) names)))
+      ])
+      | inr new ↦ rw new (any_more (bytes_eq q) names group)
+    ]
 
 some_or : (found : Option ℕ) (b : Bool) (n : ℕ) → is_some (or_else found (cond b (Some n) None)) ≡ (is_some found || b)
 some_or None true n = refl
@@ -45,7 +42,7 @@ any-with_group : (names : List (List ℕ)) (found : Option ℕ) (n : ℕ) (q : L
 any-with_group names found n q None same =
     same ∙ elim found as (λ o. is_some o ≡ is_some (or_else o None)) [ None ↦ refl | Some f ↦ refl ]
 any-with_group names found n q (Some group) same =
-    any-with (list_any (bytes_eq group) names) names group q refl ∙ ap (λ b. b || bytes_eq q group) same ∙ sym (some_or found (bytes_eq q group) n)
+    any-with names group q ∙ ap (λ b. b || bytes_eq q group) same ∙ sym (some_or found (bytes_eq q group) n)
 
 pub any-groups_below : (rs : List Record) (n : ℕ) (q : List ℕ) → list_any (bytes_eq q) (groups_below rs n) ≡ is_some (first_in_group rs n q)
 any-groups_below rs zero q = refl
@@ -71,31 +68,23 @@ length-groups_below rs (suc n) = omega (arith, length-groups_below rs n, length-
 
 -- ---- in the end they are all
 
--- the names so far, and then the groups of the requests that are left
-abbrev pub put_on : List (List ℕ) → List Record → List (List ℕ)
-put_on names requests = fold with_name names (filter_map (λ (r : Record). r.group) requests)
+put_one : (names : List (List ℕ)) (group : Option (List ℕ)) → with_group names group ≡ fold with_name names (cons_option group [])
+put_one names None = refl
+put_one names (Some group) = refl
 
-put_one : (names : List (List ℕ)) (group : Option (List ℕ)) (requests : List Record)
-    → fold with_name names (cons_option group (filter_map (λ (r : Record). r.group) requests)) ≡ put_on (with_group names group) requests
-put_one names None requests = refl
-put_one names (Some group) requests = refl
-
-put_next : (rs : List Record) (n : ℕ) → n < length rs → put_on (groups_below rs n) (drop n rs) ≡ put_on (groups_below rs (suc n)) (drop (n + 1) rs)
-put_next rs n within =
+groups_so_far : (rs : List Record) (n : ℕ) → n ≤ length rs → groups_below rs n ≡ fold with_name [] (filter_map (λ (r : Record). r.group) (take n rs))
+groups_so_far rs zero within = refl
+groups_so_far rs (suc n) within =
+    let groups : List Record → List (List ℕ) = filter_map (λ (r : Record). r.group) in
     elim (slice_get_cases rs n).1 [
-      | inl (r, _, here, _) ↦
-          let left : drop n rs ≡ r ∷ drop (n + 1) rs = drop_more rs n r within ∙ ap (λ x. x ∷ drop (n + 1) rs) (get_or_from_slice_get rs n r r here) in
-          let group : group_at rs n ≡ r.group = ap (λ o. option_and_then (λ x. x.group) o) here in
-          ap (put_on (groups_below rs n)) left ∙ put_one (groups_below rs n) r.group (drop (n + 1) rs) ∙ ap (λ g. put_on (with_group (groups_below rs n) g) (drop (n + 1) rs)) (sym group)
+      | inl (r, _, here, there) ↦
+          let more : groups (take (suc n) rs) ≡ groups (take n rs) ++ groups (r ∷ []) =
+          ap groups (take-suc rs n r (omega arith) ∙ ap (λ x. take n rs ++ x ∷ []) there) ∙ filter_map-append (λ (x : Record). x.group) (take n rs) (r ∷ []) in
+          ap (λ names. with_group names (group_at rs n)) (groups_so_far rs n (omega arith)) ∙ ap (λ o. with_group (fold with_name [] (groups (take n rs))) (option_and_then (λ x. x.group) o)) here
+          ∙ put_one (fold with_name [] (groups (take n rs))) r.group ∙ sym (ap (fold with_name []) more ∙ fold-append with_name [] (groups (take n rs)) (groups (r ∷ [])))
       | inr (past, _) ↦ absurd (omega arith)
     ]
 
 -- what is assumed is a law of the names of a list
-put_all : (rs : List Record) (n : ℕ) → ((names : List (List ℕ)) → fold with_name [] names ≡ distinct names) → n ≤ length rs → put_on (groups_below rs n) (drop n rs) ≡ groups_of rs
-put_all rs zero law within = law (filter_map (λ (r : Record). r.group) rs)
-put_all rs (suc n) law within =
-    let more : n + 1 ≡ suc n = omega arith in
-    subst (λ k. put_on (groups_below rs (suc n)) (drop k rs) ≡ groups_of rs) more (sym (put_next rs n (omega arith)) ∙ put_all rs n law (omega arith))
-
 pub groups_below-all : (rs : List Record) → ((names : List (List ℕ)) → fold with_name [] names ≡ distinct names) → groups_below rs (length rs) ≡ groups_of rs
-groups_below-all rs law = sym (at_drop_all (put_on (groups_below rs (length rs))) rs (length rs) (omega arith)) ∙ put_all rs (length rs) law (omega arith)
+groups_below-all rs law = groups_so_far rs (length rs) (omega arith) ∙ ap (λ xs. fold with_name [] (filter_map (λ (r : Record). r.group) xs)) (take_all (length rs) rs (omega arith)) ∙ law (filter_map (λ (r : Record). r.group) rs)

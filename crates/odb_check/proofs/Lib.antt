@@ -7,15 +7,9 @@ pub mod BelowLemmas
 pub mod MarkLemmas
 pub mod AnyLemmas
 pub mod NeedLemmas
-pub mod RuleLemmas
-pub mod DecideLemmas
-pub mod IdLemmas
 pub mod NameLemmas
 pub mod ReferenceLemmas
 pub mod WalkLemmas
 pub mod LevelLemmas
 pub mod PlanLemmas
 pub mod OffsetLemmas
-pub mod MemberLemmas
-pub mod TextLemmas
-mod FaultLemmas

@@ -13,14 +13,13 @@ use Rattle.odb_check.specs.declared.need.Need.{Need}
 use Rattle.odb_check.specs.declared.need.Need.TheVariants.{One, Group}
 use Rattle.odb_check.specs.Judged.{IsAnswer, MissesGroupOf, batch_of}
 use Rattle.odb_check.specs.Walks.{HasSoundIds, named_at}
-use Rattle.odb_check.specs.Marks.{is_group}
+use Rattle.odb_check.specs.Marks.{same_need}
 use Rattle.odb_check.specs.NameFaults.{SomeName, IsBrokenAt, IsMemberAlone}
 use Rattle.odb_check.specs.Needs.{need_of}
 use Rattle.odb_check.specs.Positions.{id_at, group_at, names_at, IsId, IsIdFrom, IsGroup, IsGroupAfter, IsInGroupOf, NamesGroupOf}
 use Rattle.odb_check.specs.Units.{unit_begin, unit_at}
-use Rattle.odb_check.proofs.AnyLemmas.{SomePasses, ElementMeaning, any_passes, some_passes, element_meaning, Contains-meaning}
-use Rattle.odb_check.proofs.DecideLemmas.{Decides-none}
-use Rattle.odb_check.proofs.NeedLemmas.{IsMeant, is_meant, group_need, means_nothing, no_group, one_id}
+use Rattle.odb_check.proofs.AnyLemmas.{ElementMeaning, Decides-none, element_meaning, Contains-meaning}
+use Rattle.odb_check.proofs.NeedLemmas.{IsMeant, is_meant, group_need, means_nothing, need_listed, no_group, one_id}
 use Rattle.odb_check.proofs.PositionLemmas.{IsFirstAt}
 use Rattle.odb_check.proofs.UnitLemmas.{unit_before, has_units, begin_of_group, in_group, in_unit, in_order}
 
@@ -116,21 +115,14 @@ outside_Decides rs i p less = Decides-like (not (unit_at rs p == unit_at rs i)) 
     (λ h same. elim (((has_units rs).together i p).0 (sym same)) [ inl one ↦ absurd (omega arith) | inr both ↦ h.1 both ])
     (Decides-not (unit_at rs p == unit_at rs i) (Decides-eqb (unit_at rs p) (unit_at rs i)))
 
--- the unit of p is named where its group is
-unit_sound : (rs : List Record) (p : ℕ) (name : List ℕ) (need : Need) → IsMeant rs name need → is_group (unit_at rs p) need ≡ true → group_at rs p ≡ Some name
-unit_sound rs p name (One q) is e = cc
-unit_sound rs p name (Group u) is e = in_group rs name u p is.unit (sym (eqb-true u (unit_at rs p) e))
-
-group_listed : (rs : List Record) → HasSoundIds rs → (i p : ℕ) → Decides (list_any (is_group (unit_at rs p)) (named_at rs i)) (NamesGroupOf rs i p)
-group_listed rs sound i p = (
-  (λ e.
-      let found : SomePasses (is_group (unit_at rs p)) (named_at rs i) = some_passes (is_group (unit_at rs p)) (named_at rs i) e in
-      let name : ElementMeaning (need_of rs) (names_at rs i) found.element = element_meaning (need_of rs) (names_at rs i) found.element found.inside in
-      (name.element, unit_sound rs p name.element found.element (is_meant rs name.element found.element name.means) found.passes, name.inside)),
-  (λ h.
-      let means : need_of rs h.0 ≡ Some (Group (unit_at rs p)) = group_need rs (apart rs sound) h.0 p h.1 in
-      any_passes (is_group (unit_at rs p)) (named_at rs i) (Group (unit_at rs p)) (Contains-meaning (need_of rs) (names_at rs i) h.0 (Group (unit_at rs p)) h.2 means) (eq-eqb (unit_at rs p) (unit_at rs p) refl)),
-)
+group_listed : (rs : List Record) → HasSoundIds rs → (i p : ℕ) → Decides (list_any (same_need (Group (unit_at rs p))) (named_at rs i)) (NamesGroupOf rs i p)
+group_listed rs sound i p = Decides-like _
+    (λ inside.
+    let u = unit_at rs p in
+    let name : ElementMeaning (need_of rs) (names_at rs i) (Group u) = element_meaning (need_of rs) (names_at rs i) (Group u) inside in
+    (name.element, in_group rs name.element u p (is_meant rs name.element (Group u) name.means).unit refl, name.inside))
+    (λ h. Contains-meaning (need_of rs) (names_at rs i) h.0 (Group (unit_at rs p)) h.2 (group_need rs (apart rs sound) h.0 p h.1))
+    (need_listed (Group (unit_at rs p)) (named_at rs i))
 
 -- a group is listed where its unit has the stamp
 pub group_marked : (j : Judged) (p : ℕ) → Decides (slice_index j.marks.now.groups.items (unit_at (batch_of j) p) == j.i + 1) (NamesGroupOf (batch_of j) j.i p)

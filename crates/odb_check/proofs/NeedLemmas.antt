@@ -1,16 +1,20 @@
 -- What names resolve to.
 use Rattle.std.proofs.Common.{◌≡◌, ◌<◌, ℕ, List, Option, Some, None, refl, sym, ap, ◌∙◌, subst, inl, inr, arith, length}
-use Rattle.std.specs.Prelude.{IsSomeAnd}
+use Rattle.std.specs.Prelude.{◌==◌, Contains, IsSomeAnd}
+use Rattle.std.specs.Bool.{Decides}
+use Rattle.std.specs.List.{list_any}
 use Rattle.std.proofs.lemmas.Bool.{cases_order}
+use Rattle.std.proofs.lemmas.Bool.Decides.{Decides-eqb, Decides-like}
 use Rattle.odb_doc.specs.Records.{Record}
 use Rattle.odb_check.specs.declared.fault.NameRule.TheVariants.{IdTwice, IdIsGroup}
 use Rattle.odb_check.specs.declared.need.Need.{Need}
 use Rattle.odb_check.specs.declared.need.Need.TheVariants.{One, Group}
-use Rattle.odb_check.specs.Marks.{IsWithin}
+use Rattle.odb_check.specs.Marks.{IsWithin, same_need}
 use Rattle.odb_check.specs.NameFaults.{IsBrokenAt}
 use Rattle.odb_check.specs.Needs.{need_at, need_of}
 use Rattle.odb_check.specs.Positions.{id_at, group_at, IsIdBefore, IsGroup}
 use Rattle.odb_check.specs.Units.{begins_unit, unit_at, unit_count, position_of, unit_of_group}
+use Rattle.odb_check.proofs.AnyLemmas.{Contains-Decides, Decides-none}
 use Rattle.odb_check.proofs.FirstLemmas.{count_less}
 use Rattle.odb_check.proofs.PositionLemmas.{IsFirstAt, text_some, text_absent, id_within, position_first, position_none}
 use Rattle.odb_check.proofs.UnitLemmas.{IsUnitOf, unit_is, group_begins, known_group, unknown_unit}
@@ -37,15 +41,20 @@ meant_case rs name need None None e g h = cc
 pub is_meant : (rs : List Record) (name : List ℕ) (need : Need) → need_of rs name ≡ Some need → IsMeant rs name need
 is_meant rs name need e = meant_case rs name need (position_of rs name) (unit_of_group rs name) refl refl e
 
-pub unit_within : (rs : List Record) (name : List ℕ) (u : ℕ) → IsUnitOf rs name u → u < unit_count rs
-unit_within rs name u is = subst (λ v. v < unit_count rs) is.number (count_less (begins_unit rs) is.start (length rs) (group_begins rs name is.start is.first) is.within)
-
-within_case : (rs : List Record) (name : List ℕ) (need : Need) → IsMeant rs name need → IsWithin need (length rs) (unit_count rs)
-within_case rs name (One p) is = is.0
-within_case rs name (Group u) is = unit_within rs name u is.unit
-
 pub need_within : (rs : List Record) (name : List ℕ) (need : Need) → need_of rs name ≡ Some need → IsWithin need (length rs) (unit_count rs)
-need_within rs name need e = within_case rs name need (is_meant rs name need e)
+need_within rs name (One p) e = (is_meant rs name (One p) e).0
+need_within rs name (Group u) e =
+    let is : IsUnitOf rs name u = (is_meant rs name (Group u) e).unit in
+    subst (λ v. v < unit_count rs) is.number (count_less (begins_unit rs) is.start (length rs) (group_begins rs name is.start is.first) is.within)
+
+same_Decides : (need other : Need) → Decides (same_need need other) (other ≡ need)
+same_Decides (One p) (One q) = Decides-like (p == q) (λ e. ap One (sym e)) (λ e. cc) (Decides-eqb p q)
+same_Decides (One p) (Group v) = Decides-none (λ e. cc)
+same_Decides (Group u) (One q) = Decides-none (λ e. cc)
+same_Decides (Group u) (Group v) = Decides-like (u == v) (λ e. ap Group (sym e)) (λ e. cc) (Decides-eqb u v)
+
+pub need_listed : (need : Need) (needs : List Need) → Decides (list_any (same_need need) needs) (Contains needs need)
+need_listed need needs = Contains-Decides (same_need need) need (same_Decides need) needs
 
 -- no identifier comes twice
 pub one_id : (rs : List Record) → ((i : ℕ) → ¬ IsBrokenAt IdTwice rs i) → (id : List ℕ) (i j : ℕ) → id_at rs i ≡ Some id → id_at rs j ≡ Some id → i ≡ j

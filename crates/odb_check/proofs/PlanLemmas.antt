@@ -22,7 +22,7 @@ use Rattle.odb_check.specs.Needs.{need_of, further_names, needed_names, needs_at
 use Rattle.odb_check.specs.Positions.{id_at, group_at, names_at, reference_at, IsId, IsIdFrom, IsInGroupOf, NamesGroupOf}
 use Rattle.odb_check.specs.Shape.{unit_of, needs_of, shape_of, IsEarlier, IsAlone, IsNeed, IsPlan, IsShapeOf, IsSpan, HasNamesAsNeeds}
 use Rattle.odb_check.specs.Units.{begins_unit, unit_at, unit_count, HasMembers}
-use Rattle.odb_check.proofs.AnyLemmas.{ElementMeaning, element_meaning, Contains-meaning, Contains-head, Contains-none, Contains-cases, Contains-Decides, contains_cases}
+use Rattle.odb_check.proofs.AnyLemmas.{ElementMeaning, element_meaning, Contains-meaning, Contains-head, Contains-none, Contains-cases, text_listed, listed_cases}
 use Rattle.odb_check.proofs.BelowLemmas.{length-list_below, get_or-list_below}
 use Rattle.odb_check.proofs.FirstLemmas.{count_few}
 use Rattle.odb_check.proofs.LevelLemmas.{HasNeedsBefore}
@@ -102,9 +102,9 @@ group_needed rs good i r group h there other =
     let name : ElementMeaning (need_of rs) (needed_names rs i) (One r) = element_meaning (need_of rs) (needed_names rs i) (One r) h in
     let here : id_at rs r ≡ Some name.element = (is_meant rs name.element (One r) name.means).1.here in
     let less : r < i = (needs_before rs good).one i r h in
-    elim (contains_cases group (names_at rs i)) [
+    elim (listed_cases group (names_at rs i)) [
       | inl named ↦ listed_need rs i group (Group (unit_at rs r)) named (group_need rs (good IdIsGroup) group r there)
-      | inr lacking ↦ elim (contains_cases name.element (names_at rs i)) [
+      | inr lacking ↦ elim (listed_cases name.element (names_at rs i)) [
         | inl listed ↦
             let P : List ℕ → Type 0 = λ g. ¬ (group_at rs i ≡ Some g) × ¬ Contains (names_at rs i) g in
             let alone : P group = ((λ same. other (one_unit rs r i group there same)), lacking) in
@@ -140,7 +140,7 @@ one_name rs (Group u) name other is also =
 further_apart : (names : List (List ℕ)) (id : List ℕ) → AllPairs (λ x y. x ≢ y) names → (v : Bool) → list_any (bytes_eq id) names ≡ v → AllPairs (λ x y. x ≢ y) (names ++ cond v [] (id ∷ []))
 further_apart names id apart true e = subst (AllPairs (λ x y. x ≢ y)) (sym (append-nil names)) apart
 further_apart names id apart false e = all_pairs_push (λ x y. x ≢ y) names id apart
-    (λ k d less same. both_ways (list_any (bytes_eq id) names) e ((Contains-Decides id names).1 (subst (Contains names) same (Contains-get_or names k d less))))
+    (λ k d less same. both_ways (list_any (bytes_eq id) names) e ((text_listed id names).1 (subst (Contains names) same (Contains-get_or names k d less))))
 
 -- no name is needed twice
 needed_apart : (names : List (List ℕ)) (reference : Option (List ℕ)) → AllPairs (λ x y. x ≢ y) names → AllPairs (λ x y. x ≢ y) (names ++ further_names names reference)
@@ -239,7 +239,7 @@ is_plan rs good few distinct =
     }
 
 further_there : (names : List (List ℕ)) (id : List ℕ) → (v : Bool) → list_any (bytes_eq id) names ≡ v → Contains (names ++ cond v [] (id ∷ [])) id
-further_there names id true e = Contains-append_left names [] id ((Contains-Decides id names).0 e)
+further_there names id true e = Contains-append_left names [] id ((text_listed id names).0 e)
 further_there names id false e = Contains-append_right names (id ∷ []) id (Contains-head id [])
 
 reference_needed : (rs : List Record) (i : ℕ) (id : List ℕ) → reference_at rs i ≡ Some id → Contains (needed_names rs i) id

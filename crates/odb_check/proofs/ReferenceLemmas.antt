@@ -1,26 +1,26 @@
 -- Where the reference of the request under judgement breaks a rule, and what it adds to the needs.
-use Rattle.std.proofs.Common.{◌≡◌, ◌<◌, ◌+◌, ℕ, Bool, true, false, cond, List, [], ◌∷◌, Option, Some, None, refl, sym, ap, ◌∙◌, subst, arith, length}
+use Rattle.std.proofs.Common.{◌≡◌, ◌<◌, ◌+◌, ℕ, Bool, true, false, cond, List, [], ◌∷◌, Some, None, refl, sym, ap, ◌∙◌, subst, arith, length}
 use Rattle.std.specs.Prelude.{◌==◌, nat_le, is_some, slice_index, option_and_then, Contains, bytes_eq, IsSomeAnd}
 use Rattle.std.specs.Bool.{Decides}
 use Rattle.std.specs.List.{list_any, filter_map, cons_option}
-use Rattle.std.proofs.lemmas.Bool.{eqb-true, eq-eqb, leb-true, le-leb}
+use Rattle.std.proofs.lemmas.Option.{option_and_then_some, same_Some}
+use Rattle.std.proofs.lemmas.Bool.{leb-true, le-leb}
 use Rattle.std.proofs.lemmas.Bool.Decides.{Decides-at, Decides-like, same_from_decides}
 use Rattle.odb_doc.specs.Records.{Record}
 use Rattle.odb_check.specs.declared.fault.NameRule.TheVariants.{UnknownReference, ForwardReference, ReferenceNotListed}
 use Rattle.odb_check.specs.declared.names.Judged.{Judged}
 use Rattle.odb_check.specs.declared.need.Need.{Need}
-use Rattle.odb_check.specs.declared.need.Need.TheVariants.{One, Group}
+use Rattle.odb_check.specs.declared.need.Need.TheVariants.{One}
 use Rattle.odb_check.specs.Judged.{MissesGroupOf, batch_of, referred_by}
 use Rattle.odb_check.specs.Walks.{HasSoundIds, further_needs, named_at}
-use Rattle.odb_check.specs.Marks.{is_one}
+use Rattle.odb_check.specs.Marks.{same_need}
 use Rattle.odb_check.specs.NameFaults.{IsBrokenAt}
 use Rattle.odb_check.specs.Needs.{need_of, further_names}
 use Rattle.odb_check.specs.Positions.{id_at, names_at, reference_at, IsId, IsIdFrom, IsInGroupOf, NamesGroupOf}
 use Rattle.odb_check.specs.Units.{position_of}
-use Rattle.odb_check.proofs.AnyLemmas.{SomePasses, ElementMeaning, any_passes, some_passes, element_meaning, Contains-meaning, Contains-Decides}
-use Rattle.odb_check.proofs.DecideLemmas.{Decides-none, some_Decides, IsThere, is_there}
+use Rattle.odb_check.proofs.AnyLemmas.{ElementMeaning, Decides-none, some_Decides, element_meaning, Contains-meaning, text_listed}
 use Rattle.odb_check.proofs.NameLemmas.{once}
-use Rattle.odb_check.proofs.NeedLemmas.{is_meant, id_need, one_id}
+use Rattle.odb_check.proofs.NeedLemmas.{is_meant, id_need, need_listed, one_id}
 use Rattle.odb_check.proofs.PositionLemmas.{IsFirstAt, position_first, position_none}
 
 -- the request refers to p
@@ -30,27 +30,28 @@ pub record RefersTo (j : Judged) (p : ℕ) : Type 0 where
   pub within : p < length (batch_of j)
   pub there : id_at (batch_of j) p ≡ Some id
 
-refers_case : (j : Judged) (p : ℕ) (reference : Option (List ℕ)) → reference_at (batch_of j) j.i ≡ reference → option_and_then (position_of (batch_of j)) reference ≡ Some p → RefersTo j p
-refers_case j p None e found = cc
-refers_case j p (Some id) e found =
-    let first : (p < length (batch_of j)) × IsFirstAt (id_at (batch_of j)) id p = position_first (batch_of j) id p found in
-    record { id = id; here = e; within = first.0; there = first.1.here }
-
 pub refers : (j : Judged) (p : ℕ) → referred_by j ≡ Some p → RefersTo j p
-refers j p found = refers_case j p (reference_at (batch_of j) j.i) refl found
+refers j p found = option_and_then_some (position_of (batch_of j)) (reference_at (batch_of j) j.i) p found (λ id here at_p.
+    let first : (p < length (batch_of j)) × IsFirstAt (id_at (batch_of j)) id p = position_first (batch_of j) id p at_p in
+    record { id = id; here = here; within = first.0; there = first.1.here })
 
 -- where the request refers to none its reference is not an identifier
 refers_nowhere : (j : Judged) (id : List ℕ) → referred_by j ≡ None → reference_at (batch_of j) j.i ≡ Some id → ¬ IsId (batch_of j) id
 refers_nowhere j id none here h = position_none (batch_of j) id (sym (ap (option_and_then (position_of (batch_of j))) here) ∙ none) h.0 h.1
 
+-- what would make its reference an identifier does not hold
+pub nowhere : (j : Judged) (P : List ℕ → Type 0) → referred_by j ≡ None → ((id : List ℕ) → P id → IsId (batch_of j) id) → ¬ IsSomeAnd (reference_at (batch_of j) j.i) P
+nowhere j P none is_id h =
+    (elim (reference_at (batch_of j) j.i) as (λ o. reference_at (batch_of j) j.i ≡ o → IsSomeAnd o P → ⊥) [ None ↦ λ e none. none | Some id ↦ λ e holds. refers_nowhere j id none e (is_id id holds) ]) refl h
+
 -- ---- an unknown reference
 
-unknown_case : (j : Judged) → referred_by j ≡ None → (reference : Option (List ℕ)) → reference_at (batch_of j) j.i ≡ reference → Decides (is_some reference) (IsSomeAnd reference (λ id. ¬ IsId (batch_of j) id))
-unknown_case j none None e = Decides-none (λ h. h)
-unknown_case j none (Some id) e = ((λ yes. refers_nowhere j id none e), λ h. refl)
-
 pub unknown_Decides : (j : Judged) → referred_by j ≡ None → Decides (is_some (reference_at (batch_of j) j.i)) (IsBrokenAt UnknownReference (batch_of j) j.i)
-unknown_Decides j none = unknown_case j none (reference_at (batch_of j) j.i) refl
+unknown_Decides j none =
+    (elim (reference_at (batch_of j) j.i) as (λ o. reference_at (batch_of j) j.i ≡ o → Decides (is_some o) (IsSomeAnd o (λ id. ¬ IsId (batch_of j) id))) [
+      | None ↦ λ e. Decides-none (λ h. h)
+      | Some id ↦ λ e. ((λ yes. refers_nowhere j id none e), λ h. refl)
+    ]) refl
 
 pub known : (j : Judged) (p : ℕ) → RefersTo j p → ¬ IsBrokenAt UnknownReference (batch_of j) j.i
 known j p to h = subst (λ o. IsSomeAnd o (λ id. ¬ IsId (batch_of j) id)) to.here h (p, to.there)
@@ -62,11 +63,6 @@ forward_Decides j p to = some_Decides (reference_at (batch_of j) j.i) to.id (λ 
   (λ e. (p, leb-true j.i p e, to.there)),
   (λ h. let same : p ≡ h.0 = one_id (batch_of j) (once (batch_of j) j.sound) to.id p h.0 to.there h.2 in le-leb j.i p (omega (arith, h.1))),
 )
-
-pub nowhere_forward : (j : Judged) → referred_by j ≡ None → ¬ IsBrokenAt ForwardReference (batch_of j) j.i
-nowhere_forward j none h =
-    let there : IsThere (reference_at (batch_of j) j.i) (λ id. IsIdFrom (batch_of j) id j.i) = is_there (reference_at (batch_of j) j.i) _ h in
-    refers_nowhere j there.value none there.here (there.holds.0, there.holds.2)
 
 -- ---- a reference that is not listed
 
@@ -88,29 +84,17 @@ unlisted_Decides j p to lacks misses decides = some_Decides (reference_at (batch
 pub listed_never : (j : Judged) (p : ℕ) (to : RefersTo j p) → Contains (names_at (batch_of j) j.i) to.id → ¬ IsBrokenAt ReferenceNotListed (batch_of j) j.i
 listed_never j p to listed h = (unlisted_at j p to h).1 listed
 
-pub nowhere_unlisted : (j : Judged) → referred_by j ≡ None → ¬ IsBrokenAt ReferenceNotListed (batch_of j) j.i
-nowhere_unlisted j none h =
-    let there : IsThere (reference_at (batch_of j) j.i) (IsNotListed (batch_of j) j.i) = is_there (reference_at (batch_of j) j.i) _ h in
-    refers_nowhere j there.value none there.here (there.holds.0, there.holds.2)
-
 -- ---- among the names
 
-one_means : (rs : List Record) (id name : List ℕ) (p : ℕ) → id_at rs p ≡ Some id → (need : Need) → need_of rs name ≡ Some need → is_one p need ≡ true → name ≡ id
-one_means rs id name p here (One q) means e =
-    let meant : (q < length rs) × IsFirstAt (id_at rs) name q = is_meant rs name (One q) means in
-    let there : id_at rs p ≡ Some name = subst (λ k. id_at rs k ≡ Some name) (eqb-true q p e) meant.1.here in
-    cc
-one_means rs id name p here (Group u) means e = cc
-
 -- the names resolve to a position if and only if its identifier is among them
-one_listed : (rs : List Record) → HasSoundIds rs → (i : ℕ) (id : List ℕ) (p : ℕ) → id_at rs p ≡ Some id → Decides (list_any (is_one p) (named_at rs i)) (Contains (names_at rs i) id)
-one_listed rs sound i id p here = (
-  (λ e.
-      let found : SomePasses (is_one p) (named_at rs i) = some_passes (is_one p) (named_at rs i) e in
-      let name : ElementMeaning (need_of rs) (names_at rs i) found.element = element_meaning (need_of rs) (names_at rs i) found.element found.inside in
-      subst (Contains (names_at rs i)) (one_means rs id name.element p here found.element name.means found.passes) name.inside),
-  (λ h. any_passes (is_one p) (named_at rs i) (One p) (Contains-meaning (need_of rs) (names_at rs i) id (One p) h (id_need rs (once rs sound) id p here)) (eq-eqb p p refl)),
-)
+one_listed : (rs : List Record) → HasSoundIds rs → (i : ℕ) (id : List ℕ) (p : ℕ) → id_at rs p ≡ Some id → Decides (list_any (same_need (One p)) (named_at rs i)) (Contains (names_at rs i) id)
+one_listed rs sound i id p here = Decides-like _
+    (λ inside.
+    let name : ElementMeaning (need_of rs) (names_at rs i) (One p) = element_meaning (need_of rs) (names_at rs i) (One p) inside in
+    let there : id_at rs p ≡ Some name.element = (is_meant rs name.element (One p) name.means).1.here in
+    subst (Contains (names_at rs i)) (same_Some name.element id (sym there ∙ here)) name.inside)
+    (λ h. Contains-meaning (need_of rs) (names_at rs i) id (One p) h (id_need rs (once rs sound) id p here))
+    (need_listed (One p) (named_at rs i))
 
 -- an identifier is listed where its position has the stamp
 pub one_marked : (j : Judged) (p : ℕ) (id : List ℕ) → id_at (batch_of j) p ≡ Some id → Decides (slice_index j.marks.now.ones.items p == j.i + 1) (Contains (names_at (batch_of j) j.i) id)
@@ -126,13 +110,14 @@ further_case rs id need means false = ap (λ o. cons_option o []) means
 pub further_is : (j : Judged) (p : ℕ) (to : RefersTo j p) (listed : Bool) → Decides listed (Contains (names_at (batch_of j) j.i) to.id) → further_needs (batch_of j) j.i ≡ cond listed [] (One p ∷ [])
 further_is j p to listed decides =
     let rs = batch_of j in
-    let same : list_any (bytes_eq to.id) (names_at rs j.i) ≡ listed = same_from_decides (list_any (bytes_eq to.id) (names_at rs j.i)) listed (Contains-Decides to.id (names_at rs j.i)) decides in
+    let same : list_any (bytes_eq to.id) (names_at rs j.i) ≡ listed = same_from_decides (list_any (bytes_eq to.id) (names_at rs j.i)) listed (text_listed to.id (names_at rs j.i)) decides in
     ap (λ o. filter_map (need_of rs) (further_names (names_at rs j.i) o)) to.here ∙ ap (λ v. filter_map (need_of rs) (cond v [] (to.id ∷ []))) same
     ∙ further_case rs to.id (One p) (id_need rs (once rs j.sound) to.id p to.there) listed
 
-none_case : (j : Judged) → referred_by j ≡ None → ¬ IsBrokenAt UnknownReference (batch_of j) j.i → (reference : Option (List ℕ)) → reference_at (batch_of j) j.i ≡ reference → further_needs (batch_of j) j.i ≡ []
-none_case j none is_known None e = ap (λ o. filter_map (need_of (batch_of j)) (further_names (names_at (batch_of j) j.i) o)) e
-none_case j none is_known (Some id) e = absurd (is_known (subst (λ o. IsSomeAnd o (λ x. ¬ IsId (batch_of j) x)) (sym e) (refers_nowhere j id none e)))
-
 pub further_none : (j : Judged) → referred_by j ≡ None → ¬ IsBrokenAt UnknownReference (batch_of j) j.i → further_needs (batch_of j) j.i ≡ []
-further_none j none is_known = none_case j none is_known (reference_at (batch_of j) j.i) refl
+further_none j none is_known =
+    let rs = batch_of j in
+    (elim (reference_at rs j.i) as (λ o. reference_at rs j.i ≡ o → filter_map (need_of rs) (further_names (names_at rs j.i) o) ≡ []) [
+      | None ↦ λ e. refl
+      | Some id ↦ λ e. absurd (is_known (subst (λ o. IsSomeAnd o (λ x. ¬ IsId rs x)) (sym e) (refers_nowhere j id none e)))
+    ]) refl

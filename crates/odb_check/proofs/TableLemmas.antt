@@ -1,18 +1,19 @@
 -- One more request in the tables.
-use Rattle.std.proofs.Common.{◌≡◌, ◌≢◌, ◌≤◌, ◌<◌, ◌+◌, ◌⊎◌, ℕ, suc, Bool, true, false, cond, List, [], ◌∷◌, ◌++◌, Option, Some, None, refl, sym, ap, ◌∙◌, subst, inl, inr, arith, length}
-use Rattle.std.specs.Prelude.{◌==◌, slice_get, option_map, option_and_then, unwrap_or, is_some, bytes_eq}
+use Rattle.std.proofs.Common.{◌≡◌, ◌≢◌, ◌≤◌, ◌<◌, ◌+◌, ◌⊎◌, ℕ, suc, Bool, true, false, cond, List, [], ◌∷◌, ◌++◌, Option, Some, None, refl, sym, ap, ◌∙◌, subst, inl, inr, arith, length, length-append}
+use Rattle.std.specs.Prelude.{◌==◌, slice_get, slice_index, option_map, option_and_then, unwrap_or, is_some, bytes_eq}
 use Rattle.std.specs.List.{IsDistinct, list_any}
-use Rattle.std.proofs.lemmas.Bool.{cases_Bool, eq-eqb, ne_eqb}
+use Rattle.std.proofs.lemmas.Bool.{cases_Bool, cases_lt, eq-eqb, ne_eqb}
+use Rattle.std.proofs.lemmas.List.{get_or_append_left, get_or_push}
+use Rattle.std.proofs.lemmas.Option.{slice_get_within}
 use Rattle.odb_doc.specs.Records.{Record}
 use Rattle.odb_check.specs.declared.table.Table.{Table}
 use Rattle.odb_check.specs.Firsts.{or_else, is_text, first_below, list_below}
 use Rattle.odb_check.specs.Positions.{id_at, group_at, names_at}
-use Rattle.odb_check.specs.Tables.{AreTablesOf, at_text, more_with, table_len, unit_among, pass_below, groups_below, with_group}
+use Rattle.odb_check.specs.Tables.{AreTablesOf, IsStartOf, at_text, more_with, table_len, unit_among, groups_below, with_group}
 use Rattle.odb_check.specs.Units.{first_in_group, begins_unit, units_before, begin_in, unit_begin, unit_at}
 use Rattle.odb_check.proofs.GroupLemmas.{any-groups_below, length-groups_below, length-with}
 use Rattle.odb_check.proofs.FirstLemmas.{below_more, count_few, count_less}
-use Rattle.odb_check.proofs.BelowLemmas.{length-pass_below}
-use Rattle.odb_check.proofs.PositionLemmas.{text_there}
+use Rattle.odb_check.proofs.PositionLemmas.{text_Decides}
 use Rattle.odb_check.proofs.UnitLemmas.{BeginsAt, unit_begins, unit_at_begin}
 
 -- a position begins a unit, or is in one that began before
@@ -26,16 +27,28 @@ unit_cases rs i =
           inr (not_begins, count_less (begins_unit rs) (unit_begin rs i) i at_begin.begins (omega arith))
     ]
 
-next_start : (rs : List Record) (i : ℕ) (starts : List ℕ) → length starts ≡ units_before rs i → starts ≡ pass_below i (begins_unit rs)
-    → cond (unit_at rs i == length starts) (starts ++ i ∷ []) starts ≡ pass_below (suc i) (begins_unit rs)
-next_start rs i starts count are =
+-- where units begin, with one more request
+pub record AreStarts (rs : List Record) (n : ℕ) (starts : List ℕ) : Type 0 where
+  pub count : length starts ≡ units_before rs n
+  pub starts_are : (u : ℕ) → u < units_before rs n → IsStartOf rs u (slice_index starts u)
+
+next_start : (rs : List Record) (i : ℕ) (starts : List ℕ) → i < length rs → AreStarts rs i starts → AreStarts rs (suc i) (cond (unit_at rs i == length starts) (starts ++ i ∷ []) starts)
+next_start rs i starts inside are =
     elim (unit_cases rs i) [
-      | inl begins ↦
-          let same : (unit_at rs i == length starts) ≡ true = eq-eqb (unit_at rs i) (length starts) (begins.1 ∙ sym count) in
-          rw (same, begins.0) (ap (λ xs. xs ++ i ∷ []) are)
-      | inr within ↦
-          let other : (unit_at rs i == length starts) ≡ false = ne_eqb (unit_at rs i) (length starts) (λ e. omega arith) in
-          rw (other, within.0) are
+      | inl (begins, number) ↦
+          let same : (unit_at rs i == length starts) ≡ true = eq-eqb (unit_at rs i) (length starts) (number ∙ sym are.count) in
+          let count : units_before rs (suc i) ≡ suc (units_before rs i) = rw begins refl in
+          rw same (record {
+            count = omega (arith, are.count, length-append starts (i ∷ []));
+            starts_are = λ u less. elim (cases_lt u (length starts)) [
+              | inl before ↦ subst (IsStartOf rs u) (sym (get_or_append_left starts (i ∷ []) 0 u before)) (are.starts_are u (omega (arith, are.count)))
+              | inr last ↦ subst (IsStartOf rs u) (sym (get_or_push starts i 0 u (omega (arith, are.count)))) (record { within = inside; begins = begins; number = omega (arith, are.count) })
+            ];
+          })
+      | inr (not_begins, before) ↦
+          let other : (unit_at rs i == length starts) ≡ false = ne_eqb (unit_at rs i) (length starts) (λ e. omega (arith, are.count)) in
+          let count : units_before rs (suc i) ≡ units_before rs i = rw not_begins refl in
+          rw other (record { count = are.count ∙ sym count; starts_are = λ u less. are.starts_are u (omega arith) })
     ]
 
 -- the unit of the next position, by the tables
@@ -52,7 +65,7 @@ unit_among_is rs i next groups are e (Some group) = ap (λ o. unwrap_or o next) 
 new_group : (rs : List Record) (i unit : ℕ) (q : List ℕ) → unit ≡ unit_at rs i → first_in_group rs i q ≡ None → (v : Bool) → is_text q (group_at rs i) ≡ v
     → cond v (Some unit) None ≡ option_map (units_before rs) (cond v (Some i) None)
 new_group rs i unit q e none true here =
-    let group_is : group_at rs i ≡ Some q = text_there q (group_at rs i) here in
+    let group_is : group_at rs i ≡ Some q = (text_Decides q (group_at rs i)).0 here in
     let begin_is : unit_begin rs i ≡ i = ap (begin_in rs i) group_is ∙ ap (λ o. unwrap_or o i) none in
     ap Some (e ∙ ap (units_before rs) begin_is)
 new_group rs i unit q e none false here = refl
@@ -92,7 +105,7 @@ tables_more rs i r ids ids' groups groups' units starts units' starts' unit here
     let group_is : group_at rs i ≡ r.group = ap (λ o. option_and_then (λ x. x.group) o) here in
     let unit_is : unit ≡ unit_at rs i = among ∙ unit_among_is rs i (length starts) groups tables.groups_are tables.count r.group ∙ ap (λ g. units_before rs (begin_in rs i g)) (sym group_is) in
     let starts_unit : starts' ≡ cond (unit_at rs i == length starts) (starts ++ i ∷ []) starts = starts_go ∙ ap (λ u. cond (u == length starts) (starts ++ i ∷ []) starts) unit_is in
-    let starts_next : starts' ≡ pass_below (suc i) (begins_unit rs) = starts_unit ∙ next_start rs i starts tables.count tables.starts_are in
+    let starts_next : AreStarts rs (suc i) starts' = subst (AreStarts rs (suc i)) (sym starts_unit) (next_start rs i starts (slice_get_within rs i r here) (record { count = tables.count; starts_are = tables.starts_are })) in
     let groups_next : table_len groups' ≡ length (groups_below rs (suc i)) =
     groups_more ∙ ap (λ n. n + more_with groups r.group) tables.groups_count ∙ sym (next_group_count rs i groups tables.groups_are r.group)
     ∙ ap (λ g. length (with_group (groups_below rs i) g)) (sym group_is) in
@@ -105,8 +118,8 @@ tables_more rs i r ids ids' groups groups' units starts units' starts' unit here
           ∙ ap (λ o. or_else (option_map (units_before rs) (first_in_group rs i q)) (cond (is_text q o) (Some unit) None)) (sym group_is)
           ∙ next_group rs i unit q unit_is (first_in_group rs i q) refl;
       units_are = units_go ∙ ap (λ xs. xs ++ unit ∷ []) tables.units_are ∙ ap (λ u. list_below i (unit_at rs) ++ u ∷ []) unit_is;
-      starts_are = starts_next;
-      count = ap length starts_next ∙ length-pass_below (suc i) (begins_unit rs);
-      few = omega (arith, ap length starts_next, length-pass_below (suc i) (begins_unit rs), count_few (suc i) (begins_unit rs));
+      starts_are = starts_next.starts_are;
+      count = starts_next.count;
+      few = omega (arith, starts_next.count, count_few (suc i) (begins_unit rs));
       names_apart = below_more i (λ k. IsDistinct bytes_eq (names_at rs k)) tables.names_apart (subst (IsDistinct bytes_eq) (sym (ap (λ o. unwrap_or (option_map (λ x. x.names) o) []) here)) apart);
     }

@@ -1,16 +1,18 @@
--- Where units begin, what they are, and the order of their numbers.
+-- Where units begin, what they are, the order of their numbers, and their positions.
 use Rattle.std.proofs.Common.{◌≡◌, ◌≤◌, ◌<◌, ◌⊎◌, ◌+◌, ◌-◌, ℕ, zero, suc, true, not, List, Option, Some, None, refl, sym, ap, ◌∙◌, subst, inl, inr, arith, length}
 use Rattle.std.specs.Prelude.{is_some, unwrap_or, option_map, IsSomeAnd}
 use Rattle.std.proofs.lemmas.Bool.{cases_lt, cases_Bool}
+use Rattle.std.proofs.lemmas.Bool.Decides.{not_from_Decides}
 use Rattle.odb_doc.specs.Records.{Record}
 use Rattle.odb_check.specs.declared.fault.NameRule.TheVariants.{GroupSplit}
 use Rattle.odb_check.specs.Firsts.{is_text}
 use Rattle.odb_check.specs.Laws.{HasUnits}
 use Rattle.odb_check.specs.NameFaults.{IsBrokenAt}
 use Rattle.odb_check.specs.Positions.{group_at, IsGroupBefore, IsInGroupOf}
-use Rattle.odb_check.specs.Units.{first_in_group, is_new_group, begins_unit, units_before, begin_in, unit_begin, unit_at, group_begin, unit_of_group}
-use Rattle.odb_check.proofs.FirstLemmas.{count_less, count_same}
-use Rattle.odb_check.proofs.PositionLemmas.{IsFirstAt, text_there, there_text, text_first, text_none, text_alone, text_absent, text_some, group_first, group_within}
+use Rattle.odb_check.specs.Units.{first_in_group, is_new_group, begins_unit, units_before, begin_in, unit_begin, unit_at, group_begin, unit_of_group, HasMembers}
+use Rattle.odb_check.specs.Tables.{IsStartOf}
+use Rattle.odb_check.proofs.FirstLemmas.{count_less, count_more, count_same, first_alone}
+use Rattle.odb_check.proofs.PositionLemmas.{IsFirstAt, text_Decides, text_first, text_none, text_absent, text_some, group_within}
 
 -- the unit of i begins at b
 pub record BeginsAt (rs : List Record) (i b : ℕ) : Type 0 where
@@ -19,14 +21,11 @@ pub record BeginsAt (rs : List Record) (i b : ℕ) : Type 0 where
   pub same : group_at rs b ≡ group_at rs i
 
 -- a unit begins at the first position of a group
-first_begins : (rs : List Record) (group : List ℕ) (b : ℕ) → group_at rs b ≡ Some group → first_in_group rs b group ≡ None → begins_unit rs b ≡ true
-first_begins rs group b here none = ap (is_new_group rs b) here ∙ ap (λ o. not (is_some o)) none
-
 pub group_begins : (rs : List Record) (group : List ℕ) (b : ℕ) → IsFirstAt (group_at rs) group b → begins_unit rs b ≡ true
-group_begins rs group b first = first_begins rs group b first.here (text_absent (group_at rs) group b first.before)
+group_begins rs group b first = ap (is_new_group rs b) first.here ∙ ap (λ o. not (is_some o)) (text_absent (group_at rs) group b first.before)
 
 begin_found : (rs : List Record) (i : ℕ) (group : List ℕ) → group_at rs i ≡ Some group → (found : Option ℕ) → first_in_group rs i group ≡ found → BeginsAt rs i (unwrap_or found i)
-begin_found rs i group here None e = record { begins = first_begins rs group i here e; upto = omega arith; same = refl }
+begin_found rs i group here None e = record { begins = group_begins rs group i (record { here = here; before = text_none (group_at rs) group i e }); upto = omega arith; same = refl }
 begin_found rs i group here (Some b) e =
     let first : (b < i) × IsFirstAt (group_at rs) group b = text_first (group_at rs) group i b e in
     record { begins = group_begins rs group b first.1; upto = omega (arith, first.0); same = first.1.here ∙ sym here }
@@ -50,13 +49,6 @@ begins_there rs i (Some group) e = ap (λ o. unwrap_or o i) (no_earlier i (first
 pub unit_at_begin : (rs : List Record) (b : ℕ) → begins_unit rs b ≡ true → unit_at rs b ≡ units_before rs b
 unit_at_begin rs b e = ap (units_before rs) (begins_there rs b (group_at rs b) e)
 
--- where a unit begins no earlier position has its group
-pub begins_first : (rs : List Record) (group : List ℕ) (b : ℕ) → begins_unit rs b ≡ true → group_at rs b ≡ Some group → IsFirstAt (group_at rs) group b
-begins_first rs group b begins here = record {
-  here = here;
-  before = text_none (group_at rs) group b (no_earlier b (first_in_group rs b group) (sym (ap (is_new_group rs b) here) ∙ begins));
-}
-
 pub unit_before : (rs : List Record) (i n : ℕ) → i < n → unit_at rs i < units_before rs n
 unit_before rs i n h =
     let at_begin : BeginsAt rs i (unit_begin rs i) = unit_begins rs i in
@@ -69,13 +61,17 @@ same_begin rs i j e = count_same (begins_unit rs) (unit_begin rs i) (unit_begin 
 pub same_group : (rs : List Record) (i j : ℕ) → unit_at rs i ≡ unit_at rs j → group_at rs i ≡ group_at rs j
 same_group rs i j e = sym (unit_begins rs i).same ∙ ap (group_at rs) (same_begin rs i j e) ∙ (unit_begins rs j).same
 
+-- where the unit of a group begins no earlier position has the group
 pub begin_of_group : (rs : List Record) (i : ℕ) (group : List ℕ) → group_at rs i ≡ Some group → IsFirstAt (group_at rs) group (unit_begin rs i)
-begin_of_group rs i group here = begins_first rs group (unit_begin rs i) (unit_begins rs i).begins ((unit_begins rs i).same ∙ here)
+begin_of_group rs i group here =
+    let b = unit_begin rs i in
+    let there : group_at rs b ≡ Some group = (unit_begins rs i).same ∙ here in
+    record { here = there; before = text_none (group_at rs) group b (no_earlier b (first_in_group rs b group) (sym (ap (is_new_group rs b) there) ∙ (unit_begins rs i).begins)) }
 
 -- positions of one group are in one unit
 pub one_unit : (rs : List Record) (i j : ℕ) (group : List ℕ) → group_at rs i ≡ Some group → group_at rs j ≡ Some group → unit_at rs i ≡ unit_at rs j
 one_unit rs i j group here there =
-    ap (units_before rs) (text_alone (group_at rs) group (unit_begin rs i) (unit_begin rs j) (begin_of_group rs i group here) (begin_of_group rs j group there))
+    ap (units_before rs) (first_alone (λ k. group_at rs k ≡ Some group) (unit_begin rs i) (unit_begin rs j) (begin_of_group rs i group here) (begin_of_group rs j group there))
 
 -- a unit is one group, or one position without a group
 unit_cases : (rs : List Record) (i j : ℕ) → unit_at rs i ≡ unit_at rs j → (group : Option (List ℕ)) → group_at rs i ≡ group → (i ≡ j) ⊎ IsInGroupOf rs i j
@@ -100,14 +96,12 @@ pub record IsUnitOf (rs : List Record) (group : List ℕ) (u : ℕ) : Type 0 whe
   pub first : IsFirstAt (group_at rs) group start
   pub number : units_before rs start ≡ u
 
-unit_case : (rs : List Record) (group : List ℕ) (u : ℕ) (found : Option ℕ) → group_begin rs group ≡ found → option_map (units_before rs) found ≡ Some u → IsUnitOf rs group u
-unit_case rs group u None e some = cc
-unit_case rs group u (Some b) e some =
-    let first : (b < length rs) × IsFirstAt (group_at rs) group b = group_first rs group b e in
-    record { start = b; within = first.0; first = first.1; number = cc }
-
 pub unit_is : (rs : List Record) (group : List ℕ) (u : ℕ) → unit_of_group rs group ≡ Some u → IsUnitOf rs group u
-unit_is rs group u e = unit_case rs group u (group_begin rs group) refl e
+unit_is rs group u some =
+    (elim (group_begin rs group) as (λ o. group_begin rs group ≡ o → option_map (units_before rs) o ≡ Some u → IsUnitOf rs group u) [
+      | None ↦ λ e none. cc
+      | Some b ↦ λ e is. let first : (b < length rs) × IsFirstAt (group_at rs) group b = text_first (group_at rs) group (length rs) b e in record { start = b; within = first.0; first = first.1; number = cc }
+    ]) refl some
 
 pub unit_at_start : (rs : List Record) (group : List ℕ) (u : ℕ) (is : IsUnitOf rs group u) → unit_at rs is.start ≡ u
 unit_at_start rs group u is = unit_at_begin rs is.start (group_begins rs group is.start is.first) ∙ is.number
@@ -131,11 +125,10 @@ unknown_unit rs group none i here = let some : unit_of_group rs group ≡ Some (
 one_back : (rs : List Record) → ((i : ℕ) → ¬ IsBrokenAt GroupSplit rs i) → (q k : ℕ) (group : List ℕ) → q < k → group_at rs q ≡ Some group → group_at rs (suc k) ≡ Some group → group_at rs k ≡ Some group
 one_back rs adjacent q k group less here there =
     elim (cases_Bool (is_text group (group_at rs k))) [
-      | inl same ↦ text_there group (group_at rs k) same
+      | inl same ↦ (text_Decides group (group_at rs k)).0 same
       | inr other ↦
           let P : List ℕ → Type 0 = λ g. (j : ℕ) × (suc k ≡ j + 1) × ¬ (group_at rs j ≡ Some g) × IsGroupBefore rs g j in
-          let not_there : ¬ (group_at rs k ≡ Some group) = λ e. let same : is_text group (group_at rs k) ≡ true = there_text group (group_at rs k) e in cc in
-          let split : P group = (k, omega arith, not_there, (q, less, here)) in
+          let split : P group = (k, omega arith, not_from_Decides _ (text_Decides group (group_at rs k)) other, (q, less, here)) in
           absurd (adjacent (suc k) (subst (λ o. IsSomeAnd o P) (sym there) split))
     ]
 
@@ -165,3 +158,18 @@ in_order rs adjacent i j h =
       | inl less ↦ omega (arith, unit_before rs i (unit_begin rs j) less)
       | inr begun ↦ omega (arith, in_order_case rs adjacent i j h begun (group_at rs j) refl)
     ]
+
+-- a unit reaches from its first position to where the next unit begins, or the batch ends
+pub has_members : (rs : List Record) → ((i : ℕ) → ¬ IsBrokenAt GroupSplit rs i) → (u start end : ℕ) → IsStartOf rs u start → end ≤ length rs → units_before rs end ≡ u + 1
+    → ((i : ℕ) → i < length rs → end ≤ i → u < unit_at rs i) → HasMembers rs u start end
+has_members rs adjacent u start end is within count past = record {
+  begins = elim (cases_lt start end) [ inl less ↦ less | inr more ↦ absurd (omega (arith, count_more (begins_unit rs) end start more, is.number)) ];
+  within = within;
+  exact = λ i h. (
+    (λ e. (
+      elim (cases_lt i start) [ inl less ↦ absurd (omega (arith, unit_before rs i start less, is.number)) | inr more ↦ more ],
+      elim (cases_lt i end) [ inl less ↦ less | inr more ↦ absurd (omega (arith, past i h more)) ],
+    )),
+    (λ inside. omega (arith, in_order rs adjacent start i inside.0, unit_at_begin rs start is.begins, is.number, unit_before rs i end inside.1)),
+  );
+}

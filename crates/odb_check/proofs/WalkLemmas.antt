@@ -1,9 +1,10 @@
 -- The walk over the requests: the names of each, and its least fault.
-use Rattle.std.proofs.Common.{◌≡◌, ◌<◌, ◌+◌, ℕ, List, [], ◌∷◌, ◌++◌, Option, Some, None, refl, sym, ap, ◌∙◌, subst, inl, inr, arith, length, take, get_or, append_assoc}
+use Rattle.std.proofs.Common.{◌≡◌, ◌<◌, ◌+◌, ◌⊎◌, ℕ, List, [], ◌∷◌, ◌++◌, Option, Some, None, refl, sym, ap, ◌∙◌, subst, inl, inr, arith, length, take, get_or, append_assoc, rules}
 use Rattle.std.specs.Borrow.{Bor}
 use Rattle.std.specs.Prelude.{Contains, Result, Ok, Err, IfErr, IsErrAnd}
 use Rattle.std.specs.List.{filter_map, cons_option}
-use Rattle.std.proofs.lemmas.List.{map-append, take_more}
+use Rattle.std.proofs.lemmas.List.{get_or-map, length-map, map-append, take_more}
+use Rattle.std.proofs.lemmas.Option.{slice_get_cases}
 use Rattle.std.proofs.lemmas.List.Elements.{filter_map-append, Contains-push_cases, Contains-get_or}
 use Rattle.odb_doc.specs.LeastRules.{IsFirst}
 use Rattle.odb_doc.specs.Names.{texts_in}
@@ -20,11 +21,10 @@ use Rattle.odb_check.specs.NameFaults.{IsBrokenAt}
 use Rattle.odb_check.specs.Needs.{need_of, further_names, needs_at}
 use Rattle.odb_check.specs.Positions.{names_at, reference_at}
 use Rattle.odb_check.specs.Walks.{BreaksFirst, FailsAt, HasSoundIds, further_needs, named_at}
-use Rattle.odb_check.proofs.AnyLemmas.{Contains-map}
+use Rattle.odb_check.proofs.AnyLemmas.{Contains-none}
 use Rattle.odb_check.proofs.MarkLemmas.{marks_more}
 use Rattle.odb_check.proofs.NameLemmas.{meant_known, unknown}
 use Rattle.odb_check.proofs.NeedLemmas.{is_meant, need_within}
-use Rattle.odb_check.proofs.RuleLemmas.{two_phases, broken_inside}
 
 -- the error of a `?` that keeps its type
 pub same_error : {T : Type 0} (r : Result T CheckFault) (P : CheckFault → Type 0) (fault : CheckFault) → IsErrAnd r (λ e. e ≡ fault) → P fault → IfErr r P
@@ -69,7 +69,8 @@ names_more_called rs names k d need stamp before list list' ones ones' groups gr
 -- a name that resolves to nothing is unknown
 pub name_unknown : (rs : List Record) (i : ℕ) (names : List (Bor (List ℕ))) (k : ℕ) (d : Bor (List ℕ)) → texts_in names ≡ names_at rs i → k < length names → None ≡ need_of rs (get_or names k d).now → IsBrokenAt UnknownName rs i
 name_unknown rs i names k d are within nothing =
-    let listed : Contains (texts_in names) (get_or names k d).now = Contains-map (λ (x : Bor (List ℕ)). x.now) names (get_or names k d) (Contains-get_or names k d within) in
+    let listed : Contains (texts_in names) (get_or names k d).now =
+    subst (Contains (texts_in names)) (get_or-map (λ (x : Bor (List ℕ)). x.now) names k d [] within) (Contains-get_or (texts_in names) k [] (omega (arith, length-map names (λ (x : Bor (List ℕ)). x.now)))) in
     unknown rs i (get_or names k d).now (subst (λ xs. Contains xs (get_or names k d).now) are listed) (sym nothing)
 
 -- names that resolve to something are not unknown
@@ -87,6 +88,12 @@ needs_added rs i before middle further first second =
     (ap (λ xs. named_at rs i ++ xs) (sym second) ∙ sym (filter_map-append (need_of rs) (names_at rs i) (further_names (names_at rs i) (reference_at rs i))))
 
 -- ---- the first fault is the least
+
+two_phases : (rule : NameRule) → (phase rule ≡ 3) ⊎ (phase rule ≡ 4)
+two_phases rule = search rules
+
+broken_inside : (rs : List Record) (rule : NameRule) (i : ℕ) → IsBrokenAt rule rs i → i < length rs
+broken_inside rs rule i h = grind (arith, slice_get_cases rs i, Contains-none)
 
 -- F40 is the first rule on names
 pub unknown_least : (rs : List Record) (i : ℕ) → IsBrokenAt UnknownName rs i → BreaksFirst 4 rs i UnknownName

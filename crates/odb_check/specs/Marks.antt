@@ -22,15 +22,12 @@ abbrev pub groups_with : Need → ℕ → List ℕ → List ℕ
 groups_with (One p) stamp groups = groups
 groups_with (Group u) stamp groups = slice_set groups u stamp
 
--- whether the need is the request at p
-abbrev pub is_one : ℕ → Need → Bool
-is_one p (One q) = q == p
-is_one p (Group u) = false
-
--- whether the need is the unit u
-abbrev pub is_group : ℕ → Need → Bool
-is_group u (One p) = false
-is_group u (Group v) = v == u
+-- whether two needs are one
+abbrev pub same_need : Need → Need → Bool
+same_need (One p) (One q) = p == q
+same_need (One p) (Group v) = false
+same_need (Group u) (One q) = false
+same_need (Group u) (Group v) = u == v
 
 -- a mark for each request and unit, none above a stamp
 pub record AreUpTo (rs : List Record) (stamp : ℕ) (ones groups : List ℕ) : Type 0 where
@@ -42,5 +39,5 @@ pub record AreUpTo (rs : List Record) (stamp : ℕ) (ones groups : List ℕ) : T
 -- those that have the stamp are these needs
 pub record AreMarksOf (rs : List Record) (named : List Need) (stamp : ℕ) (ones groups : List ℕ) : Type 0 where
   pub up_to : AreUpTo rs stamp ones groups
-  pub ones_are : (p : ℕ) → (slice_index ones p == stamp) ≡ list_any (is_one p) named
-  pub groups_are : (u : ℕ) → (slice_index groups u == stamp) ≡ list_any (is_group u) named
+  pub ones_are : (p : ℕ) → (slice_index ones p == stamp) ≡ list_any (same_need (One p)) named
+  pub groups_are : (u : ℕ) → (slice_index groups u == stamp) ≡ list_any (same_need (Group u)) named

@@ -1,5 +1,5 @@
 -- For invariants and private clauses: what the tables of identifiers and groups hold.
-use Rattle.std.specs.Prelude.{◌≡◌, ◌≤◌, ◌<◌, ℕ, zero, suc, Bool, true, List, [], ◌∷◌, ◌++◌, Option, option_map, option_and_then, unwrap_or, is_some, bytes_eq, length, Some, None, cond}
+use Rattle.std.specs.Prelude.{◌≡◌, ◌≤◌, ◌<◌, ℕ, zero, suc, true, List, [], Option, option_map, option_and_then, unwrap_or, is_some, bytes_eq, length, slice_index, Some, None, cond}
 use Rattle.std.specs.List.{IsDistinct}
 use Rattle.std.specs.BTreeMap.{get_by_text, btree_map_len}
 use Rattle.indexmap.specs.IndexMap.{get_by, index_map_len}
@@ -30,11 +30,6 @@ more_with table (Some text) = cond (is_some (at_text table text)) 0 1
 abbrev pub unit_among : Table → Option (List ℕ) → ℕ → ℕ
 unit_among groups group next = unwrap_or (option_and_then (at_text groups) group) next
 
--- the numbers below n that pass
-abbrev pub pass_below : ℕ → (ℕ → Bool) → List ℕ
-pass_below zero test = []
-pass_below (suc n) test = cond (test n) (pass_below n test ++ n ∷ []) (pass_below n test)
-
 -- the unit begins at the position
 pub record IsStartOf (rs : List Record) (u start : ℕ) : Type 0 where
   pub within : start < length rs
@@ -58,7 +53,7 @@ pub record AreTablesOf (rs : List Record) (n : ℕ) (ids groups : Table) (units 
   pub groups_count : table_len groups ≡ length (groups_below rs n)
   pub groups_few : table_len groups ≤ n
   pub units_are : units ≡ list_below n (unit_at rs)
-  pub starts_are : starts ≡ pass_below n (begins_unit rs)
+  pub starts_are : (u : ℕ) → u < units_before rs n → IsStartOf rs u (slice_index starts u)
   pub count : length starts ≡ units_before rs n
   pub few : length starts ≤ n
   pub names_apart : (k : ℕ) → k < n → IsDistinct bytes_eq (names_at rs k)

@@ -16,7 +16,7 @@ pub(crate) struct Needs {
 
 impl Needs {
     /// The needs from one place of the list up to another.
-    pub(crate) fn part(&self, from: usize, to: usize) -> &[Need]
+    fn part(&self, from: usize, to: usize) -> &[Need]
         requires order { from ≤ to }
         requires inside { to ≤ length self.now.list.items }
         ensures { result.now ≡ slice_range self.now.list.items from to }
@@ -25,7 +25,7 @@ impl Needs {
     }
 
     /// Where the needs of the request at `i` begin, or those of the last end.
-    pub(crate) fn offset(&self, i: usize) -> usize
+    fn offset(&self, i: usize) -> usize
         requires { i < length self.now.offsets.items }
         ensures { result ≡ slice_index self.now.offsets.items i }
     {

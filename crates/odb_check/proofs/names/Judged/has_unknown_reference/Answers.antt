@@ -1,7 +1,7 @@
 use Rattle.std.proofs.Common.{ap, sym, ◌∙◌}
 use Rattle.std.specs.Prelude.{is_some}
 use Rattle.std.proofs.lemmas.Bool.Decides.{Decides-at}
-use Rattle.odb_check.proofs.DecideLemmas.{Decides-none, copied_some}
+use Rattle.odb_check.proofs.AnyLemmas.{Decides-none, copied_some}
 use Rattle.odb_check.proofs.ReferenceLemmas.{known, refers, unknown_Decides}
 use Rattle.odb_check.proofs.names.Judged.has_unknown_reference.Goals as goal
 

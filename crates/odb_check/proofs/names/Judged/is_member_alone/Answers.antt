@@ -1,7 +1,7 @@
 use Rattle.std.proofs.Common.{Some, ap, sym, ◌∙◌, arith}
 use Rattle.std.specs.Prelude.{is_some}
 use Rattle.std.proofs.lemmas.Bool.{both_ways}
-use Rattle.odb_check.proofs.DecideLemmas.{Decides-none, copied_some}
+use Rattle.odb_check.proofs.AnyLemmas.{Decides-none, copied_some}
 use Rattle.odb_check.proofs.NameLemmas.{alone_Decides, alone_missed}
 use Rattle.odb_check.proofs.NeedLemmas.{is_meant}
 use Rattle.odb_check.proofs.names.Judged.is_member_alone.Goals as goal

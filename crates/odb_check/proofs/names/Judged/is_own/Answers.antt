@@ -1,5 +1,5 @@
 use Rattle.std.proofs.Common.{Some, ap, ◌∙◌}
-use Rattle.odb_check.proofs.DecideLemmas.{Decides-none}
+use Rattle.odb_check.proofs.AnyLemmas.{Decides-none}
 use Rattle.odb_check.proofs.NameLemmas.{own_one, own_group}
 use Rattle.odb_check.proofs.NeedLemmas.{is_meant}
 use Rattle.odb_check.proofs.names.Judged.is_own.Goals as goal

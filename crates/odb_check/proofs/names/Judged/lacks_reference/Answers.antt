@@ -1,7 +1,7 @@
 use Rattle.std.proofs.Common.{sym}
 use Rattle.std.proofs.lemmas.Bool.Decides.{not_from_Decides}
-use Rattle.odb_check.proofs.DecideLemmas.{Decides-none}
-use Rattle.odb_check.proofs.ReferenceLemmas.{RefersTo, refers, unlisted_Decides, listed_never, nowhere_unlisted}
+use Rattle.odb_check.proofs.AnyLemmas.{Decides-none}
+use Rattle.odb_check.proofs.ReferenceLemmas.{RefersTo, refers, unlisted_Decides, listed_never, nowhere}
 use Rattle.odb_check.proofs.names.Judged.lacks_reference.Goals as goal
 
 pub lists-requires : goal.lists-requires
@@ -18,4 +18,4 @@ returns-else-not-lists c =
     rw c.if-not-lists.false (Decides-none (listed_never c.args.self.now c.in-Some.position to ((c.lists.ensures to.id to.there).0 c.if-not-lists.false)))
 
 pub returns-in-None : goal.returns-in-None
-returns-in-None c = Decides-none (nowhere_unlisted c.args.self.now (sym c.in-None.ensures))
+returns-in-None c = Decides-none (nowhere c.args.self.now _ (sym c.in-None.ensures) (λ id h. (h.0, h.2)))

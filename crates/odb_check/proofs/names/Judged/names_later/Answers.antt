@@ -8,7 +8,6 @@ use Rattle.odb_check.proofs.names.Judged.names_later.Goals as goal
 pub returns : goal.returns
 returns c =
     let j = c.args.self.now in
-    let rs = batch_of j in
-    let P : List ℕ → Type 0 = λ name. IsIdFrom rs name j.i ⊎ IsGroupAfter rs name j.i in
-    any_Decides j P _
-    (cases_from_any _ _ _ (λ need. IsAnswer rs need true P) (λ need. IsAnswer rs need false P) c.any.ensures.ran (YieldsList-from_slice j.named.now cc) (λ x q k. search (rules, tests)) (λ x q k. search (rules, tests)))
+    let P : List ℕ → Type 0 = λ name. IsIdFrom (batch_of j) name j.i ⊎ IsGroupAfter (batch_of j) name j.i in
+    any_Decides j P _ (cases_from_any _ _ _ (λ need. IsAnswer (batch_of j) need true P) (λ need. IsAnswer (batch_of j) need false P) c.any.ensures.ran (YieldsList-from_slice j.named.now cc)
+    (λ x q k. search (rules, tests)) (λ x q k. search (rules, tests)))

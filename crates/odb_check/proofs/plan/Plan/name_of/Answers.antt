@@ -1,10 +1,21 @@
-use Rattle.std.proofs.Common.{◌≡◌, ap, sym, ◌∙◌}
-use Rattle.std.specs.Prelude.{option_copied, option_and_then}
+use Rattle.std.proofs.Common.{◌≡◌, ◌<◌, ℕ, List, ap, sym, ◌∙◌, arith, length}
+use Rattle.std.specs.Prelude.{◌==◌, option_copied, option_and_then}
+use Rattle.std.proofs.lemmas.Bool.Decides.{Decides-eqb}
+use Rattle.odb_doc.specs.Records.{Record}
 use Rattle.odb_check.specs.Plans.{plan_records, shape}
 use Rattle.odb_check.specs.Positions.{group_at}
 use Rattle.odb_check.specs.Texts.{group_text, group_of_unit, need_name}
-use Rattle.odb_check.proofs.TextLemmas.{group_of_start}
+use Rattle.odb_check.specs.Units.{unit_at, HasMembers}
+use Rattle.odb_check.proofs.FirstLemmas.{first_cases, found_first}
 use Rattle.odb_check.proofs.plan.Plan.name_of.Goals as goal
+
+-- the group of a unit is that of its first position
+group_of_start : (rs : List Record) (u from to : ℕ) → HasMembers rs u from to → group_of_unit rs u ≡ group_at rs from
+group_of_start rs u from to is =
+    let inside : from < length rs = omega (arith, is.begins, is.within) in
+    ap (option_and_then (group_at rs)) (found_first (length rs) (λ j. unit_at rs j ≡ u) from inside
+    (record { here = (is.exact from inside).1 (omega arith, is.begins); before = λ k less e. omega (arith, ((is.exact k (omega arith)).0 e).0) })
+    _ (first_cases (length rs) (λ j. unit_at rs j == u) (λ j. unit_at rs j ≡ u) (λ j. Decides-eqb (unit_at rs j) u)))
 
 pub returns-in-Group : goal.returns-in-Group
 returns-in-Group c =

@@ -1,11 +1,18 @@
-use Rattle.std.proofs.Common.{◌≡◌, ◌+◌, ◌++◌, ap, sym, ◌∙◌, take, get_or, append_assoc}
+use Rattle.std.proofs.Common.{◌≡◌, ◌+◌, ◌++◌, List, [], ◌∷◌, ap, sym, ◌∙◌, take, get_or, append_assoc, append-nil}
 use Rattle.std.specs.Prelude.{codes, string_bytes}
 use Rattle.std.proofs.lemmas.List.{take_more}
+use Rattle.odb_doc.specs.Records.{Record}
+use Rattle.odb_check.specs.declared.need.Need.{Need}
 use Rattle.odb_check.specs.declared.need.Need.TheVariants.{One}
 use Rattle.odb_check.specs.Plans.{plan_records}
 use Rattle.odb_check.specs.Texts.{further_text, need_name}
-use Rattle.odb_check.proofs.TextLemmas.{further_text-append}
 use Rattle.odb_check.proofs.plan.Plan.push_further.Goals as goal
+
+further_text-append : (rs : List Record) (needs : List Need) (need : Need) → further_text rs (needs ++ need ∷ []) ≡ further_text rs needs ++ (codes "," ++ need_name rs need)
+further_text-append rs [] need = append-nil (codes "," ++ need_name rs need)
+further_text-append rs (first ∷ needs) need =
+    ap (λ xs. codes "," ++ need_name rs first ++ xs) (further_text-append rs needs need)
+    ∙ sym (append_assoc (codes "," ++ need_name rs first) (further_text rs needs) (codes "," ++ need_name rs need))
 
 pub loop-need-preserved : goal.loop-need-preserved
 loop-need-preserved c =
