@@ -1,10 +1,9 @@
 -- Levels: one more request, and their law.
-use Rattle.std.proofs.Common.{◌≡◌, ◌≢◌, ◌≤◌, ◌<◌, ◌+◌, ℕ, zero, suc, Bool, true, false, cond, List, [], ◌∷◌, ◌++◌, refl, sym, ap, ◌∙◌, subst, inl, inr, arith, length, get_or, get_or-set_same, get_or-set_other, length-append}
+use Rattle.std.proofs.Common.{◌≡◌, ◌≤◌, ◌<◌, ◌+◌, ℕ, zero, suc, Bool, true, false, cond, List, [], ◌∷◌, ◌++◌, refl, sym, ap, ◌∙◌, subst, inl, inr, arith, length, length-append}
 use Rattle.std.specs.Prelude.{◌==◌, max, slice_index, slice_set, Contains}
 use Rattle.std.proofs.Math.ListN.{length-set}
-use Rattle.std.proofs.Math.Seq.{get_or-append_seam}
-use Rattle.std.proofs.lemmas.Bool.{cases_lt, cases_eq, eq-eqb, ne_eqb}
-use Rattle.std.proofs.lemmas.List.{get_or_append_left}
+use Rattle.std.proofs.lemmas.Bool.{cases_lt, eq-eqb, ne_eqb}
+use Rattle.std.proofs.lemmas.List.{get_or_append_left, get_or_push}
 use Rattle.odb_doc.specs.Records.{Record}
 use Rattle.odb_check.specs.declared.need.Need.{Need}
 use Rattle.odb_check.specs.declared.need.Need.TheVariants.{One, Group}
@@ -13,6 +12,7 @@ use Rattle.odb_check.specs.Needs.{needs_at}
 use Rattle.odb_check.specs.Units.{unit_at, unit_count}
 use Rattle.odb_check.specs.Marks.{IsWithin}
 use Rattle.odb_check.proofs.AnyLemmas.{Contains-head, Contains-tail}
+use Rattle.odb_check.proofs.BelowLemmas.{set_cases}
 use Rattle.odb_check.proofs.UnitLemmas.{unit_before}
 
 -- the levels of the first n requests, and of the units among these
@@ -73,9 +73,7 @@ stable rs m (suc n) k h less =
     ]
 
 last_level : (rs : List Record) (n : ℕ) → slice_index (levels_below rs (suc n)) n ≡ next_level (slice_index (levels_below rs n)) (unit_level rs n (levels_below rs n)) (needs_at rs n)
-last_level rs n =
-    let level = next_level (slice_index (levels_below rs n)) (unit_level rs n (levels_below rs n)) (needs_at rs n) in
-    subst (λ k. get_or (levels_below rs n ++ level ∷ []) k 0 ≡ level) (length-levels_below rs n) (get_or-append_seam (levels_below rs n) level [] 0)
+last_level rs n = get_or_push (levels_below rs n) (next_level (slice_index (levels_below rs n)) (unit_level rs n (levels_below rs n)) (needs_at rs n)) 0 n (length-levels_below rs n)
 
 cond_same : (v : Bool) (a b : ℕ) → a ≡ b → cond v a 0 ≡ cond v b 0
 cond_same true a b e = e
@@ -102,18 +100,9 @@ needed_low level group_level n one group (Group u) = omega (arith, group u)
 set_level : (unit_levels : List ℕ) (value : ℕ → ℕ) (v level u : ℕ) → v < length unit_levels → ((w : ℕ) → slice_index unit_levels w ≡ value w)
     → slice_index (slice_set unit_levels v (max (slice_index unit_levels v) level)) u ≡ max (cond (v == u) level 0) (value u)
 set_level unit_levels value v level u inside are =
-    elim (cases_eq v u) [
-      | inl same ↦
-          let m = max (slice_index unit_levels v) level in
-          let set_here : slice_index (slice_set unit_levels v m) u ≡ m = subst (λ k. slice_index (slice_set unit_levels v m) k ≡ m) same (get_or-set_same unit_levels v m 0 inside) in
-          let before : slice_index unit_levels v ≡ value u = are v ∙ ap value same in
-          let test : (v == u) ≡ true = eq-eqb v u same in
-          rw test (omega arith)
-      | inr other ↦
-          let not_same : u ≢ v = λ e. other (sym e) in
-          let kept : slice_index (slice_set unit_levels v (max (slice_index unit_levels v) level)) u ≡ slice_index unit_levels u = rw get_or-set_other refl in
-          let test : (v == u) ≡ false = ne_eqb v u other in
-          rw test (omega (arith, are u))
+    elim (set_cases unit_levels v (max (slice_index unit_levels v) level) u inside) [
+      | inl (same, set) ↦ let test : (v == u) ≡ true = eq-eqb v u same in let before : slice_index unit_levels v ≡ value u = are v ∙ ap value same in rw test (omega arith)
+      | inr (other, kept) ↦ let test : (v == u) ≡ false = ne_eqb v u other in rw test (omega (arith, are u))
     ]
 
 low_levels : (levels : List ℕ) (level n k : ℕ) → level ≤ suc n → ((j : ℕ) → slice_index levels j ≤ n) → slice_index (levels ++ level ∷ []) k ≤ suc n

@@ -29,17 +29,24 @@ abbrev pub IsMeant : List Record → List ℕ → Need → Type 0
 IsMeant rs name (One p) = (p < length rs) × IsFirstAt (id_at rs) name p
 IsMeant rs name (Group u) = IsGroupName rs name u
 
-meant_case : (rs : List Record) (name : List ℕ) (need : Need) (position unit : Option ℕ) → position_of rs name ≡ position → unit_of_group rs name ≡ unit → need_at position unit ≡ Some need → IsMeant rs name need
-meant_case rs name (One q) (Some p) unit e g h = let same : Some p ≡ Some q = (let s : p ≡ q = cc in ap Some s) in position_first rs name q (e ∙ same)
-meant_case rs name (Group v) (Some p) unit e g h = cc
-meant_case rs name (One q) None (Some u) e g h = cc
-meant_case rs name (Group v) None (Some u) e g h =
-    let same : u ≡ v = cc in
-    record { no_id = position_none rs name e; unit = unit_is rs name v (g ∙ ap Some same) }
-meant_case rs name need None None e g h = cc
+-- what a name resolves to, or that it is no identifier and no group
+abbrev Meaning : List Record → List ℕ → Option Need → Type 0
+Meaning rs name (Some need) = IsMeant rs name need
+Meaning rs name None = ((j : ℕ) → ¬ (id_at rs j ≡ Some name)) × ((j : ℕ) → ¬ (group_at rs j ≡ Some name))
+
+meaning_case : (rs : List Record) (name : List ℕ) (position unit : Option ℕ) → position_of rs name ≡ position → unit_of_group rs name ≡ unit → Meaning rs name (need_at position unit)
+meaning_case rs name (Some p) unit e g = position_first rs name p e
+meaning_case rs name None (Some u) e g = record { no_id = position_none rs name e; unit = unit_is rs name u g }
+meaning_case rs name None None e g = (position_none rs name e, unknown_unit rs name g)
+
+meaning : (rs : List Record) (name : List ℕ) → Meaning rs name (need_of rs name)
+meaning rs name = meaning_case rs name (position_of rs name) (unit_of_group rs name) refl refl
 
 pub is_meant : (rs : List Record) (name : List ℕ) (need : Need) → need_of rs name ≡ Some need → IsMeant rs name need
-is_meant rs name need e = meant_case rs name need (position_of rs name) (unit_of_group rs name) refl refl e
+is_meant rs name need e = subst (Meaning rs name) e (meaning rs name)
+
+pub means_nothing : (rs : List Record) (name : List ℕ) → need_of rs name ≡ None → ((j : ℕ) → ¬ (id_at rs j ≡ Some name)) × ((j : ℕ) → ¬ (group_at rs j ≡ Some name))
+means_nothing rs name e = subst (Meaning rs name) e (meaning rs name)
 
 pub need_within : (rs : List Record) (name : List ℕ) (need : Need) → need_of rs name ≡ Some need → IsWithin need (length rs) (unit_count rs)
 need_within rs name (One p) e = (is_meant rs name (One p) e).0
@@ -83,13 +90,3 @@ pub group_need : (rs : List Record) → ((i : ℕ) → ¬ IsBrokenAt IdIsGroup r
 group_need rs apart name j here =
     let none : position_of rs name ≡ None = text_absent (id_at rs) name (length rs) (λ k less there. no_group rs apart name k j there here) in
     ap (λ o. need_at o (unit_of_group rs name)) none ∙ ap (need_at None) (known_group rs name j here)
-
-nothing_case : (rs : List Record) (name : List ℕ) (position unit : Option ℕ) → position_of rs name ≡ position → unit_of_group rs name ≡ unit → need_at position unit ≡ None
-    → ((j : ℕ) → ¬ (id_at rs j ≡ Some name)) × ((j : ℕ) → ¬ (group_at rs j ≡ Some name))
-nothing_case rs name (Some p) unit e g h = cc
-nothing_case rs name None (Some u) e g h = cc
-nothing_case rs name None None e g h = (position_none rs name e, unknown_unit rs name g)
-
--- a name that resolves to nothing is neither an identifier nor a group
-pub means_nothing : (rs : List Record) (name : List ℕ) → need_of rs name ≡ None → ((j : ℕ) → ¬ (id_at rs j ≡ Some name)) × ((j : ℕ) → ¬ (group_at rs j ≡ Some name))
-means_nothing rs name e = nothing_case rs name (position_of rs name) (unit_of_group rs name) refl refl e

@@ -3,8 +3,8 @@ use Rattle.std.proofs.Common.{◌≡◌, ◌≢◌, ◌≤◌, ◌<◌, ◌⊎�
 use Rattle.std.specs.Prelude.{◌↔◌, All, Contains, IsSomeAnd, AllPairs, bytes_eq}
 use Rattle.std.specs.List.{list_any, filter_map, cons_option, IsDistinct}
 use Rattle.std.proofs.lemmas.Map.Made.{AllPairs-from_IsDistinct}
-use Rattle.std.proofs.lemmas.Bool.{cases_lt, cases_eq, both_ways}
-use Rattle.std.proofs.lemmas.Option.{slice_get_cases}
+use Rattle.std.proofs.lemmas.Bool.{cases_Bool, cases_lt, cases_eq, cases_order, both_ways}
+use Rattle.std.proofs.lemmas.Option.{same_Some, slice_get_cases}
 use Rattle.std.proofs.lemmas.List.Kept.{AllPairs-cons}
 use Rattle.std.proofs.lemmas.List.Quantifiers.{all_pairs_push}
 use Rattle.std.proofs.lemmas.List.Elements.{Contains-get_or, Contains-append_left, Contains-append_right, Contains-append_cases}
@@ -37,58 +37,65 @@ good_ids rs good rule i broken = good rule i broken.1
 name_inside : (rs : List Record) (i : ℕ) (name : List ℕ) → Contains (names_at rs i) name → i < length rs
 name_inside rs i name h = grind (arith, slice_get_cases rs i, Contains-none)
 
-further_one : (v : Bool) (id name : List ℕ) → Contains (cond v [] (id ∷ [])) name → Some id ≡ Some name
-further_one true id name h = absurd (Contains-none name h)
-further_one false id name h = elim (Contains-cases id name [] h) [ inl same ↦ ap Some same | inr more ↦ absurd (Contains-none name more) ]
-
--- a needed name is in `dependsOn`, or is the reference
+-- the reference adds no other name
 further_reference : (names : List (List ℕ)) (reference : Option (List ℕ)) (name : List ℕ) → Contains (further_names names reference) name → reference ≡ Some name
 further_reference names None name h = absurd (Contains-none name h)
-further_reference names (Some id) name h = further_one (list_any (bytes_eq id) names) id name h
+further_reference names (Some id) name h =
+    (elim (list_any (bytes_eq id) names) as (λ v. Contains (cond v [] (id ∷ [])) name → Some id ≡ Some name) [
+      | true ↦ λ none. absurd (Contains-none name none)
+      | false ↦ λ one. elim (Contains-cases id name [] one) [ inl same ↦ ap Some same | inr none ↦ absurd (Contains-none name none) ]
+    ]) h
 
-named_cases : (rs : List Record) (i : ℕ) (name : List ℕ) → Contains (needed_names rs i) name → Contains (names_at rs i) name ⊎ (reference_at rs i ≡ Some name)
-named_cases rs i name h =
-    elim (Contains-append_cases (names_at rs i) (further_names (names_at rs i) (reference_at rs i)) name h) [
-      | inl listed ↦ inl listed
-      | inr further ↦ inr (further_reference (names_at rs i) (reference_at rs i) name further)
-    ]
+-- the name that resolves to a need: it is in `dependsOn`, or is the reference
+record IsNeeded (rs : List Record) (i : ℕ) (need : Need) : Type 0 where
+  name : List ℕ
+  inside : Contains (names_at rs i) name ⊎ (reference_at rs i ≡ Some name)
+  is : IsMeant rs name need
+
+is_needed : (rs : List Record) (i : ℕ) (need : Need) → Contains (needs_at rs i) need → IsNeeded rs i need
+is_needed rs i need h =
+    let name : ElementMeaning (need_of rs) (needed_names rs i) need = element_meaning (need_of rs) (needed_names rs i) need h in
+    record {
+      name = name.element;
+      inside = elim (Contains-append_cases (names_at rs i) (further_names (names_at rs i) (reference_at rs i)) name.element name.inside) [ inl listed ↦ inl listed | inr further ↦ inr (further_reference (names_at rs i) (reference_at rs i) name.element further) ];
+      is = is_meant rs name.element need name.means;
+    }
 
 refers_with : (rs : List Record) (i : ℕ) (id : List ℕ) (P : List ℕ → Type 0) → reference_at rs i ≡ Some id → P id → IsSomeAnd (reference_at rs i) P
 refers_with rs i id P here holds = subst (λ o. IsSomeAnd o P) (sym here) holds
 
-earlier_one : (rs : List Record) → HasGoodNames rs → (i r : ℕ) (name : List ℕ) → id_at rs r ≡ Some name → Contains (names_at rs i) name ⊎ (reference_at rs i ≡ Some name) → r < i
-earlier_one rs good i r name here cases =
+earlier_one : (rs : List Record) → HasGoodNames rs → (i r : ℕ) → IsNeeded rs i (One r) → r < i
+earlier_one rs good i r needed =
     elim (cases_lt r i) [
       | inl less ↦ less
-      | inr more ↦ elim cases [
-        | inl listed ↦ absurd (good ForwardName i (record { name = name; listed = listed; holds = inl (r, more, here) }))
-        | inr refers ↦ absurd (good ForwardReference i (refers_with rs i name (λ id. IsIdFrom rs id i) refers (r, more, here)))
+      | inr more ↦ elim needed.inside [
+        | inl listed ↦ absurd (good ForwardName i (record { name = needed.name; listed = listed; holds = inl (r, more, needed.is.1.here) }))
+        | inr refers ↦ absurd (good ForwardReference i (refers_with rs i needed.name (λ id. IsIdFrom rs id i) refers (r, more, needed.is.1.here)))
       ]
     ]
 
-earlier_group : (rs : List Record) → HasGoodNames rs → (i u : ℕ) (name : List ℕ) → ((j : ℕ) → ¬ (id_at rs j ≡ Some name)) → IsUnitOf rs name u → Contains (names_at rs i) name ⊎ (reference_at rs i ≡ Some name) → u < unit_at rs i
-earlier_group rs good i u name no_id is cases =
-    elim (cases_lt u (unit_at rs i)) [
-      | inl less ↦ less
-      | inr more ↦ elim cases [
-        | inr refers ↦ absurd (good UnknownReference i (refers_with rs i name (λ id. ¬ IsId rs id) refers (λ h. no_id h.0 h.1)))
-        | inl listed ↦ elim (cases_eq u (unit_at rs i)) [
-          | inl own ↦ absurd (good OwnGroup i (record { name = name; listed = listed; holds = in_group rs name u i is (sym own) }))
-          | inr other ↦
-              let after : (j : ℕ) → group_at rs j ≡ Some name → i < j = λ j there. later_unit rs (good_ids rs good) i j (let at_u : unit_at rs j ≡ u = in_unit rs name u j is there in omega arith) in
-              absurd (good ForwardName i (record { name = name; listed = listed; holds = inr ((is.start, is.first.here), after) }))
-        ]
+earlier_group : (rs : List Record) → HasGoodNames rs → (i u : ℕ) → IsNeeded rs i (Group u) → u < unit_at rs i
+earlier_group rs good i u needed =
+    let name = needed.name in
+    let is : IsUnitOf rs name u = needed.is.unit in
+    elim (cases_order u (unit_at rs i)) [
+      | inr (inl less) ↦ less
+      | inl own ↦ elim needed.inside [
+        | inl listed ↦ absurd (good OwnGroup i (record { name = name; listed = listed; holds = in_group rs name u i is (sym own) }))
+        | inr refers ↦ absurd (good UnknownReference i (refers_with rs i name (λ id. ¬ IsId rs id) refers (λ h. needed.is.no_id h.0 h.1)))
+      ]
+      | inr (inr more) ↦ elim needed.inside [
+        | inl listed ↦
+            let after : (j : ℕ) → group_at rs j ≡ Some name → i < j = λ j there. later_unit rs (good_ids rs good) i j (let at_u : unit_at rs j ≡ u = in_unit rs name u j is there in omega arith) in
+            absurd (good ForwardName i (record { name = name; listed = listed; holds = inr ((is.start, is.first.here), after) }))
+        | inr refers ↦ absurd (good UnknownReference i (refers_with rs i name (λ id. ¬ IsId rs id) refers (λ h. needed.is.no_id h.0 h.1)))
       ]
     ]
 
 pub needs_before : (rs : List Record) → HasGoodNames rs → HasNeedsBefore rs
 needs_before rs good = record {
-  one = λ i r h.
-      let name : ElementMeaning (need_of rs) (needed_names rs i) (One r) = element_meaning (need_of rs) (needed_names rs i) (One r) h in
-      earlier_one rs good i r name.element (is_meant rs name.element (One r) name.means).1.here (named_cases rs i name.element name.inside);
-  group = λ i u h.
-      let name : ElementMeaning (need_of rs) (needed_names rs i) (Group u) = element_meaning (need_of rs) (needed_names rs i) (Group u) h in
-      earlier_group rs good i u name.element (is_meant rs name.element (Group u) name.means).no_id (is_meant rs name.element (Group u) name.means).unit (named_cases rs i name.element name.inside);
+  one = λ i r h. earlier_one rs good i r (is_needed rs i (One r) h);
+  group = λ i u h. earlier_group rs good i u (is_needed rs i (Group u) h);
   order = in_order rs (good GroupSplit);
 }
 
@@ -99,21 +106,22 @@ listed_need rs i name need h means = Contains-meaning (need_of rs) (needed_names
 -- who needs a request of another group needs that group too, since else F43 or F46 is broken
 group_needed : (rs : List Record) → HasGoodNames rs → (i r : ℕ) (group : List ℕ) → Contains (needs_at rs i) (One r) → group_at rs r ≡ Some group → unit_at rs r ≢ unit_at rs i → Contains (needs_at rs i) (Group (unit_at rs r))
 group_needed rs good i r group h there other =
-    let name : ElementMeaning (need_of rs) (needed_names rs i) (One r) = element_meaning (need_of rs) (needed_names rs i) (One r) h in
-    let here : id_at rs r ≡ Some name.element = (is_meant rs name.element (One r) name.means).1.here in
-    let less : r < i = (needs_before rs good).one i r h in
+    let needed : IsNeeded rs i (One r) = is_needed rs i (One r) h in
+    let name = needed.name in
+    let here : id_at rs r ≡ Some name = needed.is.1.here in
+    let less : r < i = earlier_one rs good i r needed in
     elim (listed_cases group (names_at rs i)) [
       | inl named ↦ listed_need rs i group (Group (unit_at rs r)) named (group_need rs (good IdIsGroup) group r there)
-      | inr lacking ↦ elim (listed_cases name.element (names_at rs i)) [
+      | inr lacking ↦ elim (listed_cases name (names_at rs i)) [
         | inl listed ↦
             let P : List ℕ → Type 0 = λ g. ¬ (group_at rs i ≡ Some g) × ¬ Contains (names_at rs i) g in
             let alone : P group = ((λ same. other (one_unit rs r i group there same)), lacking) in
-            absurd (good GroupNotListed i (record { name = name.element; listed = listed; holds = (r, less, here, subst (λ o. IsSomeAnd o P) (sym there) alone) }))
-        | inr unlisted ↦ elim (named_cases rs i name.element name.inside) [
+            absurd (good GroupNotListed i (record { name = name; listed = listed; holds = (r, less, here, subst (λ o. IsSomeAnd o P) (sym there) alone) }))
+        | inr unlisted ↦ elim needed.inside [
           | inl listed ↦ absurd (unlisted listed)
           | inr refers ↦
-              let uncovered : ¬ NamesGroupOf rs i r = λ named. lacking (let same : named.0 ≡ group = (let s : Some named.0 ≡ Some group = sym named.1 ∙ there in cc) in subst (Contains (names_at rs i)) same named.2) in
-              absurd (good ReferenceNotListed i (refers_with rs i name.element (λ id. (j : ℕ) × (j < i) × (id_at rs j ≡ Some id) × ¬ IsInGroupOf rs i j × ¬ Contains (names_at rs i) id × ¬ NamesGroupOf rs i j) refers
+              let uncovered : ¬ NamesGroupOf rs i r = λ named. lacking (subst (Contains (names_at rs i)) (same_Some named.0 group (sym named.1 ∙ there)) named.2) in
+              absurd (good ReferenceNotListed i (refers_with rs i name (λ id. (j : ℕ) × (j < i) × (id_at rs j ≡ Some id) × ¬ IsInGroupOf rs i j × ¬ Contains (names_at rs i) id × ¬ NamesGroupOf rs i j) refers
               (r, less, here, (λ both. other (one_unit rs r i both.0 both.2 both.1)), unlisted, uncovered)))
         ]
       ]
@@ -132,36 +140,34 @@ listed_case rs good i r h other (Some group) e = inr (group_needed rs good i r g
 
 -- two names that resolve to one need are one name
 one_name : (rs : List Record) (need : Need) (name other : List ℕ) → IsMeant rs name need → IsMeant rs other need → name ≡ other
-one_name rs (One p) name other is also = let s : Some name ≡ Some other = sym is.1.here ∙ also.1.here in cc
-one_name rs (Group u) name other is also =
-    let there : group_at rs is.unit.start ≡ Some other = in_group rs other u is.unit.start also.unit (unit_at_start rs name u is.unit) in
-    let s : Some name ≡ Some other = sym is.unit.first.here ∙ there in cc
-
-further_apart : (names : List (List ℕ)) (id : List ℕ) → AllPairs (λ x y. x ≢ y) names → (v : Bool) → list_any (bytes_eq id) names ≡ v → AllPairs (λ x y. x ≢ y) (names ++ cond v [] (id ∷ []))
-further_apart names id apart true e = subst (AllPairs (λ x y. x ≢ y)) (sym (append-nil names)) apart
-further_apart names id apart false e = all_pairs_push (λ x y. x ≢ y) names id apart
-    (λ k d less same. both_ways (list_any (bytes_eq id) names) e ((text_listed id names).1 (subst (Contains names) same (Contains-get_or names k d less))))
+one_name rs (One p) name other is also = same_Some name other (sym is.1.here ∙ also.1.here)
+one_name rs (Group u) name other is also = same_Some name other (sym is.unit.first.here ∙ in_group rs other u is.unit.start also.unit (unit_at_start rs name u is.unit))
 
 -- no name is needed twice
 needed_apart : (names : List (List ℕ)) (reference : Option (List ℕ)) → AllPairs (λ x y. x ≢ y) names → AllPairs (λ x y. x ≢ y) (names ++ further_names names reference)
-needed_apart names None apart = subst (AllPairs (λ x y. x ≢ y)) (sym (append-nil names)) apart
-needed_apart names (Some id) apart = further_apart names id apart (list_any (bytes_eq id) names) refl
-
-means_apart : (rs : List Record) (name : List ℕ) (names : List (List ℕ)) → ((other : List ℕ) → Contains names other → name ≢ other) → AllPairs (λ x y. x ≢ y) (filter_map (need_of rs) names) → (found : Option Need) → need_of rs name ≡ found
-    → AllPairs (λ x y. x ≢ y) (cons_option found (filter_map (need_of rs) names))
-means_apart rs name names apart more None e = more
-means_apart rs name names apart more (Some need) e = AllPairs-cons (λ x y. x ≢ y) need (filter_map (need_of rs) names)
-    (λ k d less same.
-    let inside : Contains (filter_map (need_of rs) names) need = subst (Contains (filter_map (need_of rs) names)) (sym same) (Contains-get_or (filter_map (need_of rs) names) k d less) in
-    let meant : ElementMeaning (need_of rs) names need = element_meaning (need_of rs) names need inside in
-    apart meant.element meant.inside (one_name rs need name meant.element (is_meant rs name need e) (is_meant rs meant.element need meant.means)))
-    more
+needed_apart names None apart = rw append-nil apart
+needed_apart names (Some id) apart =
+    elim (cases_Bool (list_any (bytes_eq id) names)) [
+      | inl listed ↦ rw (listed, append-nil) apart
+      | inr unlisted ↦ rw unlisted (all_pairs_push (λ x y. x ≢ y) names id apart
+          (λ k d less same. both_ways (list_any (bytes_eq id) names) unlisted ((text_listed id names).1 (subst (Contains names) same (Contains-get_or names k d less)))))
+    ]
 
 -- different names resolve to different needs
 needs_apart : (rs : List Record) (names : List (List ℕ)) → AllPairs (λ x y. x ≢ y) names → AllPairs (λ x y. x ≢ y) (filter_map (need_of rs) names)
 needs_apart rs [] apart = λ i j d less inside. absurd (omega arith)
-needs_apart rs (name ∷ names) apart = means_apart rs name names (λ other h same. apart zero (suc h.0) other (omega arith) (omega (arith, h.1)) (same ∙ sym h.2))
-    (needs_apart rs names (λ i j d less inside. apart (suc i) (suc j) d (omega arith) (omega arith))) (need_of rs name) refl
+needs_apart rs (name ∷ names) apart =
+    let needs = filter_map (need_of rs) names in
+    let more : AllPairs (λ x y. x ≢ y) needs = needs_apart rs names (λ i j d less inside. apart (suc i) (suc j) d (omega arith) (omega arith)) in
+    (elim (need_of rs name) as (λ o. need_of rs name ≡ o → AllPairs (λ x y. x ≢ y) (cons_option o needs)) [
+      | None ↦ λ e. more
+      | Some need ↦ λ e. AllPairs-cons (λ x y. x ≢ y) need needs
+          (λ k d less same.
+          let meant : ElementMeaning (need_of rs) names need = element_meaning (need_of rs) names need (subst (Contains needs) (sym same) (Contains-get_or needs k d less)) in
+          let one : name ≡ meant.element = one_name rs need name meant.element (is_meant rs name need e) (is_meant rs meant.element need meant.means) in
+          apart zero (suc meant.inside.0) meant.element (omega arith) (omega (arith, meant.inside.1)) (one ∙ sym meant.inside.2))
+          more
+    ]) refl
 
 -- units and needs of the plan as data
 pub is_shape : (rs : List Record) → IsShapeOf rs (shape_of rs)
@@ -209,13 +215,10 @@ earlier_case rs good i h (Group u) inside = omega (arith, unit_there rs i h, (ne
 plan_listed : (rs : List Record) → HasGoodNames rs → (i r : ℕ) → i < length rs → r < length rs → Contains (needs_at rs i) (One r)
     → (unit_of (shape_of rs) r ≡ unit_of (shape_of rs) i) ⊎ (IsAlone (shape_of rs) r ⊎ Contains (needs_of (shape_of rs) i) (Group (unit_of (shape_of rs) r)))
 plan_listed rs good i r h inside needs =
-    elim (cases_eq (unit_at rs r) (unit_at rs i)) [
-      | inl same ↦ inl (unit_there rs r inside ∙ same ∙ sym (unit_there rs i h))
-      | inr other ↦ inr (elim (listed_case rs good i r needs other (group_at rs r) refl) [
-        | inl alone ↦ inl (λ j less same. alone j (sym (unit_there rs j (in_shape rs j less)) ∙ same ∙ unit_there rs r inside))
-        | inr group ↦ inr (subst (λ u. Contains (needs_of (shape_of rs) i) (Group u)) (sym (unit_there rs r inside)) (subst (λ xs. Contains xs (Group (unit_at rs r))) (sym (needs_there rs i h)) group))
-      ])
-    ]
+    rw (unit_there rs r inside, unit_there rs i h, needs_there rs i h) (elim (cases_eq (unit_at rs r) (unit_at rs i)) [
+      | inl same ↦ inl same
+      | inr other ↦ inr (elim (listed_case rs good i r needs other (group_at rs r) refl) [ inl alone ↦ inl (λ j less same. alone j (sym (unit_there rs j (in_shape rs j less)) ∙ same)) | inr group ↦ inr group ])
+    ])
 
 pub is_plan : (rs : List Record) → HasGoodNames rs → length rs ≤ 10000 → ((k : ℕ) → k < length rs → IsDistinct bytes_eq (names_at rs k)) → IsPlan (shape_of rs)
 is_plan rs good few distinct =

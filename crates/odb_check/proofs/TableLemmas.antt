@@ -52,32 +52,17 @@ next_start rs i starts inside are =
     ]
 
 -- the unit of the next position, by the tables
-found_unit : (rs : List Record) (i next : ℕ) (group : List ℕ) → next ≡ units_before rs i → (found : Option ℕ)
-    → unwrap_or (option_map (units_before rs) found) next ≡ units_before rs (unwrap_or found i)
-found_unit rs i next group e None = e
-found_unit rs i next group e (Some b) = refl
-
 unit_among_is : (rs : List Record) (i next : ℕ) (groups : Table) → ((q : List ℕ) → at_text groups q ≡ option_map (units_before rs) (first_in_group rs i q))
     → next ≡ units_before rs i → (group : Option (List ℕ)) → unit_among groups group next ≡ units_before rs (begin_in rs i group)
 unit_among_is rs i next groups are e None = e
-unit_among_is rs i next groups are e (Some group) = ap (λ o. unwrap_or o next) (are group) ∙ found_unit rs i next group e (first_in_group rs i group)
+unit_among_is rs i next groups are e (Some group) =
+    ap (λ o. unwrap_or o next) (are group) ∙ elim (first_in_group rs i group) as (λ o. unwrap_or (option_map (units_before rs) o) next ≡ units_before rs (unwrap_or o i)) [ None ↦ e | Some b ↦ refl ]
 
-new_group : (rs : List Record) (i unit : ℕ) (q : List ℕ) → unit ≡ unit_at rs i → first_in_group rs i q ≡ None → (v : Bool) → is_text q (group_at rs i) ≡ v
-    → cond v (Some unit) None ≡ option_map (units_before rs) (cond v (Some i) None)
-new_group rs i unit q e none true here =
-    let group_is : group_at rs i ≡ Some q = (text_Decides q (group_at rs i)).0 here in
-    let begin_is : unit_begin rs i ≡ i = ap (begin_in rs i) group_is ∙ ap (λ o. unwrap_or o i) none in
-    ap Some (e ∙ ap (units_before rs) begin_is)
-new_group rs i unit q e none false here = refl
-
-next_group : (rs : List Record) (i unit : ℕ) (q : List ℕ) → unit ≡ unit_at rs i → (found : Option ℕ) → first_in_group rs i q ≡ found
-    → or_else (option_map (units_before rs) found) (cond (is_text q (group_at rs i)) (Some unit) None) ≡ option_map (units_before rs) (or_else found (cond (is_text q (group_at rs i)) (Some i) None))
-next_group rs i unit q e None here = new_group rs i unit q e here (is_text q (group_at rs i)) refl
-next_group rs i unit q e (Some b) here = refl
-
-some-map : {X Y : Type 0} (f : X → Y) (o : Option X) → is_some (option_map f o) ≡ is_some o
-some-map f None = refl
-some-map f (Some x) = refl
+next_group : (rs : List Record) (i unit : ℕ) (q : List ℕ) → unit ≡ unit_at rs i → (found : Option ℕ) → first_in_group rs i q ≡ found → (v : Bool) → is_text q (group_at rs i) ≡ v
+    → or_else (option_map (units_before rs) found) (cond v (Some unit) None) ≡ option_map (units_before rs) (or_else found (cond v (Some i) None))
+next_group rs i unit q e None none true here = ap Some (e ∙ ap (units_before rs) (ap (begin_in rs i) ((text_Decides q (group_at rs i)).0 here) ∙ ap (λ o. unwrap_or o i) none))
+next_group rs i unit q e None none false here = refl
+next_group rs i unit q e (Some b) first v here = refl
 
 -- how many groups there are with that of the next request
 next_group_count : (rs : List Record) (i : ℕ) (groups : Table) → ((q : List ℕ) → at_text groups q ≡ option_map (units_before rs) (first_in_group rs i q)) → (group : Option (List ℕ))
@@ -85,7 +70,7 @@ next_group_count : (rs : List Record) (i : ℕ) (groups : Table) → ((q : List 
 next_group_count rs i groups are None = omega arith
 next_group_count rs i groups are (Some group) =
     let known : list_any (bytes_eq group) (groups_below rs i) ≡ is_some (at_text groups group) =
-    any-groups_below rs i group ∙ sym (some-map (units_before rs) (first_in_group rs i group)) ∙ ap (λ o. is_some o) (sym (are group)) in
+    any-groups_below rs i group ∙ elim (first_in_group rs i group) as (λ o. is_some o ≡ is_some (option_map (units_before rs) o)) [ None ↦ refl | Some b ↦ refl ] ∙ ap (λ o. is_some o) (sym (are group)) in
     length-with (list_any (bytes_eq group) (groups_below rs i)) (groups_below rs i) group ∙ ap (λ b. length (groups_below rs i) + cond b 0 1) known
 
 -- the tables with one more request, from what each call ensures
@@ -116,7 +101,7 @@ tables_more rs i r ids ids' groups groups' units starts units' starts' unit here
           ∙ ap (λ o. or_else (first_below i (λ j. is_text q (id_at rs j))) (cond (is_text q o) (Some i) None)) (sym id_is);
       groups_are = λ q. groups_go q ∙ ap (λ o. or_else o (cond (is_text q r.group) (Some unit) None)) (tables.groups_are q)
           ∙ ap (λ o. or_else (option_map (units_before rs) (first_in_group rs i q)) (cond (is_text q o) (Some unit) None)) (sym group_is)
-          ∙ next_group rs i unit q unit_is (first_in_group rs i q) refl;
+          ∙ next_group rs i unit q unit_is (first_in_group rs i q) refl (is_text q (group_at rs i)) refl;
       units_are = units_go ∙ ap (λ xs. xs ++ unit ∷ []) tables.units_are ∙ ap (λ u. list_below i (unit_at rs) ++ u ∷ []) unit_is;
       starts_are = starts_next.starts_are;
       count = starts_next.count;

@@ -14,7 +14,7 @@ use Rattle.odb_check.specs.declared.fault.CheckFault.TheVariants as faults
 use Rattle.odb_check.specs.declared.fault.NameRule.{NameRule}
 use Rattle.odb_check.specs.declared.fault.NameRule.TheVariants.{UnknownName}
 use Rattle.odb_check.specs.declared.need.Need.{Need}
-use Rattle.odb_check.specs.Faults.{number, phase}
+use Rattle.odb_check.specs.FaultTable.{number, phase}
 use Rattle.odb_check.specs.LeastNameFault.{BreaksIn, HasGoodNames, RefusesNames}
 use Rattle.odb_check.specs.Marks.{ones_with, groups_with, AreMarksOf}
 use Rattle.odb_check.specs.NameFaults.{IsBrokenAt}
@@ -37,34 +37,26 @@ pub record AddsNames (rs : List Record) (names : List (List ℕ)) (stamp : ℕ) 
   pub added : after ≡ before ++ filter_map (need_of rs) names
   pub marked : AreMarksOf rs (filter_map (need_of rs) names) stamp ones groups
 
--- one more name, and what it resolves to
-names_more : (rs : List Record) (names : List (List ℕ)) (name : List ℕ) (need : Need) (stamp : ℕ) (before list : List Need) (ones groups : List ℕ) → need_of rs name ≡ Some need
-    → AddsNames rs names stamp before list ones groups → AddsNames rs (names ++ name ∷ []) stamp before (list ++ need ∷ []) (ones_with need stamp ones) (groups_with need stamp groups)
-names_more rs names name need stamp before list ones groups means adds =
-    let more : filter_map (need_of rs) (names ++ name ∷ []) ≡ filter_map (need_of rs) names ++ need ∷ [] =
-    filter_map-append (need_of rs) names (name ∷ []) ∙ ap (λ o. filter_map (need_of rs) names ++ cons_option o []) means in
-    record {
-      known = λ other h. elim (Contains-push_cases names name other h) [
-        | inl earlier ↦ adds.known other earlier
-        | inr same ↦ λ e. let nothing : Some need ≡ None = sym means ∙ ap (need_of rs) same ∙ e in cc
-      ];
-      added = ap (λ xs. xs ++ need ∷ []) adds.added ∙ append_assoc before (filter_map (need_of rs) names) (need ∷ []) ∙ ap (λ xs. before ++ xs) (sym more);
-      marked = subst (λ named. AreMarksOf rs named stamp (ones_with need stamp ones) (groups_with need stamp groups)) (sym more)
-          (marks_more rs (filter_map (need_of rs) names) need stamp ones groups (need_within rs name need means) adds.marked);
-    }
-
 -- one more name, from what each call ensures
-pub names_more_called : (rs : List Record) (names : List (Bor (List ℕ))) (k : ℕ) (d : Bor (List ℕ)) (need : Need) (stamp : ℕ) (before list list' : List Need) (ones ones' groups groups' : List ℕ)
+pub names_more : (rs : List Record) (names : List (Bor (List ℕ))) (k : ℕ) (d : Bor (List ℕ)) (need : Need) (stamp : ℕ) {before list list' : List Need} {ones ones' groups groups' : List ℕ}
     → k < length names → Some need ≡ need_of rs (get_or names k d).now
     → AddsNames rs (texts_in (take k names)) stamp before list ones groups
     → list' ≡ list ++ need ∷ [] → ones' ≡ ones_with need stamp ones → groups' ≡ groups_with need stamp groups
     → AddsNames rs (texts_in (take (k + 1) names)) stamp before list' ones' groups'
-names_more_called rs names k d need stamp before list list' ones ones' groups groups' inside means adds list_is ones_are groups_are =
-    let more : texts_in (take (k + 1) names) ≡ texts_in (take k names) ++ (get_or names k d).now ∷ [] =
-    ap texts_in (take_more names k d inside) ∙ map-append (λ (x : Bor (List ℕ)). x.now) (take k names) (get_or names k d ∷ []) in
-    let on : AddsNames rs (texts_in (take k names) ++ (get_or names k d).now ∷ []) stamp before (list ++ need ∷ []) (ones_with need stamp ones) (groups_with need stamp groups) =
-    names_more rs (texts_in (take k names)) (get_or names k d).now need stamp before list ones groups (sym means) adds in
-    rw more (rw list_is (rw ones_are (rw groups_are on)))
+names_more rs names k d need stamp {before} {list} {list'} {ones} {ones'} {groups} {groups'} inside means adds list_is ones_are groups_are =
+    let texts = texts_in (take k names) in
+    let name = (get_or names k d).now in
+    let named = filter_map (need_of rs) texts in
+    let next : texts_in (take (k + 1) names) ≡ texts ++ name ∷ [] = ap texts_in (take_more names k d inside) ∙ map-append (λ (x : Bor (List ℕ)). x.now) (take k names) (get_or names k d ∷ []) in
+    let more : filter_map (need_of rs) (texts ++ name ∷ []) ≡ named ++ need ∷ [] = filter_map-append (need_of rs) texts (name ∷ []) ∙ ap (λ o. named ++ cons_option o []) (sym means) in
+    rw next (record {
+      known = λ other h. elim (Contains-push_cases texts name other h) [
+        | inl earlier ↦ adds.known other earlier
+        | inr same ↦ λ e. let nothing : Some need ≡ None = means ∙ ap (need_of rs) same ∙ e in cc
+      ];
+      added = list_is ∙ ap (λ xs. xs ++ need ∷ []) adds.added ∙ append_assoc before named (need ∷ []) ∙ ap (λ xs. before ++ xs) (sym more);
+      marked = rw (more, ones_are, groups_are) (marks_more rs named need stamp ones groups (need_within rs name need (sym means)) adds.marked);
+    })
 
 -- a name that resolves to nothing is unknown
 pub name_unknown : (rs : List Record) (i : ℕ) (names : List (Bor (List ℕ))) (k : ℕ) (d : Bor (List ℕ)) → texts_in names ≡ names_at rs i → k < length names → None ≡ need_of rs (get_or names k d).now → IsBrokenAt UnknownName rs i

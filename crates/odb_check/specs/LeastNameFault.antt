@@ -5,7 +5,7 @@ use Rattle.odb_doc.specs.Records.{Record}
 use Rattle.odb_check.specs.declared.fault.NameRule.{NameRule}
 use Rattle.odb_check.specs.declared.fault.CheckFault.{CheckFault}
 use Rattle.odb_check.specs.declared.fault.CheckFault.TheVariants as faults
-use Rattle.odb_check.specs.Faults.{number, phase}
+use Rattle.odb_check.specs.FaultTable.{number, phase}
 use Rattle.odb_check.specs.NameFaults.{IsBrokenAt}
 
 -- the rule belongs to the phase, and is broken at i

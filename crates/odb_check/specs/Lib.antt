@@ -1,5 +1,4 @@
 -- What public clauses cite: it has to be believed.
-pub mod Faults
 pub mod FaultTable
 pub mod Positions
 pub mod NameFaults

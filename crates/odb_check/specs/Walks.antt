@@ -9,7 +9,7 @@ use Rattle.odb_check.specs.declared.fault.CheckFault.{CheckFault}
 use Rattle.odb_check.specs.declared.fault.CheckFault.TheVariants as faults
 use Rattle.odb_check.specs.declared.need.Need.{Need}
 use Rattle.odb_check.specs.declared.needs.Needs.{Needs}
-use Rattle.odb_check.specs.Faults.{number}
+use Rattle.odb_check.specs.FaultTable.{number}
 use Rattle.odb_check.specs.Firsts.{joined_below, list_below}
 use Rattle.odb_check.specs.LeastNameFault.{BreaksIn}
 use Rattle.odb_check.specs.Needs.{further_names, need_of, needs_at}

@@ -59,7 +59,7 @@ pub enum CheckFault {
 }
 
 impl NameRule {
-    ghost use Rattle.odb_check.specs.Faults.{rule_code, rule_name};
+    ghost use Rattle.odb_check.specs.FaultTable.{rule_code, rule_name};
 
     /// The code and the name.
     fn row(self) -> (&'static str, &'static str)

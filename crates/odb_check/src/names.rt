@@ -109,7 +109,7 @@ impl Judged<'_, '_> {
     fn referred(&self) -> Option<u32>
         ensures { result ≡ referred_by self.now }
     {
-        self.tables.referred_to(self.i)
+        self.tables.position_of(self.tables.reference(self.i)?)
     }
 
     /// F41: whether `dependsOn` lists a request or a group that does not precede.

@@ -1,4 +1,4 @@
-ghost use Rattle.std.specs.Prelude.{◌≡◌, ◌≤◌, ◌<◌, ◌==◌, ◌+◌, ◌∷◌, ◌++◌, [], ℕ, List, length, cond, Some, None, option_copied, option_and_then, OnOk, IfOk, slice_get};
+ghost use Rattle.std.specs.Prelude.{◌≡◌, ◌≤◌, ◌<◌, ◌==◌, ◌+◌, ◌∷◌, ◌++◌, [], ℕ, List, length, cond, Some, None, option_copied, OnOk, IfOk, slice_get};
 ghost use Rattle.std.proofs.Props.{props};
 ghost use Rattle.odb_doc.specs.Batches.{records};
 ghost use Rattle.odb_doc.specs.Names.{texts_in};
@@ -234,15 +234,6 @@ impl<'b> Tables<'b> {
         ensures { result ≡ spec.position_of (requests self.now) id.now }
     {
         self.ids.get(id)
-    }
-
-    /// The request that the URL of another refers to, if the batch has that.
-    pub(crate) fn referred_to(&self, i: u32) -> Option<u32>
-        requires { i < length (requests self.now) }
-        ensures { result
-            ≡ option_and_then (spec.position_of (requests self.now)) (reference_at (requests self.now) i) }
-    {
-        self.position_of(self.reference(i)?)
     }
 
     pub(crate) fn unit_of_group(&self, group: &str) -> Option<u32>

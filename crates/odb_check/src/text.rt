@@ -1,8 +1,7 @@
 ghost use Rattle.std.specs.Prelude.{◌≡◌, ◌<◌, ◌∷◌, ◌++◌, [], length, All, Some, IfOk, OnOk, option_copied, string_bytes};
-ghost use Rattle.odb_check.specs.Marks.{IsWithin};
-ghost use Rattle.odb_check.specs.Plans.{plan_records};
+ghost use Rattle.odb_check.specs.Plans.{plan_records, shape};
+ghost use Rattle.odb_check.specs.Shape.{IsNeed};
 ghost use Rattle.odb_check.specs.Texts as texts;
-ghost use Rattle.odb_check.specs.Units.{unit_count};
 
 use crate::need::Need;
 use crate::plan::Plan;
@@ -30,8 +29,7 @@ fn push_head(text: &mut String, i: u32, id: &str, level: u32, group: &str) -> Re
 impl Plan<'_> {
     /// The name of what is needed: the identifier of a request, or the name of a group.
     fn name_of(&self, need: Need) -> &str
-        requires { IsWithin need (length (plan_records self.now))
-            (unit_count (plan_records self.now)) }
+        requires { IsNeed (shape self.now) need }
         ensures { result.now ≡ texts.need_name (plan_records self.now) need }
     {
         match need {
@@ -42,8 +40,7 @@ impl Plan<'_> {
 
     /// Appends names, each after a comma.
     fn push_further(&self, text: &mut String, needs: &[Need]) -> Result<(), AllocError>
-        requires { All (λ need. IsWithin need (length (plan_records self.now))
-            (unit_count (plan_records self.now))) needs.now }
+        requires { All (IsNeed (shape self.now)) needs.now }
         ensures { OnOk result (string_bytes text.new
             ≡ string_bytes text.old ++ texts.further_text (plan_records self.now) needs.now) }
     {
@@ -56,8 +53,7 @@ impl Plan<'_> {
 
     /// Appends names with commas between them, or `*` for none.
     fn push_names(&self, text: &mut String, needs: &[Need]) -> Result<(), AllocError>
-        requires { All (λ need. IsWithin need (length (plan_records self.now))
-            (unit_count (plan_records self.now))) needs.now }
+        requires { All (IsNeed (shape self.now)) needs.now }
         ensures { OnOk result (string_bytes text.new
             ≡ string_bytes text.old ++ texts.names_text (plan_records self.now) needs.now) }
     {

@@ -6,8 +6,7 @@ use Rattle.odb_doc.specs.Records.{Record}
 use Rattle.odb_check.specs.declared.fault.NameRule.{NameRule}
 use Rattle.odb_check.specs.declared.fault.CheckFault.{CheckFault}
 use Rattle.odb_check.specs.declared.fault.CheckFault.TheVariants as faults
-use Rattle.odb_check.specs.Faults.{number, phase}
-use Rattle.odb_check.specs.FaultTable.{IsNumbered}
+use Rattle.odb_check.specs.FaultTable.{number, phase, IsNumbered}
 use Rattle.odb_check.specs.LeastNameFault.{BreaksIn, IsLeastAt, RefusesNames}
 use Rattle.odb_check.proofs.laws.one_fault.Goals as goal
 

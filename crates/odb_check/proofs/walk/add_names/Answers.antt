@@ -9,7 +9,7 @@ use Rattle.odb_check.specs.Positions.{names_at}
 use Rattle.odb_check.specs.Requests.{requests}
 use Rattle.odb_check.specs.Units.{unit_count}
 use Rattle.odb_check.proofs.NeedLemmas.{need_within}
-use Rattle.odb_check.proofs.WalkLemmas.{name_unknown, names_more_called, names_known, unknown_least}
+use Rattle.odb_check.proofs.WalkLemmas.{name_unknown, names_more, names_known, unknown_least}
 use Rattle.odb_check.proofs.walk.add_names.Goals as goal
 
 pub mark-requires : goal.mark-requires
@@ -22,7 +22,7 @@ mark-requires c =
 pub loop-name-preserved : goal.loop-name-preserved
 loop-name-preserved c =
     let d : Bor (List ℕ) = record { ref_ptr = (0, 0); now = [] } in
-    names_more_called (requests c.args.tables.now) c.args.names.now c.loop-name.name-index d c.in-Some.need _ _ _ _ _ _ _ _ c.loop-name-test.true c.in-Some.ensures
+    names_more (requests c.args.tables.now) c.args.names.now c.loop-name.name-index d c.in-Some.need _ c.loop-name-test.true c.in-Some.ensures
     c.loop-name.invariant c.in_ok-push.ensures.items c.mark.ensures.ones c.mark.ensures.groups
 
 pub returns-in_default-clause-least : goal.returns-in_default-clause-least

@@ -7,6 +7,7 @@ use Rattle.odb_check.specs.Positions.{group_at}
 use Rattle.odb_check.specs.Texts.{group_text, group_of_unit, need_name}
 use Rattle.odb_check.specs.Units.{unit_at, HasMembers}
 use Rattle.odb_check.proofs.FirstLemmas.{first_cases, found_first}
+use Rattle.odb_check.proofs.PlanLemmas.{in_shape}
 use Rattle.odb_check.proofs.plan.Plan.name_of.Goals as goal
 
 -- the group of a unit is that of its first position
@@ -25,6 +26,6 @@ returns-in-Group c =
     c.group_text.ensures ∙ ap group_text (here ∙ sym (group_of_start rs c.in-Group.unit c.members.result.start c.members.result.end c.members.ensures.members)) in
     name ∙ ap (need_name rs) (sym c.in-Group.is)
 
-pub members-requires : goal.members-requires
+pub request-requires : goal.request-requires
 unfolding shape
-members-requires c = rw c.in-Group.is at c.requires
+request-requires c = in_shape (plan_records c.args.self.now) c.in-One.position (rw c.in-One.is at c.requires)
