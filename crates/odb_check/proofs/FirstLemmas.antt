@@ -45,26 +45,20 @@ pub found_none : (n : ℕ) (P : ℕ → Type 0) → ((k : ℕ) → k < n → ¬ 
 found_none n P never None below = refl
 found_none n P never (Some b) first = absurd (never b first.0 first.1.here)
 
--- a count does not fall
-count_step : (v : Bool) (m : ℕ) → m ≤ cond v (suc m) m
-count_step true m = omega arith
-count_step false m = omega arith
-
-few_more : (v : Bool) (m n : ℕ) → m ≤ n → cond v (suc m) m ≤ suc n
-few_more true m n h = omega arith
-few_more false m n h = omega arith
-
 -- at most all numbers pass
 pub count_few : (n : ℕ) (test : ℕ → Bool) → count_below n test ≤ n
 count_few zero test = omega arith
-count_few (suc n) test = few_more (test n) (count_below n test) n (count_few n test)
+count_few (suc n) test = let few : count_below n test ≤ n = count_few n test in elim (test n) as (λ v. cond v (suc (count_below n test)) (count_below n test) ≤ suc n) [ true ↦ omega arith | false ↦ omega arith ]
 
+-- a count does not fall
 pub count_more : (test : ℕ → Bool) (m n : ℕ) → m ≤ n → count_below m test ≤ count_below n test
 count_more test m zero h = let same : zero ≡ m = omega arith in subst (λ j. count_below j test ≤ 0) same (omega arith)
 count_more test m (suc n) h =
     elim (cases_lt n m) [
       | inl more ↦ let same : suc n ≡ m = omega arith in subst (λ j. count_below j test ≤ count_below (suc n) test) same (omega arith)
-      | inr less ↦ let step : count_below n test ≤ count_below (suc n) test = count_step (test n) (count_below n test) in omega (arith, count_more test m n less)
+      | inr less ↦
+          let before : count_below m test ≤ count_below n test = count_more test m n less in
+          elim (test n) as (λ v. count_below m test ≤ cond v (suc (count_below n test)) (count_below n test)) [ true ↦ omega arith | false ↦ before ]
     ]
 
 -- a number that passes is counted after it

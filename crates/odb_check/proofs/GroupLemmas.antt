@@ -21,8 +21,9 @@ use Rattle.odb_check.proofs.AnyLemmas.{any_more}
 
 -- ---- a group is among those of the first n requests where one of these is in it
 
-any-with : (names : List (List ℕ)) (group q : List ℕ) → list_any (bytes_eq q) (with_name names group) ≡ (list_any (bytes_eq q) names || bytes_eq q group)
-any-with names group q =
+any-with_group : (names : List (List ℕ)) (group : Option (List ℕ)) (q : List ℕ) → list_any (bytes_eq q) (with_group names group) ≡ (list_any (bytes_eq q) names || is_text q group)
+any-with_group names None q = sym (or-false (list_any (bytes_eq q) names))
+any-with_group names (Some group) q =
     elim (cases_Bool (list_any (bytes_eq group) names)) [
       | inl among ↦ rw among (elim (cases_Bool (bytes_eq q group)) [
         | inl same ↦ let found : list_any (bytes_eq q) names ≡ true = rw ((bytes_eq-Decides q group).0 same) among in rw found refl
@@ -31,22 +32,15 @@ any-with names group q =
       | inr new ↦ rw new (any_more (bytes_eq q) names group)
     ]
 
-some_or : (found : Option ℕ) (b : Bool) (n : ℕ) → is_some (or_else found (cond b (Some n) None)) ≡ (is_some found || b)
+some_or : (found : Option ℕ) (b : Bool) (n : ℕ) → (is_some found || b) ≡ is_some (or_else found (cond b (Some n) None))
 some_or None true n = refl
 some_or None false n = refl
-some_or (Some f) true n = refl
-some_or (Some f) false n = refl
-
-any-with_group : (names : List (List ℕ)) (found : Option ℕ) (n : ℕ) (q : List ℕ) (group : Option (List ℕ)) → list_any (bytes_eq q) names ≡ is_some found
-    → list_any (bytes_eq q) (with_group names group) ≡ is_some (or_else found (cond (is_text q group) (Some n) None))
-any-with_group names found n q None same =
-    same ∙ elim found as (λ o. is_some o ≡ is_some (or_else o None)) [ None ↦ refl | Some f ↦ refl ]
-any-with_group names found n q (Some group) same =
-    any-with names group q ∙ ap (λ b. b || bytes_eq q group) same ∙ sym (some_or found (bytes_eq q group) n)
+some_or (Some f) b n = refl
 
 pub any-groups_below : (rs : List Record) (n : ℕ) (q : List ℕ) → list_any (bytes_eq q) (groups_below rs n) ≡ is_some (first_in_group rs n q)
 any-groups_below rs zero q = refl
-any-groups_below rs (suc n) q = any-with_group (groups_below rs n) (first_in_group rs n q) n q (group_at rs n) (any-groups_below rs n q)
+any-groups_below rs (suc n) q =
+    any-with_group (groups_below rs n) (group_at rs n) q ∙ ap (λ b. b || is_text q (group_at rs n)) (any-groups_below rs n q) ∙ some_or (first_in_group rs n q) (is_text q (group_at rs n)) n
 
 -- ---- how many they are
 

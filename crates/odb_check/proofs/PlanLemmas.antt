@@ -13,12 +13,14 @@ use Rattle.odb_doc.specs.Records.{Record}
 use Rattle.odb_check.specs.declared.fault.NameRule.TheVariants.{IdTwice, IdIsGroup, GroupSplit, ForwardName, OwnGroup, GroupNotListed, UnknownReference, ForwardReference, ReferenceNotListed}
 use Rattle.odb_check.specs.declared.need.Need.{Need}
 use Rattle.odb_check.specs.declared.need.Need.TheVariants.{One, Group}
+use Rattle.odb_check.specs.declared.plan.Plan.{Plan}
 use Rattle.odb_check.specs.Firsts.{list_below}
 use Rattle.odb_check.specs.LeastNameFault.{HasGoodNames}
 use Rattle.odb_check.specs.Laws.{HasPositions, NeedsGroups}
 use Rattle.odb_check.specs.Marks.{IsWithin}
 use Rattle.odb_check.specs.Walks.{HasSoundIds}
 use Rattle.odb_check.specs.Needs.{need_of, further_names, needed_names, needs_at}
+use Rattle.odb_check.specs.Plans.{plan_records, shape}
 use Rattle.odb_check.specs.Positions.{id_at, group_at, names_at, reference_at, IsId, IsIdFrom, IsInGroupOf, NamesGroupOf}
 use Rattle.odb_check.specs.Shape.{unit_of, needs_of, shape_of, IsEarlier, IsAlone, IsNeed, IsPlan, IsShapeOf, IsSpan, HasNamesAsNeeds}
 use Rattle.odb_check.specs.Units.{begins_unit, unit_at, unit_count, HasMembers}
@@ -177,6 +179,10 @@ is_shape rs = record {
   units = λ i h. get_or-list_below (length rs) (unit_at rs) i 0 h;
   needs = λ i h. get_or-list_below (length rs) (needs_at rs) i [] h;
 }
+
+pub shaped : (plan : Plan) → IsShapeOf (plan_records plan) (shape plan)
+unfolding shape
+shaped plan = is_shape (plan_records plan)
 
 unit_there : (rs : List Record) (i : ℕ) → i < length rs → unit_of (shape_of rs) i ≡ unit_at rs i
 unit_there rs i h = (is_shape rs).units i h

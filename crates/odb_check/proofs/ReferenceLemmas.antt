@@ -9,7 +9,6 @@ use Rattle.std.proofs.lemmas.Bool.Decides.{Decides-at, Decides-like, same_from_d
 use Rattle.odb_doc.specs.Records.{Record}
 use Rattle.odb_check.specs.declared.fault.NameRule.TheVariants.{UnknownReference, ForwardReference, ReferenceNotListed}
 use Rattle.odb_check.specs.declared.names.Judged.{Judged}
-use Rattle.odb_check.specs.declared.need.Need.{Need}
 use Rattle.odb_check.specs.declared.need.Need.TheVariants.{One}
 use Rattle.odb_check.specs.Judged.{MissesGroupOf, batch_of, referred_by}
 use Rattle.odb_check.specs.Walks.{HasSoundIds, further_needs, named_at}
@@ -53,9 +52,6 @@ unknown_Decides j none =
       | Some id ↦ λ e. ((λ yes. refers_nowhere j id none e), λ h. refl)
     ]) refl
 
-pub known : (j : Judged) (p : ℕ) → RefersTo j p → ¬ IsBrokenAt UnknownReference (batch_of j) j.i
-known j p to h = subst (λ o. IsSomeAnd o (λ id. ¬ IsId (batch_of j) id)) to.here h (p, to.there)
-
 -- ---- a reference that does not precede
 
 pub forward_Decides : (j : Judged) (p : ℕ) → RefersTo j p → Decides (nat_le j.i p) (IsBrokenAt ForwardReference (batch_of j) j.i)
@@ -70,7 +66,7 @@ forward_Decides j p to = some_Decides (reference_at (batch_of j) j.i) to.id (λ 
 abbrev IsNotListed : List Record → ℕ → List ℕ → Type 0
 IsNotListed rs i id = (j : ℕ) × (j < i) × (id_at rs j ≡ Some id) × ¬ IsInGroupOf rs i j × ¬ Contains (names_at rs i) id × ¬ NamesGroupOf rs i j
 
-unlisted_at : (j : Judged) (p : ℕ) (to : RefersTo j p) → IsBrokenAt ReferenceNotListed (batch_of j) j.i → MissesGroupOf (batch_of j) j.i p × ¬ Contains (names_at (batch_of j) j.i) to.id
+pub unlisted_at : (j : Judged) (p : ℕ) (to : RefersTo j p) → IsBrokenAt ReferenceNotListed (batch_of j) j.i → MissesGroupOf (batch_of j) j.i p × ¬ Contains (names_at (batch_of j) j.i) to.id
 unlisted_at j p to h =
     let rs = batch_of j in
     let at_id : IsNotListed rs j.i to.id = subst (λ o. IsSomeAnd o (IsNotListed rs j.i)) to.here h in
@@ -80,9 +76,6 @@ unlisted_at j p to h =
 pub unlisted_Decides : (j : Judged) (p : ℕ) (to : RefersTo j p) → ¬ Contains (names_at (batch_of j) j.i) to.id → (misses : Bool) → Decides misses (MissesGroupOf (batch_of j) j.i p) → Decides misses (IsBrokenAt ReferenceNotListed (batch_of j) j.i)
 unlisted_Decides j p to lacks misses decides = some_Decides (reference_at (batch_of j) j.i) to.id (IsNotListed (batch_of j) j.i) misses to.here
     (Decides-like misses (λ m. (p, m.0, to.there, m.1, lacks, m.2)) (λ h. (unlisted_at j p to (subst (λ o. IsSomeAnd o (IsNotListed (batch_of j) j.i)) (sym to.here) h)).0) decides)
-
-pub listed_never : (j : Judged) (p : ℕ) (to : RefersTo j p) → Contains (names_at (batch_of j) j.i) to.id → ¬ IsBrokenAt ReferenceNotListed (batch_of j) j.i
-listed_never j p to listed h = (unlisted_at j p to h).1 listed
 
 -- ---- among the names
 
@@ -102,17 +95,13 @@ one_marked j p id here = Decides-at _ _ (j.marked.ones_are p) (one_listed (batch
 
 -- ---- what a reference adds
 
-further_case : (rs : List Record) (id : List ℕ) (need : Need) → need_of rs id ≡ Some need → (v : Bool) → filter_map (need_of rs) (cond v [] (id ∷ [])) ≡ cond v [] (need ∷ [])
-further_case rs id need means true = refl
-further_case rs id need means false = ap (λ o. cons_option o []) means
-
 -- a reference that is known adds its position, unless that is listed
 pub further_is : (j : Judged) (p : ℕ) (to : RefersTo j p) (listed : Bool) → Decides listed (Contains (names_at (batch_of j) j.i) to.id) → further_needs (batch_of j) j.i ≡ cond listed [] (One p ∷ [])
 further_is j p to listed decides =
     let rs = batch_of j in
     let same : list_any (bytes_eq to.id) (names_at rs j.i) ≡ listed = same_from_decides (list_any (bytes_eq to.id) (names_at rs j.i)) listed (text_listed to.id (names_at rs j.i)) decides in
     ap (λ o. filter_map (need_of rs) (further_names (names_at rs j.i) o)) to.here ∙ ap (λ v. filter_map (need_of rs) (cond v [] (to.id ∷ []))) same
-    ∙ further_case rs to.id (One p) (id_need rs (once rs j.sound) to.id p to.there) listed
+    ∙ elim listed as (λ v. filter_map (need_of rs) (cond v [] (to.id ∷ [])) ≡ cond v [] (One p ∷ [])) [ true ↦ refl | false ↦ ap (λ o. cons_option o []) (id_need rs (once rs j.sound) to.id p to.there) ]
 
 pub further_none : (j : Judged) → referred_by j ≡ None → ¬ IsBrokenAt UnknownReference (batch_of j) j.i → further_needs (batch_of j) j.i ≡ []
 further_none j none is_known =

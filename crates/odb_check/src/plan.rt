@@ -36,6 +36,7 @@ impl<'b> Plan<'b> {
     ghost use Rattle.odb_check.specs.Shape as shapes;
 
     /// Returns the number of requests: 10,000 at most.
+    #[tactic(auto, using(crate::proofs::PlanLemmas::shaped))]
     pub fn len(&self) -> u32
         ensures count { result ≡ length (plan_records self.now) }
         ensures size { result ≡ length (shape self.now).units }
@@ -70,6 +71,7 @@ impl<'b> Plan<'b> {
     }
 
     /// Returns the unit of the request at a position.
+    #[tactic(auto, using(crate::proofs::PlanLemmas::shaped))]
     pub fn unit_of(&self, i: u32) -> u32
         requires { i < length (shape self.now).units }
         ensures value { result ≡ units.unit_at (plan_records self.now) i }
@@ -98,6 +100,7 @@ impl<'b> Plan<'b> {
 
     /// Returns the dependencies of the request at a position: its `dependsOn` entries in order,
     /// without repeats, then the request that its URL refers to unless it is already among them.
+    #[tactic(auto, using(crate::proofs::PlanLemmas::shaped))]
     pub fn needs(&self, i: u32) -> &[Need]
         requires { i < length (shape self.now).units }
         ensures value { result.now ≡ needs_at (plan_records self.now) i }

@@ -28,6 +28,7 @@ fn push_head(text: &mut String, i: u32, id: &str, level: u32, group: &str) -> Re
 
 impl Plan<'_> {
     /// The name of what is needed: the identifier of a request, or the name of a group.
+    #[tactic(auto, using(crate::proofs::PlanLemmas::shaped))]
     fn name_of(&self, need: Need) -> &str
         requires { IsNeed (shape self.now) need }
         ensures { result.now ≡ texts.need_name (plan_records self.now) need }
@@ -67,6 +68,7 @@ impl Plan<'_> {
     }
 
     /// Appends the line of the request at a position.
+    #[tactic(auto, using(crate::proofs::PlanLemmas::shaped))]
     fn push_line(&self, text: &mut String, i: u32) -> Result<(), AllocError>
         requires { i < length (plan_records self.now) }
         ensures { OnOk result (string_bytes text.new

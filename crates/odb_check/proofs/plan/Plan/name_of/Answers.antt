@@ -2,12 +2,11 @@ use Rattle.std.proofs.Common.{◌≡◌, ◌<◌, ℕ, List, ap, sym, ◌∙◌,
 use Rattle.std.specs.Prelude.{◌==◌, option_copied, option_and_then}
 use Rattle.std.proofs.lemmas.Bool.Decides.{Decides-eqb}
 use Rattle.odb_doc.specs.Records.{Record}
-use Rattle.odb_check.specs.Plans.{plan_records, shape}
+use Rattle.odb_check.specs.Plans.{plan_records}
 use Rattle.odb_check.specs.Positions.{group_at}
 use Rattle.odb_check.specs.Texts.{group_text, group_of_unit, need_name}
 use Rattle.odb_check.specs.Units.{unit_at, HasMembers}
 use Rattle.odb_check.proofs.FirstLemmas.{first_cases, found_first}
-use Rattle.odb_check.proofs.PlanLemmas.{in_shape}
 use Rattle.odb_check.proofs.plan.Plan.name_of.Goals as goal
 
 -- the group of a unit is that of its first position
@@ -25,7 +24,3 @@ returns-in-Group c =
     let name : c.group_text.result.now ≡ group_text (group_of_unit rs c.in-Group.unit) =
     c.group_text.ensures ∙ ap group_text (here ∙ sym (group_of_start rs c.in-Group.unit c.members.result.start c.members.result.end c.members.ensures.members)) in
     name ∙ ap (need_name rs) (sym c.in-Group.is)
-
-pub request-requires : goal.request-requires
-unfolding shape
-request-requires c = in_shape (plan_records c.args.self.now) c.in-One.position (rw c.in-One.is at c.requires)
