@@ -1,9 +1,10 @@
 -- Levels: one more request, and their law.
-use Rattle.std.proofs.Common.{◌≡◌, ◌≤◌, ◌<◌, ◌+◌, ℕ, zero, suc, Bool, true, false, cond, List, [], ◌∷◌, ◌++◌, refl, sym, ap, ◌∙◌, subst, inl, inr, arith, length, length-append}
-use Rattle.std.specs.Prelude.{◌==◌, max, slice_index, slice_set, Contains}
+use Rattle.std.proofs.Common.{◌≡◌, ◌≤◌, ◌<◌, ◌+◌, ℕ, zero, suc, Bool, true, false, cond, List, [], ◌∷◌, ◌++◌, refl, sym, ap, ◌∙◌, subst, inl, inr, arith, length, get_or, length-append}
+use Rattle.std.specs.Prelude.{◌==◌, max, slice_index, slice_set, Contains, All}
 use Rattle.std.proofs.Math.ListN.{length-set}
 use Rattle.std.proofs.lemmas.Bool.{cases_lt, eq-eqb, ne_eqb}
 use Rattle.std.proofs.lemmas.List.{get_or_append_left, get_or_push}
+use Rattle.std.proofs.lemmas.List.Elements.{Contains-get_or}
 use Rattle.odb_doc.specs.Records.{Record}
 use Rattle.odb_check.specs.declared.need.Need.{Need}
 use Rattle.odb_check.specs.declared.need.Need.TheVariants.{One, Group}
@@ -112,20 +113,13 @@ low_levels (x ∷ xs) level n zero here low = omega (arith, low 0)
 low_levels (x ∷ xs) level n (suc k) here low = low_levels xs level n k here (λ j. low (suc j))
 
 low_unit_level : (unit_levels : List ℕ) (v level n u : ℕ) → v < length unit_levels → level ≤ suc n → ((w : ℕ) → slice_index unit_levels w ≤ n) → slice_index (slice_set unit_levels v (max (slice_index unit_levels v) level)) u ≤ suc n
-low_unit_level unit_levels v level n u inside here low =
-    let e : slice_index (slice_set unit_levels v (max (slice_index unit_levels v) level)) u ≡ max (cond (v == u) level 0) (slice_index unit_levels u) = set_level unit_levels (slice_index unit_levels) v level u inside (λ w. refl) in
-    let bound : cond (v == u) level 0 ≤ suc n = bounded (v == u) level (suc n) here in
-    omega (arith, low u)
-  where
-    bounded : (t : Bool) (a m : ℕ) → a ≤ m → cond t a 0 ≤ m
-    bounded true a m h = h
-    bounded false a m h = omega arith
+low_unit_level unit_levels v level n u inside here low = elim (set_cases unit_levels v (max (slice_index unit_levels v) level) u inside) [ inl (same, set) ↦ omega (arith, low v) | inr (other, kept) ↦ omega (arith, low u) ]
 
 -- the levels with one more request
-pub levels_more : (rs : List Record) (n : ℕ) (levels levels' unit_levels unit_levels' : List ℕ) (level : ℕ) → AreLevelsOf rs n levels unit_levels → unit_at rs n < unit_count rs
+pub levels_more : (rs : List Record) (n : ℕ) {levels levels' unit_levels unit_levels' : List ℕ} (level : ℕ) → AreLevelsOf rs n levels unit_levels → unit_at rs n < unit_count rs
     → level ≡ next_level (slice_index levels) (slice_index unit_levels) (needs_at rs n) → levels' ≡ levels ++ level ∷ []
     → unit_levels' ≡ slice_set unit_levels (unit_at rs n) (max (slice_index unit_levels (unit_at rs n)) level) → AreLevelsOf rs (suc n) levels' unit_levels'
-levels_more rs n levels levels' unit_levels unit_levels' level are within level_is levels_go unit_levels_go =
+levels_more rs n {levels} {levels'} {unit_levels} {unit_levels'} level are within level_is levels_go unit_levels_go =
     let inside : unit_at rs n < length unit_levels = omega (arith, are.unit_levels_count) in
     let next : level ≡ next_level (slice_index (levels_below rs n)) (unit_level rs n (levels_below rs n)) (needs_at rs n) = level_is
     ∙ greatest_of-same (λ need. level_needed (slice_index levels) (slice_index unit_levels) need + 1) (λ need. level_needed (slice_index (levels_below rs n)) (unit_level rs n (levels_below rs n)) need + 1) (needs_at rs n)
@@ -167,6 +161,9 @@ has_levels rs before = record {
 }
 
 -- the levels of what is needed are known
-pub need_known : (rs : List Record) → HasNeedsBefore rs → (i : ℕ) → i < length rs → (need : Need) → Contains (needs_at rs i) need → IsWithin need i (unit_count rs)
-need_known rs before i h (One r) inside = before.one i r inside
-need_known rs before i h (Group u) inside = omega (arith, before.group i u inside, unit_before rs i (length rs) h)
+pub levels_known : (rs : List Record) → HasNeedsBefore rs → (i : ℕ) → i < length rs → (levels units : ℕ) → levels ≡ i → units ≡ unit_count rs → All (λ need. IsWithin need levels units) (needs_at rs i)
+levels_known rs before i h levels units levels_are units_are k d less = known (get_or (needs_at rs i) k d) (Contains-get_or (needs_at rs i) k d less)
+  where
+    known : (need : Need) → Contains (needs_at rs i) need → IsWithin need levels units
+    known (One r) inside = omega (arith, before.one i r inside)
+    known (Group u) inside = omega (arith, before.group i u inside, unit_before rs i (length rs) h)

@@ -1,11 +1,12 @@
 -- Where the names of the request under judgement break a rule.
 use Rattle.std.proofs.Common.{◌≡◌, ◌≤◌, ◌<◌, ◌+◌, ◌⊎◌, ℕ, Bool, true, false, not, List, Option, Some, None, refl, sym, ◌∙◌, subst, inl, inr, arith, length, get_or}
-use Rattle.std.specs.Prelude.{◌==◌, nat_lt, nat_le, is_some, slice_index, Contains, IsSomeAnd}
+use Rattle.std.specs.Prelude.{◌==◌, ◌↔◌, nat_lt, nat_le, is_some, slice_index, Contains, IsSomeAnd}
 use Rattle.std.specs.Bool.{Decides}
 use Rattle.std.specs.List.{list_any, IsAnyAnswer}
 use Rattle.std.proofs.lemmas.Bool.{cases_lt, eqb-true, eq-eqb, ltb-true, lt-ltb, leb-true, le-leb, false≢true}
 use Rattle.std.proofs.lemmas.Bool.Decides.{Decides-at, Decides-eqb, Decides-like, Decides-not}
 use Rattle.std.proofs.lemmas.List.Elements.{Contains-get_or}
+use Rattle.std.proofs.lemmas.Option.{same_Some}
 use Rattle.odb_doc.specs.Records.{Record}
 use Rattle.odb_check.specs.declared.fault.NameRule.TheVariants.{IdTwice, IdIsGroup, GroupSplit, UnknownName}
 use Rattle.odb_check.specs.declared.names.Judged.{Judged}
@@ -128,27 +129,26 @@ group_listed rs sound i p = Decides-like _
 pub group_marked : (j : Judged) (p : ℕ) → Decides (slice_index j.marks.now.groups.items (unit_at (batch_of j) p) == j.i + 1) (NamesGroupOf (batch_of j) j.i p)
 group_marked j p = Decides-at _ _ (j.marked.groups_are (unit_at (batch_of j) p)) (group_listed (batch_of j) j.sound j.i p)
 
-missed_case : (rs : List Record) (i p : ℕ) (group : Option (List ℕ)) → group_at rs p ≡ group → IsSomeAnd group (λ g. ¬ (group_at rs i ≡ Some g) × ¬ Contains (names_at rs i) g)
-    → (is_some group ≡ true) × ¬ IsInGroupOf rs i p × ¬ NamesGroupOf rs i p
-missed_case rs i p None e h = absurd h
-missed_case rs i p (Some g) e h = (
-  refl,
-  (λ both. let same : both.0 ≡ g = (let s : Some both.0 ≡ Some g = sym both.2 ∙ e in cc) in h.0 (subst (λ x. group_at rs i ≡ Some x) same both.1)),
-  (λ named. let same : named.0 ≡ g = (let s : Some named.0 ≡ Some g = sym named.1 ∙ e in cc) in h.1 (subst (Contains (names_at rs i)) same named.2)),
+-- p is in a group that is neither that of i nor listed
+alone_cases : (rs : List Record) (i p : ℕ) (group : Option (List ℕ)) → group_at rs p ≡ group
+    → ((is_some group ≡ true) × ¬ IsInGroupOf rs i p × ¬ NamesGroupOf rs i p) ↔ IsSomeAnd group (λ g. ¬ (group_at rs i ≡ Some g) × ¬ Contains (names_at rs i) g)
+alone_cases rs i p None e = ((λ m. absurd (false≢true m.0)), (λ h. absurd h))
+alone_cases rs i p (Some g) e = (
+  (λ m. ((λ here. m.1 (g, here, e)), (λ h. m.2 (g, e, h)))),
+  (λ h. (
+    refl,
+    (λ both. h.0 (subst (λ x. group_at rs i ≡ Some x) (same_Some both.0 g (sym both.2 ∙ e)) both.1)),
+    (λ named. h.1 (subst (Contains (names_at rs i)) (same_Some named.0 g (sym named.1 ∙ e)) named.2)),
+  )),
 )
 
-pub alone_missed : (j : Judged) (p : ℕ) (name : List ℕ) → IsMeant (batch_of j) name (One p) → IsMemberAlone (batch_of j) j.i name → MissesGroupOf (batch_of j) j.i p × (is_some (group_at (batch_of j) p) ≡ true)
-alone_missed j p name is h =
+pub alone_Decides : (j : Judged) (p : ℕ) (name : List ℕ) (answer : Bool) → IsMeant (batch_of j) name (One p) → Decides answer (MissesGroupOf (batch_of j) j.i p × (is_some (group_at (batch_of j) p) ≡ true))
+    → Decides answer (IsMemberAlone (batch_of j) j.i name)
+alone_Decides j p name answer is =
     let rs = batch_of j in
+    Decides-like answer (λ m. (p, m.0.0, is.1.here, (alone_cases rs j.i p (group_at rs p) refl).0 (m.1, m.0.1, m.0.2)))
+    (λ h.
     let same : h.0 ≡ p = one_id rs (once rs j.sound) name h.0 p h.2 is.1.here in
-    let missed : (is_some (group_at rs p) ≡ true) × ¬ IsInGroupOf rs j.i p × ¬ NamesGroupOf rs j.i p =
-    missed_case rs j.i p (group_at rs p) refl (subst (λ k. IsSomeAnd (group_at rs k) (λ g. ¬ (group_at rs j.i ≡ Some g) × ¬ Contains (names_at rs j.i) g)) same h.3) in
-    ((omega (arith, h.1), missed.1, missed.2), missed.0)
-
-misses_alone : (rs : List Record) (i p : ℕ) → MissesGroupOf rs i p → (group : Option (List ℕ)) → group_at rs p ≡ group → is_some group ≡ true → IsSomeAnd group (λ g. ¬ (group_at rs i ≡ Some g) × ¬ Contains (names_at rs i) g)
-misses_alone rs i p misses None e some = cc
-misses_alone rs i p misses (Some g) e some = ((λ here. misses.1 (g, here, e)), (λ h. misses.2 (g, e, h)))
-
-pub alone_Decides : (j : Judged) (p : ℕ) (name : List ℕ) → IsMeant (batch_of j) name (One p) → is_some (group_at (batch_of j) p) ≡ true → (misses : Bool) → Decides misses (MissesGroupOf (batch_of j) j.i p)
-    → Decides misses (IsMemberAlone (batch_of j) j.i name)
-alone_Decides j p name is some misses = Decides-like misses (λ m. (p, m.0, is.1.here, misses_alone (batch_of j) j.i p m (group_at (batch_of j) p) refl some)) (λ h. (alone_missed j p name is h).0)
+    let there : IsSomeAnd (group_at rs p) (λ g. ¬ (group_at rs j.i ≡ Some g) × ¬ Contains (names_at rs j.i) g) = rw same at h.3 in
+    let missed = (alone_cases rs j.i p (group_at rs p) refl).1 there in
+    ((omega (arith, h.1), missed.1, missed.2), missed.0))

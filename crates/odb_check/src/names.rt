@@ -96,10 +96,7 @@ impl Judged<'_, '_> {
     {
         match need {
             Need::One(position) => {
-                if position >= self.i {
-                    return false;
-                }
-                self.tables.group(position).is_some() && self.misses_group_of(position)
+                self.misses_group_of(position) && self.tables.group(position).is_some()
             }
             Need::Group(_) => false,
         }

@@ -1,7 +1,7 @@
 use Rattle.std.proofs.Common.{arith}
 use Rattle.odb_check.specs.Plans.{plan_records, shape}
 use Rattle.odb_check.proofs.LevelLemmas.{has_levels}
-use Rattle.odb_check.proofs.PlanLemmas.{has_positions, is_plan, is_shape, names_as_needs, needs_before, needs_groups}
+use Rattle.odb_check.proofs.PlanLemmas.{has_positions, is_plan, names_as_needs, needs_before, needs_groups, shaped}
 use Rattle.odb_check.proofs.UnitLemmas.{has_units}
 use Rattle.odb_check.proofs.laws.every_plan.Goals as goal
 
@@ -18,8 +18,7 @@ pub returns-clause-levels : goal.returns-clause-levels
 returns-clause-levels c = has_levels (plan_records c.args.plan.now) (needs_before (plan_records c.args.plan.now) c.args.plan.now.good)
 
 pub returns-clause-shape : goal.returns-clause-shape
-unfolding shape
-returns-clause-shape c = is_shape (plan_records c.args.plan.now)
+returns-clause-shape c = shaped c.args.plan.now
 
 pub returns-clause-order : goal.returns-clause-order
 unfolding shape

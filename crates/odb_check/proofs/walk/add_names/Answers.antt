@@ -1,23 +1,17 @@
-use Rattle.std.proofs.Common.{◌≡◌, ℕ, List, [], None, ap, ◌∙◌, refl, sym, subst, length, take}
+use Rattle.std.proofs.Common.{◌≡◌, ℕ, List, [], None, ap, ◌∙◌, refl, sym, subst, take}
 use Rattle.std.specs.Borrow.{Bor}
 use Rattle.std.specs.Prelude.{Contains}
 use Rattle.std.proofs.lemmas.List.{take_all}
 use Rattle.odb_doc.specs.Names.{texts_in}
-use Rattle.odb_check.specs.Marks.{IsWithin}
 use Rattle.odb_check.specs.Needs.{need_of}
 use Rattle.odb_check.specs.Positions.{names_at}
 use Rattle.odb_check.specs.Requests.{requests}
-use Rattle.odb_check.specs.Units.{unit_count}
 use Rattle.odb_check.proofs.NeedLemmas.{need_within}
 use Rattle.odb_check.proofs.WalkLemmas.{name_unknown, names_more, names_known, unknown_least}
 use Rattle.odb_check.proofs.walk.add_names.Goals as goal
 
 pub mark-requires : goal.mark-requires
-mark-requires c =
-    let rs = requests c.args.tables.now in
-    let within : IsWithin c.in-Some.need (length rs) (unit_count rs) = need_within rs _ c.in-Some.need (sym c.in-Some.ensures) in
-    subst (λ n. IsWithin c.in-Some.need n (length c.loop-name.marks.groups.items)) (sym c.loop-name.invariant.marked.up_to.ones_count)
-    (subst (λ n. IsWithin c.in-Some.need (length rs) n) (sym c.loop-name.invariant.marked.up_to.groups_count) within)
+mark-requires c = rw (c.loop-name.invariant.marked.up_to.ones_count, c.loop-name.invariant.marked.up_to.groups_count) (need_within (requests c.args.tables.now) _ c.in-Some.need (sym c.in-Some.ensures))
 
 pub loop-name-preserved : goal.loop-name-preserved
 loop-name-preserved c =

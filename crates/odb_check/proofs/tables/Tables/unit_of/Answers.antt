@@ -10,15 +10,9 @@ index-requires c =
     let rs = records c.args.self.now.batch.now in
     omega (arith, c.requires, ap length c.args.self.now.exact.units_are, length-list_below (length rs) (unit_at rs))
 
-pub returns-clause-value : goal.returns-clause-value
-returns-clause-value c =
+pub returns : goal.returns
+returns c =
     let rs = records c.args.self.now.batch.now in
     let d = c.index.result.now in
-    c.index.ensures ∙ ap (λ xs. get_or xs c.args.i d) c.args.self.now.exact.units_are ∙ get_or-list_below (length rs) (unit_at rs) c.args.i d c.requires
-
-pub returns-clause-within : goal.returns-clause-within
-returns-clause-within c =
-    let rs = records c.args.self.now.batch.now in
-    let d = c.index.result.now in
-    let value : c.index.result.now ≡ unit_at rs c.args.i = c.index.ensures ∙ ap (λ xs. get_or xs c.args.i d) c.args.self.now.exact.units_are ∙ get_or-list_below (length rs) (unit_at rs) c.args.i d c.requires in
-    subst (λ u. u < unit_count rs) (sym value) (unit_before rs c.args.i (length rs) c.requires)
+    let value : d ≡ unit_at rs c.args.i = c.index.ensures ∙ ap (λ xs. get_or xs c.args.i d) c.args.self.now.exact.units_are ∙ get_or-list_below (length rs) (unit_at rs) c.args.i d c.requires in
+    record { value = value; within = subst (λ u. u < unit_count rs) (sym value) (unit_before rs c.args.i (length rs) c.requires) }
