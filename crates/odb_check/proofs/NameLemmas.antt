@@ -1,4 +1,4 @@
--- Where the names of the request under judgement break a rule.
+-- Where the names of the request that is checked break a rule.
 use Rattle.std.proofs.Common.{◌≡◌, ◌≤◌, ◌<◌, ◌+◌, ◌⊎◌, ℕ, Bool, true, false, not, List, Option, Some, None, refl, sym, ◌∙◌, subst, inl, inr, arith, length, get_or}
 use Rattle.std.specs.Prelude.{◌==◌, ◌↔◌, nat_lt, nat_le, is_some, slice_index, Contains, IsSomeAnd}
 use Rattle.std.specs.Bool.{Decides}

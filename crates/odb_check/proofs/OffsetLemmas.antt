@@ -33,8 +33,8 @@ cut_at (suc n) i lists after h =
 
 -- where the part of a request begins and ends
 pub record HasPart (rs : List Record) (list : List Need) (offsets : List ℕ) (i : ℕ) : Type 0 where
-  pub from_there : i < length offsets
-  pub to_there : i + 1 < length offsets
+  pub from_within : i < length offsets
+  pub to_within : i + 1 < length offsets
   pub order : slice_index offsets i ≤ slice_index offsets (i + 1)
   pub inside : slice_index offsets (i + 1) ≤ length list
   pub part : slice_range list (slice_index offsets i) (slice_index offsets (i + 1)) ≡ needs_at rs i
@@ -48,8 +48,8 @@ part_of rs n list offsets i are h =
     let cut : (length (joined_below (suc i) (needs_at rs)) ≤ length (joined_below n (needs_at rs))) × (slice_range (joined_below n (needs_at rs) ++ []) (value i) (value (suc i)) ≡ needs_at rs i) = cut_at n i (needs_at rs) [] h in
     let all : list ≡ joined_below n (needs_at rs) ++ [] = are.needs_are ∙ sym (append-nil (joined_below n (needs_at rs))) in
     record {
-      from_there = omega arith;
-      to_there = omega arith;
+      from_within = omega arith;
+      to_within = omega arith;
       order = omega (arith, length-append (joined_below i (needs_at rs)) (needs_at rs i));
       inside = omega (arith, cut.0, ap length are.needs_are);
       part = ap (λ xs. slice_range xs (slice_index offsets i) (slice_index offsets (i + 1))) all ∙ rw (from, upto) cut.1;

@@ -1,4 +1,4 @@
--- Where the reference of the request under judgement breaks a rule, and what it adds to the needs.
+-- Where the reference of the request that is checked breaks a rule, and what it adds to the needs.
 use Rattle.std.proofs.Common.{◌≡◌, ◌<◌, ◌+◌, ℕ, Bool, true, false, cond, List, [], ◌∷◌, Some, None, refl, sym, ap, ◌∙◌, subst, arith, length}
 use Rattle.std.specs.Prelude.{◌==◌, nat_le, is_some, slice_index, option_and_then, Contains, bytes_eq, IsSomeAnd}
 use Rattle.std.specs.Bool.{Decides}

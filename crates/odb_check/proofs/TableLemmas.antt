@@ -1,8 +1,8 @@
 -- One more request in the tables.
-use Rattle.std.proofs.Common.{◌≡◌, ◌≢◌, ◌≤◌, ◌<◌, ◌+◌, ◌⊎◌, ℕ, suc, Bool, true, false, cond, List, [], ◌∷◌, ◌++◌, Option, Some, None, refl, sym, ap, ◌∙◌, subst, inl, inr, arith, length, length-append}
+use Rattle.std.proofs.Common.{◌≡◌, ◌≢◌, ◌≤◌, ◌<◌, ◌+◌, ℕ, suc, Bool, true, false, cond, List, [], ◌∷◌, ◌++◌, Option, Some, None, refl, sym, ap, ◌∙◌, subst, inl, inr, arith, length, length-append}
 use Rattle.std.specs.Prelude.{◌==◌, slice_get, slice_index, option_map, option_and_then, unwrap_or, is_some, bytes_eq}
 use Rattle.std.specs.List.{IsDistinct, list_any}
-use Rattle.std.proofs.lemmas.Bool.{cases_Bool, cases_lt, eq-eqb, ne_eqb}
+use Rattle.std.proofs.lemmas.Bool.{both_ways, cases_Bool, cases_lt, eq-eqb, ne_eqb}
 use Rattle.std.proofs.lemmas.List.{get_or_append_left, get_or_push}
 use Rattle.std.proofs.lemmas.Option.{slice_get_within}
 use Rattle.odb_doc.specs.Records.{Record}
@@ -16,17 +16,6 @@ use Rattle.odb_check.proofs.FirstLemmas.{below_more, count_few, count_less}
 use Rattle.odb_check.proofs.PositionLemmas.{text_Decides}
 use Rattle.odb_check.proofs.UnitLemmas.{BeginsAt, unit_begins, unit_at_begin}
 
--- a position begins a unit, or is in one that began before
-pub unit_cases : (rs : List Record) (i : ℕ) → ((begins_unit rs i ≡ true) × (unit_at rs i ≡ units_before rs i)) ⊎ ((begins_unit rs i ≡ false) × (unit_at rs i < units_before rs i))
-unit_cases rs i =
-    elim (cases_Bool (begins_unit rs i)) [
-      | inl begins ↦ inl (begins, unit_at_begin rs i begins)
-      | inr not_begins ↦
-          let at_begin : BeginsAt rs i (unit_begin rs i) = unit_begins rs i in
-          let other : unit_begin rs i ≢ i = λ e. let begins : begins_unit rs i ≡ true = subst (λ j. begins_unit rs j ≡ true) e at_begin.begins in cc in
-          inr (not_begins, count_less (begins_unit rs) (unit_begin rs i) i at_begin.begins (omega arith))
-    ]
-
 -- where units begin, with one more request
 pub record AreStarts (rs : List Record) (n : ℕ) (starts : List ℕ) : Type 0 where
   pub count : length starts ≡ units_before rs n
@@ -34,9 +23,9 @@ pub record AreStarts (rs : List Record) (n : ℕ) (starts : List ℕ) : Type 0 w
 
 next_start : (rs : List Record) (i : ℕ) (starts : List ℕ) → i < length rs → AreStarts rs i starts → AreStarts rs (suc i) (cond (unit_at rs i == length starts) (starts ++ i ∷ []) starts)
 next_start rs i starts inside are =
-    elim (unit_cases rs i) [
-      | inl (begins, number) ↦
-          let same : (unit_at rs i == length starts) ≡ true = eq-eqb (unit_at rs i) (length starts) (number ∙ sym are.count) in
+    elim (cases_Bool (begins_unit rs i)) [
+      | inl begins ↦
+          let same : (unit_at rs i == length starts) ≡ true = eq-eqb (unit_at rs i) (length starts) (unit_at_begin rs i begins ∙ sym are.count) in
           let count : units_before rs (suc i) ≡ suc (units_before rs i) = rw begins refl in
           rw same (record {
             count = omega (arith, are.count, length-append starts (i ∷ []));
@@ -45,7 +34,10 @@ next_start rs i starts inside are =
               | inr last ↦ subst (IsStartOf rs u) (sym (get_or_push starts i 0 u (omega (arith, are.count)))) (record { within = inside; begins = begins; number = omega (arith, are.count) })
             ];
           })
-      | inr (not_begins, before) ↦
+      | inr not_begins ↦
+          let at_begin : BeginsAt rs i (unit_begin rs i) = unit_begins rs i in
+          let earlier : unit_begin rs i ≢ i = λ e. both_ways (begins_unit rs i) not_begins (subst (λ j. begins_unit rs j ≡ true) e at_begin.begins) in
+          let before : unit_at rs i < units_before rs i = count_less (begins_unit rs) (unit_begin rs i) i at_begin.begins (omega (arith, at_begin.upto)) in
           let other : (unit_at rs i == length starts) ≡ false = ne_eqb (unit_at rs i) (length starts) (λ e. omega (arith, are.count)) in
           let count : units_before rs (suc i) ≡ units_before rs i = rw not_begins refl in
           rw other (record { count = are.count ∙ sym count; starts_are = λ u less. are.starts_are u (omega arith) })

@@ -1,4 +1,4 @@
--- For invariants and private clauses: the request under judgement.
+-- For invariants and private clauses: the request that is checked.
 use Rattle.std.specs.Prelude.{◌≡◌, ◌<◌, ℕ, Bool, List, Option, Some, option_and_then}
 use Rattle.std.specs.Bool.{Decides}
 use Rattle.odb_doc.specs.Records.{Record}
