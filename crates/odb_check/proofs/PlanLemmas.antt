@@ -27,7 +27,7 @@ use Rattle.odb_check.specs.Units.{begins_unit, unit_at, unit_count, HasMembers}
 use Rattle.odb_check.proofs.AnyLemmas.{ElementMeaning, element_meaning, Contains-meaning, Contains-head, Contains-none, Contains-cases, text_listed, listed_cases}
 use Rattle.odb_check.proofs.BelowLemmas.{length-list_below, get_or-list_below}
 use Rattle.odb_check.proofs.FirstLemmas.{count_few}
-use Rattle.odb_check.proofs.LevelLemmas.{HasNeedsBefore}
+use Rattle.odb_check.proofs.LevelLemmas.{HasNeedsBefore, has_levels}
 use Rattle.odb_check.proofs.NameLemmas.{later_unit}
 use Rattle.odb_check.proofs.NeedLemmas.{IsMeant, is_meant, need_within, position_is, id_need, group_need}
 use Rattle.odb_check.proofs.PositionLemmas.{group_within, reference_within, position_first}
@@ -211,8 +211,11 @@ needs_within rs i k d h =
     let name : ElementMeaning (need_of rs) (needed_names rs i) need = element_meaning (need_of rs) (needed_names rs i) need (Contains-get_or (needs_at rs i) k d h) in
     need_within rs name.element need name.means
 
-pub needs_known : (rs : List Record) (i : ℕ) → All (IsNeed (shape_of rs)) (needs_at rs i)
-needs_known rs i k d h = within_shape rs (get_or (needs_at rs i) k d) (needs_within rs i k d h)
+pub needs_known : (plan : Plan) (i : ℕ) → All (IsNeed (shape plan)) (needs_at (plan_records plan) i)
+unfolding shape
+needs_known plan i k d h = within_shape (plan_records plan) (get_or (needs_at (plan_records plan) i) k d) (needs_within (plan_records plan) i k d h)
+
+pub ruleset plan_needs = (shaped, needs_known)
 
 earlier_case : (rs : List Record) → HasGoodNames rs → (i : ℕ) → i < length rs → (need : Need) → Contains (needs_at rs i) need → IsEarlier (shape_of rs) i need
 earlier_case rs good i h (One r) inside = (needs_before rs good).one i r inside
@@ -254,12 +257,15 @@ further_there names id false e = Contains-append_right names (id ∷ []) id (Con
 reference_needed : (rs : List Record) (i : ℕ) (id : List ℕ) → reference_at rs i ≡ Some id → Contains (needed_names rs i) id
 reference_needed rs i id here = subst (λ o. Contains (names_at rs i ++ further_names (names_at rs i) o) id) (sym here) (further_there (names_at rs i) id (list_any (bytes_eq id) (names_at rs i)) refl)
 
-pub names_as_needs : (rs : List Record) → HasGoodNames rs → HasNamesAsNeeds rs (shape_of rs)
-names_as_needs rs good = record {
-  names_id = λ i name r listed here. subst (λ xs. Contains xs (One r)) (sym (needs_there rs i (name_inside rs i name listed))) (listed_need rs i name (One r) listed (id_need rs (good IdTwice) name r here));
+pub names_as_needs : (plan : Plan) → HasNamesAsNeeds (plan_records plan) (shape plan)
+unfolding shape
+names_as_needs plan = let rs = plan_records plan in record {
+  names_id = λ i name r listed here. subst (λ xs. Contains xs (One r)) (sym (needs_there rs i (name_inside rs i name listed))) (listed_need rs i name (One r) listed (id_need rs (plan.good IdTwice) name r here));
   names_group = λ i name j listed here.
       subst (λ u. Contains (needs_of (shape_of rs) i) (Group u)) (sym (unit_there rs j (group_within rs j name here)))
-      (subst (λ xs. Contains xs (Group (unit_at rs j))) (sym (needs_there rs i (name_inside rs i name listed))) (listed_need rs i name (Group (unit_at rs j)) listed (group_need rs (good IdIsGroup) name j here)));
+      (subst (λ xs. Contains xs (Group (unit_at rs j))) (sym (needs_there rs i (name_inside rs i name listed))) (listed_need rs i name (Group (unit_at rs j)) listed (group_need rs (plan.good IdIsGroup) name j here)));
   refers = λ i id r refers here. subst (λ xs. Contains xs (One r)) (sym (needs_there rs i (reference_within rs i id refers)))
-      (Contains-meaning (need_of rs) (needed_names rs i) id (One r) (reference_needed rs i id refers) (id_need rs (good IdTwice) id r here));
+      (Contains-meaning (need_of rs) (needed_names rs i) id (One r) (reference_needed rs i id refers) (id_need rs (plan.good IdTwice) id r here));
 }
+
+pub ruleset plan_laws = (has_units, has_positions, needs_groups, has_levels, needs_before, shaped, names_as_needs)

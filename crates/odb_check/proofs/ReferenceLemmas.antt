@@ -60,6 +60,8 @@ forward_Decides j p to = some_Decides (reference_at (batch_of j) j.i) to.id (λ 
   (λ h. let same : p ≡ h.0 = one_id (batch_of j) (once (batch_of j) j.sound) to.id p h.0 to.there h.2 in le-leb j.i p (omega (arith, h.1))),
 )
 
+pub ruleset where_it_refers = (refers, forward_Decides, nowhere)
+
 -- ---- a reference that is not listed
 
 -- what such a reference says of its position

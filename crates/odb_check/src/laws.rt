@@ -34,6 +34,7 @@ pub fn one_fault()
 /// one. What a request depends on precedes it; each name of its `dependsOn` and its reference are
 /// among its dependencies, and so is the group of each member of another group. Levels are the
 /// lengths of the longest chains.
+#[tactic(auto, using(crate::proofs::PlanLemmas::plan_laws))]
 pub fn every_plan(plan: &Plan<'_>)
     ensures good { HasGoodNames (plan_records plan.now) }
     ensures units { HasUnits (plan_records plan.now) }

@@ -56,6 +56,7 @@ impl Judged<'_, '_> {
     }
 
     /// Whether the other request precedes this one and is not in its group.
+    #[tactic(auto, using(crate::proofs::NameLemmas::outside_Decides))]
     fn is_outside(&self, position: u32) -> bool
         ensures { Decides result ((position < self.now.i)
             × ¬ IsInGroupOf (batch_of self.now) self.now.i position) }
@@ -64,6 +65,7 @@ impl Judged<'_, '_> {
     }
 
     /// Whether `dependsOn` lists the group of the other request.
+    #[tactic(auto, using(crate::proofs::NameLemmas::group_marked))]
     fn lists_group_of(&self, position: u32) -> bool
         requires { position < length (batch_of self.now) }
         ensures { Decides result (NamesGroupOf (batch_of self.now) self.now.i position) }
@@ -73,6 +75,7 @@ impl Judged<'_, '_> {
     }
 
     /// Whether `dependsOn` lists the other request.
+    #[tactic(auto, using(crate::proofs::ReferenceLemmas::one_marked))]
     fn lists(&self, position: u32) -> bool
         requires { position < length (batch_of self.now) }
         ensures { (id : List ℕ) → id_at (batch_of self.now) position ≡ Some id
@@ -141,6 +144,7 @@ impl Judged<'_, '_> {
     }
 
     /// F45: whether the URL refers to a request that does not precede.
+    #[tactic(auto, using(crate::proofs::ReferenceLemmas::where_it_refers))]
     fn has_forward_reference(&self) -> bool
         ensures { Decides result (IsBrokenAt rules.ForwardReference (batch_of self.now) self.now.i) }
     {

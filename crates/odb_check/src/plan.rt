@@ -100,7 +100,7 @@ impl<'b> Plan<'b> {
 
     /// Returns the dependencies of the request at a position: its `dependsOn` entries in order,
     /// without repeats, then the request that its URL refers to unless it is already among them.
-    #[tactic(auto, using(crate::proofs::PlanLemmas::shaped))]
+    #[tactic(auto, using(crate::proofs::PlanLemmas::plan_needs))]
     pub fn needs(&self, i: u32) -> &[Need]
         requires { i < length (shape self.now).units }
         ensures value { result.now ≡ needs_at (plan_records self.now) i }
