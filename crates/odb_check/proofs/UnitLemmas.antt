@@ -58,6 +58,8 @@ unit_before rs i n h =
 pub same_begin : (rs : List Record) (i j : ℕ) → unit_at rs i ≡ unit_at rs j → unit_begin rs i ≡ unit_begin rs j
 same_begin rs i j e = count_same (begins_unit rs) (unit_begin rs i) (unit_begin rs j) (unit_begins rs i).begins (unit_begins rs j).begins e
 
+pub ruleset where_units_begin = (count_same, unit_begins)
+
 pub same_group : (rs : List Record) (i j : ℕ) → unit_at rs i ≡ unit_at rs j → group_at rs i ≡ group_at rs j
 same_group rs i j e = sym (unit_begins rs i).same ∙ ap (group_at rs) (same_begin rs i j e) ∙ (unit_begins rs j).same
 

@@ -222,6 +222,7 @@ impl<'b> Tables<'b> {
     }
 
     /// Where the unit of the request begins.
+    #[tactic(auto, using(crate::proofs::UnitLemmas::where_units_begin))]
     pub(crate) fn begin_of(&self, i: u32) -> u32
         requires { i < length (requests self.now) }
         ensures { result ≡ spec.unit_begin (requests self.now) i }

@@ -48,6 +48,7 @@ fn add_names(
 
 /// Adds the needs of the request at `i`, or reports the first rule on names and references that it
 /// breaks.
+#[tactic(auto, using(crate::proofs::WalkLemmas::needs_added))]
 fn add_request(
     tables: &Tables<'_>,
     i: u32,
