@@ -40,7 +40,7 @@ use Rattle.odb_doc.proofs.OneHeaders.{one_headers}
 use Rattle.odb_doc.proofs.RepeatLemmas.{distinct_same}
 use Rattle.odb_doc.proofs.RuleLemmas.{HoldsHeaders-apart}
 
--- ---- what stands at the members of a request's value
+-- ---- the values at the members of a request's value
 
 abbrev value_of : (group body names headers : Option Data) (id method url : Data) → Data
 value_of group body names headers id method url =
@@ -76,7 +76,7 @@ has-members (Some group) (Some body) None (Some headers) id method url = record 
 has-members (Some group) (Some body) (Some names) None id method url = record { at_group = refl; at_body = refl; at_names = refl; at_headers = refl; at_id = refl; at_method = refl; at_url = refl; at_if = refl; known = refl }
 has-members (Some group) (Some body) (Some names) (Some headers) id method url = record { at_group = refl; at_body = refl; at_names = refl; at_headers = refl; at_id = refl; at_method = refl; at_url = refl; at_if = refl; known = refl }
 
--- ---- each member says what the request has there
+-- ---- each member reads as what the request has
 
 own-name : (method : Method) → map to_ascii_lowercase (method_name method) ≡ method_name method
 own-name Delete = refl
@@ -157,7 +157,7 @@ own-holds e r says = record {
   ordered = says.headers.ordered;
 }
 
--- what a request's value says is the request
+-- a request's value reads as the request
 pub value-says : (e : Data) (r : Record) → Says e r → Says (request_value r) r
 value-says e r says =
     let own = own-members r in
@@ -175,7 +175,7 @@ value-says e r says =
 
 -- ---- it has no fault
 
--- a request's value breaks no rule, as the element that says the request
+-- a request's value breaks no rule, as the element that reads as the request
 pub value-object : AreOneReading → (e : Data) (r : Record) → IsRequestObject e → Says e r → IsRequestObject (request_value r)
 value-object texts e r sound says rules.NotRequestObject = λ broken. cc (broken)
 value-object texts e r sound says rules.IfMember = λ broken. cc (subst IsSome (own-members r).at_if broken)

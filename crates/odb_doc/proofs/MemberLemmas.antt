@@ -8,7 +8,7 @@ use Rattle.serde_json.specs.View.{members_view}
 use Rattle.serde_json.specs.declared.value.Value.{Value}
 use Rattle.odb_doc.specs.Members.{names_of, names_in}
 
--- a test finds a name in the map exactly if it finds one in the object
+-- a test finds a name in the map if and only if it finds one in the object
 pub list_any-names_of : (test : List ℕ → Bool) (ms : List (String Global × Value))
     → list_any test (names_of (members_view ms)) ≡ list_any (λ name. test (string_bytes name)) (map (λ m. m.0) ms)
 list_any-names_of test [] = refl

@@ -23,11 +23,11 @@ filter-all (x ∷ xs) = ap (λ rest. x ∷ rest) (filter-all xs)
 
 -- ---- distinct names
 
--- the name is none of these
+-- the name is not one of these
 is_new : List (List ℕ) → List ℕ → Bool
 is_new names name = not (list_any (bytes_eq name) names)
 
--- a name that is among these is not new, so to leave it out beforehand changes nothing
+-- a name of the list is not new, so leaving it out beforehand changes nothing
 stays_out_by : (same : Bool) (names : List (List ℕ)) (name other : List ℕ) → (same ≡ true → other ≡ name) → list_any (bytes_eq name) names ≡ true
     → (not same && not (list_any (bytes_eq other) names)) ≡ not (list_any (bytes_eq other) names)
 stays_out_by true names name other equal among =

@@ -12,7 +12,7 @@ use Rattle.odb_doc.specs.Outcomes.{Recorded, Says, ids}
 abbrev pub Breaks : OutcomeRule → List Data → Data → Type 0
 Breaks rule before d = BreaksOutcome rule (ids before) d
 
--- outcomes have the ids of the elements that say them
+-- outcomes have the ids of the elements that they were read from
 pub ids-says : (ds : List Data) (entries : List Recorded) → AllZip Says ds entries → ids ds ≡ keys_of entries
 ids-says [] [] says = refl
 ids-says [] (e ∷ es) says = absurd says

@@ -74,7 +74,7 @@ below-less : (k l : List ℕ) (ms : Members) → slice_cmp nat_cmp k l ≡ Less 
 below-less k l no_members less below = tt
 below-less k l (member name d ms) less below = (nat_list_cmp_total.trans k l name less below.0, below-less k l ms less below.1)
 
--- the order of two names, turned
+-- the order of two names, reversed
 turned : (k l : List ℕ) (o : Ordering) → slice_cmp nat_cmp k l ≡ o → slice_cmp nat_cmp l k ≡ ordering_reverse o
 turned k l o is = nat_list_cmp_total.antisymm l k ∙ ap ordering_reverse is
 

@@ -1,5 +1,5 @@
 -- Texts that rise once they are sorted are distinct, and the strings of an array are read one by one.
-use Rattle.std.proofs.Common.{◌≡◌, ◌∙◌, ◌+◌, ◌<◌, ℕ, Bool, true, false, cond, not, Option, None, Some, option_map, List, [], ◌∷◌, ◌++◌, length, drop, get_or, take, bytes_eq, refl, ap, sym, append_assoc, append-nil, Bor, IsPermutation}
+use Rattle.std.proofs.Common.{◌≡◌, ◌∙◌, ◌+◌, ◌<◌, ℕ, Bool, true, false, not, Option, None, Some, option_map, List, [], ◌∷◌, ◌++◌, length, drop, get_or, take, fold, bytes_eq, refl, ap, subst, sym, append_assoc, append-nil, Bor, IsPermutation}
 use Rattle.std.specs.declared.cmp.Ordering.{Ordering}
 use Rattle.std.specs.declared.cmp.Ordering.TheVariants.{Less, Equal, Greater}
 use Rattle.std.specs.Cmp.{IsTotalOrder}
@@ -15,9 +15,11 @@ use Rattle.std.proofs.lemmas.Map.Text.{is_eq-slice_cmp}
 use Rattle.serde_json.specs.Find.{as_str}
 use Rattle.serde_json.specs.View.{view, items_view}
 use Rattle.serde_json.specs.declared.value.Value.{Value}
-use Rattle.odb_doc.specs.Names.{without, distinct, texts_in}
+use Rattle.odb_doc.specs.Names.{distinct, texts_in, with_name}
 use Rattle.odb_doc.specs.Shapes.{texts_of}
-use Rattle.odb_doc.proofs.NameLemmas.{list_any-texts_in, list_any-comm}
+use Rattle.odb_doc.proofs.NameLemmas.{fold-with_name-nil, list_any-texts_in, list_any-comm}
+use Rattle.odb_doc.proofs.SetLemmas.{none_when_new}
+use Rattle.odb_doc.proofs.WatchLemmas.{distinct_new}
 
 -- what a place past the end has
 abbrev pub no_text : Bor (List ℕ)
@@ -75,19 +77,15 @@ distinct_more xs k x within is before none =
 
 -- ---- distinct names stay as they are
 
-without_step : (other : List ℕ) (rest : List (List ℕ)) (same : Bool) → same ≡ false → cond (not same) (other ∷ rest) rest ≡ other ∷ rest
-without_step other rest true apart = absurd (cc (apart))
-without_step other rest false apart = refl
-
-without_none : (name : List ℕ) (names : List (List ℕ)) → AllByRecursion (λ y. bytes_eq name y ≡ false) names → without name names ≡ names
-without_none name [] all = refl
-without_none name (other ∷ names) all =
-    rw (without_none name names all.1) (without_step other names (bytes_eq other name) (nat_list_eq_equiv.symm other name ∙ all.0))
+fold-distinct : (names added : List (List ℕ)) → IsDistinct bytes_eq (names ++ added) → fold with_name names added ≡ names ++ added
+fold-distinct names [] apart = sym (append-nil names)
+fold-distinct names (name ∷ added) apart =
+    let none = none_when_new true _ (distinct_new names name added apart) refl in
+    let regrouped = append_assoc names (name ∷ []) added in
+    rw none (fold-distinct (names ++ name ∷ []) added (subst (IsDistinct bytes_eq) (sym regrouped) apart) ∙ regrouped)
 
 pub distinct_same : (names : List (List ℕ)) → IsDistinct bytes_eq names → distinct names ≡ names
-unfolding IsDistinct
-distinct_same [] apart = refl
-distinct_same (name ∷ names) apart = rw (distinct_same names apart.1) (ap (λ rest. name ∷ rest) (without_none name names apart.0))
+distinct_same names apart = sym (fold-with_name-nil names) ∙ fold-distinct [] names apart
 
 -- ---- the strings of an array
 

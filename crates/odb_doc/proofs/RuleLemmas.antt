@@ -70,7 +70,7 @@ unfolding IsStrictlySortedBy IsDistinct
 distinct-sorted [] ordered = tt
 distinct-sorted (name ∷ names) ordered = (apart-below name names ordered.0, distinct-sorted names ordered.1)
 
--- headers in order of their names have each name once, and so has what says them
+-- headers in order of their names have each name once, and so has the value that they were read from
 pub HoldsHeaders-apart : (o : Option Data) (headers : List Header) → HoldsHeaders o headers → IsDistinct bytes_eq (folded_names o)
 HoldsHeaders-apart o headers has =
     let apart = distinct-sorted (keys_of headers) has.ordered in

@@ -1,5 +1,5 @@
--- A text has one name without the blanks at its ends; what the code cuts is that name, and the kind that it asks for says
--- which bodies fit.
+-- A text has one name without the blanks at its ends, which is what the code cuts, and the kind that the name asks for
+-- determines which bodies are allowed.
 use Rattle.std.proofs.Common.{◌≡◌, ◌∙◌, ℕ, Bool, true, false, List, [], ◌∷◌, ◌++◌, refl, ap, sym, subst, true≢false}
 use Rattle.std.specs.List.{AllPass}
 use Rattle.std.specs.Str.{str_to_ascii_lowercase}

@@ -30,7 +30,7 @@ all_at : {X : Type 0} (P : X → Type 0) (xs : List X) (x : X) (ys : List X) →
 all_at P [] x ys all = all.0
 all_at P (y ∷ xs) x ys all = all_at P xs x ys all.1
 
--- none of those before it is the same
+-- no earlier one is equal
 pub distinct_new : (before : List (List ℕ)) (id : List ℕ) (rest : List (List ℕ)) → IsDistinct bytes_eq (before ++ id ∷ rest) → true ≡ not (list_any (bytes_eq id) before)
 unfolding IsDistinct
 distinct_new [] id rest distinct = refl

@@ -23,7 +23,7 @@ pub record IsEndOf (text name : List ℕ) : Type 0 where
   pub blanks : AllPass is_blank after
   pub ends : (more : List ℕ) (last : ℕ) → name ≡ more ++ last ∷ [] → is_blank last ≡ false
 
--- the name is what is left of the text without the blanks at its ends
+-- the name is the text without the blanks at its ends
 pub record IsTrimmed (text name : List ℕ) : Type 0 where
   pub before : List ℕ
   pub rest : List ℕ

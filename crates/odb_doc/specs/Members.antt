@@ -55,11 +55,11 @@ is_annotation name = list_any (λ byte. byte == 64) name
 abbrev pub is_one_of : List (List ℕ) → List ℕ → Bool
 is_one_of names name = list_any (λ known. bytes_eq name known) names
 
--- the name is no annotation, and not one of these
+-- the name is not an annotation, and not one of these
 unfoldable pub is_unknown : List (List ℕ) → List ℕ → Bool
 is_unknown known name = not (is_annotation name) && not (is_one_of known name)
 
--- some member is no annotation, and none that the object may have
+-- some member is neither an annotation nor one that the object may have
 abbrev pub HasUnknown : Object → Data → Type 0
 HasUnknown owner d = list_any (is_unknown (members_of owner)) (names_in d) ≡ true
 
@@ -67,7 +67,7 @@ HasUnknown owner d = list_any (is_unknown (members_of owner)) (names_in d) ≡ t
 abbrev pub is_other : List (List ℕ) → List ℕ → Bool
 is_other known name = not (is_one_of known name)
 
--- some member, also an annotation, is none that the object may have
+-- some member, even an annotation, is not one that the object may have
 abbrev pub HasOther : Object → Data → Type 0
 HasOther owner d = list_any (is_other (members_of owner)) (names_in d) ≡ true
 

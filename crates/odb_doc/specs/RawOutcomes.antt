@@ -24,7 +24,7 @@ use Rattle.odb_doc.specs.Outcomes.{HasOutcome, status_of}
 abbrev pub texts : List (String Global) → List (List ℕ)
 texts strings = map string_bytes strings
 
--- what is at the four members, as far as it is of their types, and there are no others
+-- the values at the four members, as far as they have the right types, and there are no other members
 pub record ArePartsOf (kind : Object) (name : List ℕ) (d : Data) (parts : Parts) : Type 0 where
   pub known : ¬ HasOther kind d
   pub id : option_map string_bytes parts.id ≡ text_at name d

@@ -2,7 +2,6 @@ ghost use Rattle.std.specs.Prelude.{◌≡◌, IfSome, MatchOption, IfOk, IfErr,
 ghost use Rattle.serde_json.specs.Data.{Data, unsigned};
 ghost use Rattle.serde_json.specs.Find.{get};
 ghost use Rattle.serde_json.specs.View.{view, number_view};
-ghost use Rattle.odb_doc.specs.declared.event.NamedEvent.TheVariants.{Report};
 ghost use Rattle.odb_doc.specs.declared.event_fault.EventRule.{EventRule};
 ghost use Rattle.odb_doc.specs.BrokenRules.{OnRule};
 ghost use Rattle.odb_doc.specs.RawReports.{IsReportOf, IsLeastBroken};
@@ -53,7 +52,7 @@ fn start_of(element: &mut Value) -> Option<String>
     text_of(moved(element.as_object_mut()?, "start")?)
 }
 
-/// Returns the status of a report of this raw, or the rule that the report breaks.
+/// Returns the status of the report, or the rule that the report breaks.
 fn status_in(raw: &RawOutcome) -> Result<u16, EventRule>
     ensures status { IfOk result (λ code. number_view raw.now.status ≡ unsigned code) }
     ensures whole { OnOk result (IfSome (option_map view raw.now.body) IsWhole) }
@@ -83,27 +82,12 @@ fn read_report(alloc: Global, element: &mut Value) -> Result<NamedEvent, Broken<
     let bad = EventRule::BadEvents;
     let raw = raw_outcome_of(alloc, Object::Report, "report", element, bad)?;
     match status_in(&raw) {
-        Ok(status) => Ok(reported(raw, status)),
+        Ok(status) => {
+            let (id, outcome) = raw.with_status(status);
+            Ok(NamedEvent::Report(id, outcome))
+        }
         Err(rule) => Err(Broken::Rule(rule)),
     }
-}
-
-/// Returns the report of this raw.
-fn reported(raw: RawOutcome, status: u16) -> NamedEvent
-    ensures { result ≡ Report raw.id (record {
-      status = status;
-      headers = raw.headers;
-      body = raw.body;
-    }) }
-{
-    NamedEvent::Report(
-        raw.id,
-        Outcome {
-            status,
-            headers: raw.headers,
-            body: raw.body,
-        },
-    )
 }
 
 /// Returns whether the element has a member `start`.

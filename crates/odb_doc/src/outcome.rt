@@ -42,6 +42,27 @@ pub(crate) struct RawOutcome {
     pub(crate) body: Option<Value>,
 }
 
+impl RawOutcome {
+    /// Returns the id and the outcome, with this status.
+    pub(crate) fn with_status(self, status: u16) -> (String, Outcome)
+        ensures { result ≡ (
+          self.id,
+          record {
+            status = status;
+            headers = self.headers;
+            body = self.body;
+          },
+        ) }
+    {
+        let outcome = Outcome {
+            status,
+            headers: self.headers,
+            body: self.body,
+        };
+        (self.id, outcome)
+    }
+}
+
 /// Moves the value at a member out of its object, and leaves null in its place.
 pub(crate) fn moved(members: &mut Map<String, Value>, name: &str) -> Option<Value>
     ensures value { result ≡ get_by_text members.old name.now }

@@ -51,7 +51,7 @@ fn status_of(status: Number) -> Option<u16>
     }
 }
 
-/// Returns the status of an outcome of this raw, or the first of the rules F61 to F63 that it breaks.
+/// Returns the status of the outcome, or the first of the rules F61 to F63 that it breaks.
 fn status_in(seen: &mut SeenIds, raw: &RawOutcome) -> Result<u16, Broken<OutcomeRule>>
     ensures sound { OnOk result ((d : Data) (before rest : List (List ℕ)) → IsRawOutcomeOf d raw.now
         → IsWatched seen.old before (string_bytes raw.now.id ∷ rest)
@@ -106,12 +106,7 @@ fn read_outcome(
     let bad = OutcomeRule::BadOutcomes;
     let raw = raw_outcome_of(alloc, Object::Outcome, "id", element, bad)?;
     let status = status_in(seen, &raw)?;
-    let outcome = Outcome {
-        status,
-        headers: raw.headers,
-        body: raw.body,
-    };
-    Ok((raw.id, outcome))
+    Ok(raw.with_status(status))
 }
 
 impl From<Broken<(usize, OutcomeRule)>> for OutcomeFault {

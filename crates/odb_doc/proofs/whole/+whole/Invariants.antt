@@ -3,7 +3,7 @@ use Rattle.serde_json.specs.View.{items_view, members_view}
 use Rattle.serde_json.specs.Written.{items_have_float, members_have_float}
 use Rattle.odb_doc.proofs.whole.+whole.Given as goal
 
--- what is left has a float exactly if the whole has one
+-- the remaining values hold a float if and only if all of them do
 abbrev pub invariant-are_items_whole-loop-item : goal.invariant-are_items_whole-loop-item
 invariant-are_items_whole-loop-item l = items_have_float (items_view (drop l.item-index l.item-items)) ≡ items_have_float (items_view l.item-items)
 
