@@ -1,5 +1,5 @@
 -- The rules of an event: what breaks them, and what keeps an element from breaking them.
-use Rattle.std.proofs.Common.{◌≡◌, ◌<◌, List, [], Option, None, Some, IsSome, IsNone, IfSome, MatchOption, option_map, is_some, true, codes, String, string_bytes, refl, subst, arith}
+use Rattle.std.proofs.Common.{◌≡◌, ◌↔◌, ◌<◌, List, [], Option, None, Some, IsSome, IsNone, IfSome, MatchOption, option_map, is_some, true, codes, String, string_bytes, refl, subst, arith}
 use Rattle.std.specs.declared.alloc.Global.{Global}
 use Rattle.serde_json.specs.Data.{Data}
 use Rattle.serde_json.specs.Find.{get}
@@ -37,13 +37,9 @@ pub start-from : (d : Data) (found : Option (String Global)) → ¬ HasOther obj
 start-from d None one is = λ start. cc (subst IsSome is start.id)
 start-from d (Some id) one is = (record { one = one; id = rw is refl }, is)
 
-event-start : (start : Option Data) (d : Data) → is_some start ≡ true → IsStart d → IsEventBy start d
-event-start None d there is = absurd (cc (there))
-event-start (Some start) d there is = is
-
-no_event-start : (start : Option Data) (d : Data) → is_some start ≡ true → ¬ IsStart d → ¬ IsEventBy start d
-no_event-start None d there none = absurd (cc (there))
-no_event-start (Some start) d there none = none
+event-start : (start : Option Data) (d : Data) → is_some start ≡ true → IsEventBy start d ↔ IsStart d
+event-start None d there = absurd (cc (there))
+event-start (Some start) d there = (λ is. is, λ is. is)
 
 not_none : (start : Option Data) → is_some start ≡ true → ¬ IsNone start
 not_none None there = absurd (cc (there))
@@ -51,11 +47,11 @@ not_none (Some start) there = λ none. absurd (cc (none))
 
 pub start-sound : (d : Data) → is_some (get (codes "start") d) ≡ true → IsStart d → (rule : EventRule) → ¬ BreaksEvent rule d
 start-sound d there start NotWhole = λ broken. not_none (get (codes "start") d) there broken.reports
-start-sound d there start BadEvents = λ bad. bad (event-start (get (codes "start") d) d there start)
+start-sound d there start BadEvents = λ bad. bad ((event-start (get (codes "start") d) d there).1 start)
 
 pub start-bad : (d : Data) → is_some (get (codes "start") d) ≡ true → ¬ IsStart d → IsLeastBroken d BadEvents
 start-bad d there none = record {
-  broken = no_event-start (get (codes "start") d) d there none;
+  broken = λ event. none ((event-start (get (codes "start") d) d there).0 event);
   least = λ other less broken. not_none (get (codes "start") d) there (number_before d other less broken).reports;
 }
 
