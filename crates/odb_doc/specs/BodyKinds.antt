@@ -20,7 +20,7 @@ pub record HasKind (value : List ℕ) (kind : BodyKind) : Type 0 where
   pub has : HasType value name
   pub asks : AsksFor (str_to_ascii_lowercase name) kind
 
--- the value is of the kind
+-- the value is a body of this kind
 abbrev pub IsOfKind : BodyKind → Data → Type 0
 IsOfKind Any d = Unit {0}
 IsOfKind Text d = IsSome (as_str d)

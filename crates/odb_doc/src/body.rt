@@ -17,7 +17,7 @@ use serde_json::Value;
 use std::alloc::{AllocError, Global};
 use std::collections::BTreeMap;
 
-/// Returns whether the value is of the kind.
+/// Returns whether the value is a body of this kind.
 fn is_of_kind(kind: BodyKind, body: &Value) -> bool
     ensures { IsTrue result ↔ IsOfKind kind (view body.now) }
 {

@@ -81,8 +81,8 @@ fn status_in(seen: &mut SeenIds, raw: &RawOutcome) -> Result<u16, Broken<Outcome
     Ok(status)
 }
 
-/// Reads one element, moving its values out, or returns the first rule that it breaks. `seen` is of
-/// the elements before it.
+/// Reads one element, moving its values out, or returns the first rule that it breaks. `seen` has the
+/// ids of the elements before it.
 fn read_outcome(
     alloc: Global,
     seen: &mut SeenIds,

@@ -17,7 +17,7 @@ use Rattle.odb_engine.specs.Laws.{IsOne}
 use Rattle.odb_engine.specs.Replays.{ReplaysPlan, ReplaysBatch, LacksOutcome, execution_refusal, result_text}
 use Rattle.odb_engine.proofs.PlanLemmas.{replays-plan}
 
--- what odb_sched says of an order, at the start of a run and with the outcomes recorded
+-- the laws of odb_sched on an order, at the start of a run and with recorded outcomes
 pub record HasOrder (order : Order) (recorded : List (Option Outcome)) (first : State) : Type 0 where
   pub course : HasOneCourse order recorded first
   pub fault : HasOneFault order recorded first

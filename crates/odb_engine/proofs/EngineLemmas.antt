@@ -1,4 +1,4 @@
--- The exits of an engine: each `?` leaves what the cascade says.
+-- The exits of an engine: at each `?` the output is as the cascade states.
 use Rattle.std.proofs.Common.{◌≡◌, ◌⊎◌, ◌↔◌, ℕ, ◌≤◌, ◌<◌, ◌∙◌, List, [], length, take, drop, Option, None, Some, Result, Ok, Err, IfOk, IfErr, String, string_bytes, inl, inr, refl, sym, subst, ap, arith}
 use Rattle.std.proofs.lemmas.List.{take-append-drop, length-take, drop_all}
 use Rattle.std.specs.Result.{IsErrAnd}
@@ -52,15 +52,15 @@ some-document (Some left) = (
     all : (n : ℕ) (xs : List ℕ) → length (take n xs) < n → length xs ≤ n
     all n xs less = omega (arith, length-take n xs, less)
 
--- the exit of a `?`: what is so at the error is so of the result
+-- the exit of a `?`: what holds of the error holds of the result
 pub at-exit : {T E : Type 0} (C : Result T E → Type 0) (Q : E → Type 0) (r : Result T E) → IsErrAnd r Q → ((error : E) → Q error → C (Err error)) → C r
 at-exit C Q r is to = let (error, same, holds) = err_from_is_err_and r is in subst C (sym same) (to error holds)
 
--- the exit of a `?` that passes an error on
+-- the exit of a `?` that returns an error as it is
 pub exit-stop : {T E : Type 0} (C : Result T E → Type 0) (error : E) (r : Result T E) → IsErrAnd r (λ other. other ≡ error) → C (Err error) → C r
 exit-stop C error r is so = at-exit C (λ other. other ≡ error) r is (λ other same. subst (λ s. C (Err s)) (sym same) so)
 
--- a stop by a fault, where it is numbered
+-- a stop by a fault, if it is numbered
 pub stopped-by : (Is : Refusal → Type 0) (Numbered : Type 0) (refusal : Refusal) → (Numbered → Is refusal) → (stop : Stop) → StopsBy Numbered refusal stop → Stopped Is stop
 stopped-by Is Numbered refusal may (stops.Refused code name place) (numbered, same) = subst Is same (may numbered)
 stopped-by Is Numbered refusal may stops.Read by = absurd by
@@ -99,8 +99,8 @@ stop-shape P bytes fault value is_document least = stopped-by (λ refusal. Answe
 -- the names of its requests have a fault
 pub stop-names : (P : List Record → Writes) (bytes : List ℕ) (fault : CheckFault) (value : Data) (batch : List Record) → IsDocument bytes value → IsWellShaped value → IsBatchOf value batch
     → RefusesNames fault batch → (stop : Stop) → StopsBy (names.IsNumbered fault) (names_refusal fault) stop → Refuses (Answers P bytes) stop
-stop-names P bytes fault value batch is_document shape says least = stopped-by (λ refusal. Answers P bytes Refused (line_of refusal)) _ _
-    (λ numbered. inl (reports (IsLeast bytes) (names_refusal fault) (OfNames fault numbered (record { value = value; document = is_document; holds = record { batch = batch; shape = shape; says = says; holds = least } }) refl)))
+stop-names P bytes fault value batch is_document shape is_batch least = stopped-by (λ refusal. Answers P bytes Refused (line_of refusal)) _ _
+    (λ numbered. inl (reports (IsLeast bytes) (names_refusal fault) (OfNames fault numbered (record { value = value; document = is_document; holds = record { batch = batch; shape = shape; is_batch = is_batch; holds = least } }) refl)))
 
 -- what may be written in less cases may be written
 pub Refuses-weaker : (P Q : Writes) (stop : Stop) → ((ended : Ended) (text : List ℕ) → P ended text → Q ended text) → Refuses P stop → Refuses Q stop

@@ -1,4 +1,4 @@
--- Two texts that the cascade allows for the same bytes are equal, where P allows one for each batch.
+-- Two texts that the cascade allows for the same bytes are equal, if P allows one for each batch.
 use Rattle.std.proofs.Common.{◌≡◌, ℕ, ◌≤◌, ◌<◌, ◌∙◌, List, length, unwrap_or, inl, inr, refl, sym, subst, ap, arith}
 use Rattle.serde_json.specs.Data.{Data}
 use Rattle.odb_doc.specs.declared.fault.Place.{Place}
@@ -17,7 +17,7 @@ use Rattle.odb_engine.specs.Laws.{IsOne}
 use Rattle.odb_engine.specs.Cascade.{Writes, Refusal, line_of, RefusesBytes, IsLeast, Accepts, Answers, HasValue, document_refusal, names_refusal}
 use Rattle.odb_engine.specs.Cascade.IsLeast.{OfBytes, OfShape, OfNames}
 
--- what the crates below say of their own relations, in their laws
+-- the laws of the lower crates on their own relations
 pub record AreFunctional : Type 0 where
   pub one_shape : (value : Data) (fault other : DocFault) → document.IsNumbered fault → document.IsNumbered other → IsLeastFault fault value → IsLeastFault other value → fault ≡ other
   pub no_shape : (value : Data) (fault : DocFault) → document.IsNumbered fault → IsLeastFault fault value → ¬ IsWellShaped value
@@ -82,8 +82,8 @@ least_one law bytes s t (OfNames f n has e) (OfShape g m had d) =
     absurd (law.no_shape has.value g m (subst (IsLeastFault g) (one_value bytes had.value has.value had.document has.document) had.holds) has.holds.shape)
 least_one law bytes s t (OfNames f n has e) (OfNames g m had d) =
     let same = one_value bytes has.value had.value has.document had.document in
-    let says = subst (λ v. IsBatchOf v has.holds.batch) same has.holds.says in
-    e ∙ ap names_refusal (law.one_name had.holds.batch f g n m (subst (RefusesNames f) (law.one_batch had.value _ _ says had.holds.says) has.holds.holds) had.holds.holds) ∙ sym d
+    let is_batch = subst (λ v. IsBatchOf v has.holds.batch) same has.holds.is_batch in
+    e ∙ ap names_refusal (law.one_name had.holds.batch f g n m (subst (RefusesNames f) (law.one_batch had.value _ _ is_batch had.holds.is_batch) has.holds.holds) had.holds.holds) ∙ sym d
 
 least_not : AreFunctional → (bytes : List ℕ) (P : List Record → Type 0) (refusal : Refusal) → IsLeast bytes refusal → Accepts bytes P → ⊥
 least_not law bytes P refusal (OfBytes one) is =
@@ -92,13 +92,13 @@ least_not law bytes P refusal (OfShape f n has e) is =
     law.no_shape is.value f n (subst (IsLeastFault f) (one_value bytes has.value is.value has.document is.document) has.holds) is.shape
 least_not law bytes P refusal (OfNames f n has e) is =
     let same = one_value bytes has.value is.value has.document is.document in
-    let says = subst (λ v. IsBatchOf v has.holds.batch) same has.holds.says in
-    law.no_name is.batch f n (subst (RefusesNames f) (law.one_batch is.value _ _ says is.says) has.holds.holds) is.names
+    let is_batch = subst (λ v. IsBatchOf v has.holds.batch) same has.holds.is_batch in
+    law.no_name is.batch f n (subst (RefusesNames f) (law.one_batch is.value _ _ is_batch is.is_batch) has.holds.holds) is.names
 
 -- two readings of a batch that is accepted have the same requests
 same_batch : AreFunctional → (bytes : List ℕ) (P Q : List Record → Type 0) → (one : Accepts bytes P) (two : Accepts bytes Q) → one.batch ≡ two.batch
 same_batch law bytes P Q one two =
-    law.one_batch two.value one.batch two.batch (subst (λ v. IsBatchOf v one.batch) (one_value bytes one.value two.value one.document two.document) one.says) two.says
+    law.one_batch two.value one.batch two.batch (subst (λ v. IsBatchOf v one.batch) (one_value bytes one.value two.value one.document two.document) one.is_batch) two.is_batch
 
 pub answers_one : AreFunctional → (P : List Record → Writes) (bytes : List ℕ) → ((xs : List Record) → Accepts bytes (λ batch. batch ≡ xs) → IsOne (P xs)) → IsOne (Answers P bytes)
 answers_one law P bytes one a b s t (inl x) (inl y) =
@@ -107,10 +107,10 @@ answers_one law P bytes one a b s t (inl x) (inl y) =
 answers_one law P bytes one a b s t (inl x) (inr y) = absurd (least_not law bytes (λ batch. P batch b t) x.refusal x.is y)
 answers_one law P bytes one a b s t (inr x) (inl y) = absurd (least_not law bytes (λ batch. P batch a s) y.refusal y.is x)
 answers_one law P bytes one a b s t (inr x) (inr y) =
-    let here : Accepts bytes (λ batch. batch ≡ y.batch) = record { value = y.value; document = y.document; shape = y.shape; batch = y.batch; says = y.says; names = y.names; holds = refl } in
+    let here : Accepts bytes (λ batch. batch ≡ y.batch) = record { value = y.value; document = y.document; shape = y.shape; batch = y.batch; is_batch = y.is_batch; names = y.names; holds = refl } in
     one y.batch here a b s t (subst (λ xs. P xs a s) (same_batch law bytes (λ batch. P batch a s) (λ batch. P batch b t) x y) x.holds) y.holds
 
--- where a text is one for some requests, it is for the documents of them
+-- if a text is determined for some requests, it is for the documents of them
 pub answers_of : AreFunctional → (P : List Record → Writes) (bytes : List ℕ) (requests : List Record) → Accepts bytes (λ batch. batch ≡ requests) → IsOne (P requests) → IsOne (Answers P bytes)
 answers_of law P bytes requests accepted one = answers_one law P bytes
     (λ xs here. subst (λ batch. IsOne (P batch)) (sym accepted.holds ∙ same_batch law bytes (λ batch. batch ≡ requests) (λ batch. batch ≡ xs) accepted here ∙ here.holds) one)

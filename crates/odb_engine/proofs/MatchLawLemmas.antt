@@ -17,7 +17,7 @@ use Rattle.odb_engine.specs.Matches.{IsLeastOfResponses, Lists, Matches, Matches
 use Rattle.odb_engine.specs.Matches.IsLeastOfResponses.{OfBytes, OfValue}
 use Rattle.odb_engine.proofs.LawLemmas.{one_refusal, one_value, refused_no_value}
 
--- what odb_reply says of its own relations, in its laws
+-- the laws of odb_reply on its own relations
 pub record AreOneMatch : Type 0 where
   pub one_fault : (value : Data) (fault other : ResponseFault) → documents.IsNumbered fault → documents.IsNumbered other → RefusesResponses fault value → RefusesResponses other value → fault ≡ other
   pub no_fault : (value : Data) (fault : ResponseFault) → documents.IsNumbered fault → RefusesResponses fault value → ¬ IsResponseDocument value

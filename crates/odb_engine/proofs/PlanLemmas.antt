@@ -1,4 +1,4 @@
--- A run asks of its plan for no more than the requests: plans of the same requests have the same replays.
+-- A run depends on no more of its plan than the requests: plans of the same requests have the same replays.
 use Rattle.std.proofs.Common.{◌≡◌, ◌∙◌, ℕ, ◌+◌, Bool, true, false, List, [], ◌∷◌, ◌++◌, replicate, length, unwrap_or, codes, Err, inl, inr, refl, sym, ap, subst}
 use Rattle.std.specs.List.{flat_map}
 use Rattle.serde_json.specs.Data.{array, object, put, no_members}
@@ -52,7 +52,7 @@ after_all-plan plan state [] = refl
 after_all-plan plan state (event.Start i ∷ events) = after_all-plan plan _ events
 after_all-plan plan state (event.Report i outcome ∷ events) = after_all-plan plan _ events
 
--- events leave the plan as it is
+-- events do not change the plan
 pub plan-kept : (state : State) (events : List Event) → (after_all state events).plan ≡ state.plan
 plan-kept state [] = refl
 plan-kept state (event.Start i ∷ events) = plan-kept _ events

@@ -1,4 +1,4 @@
--- Runs by recorded outcomes: what is offered was recorded, so it is sound.
+-- Runs by recorded outcomes: an outcome that is offered was recorded, so it is sound.
 use Rattle.std.proofs.Common.{◌≡◌, ℕ, zero, suc, ◌≤◌, ◌∙◌, ap, sym, refl, subst, arith, Bool, true, false, cond, ◌&&◌, List, [], ◌∷◌, get_or, All, Contains, Option, Some, None, is_some, unwrap_or, option_map, not, if◌then◌else◌, IfSome, find, bytes_eq, Result, Ok, Err}
 use Rattle.std.proofs.lemmas.Bool.{true≢false, both_ways}
 use Rattle.std.proofs.lemmas.Bool.Decides.{nat_tests}
@@ -30,7 +30,7 @@ use Rattle.odb_engine.specs.declared.ending.Ended.TheVariants.{Refused}
 use Rattle.odb_engine.specs.Cascade.{line_of}
 use Rattle.odb_engine.specs.Replays.{LacksOutcome, offers_of, execution_refusal}
 
--- what is recorded for an id stands in an entry
+-- what is recorded for an id is in an entry
 entry-for : (entries : List Recorded) (id : List ℕ) (outcome : Outcome) → outcome_for entries id ≡ Some outcome → (entry : Recorded) × Contains entries entry × (entry.1 ≡ outcome)
 entry-for [] id outcome e = absurd (true≢false (sym (ap is_some e)))
 entry-for (entry ∷ entries) id outcome e = at (bytes_eq entry.0 id) refl (entry-for entries id outcome) e
@@ -96,7 +96,7 @@ not_failed (Some outcome) e = true≢false (ap is_failed e)
 in_range : (status : ℕ) → 200 ≤ status → status ≤ 599 → is_status status ≡ true
 in_range status low high = grind (arith, nat_tests)
 
--- an execution by recorded outcomes fails only where an outcome is missing
+-- an execution by recorded outcomes fails only if an outcome is missing
 pub lacks-outcome : (allows : Allowance) (policy : Policy) (plan : Plan) (entries : List Recorded) (cause : ExecFault) → All IsSoundOutcome entries → IsNumbered cause
     → IsCausedBy (offers_of plan entries) (IsDue allows (offers_of plan entries) (at_first plan policy)) cause
     → LacksOutcome allows policy plan entries Refused (line_of (execution_refusal cause))

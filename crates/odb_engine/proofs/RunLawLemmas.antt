@@ -118,7 +118,7 @@ same-stop state (x ∷ xs) (y ∷ ys) e f later others same run walk barred clos
     barred (subst (λ z. may_come (after_all (after state z) ys) f ≡ false) (sym head) closed) in
     (ap (λ z. z ∷ xs) head ∙ ap (λ zs. y ∷ zs) front, last)
 
--- what the runs say of the causes of their refusals, in their laws
+-- the laws of runs on the causes of refusals
 pub record HaveOneCause : Type 0 where
   pub one_start : (state : State) (i : ℕ) (cause other : StartRefusal) → IsStartCause state i cause → IsStartCause state i other → cause ≡ other
   pub one_report : (state : State) (i : ℕ) (outcome : Outcome) (cause other : ReportRefusal) → IsReportCause state i outcome cause → IsReportCause state i outcome other → cause ≡ other

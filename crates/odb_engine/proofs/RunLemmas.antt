@@ -45,7 +45,7 @@ whole-resolved batch (named.Start id) (event.Report i outcome) is sound = absurd
 whole-resolved batch (named.Report id outcome) (event.Start i) is sound = absurd is
 whole-resolved batch (named.Report id outcome) (event.Report i reported) (at, same) sound = subst (λ o. HasWholeBody (Some o)) (sym same) sound.whole
 
--- an event of whole bodies leaves whole bodies
+-- after an event of whole bodies all bodies are whole
 whole-after : (state : State) (events : List Event) → All IsWholeEvent events → All IsWholePhase state.phases → All IsWholePhase (after_all state events).phases
 whole-after state [] each whole = whole
 whole-after state (event.Start i ∷ events) each whole =

@@ -38,7 +38,7 @@ document_refusal fault = record { code = document.fault_code fault; name = docum
 abbrev pub names_refusal : CheckFault → Refusal
 names_refusal fault = record { code = names.fault_code fault; name = names.fault_name fault; place = names.fault_place fault }
 
--- the bytes of the document at this place are refused so
+-- the bytes of the document at this place have this refusal
 pub record RefusesBytes (place : Place) (bytes : List ℕ) (refusal : Refusal) : Type 0 where
   pub fault : DocFault
   pub numbered : document.IsNumbered fault
@@ -52,17 +52,17 @@ pub record HasValue (bytes : List ℕ) (P : Data → Type 0) : Type 0 where
   pub holds : P value
 
 -- the value has no fault of shape, and its requests have this property
-pub record SaysBatch (value : Data) (P : List Record → Type 0) : Type 0 where
+pub record HasBatch (value : Data) (P : List Record → Type 0) : Type 0 where
   pub batch : List Record
   pub shape : IsWellShaped value
-  pub says : IsBatchOf value batch
+  pub is_batch : IsBatchOf value batch
   pub holds : P batch
 
 -- The least fault of a batch document: of its bytes, or else of the shape of its value, or else of the names of its requests.
 pub data IsLeast (bytes : List ℕ) (refusal : Refusal) : Type 0 where
   OfBytes : RefusesBytes Batch bytes refusal → IsLeast bytes refusal
   OfShape : (fault : DocFault) → document.IsNumbered fault → HasValue bytes (IsLeastFault fault) → refusal ≡ document_refusal fault → IsLeast bytes refusal
-  OfNames : (fault : CheckFault) → names.IsNumbered fault → HasValue bytes (λ value. SaysBatch value (RefusesNames fault)) → refusal ≡ names_refusal fault → IsLeast bytes refusal
+  OfNames : (fault : CheckFault) → names.IsNumbered fault → HasValue bytes (λ value. HasBatch value (RefusesNames fault)) → refusal ≡ names_refusal fault → IsLeast bytes refusal
 
 -- the bytes are a batch that the check accepts, and its requests have this property
 pub record Accepts (bytes : List ℕ) (P : List Record → Type 0) : Type 0 where
@@ -70,7 +70,7 @@ pub record Accepts (bytes : List ℕ) (P : List Record → Type 0) : Type 0 wher
   pub document : IsDocument bytes value
   pub shape : IsWellShaped value
   pub batch : List Record
-  pub says : IsBatchOf value batch
+  pub is_batch : IsBatchOf value batch
   pub names : HasGoodNames batch
   pub holds : P batch
 

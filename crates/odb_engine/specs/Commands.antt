@@ -33,6 +33,6 @@ pub record IsNotWhole (batch : List Record) (refusal : Refusal) : Type 0 where
   pub first : IsFirstNotWhole batch at
   pub is : refusal ≡ text_refusal (NotWhole at)
 
--- the canonical text, where it exists
+-- the canonical text, if it exists
 abbrev pub Canonical : List Record → Writes
 Canonical batch ended text = Reports (IsNotWhole batch) ended text ⊎ (HasWholeBodies batch × Prints (canonical_text batch ++ newline ∷ []) ended text)

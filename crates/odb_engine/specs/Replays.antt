@@ -27,7 +27,7 @@ use Rattle.odb_sched.specs.declared.fault.ExecFault.{ExecFault}
 use Rattle.odb_sched.specs.ExecFaults.{exec_code, exec_name, exec_place}
 use Rattle.odb_engine.specs.Inputs.{SomeDocument}
 
--- the trace, where one is wanted
+-- the trace, if one is wanted
 abbrev pub trace_part : Bool → State → List Step → List ℕ
 trace_part traced state steps = if traced then trace_text state steps else []
 
@@ -35,7 +35,7 @@ trace_part traced state steps = if traced then trace_text state steps else []
 abbrev pub response_line : State → List ℕ
 response_line state = response_text state ++ newline ∷ []
 
--- the response as a line, after the trace where one is wanted
+-- the response as a line, after the trace if one is wanted
 abbrev pub result_text : Bool → State → List Step → List ℕ
 result_text traced state steps = trace_part traced state steps ++ response_line state
 
@@ -93,6 +93,6 @@ ReplaysBy allows policy traced plan bytes ended text = Reports (IsLeastOfOutcome
 abbrev pub Replays : Allowance → Policy → Bool → Option (List ℕ) → List Record → Writes
 Replays allows policy traced left batch ended text = (plan : Plan) × (plan_records plan ≡ batch) × SomeDocument left (λ bytes. ReplaysBy allows policy traced plan bytes ended text)
 
--- the second input is left as it was, or the batch is one that the check accepts
+-- the second input is unchanged, or the batch is one that the check accepts
 abbrev pub AskedFor : {S : Type 0} → List ℕ → Reading S → Reading S → Type 0
 AskedFor bytes old new = (new ≡ old) ⊎ Accepts bytes (λ _. Unit {0})

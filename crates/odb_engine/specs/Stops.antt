@@ -25,12 +25,12 @@ Stopped Is stops.OutOfMemory = Unit {0}
 abbrev pub Refuses : Writes → Stop → Type 0
 Refuses P stop = Stopped (λ refusal. P Refused (line_of refusal)) stop
 
--- what was found may be written so
+-- what was found may be written this way
 abbrev pub Found : Writes → Result (String Global) Stop → Type 0
 Found P (Ok text) = P Done (string_bytes text)
 Found P (Err stop) = Refuses P stop
 
--- what an engine leaves that writes its result itself: how it ended, or why nothing was written
+-- what an engine that writes its result itself returns: how it ended, or why nothing was written
 abbrev pub Sent : {W : Type 0} → (W → Option (List ℕ)) → Writes → Writing W → Writing W → Result (Result Ended EngineFault) Stop → Type 0
 Sent contents P old new (Ok result) = Ends contents P ⊥ old new result
 Sent contents P old new (Err stop) = (new ≡ old) × Refuses P stop
@@ -49,7 +49,7 @@ text_found (Err (stops.Refused code name place)) ended text = (ended ≡ Refused
 text_found (Err stops.Read) ended text = ⊥
 text_found (Err stops.OutOfMemory) ended text = ⊥
 
--- the stop is by this fault where the fault is numbered, and else out of memory
+-- the stop is by this fault if the fault is numbered, and else out of memory
 abbrev pub StopsBy : Type 0 → Refusal → Stop → Type 0
 StopsBy Numbered refusal (stops.Refused code name place) = Numbered × (refusal ≡ record { code = code.now; name = name.now; place = place })
 StopsBy Numbered refusal stops.Read = ⊥

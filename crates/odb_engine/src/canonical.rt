@@ -19,7 +19,7 @@ use std::io::{Read, Write};
 struct Canonical;
 
 impl Command for Canonical {
-    ghost says = { λ _. commands.Canonical };
+    ghost writes = { λ _. commands.Canonical };
 
     fn text(&self, alloc: Global, batch: &Batch<'_>, _plan: &Plan<'_>) -> Result<String, Stop> {
         let mut text = batch.canonical(alloc)?;

@@ -18,7 +18,7 @@ use std::io::{Read, Write};
 struct Counts;
 
 impl Command for Counts {
-    ghost says = { λ _. commands.Counts };
+    ghost writes = { λ _. commands.Counts };
 
     fn text(&self, alloc: Global, _batch: &Batch<'_>, plan: &Plan<'_>) -> Result<String, Stop> {
         Ok(accepted_line(alloc, plan.len(), plan.group_count())?)
@@ -29,7 +29,7 @@ impl Command for Counts {
 struct Plans;
 
 impl Command for Plans {
-    ghost says = { λ _. commands.Plans };
+    ghost writes = { λ _. commands.Plans };
 
     fn text(&self, alloc: Global, _batch: &Batch<'_>, plan: &Plan<'_>) -> Result<String, Stop> {
         Ok(plan.text(alloc)?)
@@ -39,7 +39,7 @@ impl Command for Plans {
 /// Checks the batch in a document: writes the line of its counts, or of its least fault.
 ///
 /// The input must be new, and the output must not have failed. The seed should be random and secret:
-/// it keeps the tables of names fast whatever the names. `remains` says whether the document is
+/// it keeps the tables of names fast whatever the names. `remains` sets whether the document is
 /// dropped at the end. What is written depends on neither.
 ///
 /// Takes O(n log n) time and O(n) memory for a document of n bytes.

@@ -30,12 +30,12 @@ pub trait Command {
     ghost use Rattle.odb_engine.specs.Stops.{Found};
 
     /// How it ends for the requests of a batch, and what it has written then.
-    ghost says: { Self → List Record → Ended → List ℕ → Type 0 };
+    ghost writes: { Self → List Record → Ended → List ℕ → Type 0 };
 
     /// Returns what is printed of a batch and its plan.
     fn text(&self, alloc: Global, batch: &Batch<'_>, plan: &Plan<'_>) -> Result<String, Stop>
         requires { records batch.now ≡ plan_records plan.now }
-        ensures found { Found (says self.now (plan_records plan.now)) result }
+        ensures found { Found (writes self.now (plan_records plan.now)) result }
         ensures read { result ≢ Err stops.Read };
 }
 
@@ -48,7 +48,7 @@ fn text_of<C: Command>(
     remains: Remains,
 ) -> Result<String, Stop>
     ensures found { (bytes : List ℕ) → IsDocument bytes (view value.now)
-        → Found (Answers (C.says command.now) bytes) result }
+        → Found (Answers (C.writes command.now) bytes) result }
     ensures read { result ≢ Err stops.Read }
 {
     let batch = Held {
@@ -72,7 +72,7 @@ fn found_by<R: Read, C: Command>(
 ) -> Result<String, Stop>
     requires { IsFresh input.old }
     ensures found { SomeDocument (R.remaining input.old.reader)
-        (λ bytes. Found (Answers (C.says command.now) bytes) result) }
+        (λ bytes. Found (Answers (C.writes command.now) bytes) result) }
     ensures read { (result ≡ Err stops.Read) ↔ IsTrue input.new.failed }
     ensures input { ReadsFew R.remaining input.old input.new }
 {
@@ -96,7 +96,7 @@ pub fn answer<R: Read, W: Write, C: Command>(
     requires input { IsFresh input.old }
     requires output { output.old.failed ≡ false }
     ensures ends { SomeDocument (R.remaining input.old.reader) (λ bytes. Ends W.contents
-        (Answers (C.says command.now) bytes) (IsTrue input.new.failed)
+        (Answers (C.writes command.now) bytes) (IsTrue input.new.failed)
         output.old output.new result) }
     ensures memory { result ≡ Err EngineFault.OutOfMemory → output.new ≡ output.old }
     ensures reads { ReadsFew R.remaining input.old input.new }

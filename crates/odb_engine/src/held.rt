@@ -11,7 +11,7 @@ pub enum Remains {
     Left,
 }
 
-/// A value that is dropped or leaked where it goes out of scope.
+/// A value that is dropped or leaked when it goes out of scope.
 pub struct Held<T> {
     pub value: T,
     pub remains: Remains,

@@ -1,6 +1,6 @@
 //! What the contracts of the engines determine: for the same document, one text.
 //!
-//! The laws are clauses of a function that changes nothing. They speak of the words that the clauses
+//! The laws are clauses of a function that changes nothing. They use the relations that the clauses
 //! of the engines use.
 
 ghost use Rattle.std.specs.Prelude.{◌≡◌, ℕ, Bool, List};

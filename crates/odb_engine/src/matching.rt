@@ -64,7 +64,7 @@ fn matched(alloc: Global, plan: &Plan<'_>, value: &Value, remains: Remains) -> R
 struct Match;
 
 impl PairCommand for Match {
-    ghost says = { λ _. Matches };
+    ghost writes = { λ _. Matches };
 
     fn text<S: Read>(
         &self,

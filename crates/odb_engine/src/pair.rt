@@ -33,7 +33,7 @@ pub trait PairCommand {
 
     /// How it ends for the requests of a batch and the bytes of a second document, and what it has
     /// written then.
-    ghost says: { Self → List Record → List ℕ → Ended → List ℕ → Type 0 };
+    ghost writes: { Self → List Record → List ℕ → Ended → List ℕ → Type 0 };
 
     /// Returns what is printed of a plan by the second document.
     fn text<S: Read>(
@@ -45,7 +45,7 @@ pub trait PairCommand {
     ) -> Result<String, Stop>
         requires { IsFresh second.old }
         ensures found { SomeDocument (S.remaining second.old.reader)
-            (λ bytes. Found (says self.now (plan_records plan.now) bytes) result) }
+            (λ bytes. Found (writes self.now (plan_records plan.now) bytes) result) }
         ensures read { (result ≡ Err stops.Read) ↔ IsTrue second.new.failed }
         ensures second { ReadsFew S.remaining second.old second.new };
 }
@@ -61,7 +61,7 @@ fn text_of<S: Read, C: PairCommand>(
 ) -> Result<String, Stop>
     requires { IsFresh second.old }
     ensures found { (bytes : List ℕ) → IsDocument bytes (view value.now)
-        → Found (Answers (BySecond (S.remaining second.old.reader) (C.says command.now)) bytes)
+        → Found (Answers (BySecond (S.remaining second.old.reader) (C.writes command.now)) bytes)
         result }
     ensures asked { (bytes : List ℕ) → IsDocument bytes (view value.now)
         → AskedFor bytes second.old second.new }
@@ -91,7 +91,7 @@ fn found_by<R: Read, S: Read, C: PairCommand>(
     requires batch { IsFresh batch.old }
     requires second { IsFresh second.old }
     ensures found { SomeDocument (R.remaining batch.old.reader) (λ bytes.
-        Found (Answers (BySecond (S.remaining second.old.reader) (C.says command.now)) bytes) result
+        Found (Answers (BySecond (S.remaining second.old.reader) (C.writes command.now)) bytes) result
         × AskedFor bytes second.old second.new) }
     ensures read { (result ≡ Err stops.Read)
         ↔ (IsTrue batch.new.failed ⊎ IsTrue second.new.failed) }
@@ -120,7 +120,7 @@ pub fn answer_pair<R: Read, S: Read, W: Write, C: PairCommand>(
     requires second { IsFresh second.old }
     requires output { output.old.failed ≡ false }
     ensures ends { SomeDocument (R.remaining batch.old.reader) (λ bytes. Ends W.contents
-        (Answers (BySecond (S.remaining second.old.reader) (C.says command.now)) bytes)
+        (Answers (BySecond (S.remaining second.old.reader) (C.writes command.now)) bytes)
         (IsTrue batch.new.failed ⊎ IsTrue second.new.failed) output.old output.new result
         × AskedFor bytes second.old second.new) }
     ensures memory { result ≡ Err EngineFault.OutOfMemory → output.new ≡ output.old }

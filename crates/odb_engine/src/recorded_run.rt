@@ -109,7 +109,7 @@ fn run_document<R: Read, S: Read, W: Write>(
 /// Runs the batch in a document by the recorded events in another: writes the response if every event
 /// may come and the run is finished; or the line of a fault.
 ///
-/// The inputs must be new, and the output must not have failed. The policy says whether an error stops
+/// The inputs must be new, and the output must not have failed. The policy sets whether an error stops
 /// the run and how many requests may run at once. The seed and `remains` are as for
 /// [`crate::check_batch`]. The events are read only if the check accepts the batch.
 ///

@@ -133,7 +133,7 @@ fn replay_of<R: Read, S: Read, W: Write>(
 }
 
 /// Replays the batch in a document by the recorded outcomes in another: writes the response, after
-/// the trace of the steps where `traced` asks for it; or the line of a fault.
+/// the trace of the steps if `traced` is set; or the line of a fault.
 ///
 /// The inputs must be new, and the output must not have failed. The chooser gives the order, and the
 /// policy whether an error stops the run and how many requests may run at once. The seed and `remains`

@@ -75,7 +75,7 @@ fn send_line<W: Write>(
     send_text(output, "\n")
 }
 
-/// Writes the response to a finished execution as a line, after its trace where one is wanted.
+/// Writes the response to a finished execution as a line, after its trace if one is wanted.
 fn send_result<W: Write>(
     alloc: Global,
     output: &mut Output<W>,

@@ -1,7 +1,7 @@
 ghost use Rattle.std.specs.Prelude.{◌≡◌, ◌↔◌, IsTrue};
 ghost use Rattle.odb_names.specs.Identifiers.{IsRequestId, is_unreserved};
 
-/// Whether the byte is an ASCII letter or digit, `-`, `.`, `_` or `~`.
+/// Returns whether the byte is an ASCII letter or digit, `-`, `.`, `_` or `~`.
 pub(crate) fn is_unreserved(byte: u8) -> bool
     ensures { result ≡ is_unreserved byte }
 {

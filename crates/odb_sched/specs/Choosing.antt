@@ -27,7 +27,7 @@ abbrev pub picked : List ℕ → List ℕ → Choice → Step
 picked ready running (choice.Start place) = step.Start (slice_index_or ready place 0)
 picked ready running (choice.Report place) = step.Report (slice_index_or running place 0)
 
--- the step is of one of these positions
+-- the step starts or reports one of these positions
 abbrev pub IsAmong : List ℕ → List ℕ → Step → Type 0
 IsAmong ready running (step.Start i) = Contains ready i
 IsAmong ready running (step.Report i) = Contains running i

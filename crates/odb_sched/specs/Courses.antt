@@ -42,7 +42,7 @@ abbrev pub step_of : Event → Step
 step_of (Start i) = step.Start i
 step_of (Report i outcome) = step.Report i
 
--- the position of the request that a step is of
+-- the position of a step's request
 abbrev pub position_in : Step → ℕ
 position_in (step.Start i) = i
 position_in (step.Report i) = i

@@ -58,7 +58,7 @@ HasOneResult state = (table : ℕ → Outcome) → Agrees state table → (i : �
     → (IsTrue (is_answered_2xx (answer state i)) ↔ IsTrue (succeeds state.shape table (unit_of state.shape i)))
     × (IsTrue (is_answered_2xx (answer state i)) → answer state i ≡ Some (table i))
 
--- a request that is answered with a success is of a unit that succeeds under the table, and has the table's outcome
+-- a request that is answered with a success belongs to a unit that succeeds under the table, and has the table's outcome
 abbrev pub HasSoundResult : State → Type 0
 HasSoundResult state = (table : ℕ → Outcome) → Agrees state table → (i : ℕ) → i < size state → IsTrue (is_answered_2xx (answer state i))
     → IsTrue (succeeds state.shape table (unit_of state.shape i)) × (answer state i ≡ Some (table i))

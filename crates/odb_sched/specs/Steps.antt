@@ -70,6 +70,6 @@ abbrev pub may_come : State → Event → Bool
 may_come state (Start i) = may_start state i
 may_come state (Report i outcome) = may_report state i outcome
 
--- none runs, and the run is stopped or each request was reported or is of a failed unit
+-- none runs, and the run is stopped or each request was reported or belongs to a failed unit
 abbrev pub is_finished : State → Bool
 is_finished state = not (any_below (size state) (λ i. is_running (phase_at state i))) && (is_stopped state || all_below (size state) (λ i. is_reported (phase_at state i) || unit_failed state (unit_of state.shape i)))

@@ -25,8 +25,8 @@ pub trait Chooser {
     /// Which steps it allows for the ready and the running positions.
     ghost allows: { Self → Positions → Positions → Step → Type 0 };
 
-    /// The next step, given the ready and the running positions. An execution does not call it if
-    /// [`Chooser::order`] names an order.
+    /// Returns the next step, given the ready and the running positions. An execution does not call
+    /// it if [`Chooser::order`] names an order.
     fn choose(&mut self, ready: &[u32], running: &[u32]) -> Choice
         requires { 0 < length ready.now + length running.now }
         ensures in_range { IsInRange ready.now running.now result }
@@ -35,8 +35,8 @@ pub trait Chooser {
         ensures narrows { (ready running : Positions) (step : Step)
             → allows self.new ready running step → allows self.old ready running step };
 
-    /// The built-in order that this chooser follows, if any. An execution then picks the steps by that
-    /// order itself, which takes less time, and never calls [`Chooser::choose`].
+    /// Returns the built-in order that this chooser follows, if any. An execution then picks the
+    /// steps by that order itself, which takes less time, and never calls [`Chooser::choose`].
     fn order(&self) -> Option<Order>
         ensures { IfSome result (λ order. (ready running : Positions) (step : Step)
             → AllowsOrder order ready running step → allows self.now ready running step) }

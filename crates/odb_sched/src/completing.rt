@@ -9,8 +9,8 @@ use crate::phase::Phase;
 use crate::progress::Progress;
 use odb_check::Plan;
 
-/// Takes a request that has reported off the running ones, and off the open ones. `phases[i]` already
-/// holds the outcome.
+/// Removes a request that has reported from the running requests, and from the open ones unless it
+/// is skipped. `phases[i]` already holds the outcome.
 pub(crate) fn complete(plan: &Plan<'_>, phases: &[Phase], i: u32, progress: &mut Progress)
     requires laws { shapes.IsPlan (shape plan.now) }
     requires each { length phases.now ≡ length (shape plan.now).units }

@@ -71,8 +71,8 @@ impl<'p> Model for Done<'p> {
 impl<'p> Done<'p> {
     ghost use Rattle.odb_sched.specs.Answers as answers;
 
-    /// The end of a run with these phases. `pending` has for each unit how many of its members have not
-    /// reported a success.
+    /// Returns the finished run with these phases. `pending` has for each unit how many of its
+    /// members have not reported a success.
     pub(crate) fn new(
         plan: &'p Plan<'p>,
         policy: Policy,

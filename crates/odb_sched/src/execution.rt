@@ -35,7 +35,7 @@ pub struct Trace<'p> {
     pub steps: Vec<Step>,
 }
 
-/// The step that the chooser picks among the ready and the running positions.
+/// Returns the step that the chooser picks among the ready and the running positions.
 fn pick(chooser: &mut dyn Chooser, ready: &[u32], running: &[u32]) -> Step
     requires { 0 < length ready.now + length running.now }
     ensures among { IsAmong ready.now running.now result }
@@ -50,7 +50,7 @@ fn pick(chooser: &mut dyn Chooser, ready: &[u32], running: &[u32]) -> Step
     }
 }
 
-/// The next step that the chooser picks, or `None` if the run is finished.
+/// Returns the next step that the chooser picks, or `None` if the run is finished.
 fn next_choice(scheduler: &Scheduler<'_>, chooser: &mut dyn Chooser) -> Option<Step>
     ensures finished { result ≡ None → is_finished scheduler.now ≡ true }
     ensures next { IfSome result (IsNext (allows chooser.old) scheduler.now) }
@@ -63,7 +63,8 @@ fn next_choice(scheduler: &Scheduler<'_>, chooser: &mut dyn Chooser) -> Option<S
     Some(pick(chooser, scheduler.ready(), scheduler.running()))
 }
 
-/// The next step, or `None` if the run is finished. A chooser that names an order is not asked.
+/// Returns the next step, or `None` if the run is finished. A chooser that names an order is not
+/// asked.
 fn next_step(scheduler: &mut Scheduler<'_>, chooser: &mut dyn Chooser) -> Option<Step>
     ensures same { scheduler.new ≡ scheduler.old }
     ensures finished { result ≡ None → is_finished scheduler.old ≡ true }
@@ -77,7 +78,7 @@ fn next_step(scheduler: &mut Scheduler<'_>, chooser: &mut dyn Chooser) -> Option
     }
 }
 
-/// The fault of a request whose outcome is not accepted.
+/// Returns the fault of a request whose outcome is not accepted.
 fn bad_status(i: u32, _refused: (ReportRefusal, Outcome)) -> ExecFault
     ensures { result ≡ faults.BadStatus i }
 {
@@ -201,9 +202,9 @@ fn prepared<'a: 'p, 'p>(
 /// # Errors
 ///
 /// F80, F81 or F82 for the request whose report was chosen, if the service has no outcome for it,
-/// failed, or gave a status that is not from 200 to 599. `OutOfMemory` if allocation failed: before
-/// the first step, and then the service was asked for nothing, or in the service. Chooser and service
-/// are left as their calls so far left them.
+/// failed, or returned a status that is not from 200 to 599. `OutOfMemory` if allocation failed:
+/// before the first step and any call of the service, or in the service. Chooser and service keep the
+/// effects of the calls so far.
 pub fn execute<'a: 'p, 'p, S: Service>(
     alloc: Global,
     plan: &'p Plan<'a>,

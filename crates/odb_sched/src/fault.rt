@@ -52,7 +52,7 @@ impl ExecFault {
         }
     }
 
-    /// The place of a numbered fault: the request in its batch.
+    /// Returns the place of a numbered fault: the request in its batch.
     pub fn place(&self) -> Place
         requires { IsNumbered self.now }
         ensures { result ≡ exec_place self.now }

@@ -2,7 +2,7 @@
 //! (OData JSON Format 4.01, sections 19.1 and 19.4; OData Protocol 4.01, section 11.7).
 //!
 //! The laws are clauses of functions that change nothing. They are stated of lists of events, by the
-//! same words that the clauses of the scheduler use.
+//! relations that the clauses of the scheduler use.
 
 ghost use Rattle.std.specs.Prelude.{◌≡◌, ℕ, ◌<◌, ◌≤◌, ◌++◌, ◌↔◌, Bool, true, List, map, length, Option, IsTrue};
 ghost use Rattle.odb_doc.specs.declared.outcome.Outcome.{Outcome};

@@ -24,8 +24,8 @@ pub struct Policy {
 }
 
 impl Policy {
-    /// A policy under which no request waits for another that it does not depend on: its width is
-    /// the greatest number of requests in a batch, so no start is refused because of it.
+    /// Returns a policy under which no request waits for one that it does not depend on: its width
+    /// is the greatest number of requests in a batch, so no start is refused because of it.
     pub fn free(mode: Mode) -> Policy
         ensures mode { result.mode ≡ mode }
         ensures width { result.width ≡ 10000 }

@@ -15,7 +15,7 @@ use crate::progress::Progress;
 use odb_check::Plan;
 use odb_dense::Rows;
 
-/// Takes the members of a unit that has failed off the ready and the open requests.
+/// Skips the members of a unit that has failed: removes them from the ready and the open requests.
 fn skip_members(plan: &Plan<'_>, phases: &[Phase], u: u32, progress: &mut Progress)
     requires laws { shapes.IsPlan (shape plan.now) }
     requires each { length phases.now ≡ length (shape plan.now).units }

@@ -12,8 +12,8 @@ use odb_doc::{Outcome, Outcomes, Request};
 use std::alloc::{AllocError, Global};
 use std::marker::Model;
 
-/// A service that gives recorded outcomes, each once: one for a request whose id they name, and none
-/// for the others (OData JSON Format 4.01, section 19.5).
+/// A service that returns recorded outcomes, each once, for the requests whose ids they name, and
+/// has none for the others (OData JSON Format 4.01, section 19.5).
 #[derive(Drop)]
 pub struct Recorded {
     outcomes: Vec<Option<Outcome>>,
@@ -44,7 +44,7 @@ fn none_for_each(alloc: Global, count: u32) -> Result<Vec<Option<Outcome>>, Allo
     Ok(outcomes)
 }
 
-/// Records the outcome of the request at a position, unless one was recorded before.
+/// Records the outcome of the request at a position, in place of one recorded before.
 fn put(outcomes: &mut [Option<Outcome>], i: u32, outcome: Outcome)
     requires { i < length outcomes.old }
     ensures { outcomes.new ≡ slice_set outcomes.old i (Some outcome) }
@@ -63,7 +63,7 @@ fn note(plan: &Plan<'_>, outcomes: &mut [Option<Outcome>], id: &str, outcome: Ou
     }
 }
 
-/// Returns what is recorded for each request of the plan.
+/// Returns the recorded outcome for each request of the plan: that of the first entry with its id.
 fn by_position(
     alloc: Global,
     plan: &Plan<'_>,

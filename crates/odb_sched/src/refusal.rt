@@ -27,7 +27,7 @@ pub enum StartRefusal {
     WidthReached,
 }
 
-/// Why an outcome is not taken.
+/// Why an outcome is not accepted.
 #[derive(Clone, Copy, Debug, PartialEq, Eq, Error)]
 pub enum ReportRefusal {
     /// P1: the request is not running.

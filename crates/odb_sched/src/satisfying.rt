@@ -12,8 +12,8 @@ use crate::progress::Progress;
 use odb_check::Plan;
 use odb_dense::Rows;
 
-/// Takes one satisfied need off a request. The last one makes it ready, unless it has started or its
-/// unit has failed.
+/// Counts one need of a request as satisfied. The last one makes the request ready, unless it has
+/// started or its unit has failed.
 fn satisfy(plan: &Plan<'_>, phases: &[Phase], i: u32, progress: &mut Progress)
     requires laws { shapes.IsPlan (shape plan.now) }
     requires each { length phases.now ≡ length (shape plan.now).units }
@@ -38,7 +38,7 @@ fn satisfy(plan: &Plan<'_>, phases: &[Phase], i: u32, progress: &mut Progress)
     }
 }
 
-/// Takes one satisfied need off the request of each entry of a list.
+/// Counts one need of the request of each entry of a list as satisfied.
 fn satisfy_each(plan: &Plan<'_>, phases: &[Phase], list: &[u32], progress: &mut Progress)
     requires laws { shapes.IsPlan (shape plan.now) }
     requires each { length phases.now ≡ length (shape plan.now).units }
@@ -60,7 +60,7 @@ fn satisfy_each(plan: &Plan<'_>, phases: &[Phase], list: &[u32], progress: &mut 
     }
 }
 
-/// Takes one satisfied need off each dependent of a unit, if all members of the unit have succeeded.
+/// Counts the needs of a unit as satisfied, if all its members have succeeded.
 fn satisfy_unit(
     plan: &Plan<'_>,
     phases: &[Phase],
@@ -94,7 +94,7 @@ fn satisfy_unit(
     }
 }
 
-/// Counts a member that has succeeded off the pending members of its unit.
+/// Counts a member of a unit as succeeded.
 fn count_success(u: u32, progress: &mut Progress)
     requires unit { u < length progress.old.pending.items }
     requires some { 0 < slice_index_or progress.old.pending.items u 0 }
@@ -105,8 +105,8 @@ fn count_success(u: u32, progress: &mut Progress)
     progress.pending[u as usize] -= 1;
 }
 
-/// Handles a request that has succeeded: its dependents have one need less, and so have those of its
-/// unit if it was the last of the members. `phases[i]` already holds the outcome.
+/// Handles a request that has succeeded: satisfies the needs of it, and those of its unit if it was
+/// the last of the members. `phases[i]` already holds the outcome.
 pub(crate) fn succeed(
     plan: &Plan<'_>,
     phases: &[Phase],

@@ -149,7 +149,7 @@ impl<'p> Scheduler<'p> {
         Ok(())
     }
 
-    /// The first cause why an outcome is not accepted.
+    /// Returns the first cause why an outcome is not accepted.
     fn report_refusal(&self, i: u32, outcome: &Outcome) -> Option<ReportRefusal>
         requires { i < states.size self.now }
         ensures { result ≡ causes.report_refusal self.now i outcome.now }
@@ -184,7 +184,7 @@ impl<'p> Scheduler<'p> {
         Ok(())
     }
 
-    /// The ready positions, each once, in no particular order.
+    /// Returns the ready positions, each once, in no particular order.
     pub fn ready(&self) -> &[u32]
         ensures listed { ListsOnce (states.size self.now) (steps.may_start self.now) result.now }
         ensures within { All (λ i. i < states.size self.now) result.now }
@@ -192,7 +192,7 @@ impl<'p> Scheduler<'p> {
         self.tracker.ready(self.policy)
     }
 
-    /// The running positions, each once, in no particular order.
+    /// Returns the running positions, each once, in no particular order.
     pub fn running(&self) -> &[u32]
         ensures listed { ListsOnce (states.size self.now)
             (λ i. tests.is_running (states.phase_at self.now i)) result.now }
@@ -202,7 +202,7 @@ impl<'p> Scheduler<'p> {
         self.tracker.running()
     }
 
-    /// The least or the greatest ready position.
+    /// Returns the least or the greatest ready position, or `None` if there is none.
     fn ready_at(&mut self, end: End) -> Option<u32>
         ensures same { self.new ≡ self.old }
         ensures none { result ≡ None → IsNone (courses.ready_set self.old) }
@@ -214,7 +214,7 @@ impl<'p> Scheduler<'p> {
         self.tracker.ready_at(self.policy, end)
     }
 
-    /// The least or the greatest running position.
+    /// Returns the least or the greatest running position, or `None` if there is none.
     fn running_at(&mut self, end: End) -> Option<u32>
         ensures same { self.new ≡ self.old }
         ensures none { result ≡ None → IsNone (courses.running_set self.old) }
@@ -227,7 +227,8 @@ impl<'p> Scheduler<'p> {
         self.tracker.running_at(end)
     }
 
-    /// The report of the least or the greatest running position, or else the start of that ready one.
+    /// Returns the report of the least or the greatest running position, or else the start of that
+    /// ready one.
     fn report_or_start(&mut self, end: End) -> Option<Step>
         ensures same { self.new ≡ self.old }
         ensures finished { result ≡ None → steps.is_finished self.old ≡ true }
@@ -242,7 +243,8 @@ impl<'p> Scheduler<'p> {
         }
     }
 
-    /// The start of the least or the greatest ready position, or else the report of that running one.
+    /// Returns the start of the least or the greatest ready position, or else the report of that
+    /// running one.
     fn start_or_report(&mut self, end: End) -> Option<Step>
         ensures same { self.new ≡ self.old }
         ensures finished { result ≡ None → steps.is_finished self.old ≡ true }

@@ -9,8 +9,8 @@ use crate::phase::Phase;
 use crate::progress::Progress;
 use odb_check::Plan;
 
-/// Moves a request that has started from the ready ones to the running ones. `phases[i]` is `Running`
-/// already.
+/// Moves a request that has started from the ready requests to the running ones. `phases[i]` is
+/// `Running` already.
 pub(crate) fn begin(plan: &Plan<'_>, phases: &[Phase], i: u32, progress: &mut Progress)
     requires laws { shapes.IsPlan (shape plan.now) }
     requires each { length phases.now ≡ length (shape plan.now).units }

@@ -54,7 +54,7 @@ fn take_report(
     }
 }
 
-/// What is kept of a run beside the phases of its requests: their dependents, the counts, and whether
+/// The state of a run beside the phases of its requests: their dependents, the counts, and whether
 /// an error has stopped it.
 #[derive(Drop)]
 pub(crate) struct Tracker {
@@ -66,7 +66,7 @@ pub(crate) struct Tracker {
 impl Tracker {
     ghost use Rattle.odb_sched.specs.Kept.{IsTracked};
 
-    /// Returns what is kept before the first event.
+    /// Returns the tracker before the first event.
     pub(crate) fn new(alloc: Global, plan: &Plan<'_>, policy: Policy) -> Result<Tracker, AllocError>
         ensures { IfOk result (IsTracked (states.at_first plan.now policy)) }
     {
@@ -117,7 +117,7 @@ impl Tracker {
         self.progress.units.is_visited(u)
     }
 
-    /// For each unit the number of its members that have not succeeded.
+    /// Returns for each unit the number of its members that have not succeeded.
     pub(crate) fn pending(&self) -> &[u32]
         ensures { result.now ≡ self.now.progress.pending.items }
     {
@@ -150,7 +150,7 @@ impl Tracker {
         self.progress.running.is_empty() && (self.stopped || self.progress.left == 0)
     }
 
-    /// The ready positions.
+    /// Returns the ready positions.
     pub(crate) fn ready(&self, policy: Policy) -> &[u32]
         ensures { ListsOnce (length self.now.progress.ready)
             (λ i. slice_index_or self.now.progress.ready i false && not self.now.stopped
@@ -162,7 +162,7 @@ impl Tracker {
         self.progress.ready.as_slice()
     }
 
-    /// The least or the greatest ready position.
+    /// Returns the least or the greatest ready position, or `None` if there is none.
     pub(crate) fn ready_at(&mut self, policy: Policy, end: End) -> Option<u32>
         ensures same { self.new ≡ self.old }
         ensures none { result ≡ None → (i : ℕ)
@@ -178,7 +178,7 @@ impl Tracker {
         end.of(&mut self.progress.ready)
     }
 
-    /// The least or the greatest running position.
+    /// Returns the least or the greatest running position, or `None` if there is none.
     pub(crate) fn running_at(&mut self, end: End) -> Option<u32>
         ensures same { self.new ≡ self.old }
         ensures none { result ≡ None
@@ -188,7 +188,7 @@ impl Tracker {
         end.of(&mut self.progress.running)
     }
 
-    /// The running positions.
+    /// Returns the running positions.
     pub(crate) fn running(&self) -> &[u32]
         ensures count { length result.now ≡ count_by (λ runs. runs) self.now.progress.running }
         ensures listed { ListsOnce (length self.now.progress.running)

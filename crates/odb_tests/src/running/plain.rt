@@ -282,7 +282,7 @@ impl<'a> Plain<'a> {
         Ok(self.are_answers(done) && self.are_undone(&done.undone(alloc)?))
     }
 
-    /// The code of an event of a scheduler, where it is what the rules say and leaves what they say;
+    /// The code of an event of a scheduler, if that and the state after it are those of the rules;
     /// or `None`.
     pub fn agreed_code(
         &mut self,

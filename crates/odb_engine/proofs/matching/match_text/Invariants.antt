@@ -5,6 +5,6 @@ use Rattle.odb_engine.specs.Matches.{match_text}
 use Rattle.odb_engine.proofs.MatchLemmas.{lines_left}
 use Rattle.odb_engine.proofs.matching.match_text.Given as goal
 
--- the text so far, and then the lines that are left, are the whole
+-- the text so far, and then the remaining lines, are the whole
 abbrev pub invariant-loop-i : goal.invariant-loop-i
 invariant-loop-i l = string_bytes l.text ++ lines_left (plan_records l.plan) (statuses l.table) l.i ≡ match_text (plan_records l.plan) (statuses l.table)

@@ -5,6 +5,6 @@ use Rattle.odb_engine.proofs.pair.answer_pair.Goals as goal
 
 pub returns-clause-ends : goal.returns-clause-ends
 returns-clause-ends g c =
-    let says = BySecond (g.S.Read.remaining c.args.second.now.reader) (g.C.PairCommand.says c.args.command.now) in
+    let writes = BySecond (g.S.Read.remaining c.args.second.now.reader) (g.C.PairCommand.writes c.args.command.now) in
     let (bytes, gives, (so, asked)) = c.found_by-found.ensures.found in
-    (bytes, gives, (Ends-found g.W.Write.contents (Answers says bytes) _ _ _ c.found_by-found.result c.end.result so c.found_by-found.ensures.read c.end.ensures.ends, asked))
+    (bytes, gives, (Ends-found g.W.Write.contents (Answers writes bytes) _ _ _ c.found_by-found.result c.end.result so c.found_by-found.ensures.read c.end.ensures.ends, asked))

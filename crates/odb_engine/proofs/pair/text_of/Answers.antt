@@ -6,11 +6,11 @@ use Rattle.odb_engine.proofs.pair.text_of.Goals as goal
 
 pub returns-in_err-read-clause-found : goal.returns-in_err-read-clause-found
 returns-in_err-read-clause-found g c =
-    let says = BySecond (g.S.Read.remaining c.args.second.now.reader) (g.C.PairCommand.says c.args.command.now) in
-    λ bytes is. at-exit (Found (Answers says bytes)) _ _ c.from_residual.ensures.1 (stop-shape says bytes _ _ is c.in_err-read.ensures.least)
+    let writes = BySecond (g.S.Read.remaining c.args.second.now.reader) (g.C.PairCommand.writes c.args.command.now) in
+    λ bytes is. at-exit (Found (Answers writes bytes)) _ _ c.from_residual.ensures.1 (stop-shape writes bytes _ _ is c.in_err-read.ensures.least)
 
 pub returns-in_err-check_with-clause-found : goal.returns-in_err-check_with-clause-found
 returns-in_err-check_with-clause-found g c =
-    let says = BySecond (g.S.Read.remaining c.args.second.now.reader) (g.C.PairCommand.says c.args.command.now) in
-    λ bytes is. at-exit (Found (Answers says bytes)) _ _ c.from_residual-in_err-check_with.ensures.1
-    (stop-names says bytes _ _ _ is c.in_ok-read.ensures.good c.in_ok-read.ensures.records c.in_err-check_with.ensures.least)
+    let writes = BySecond (g.S.Read.remaining c.args.second.now.reader) (g.C.PairCommand.writes c.args.command.now) in
+    λ bytes is. at-exit (Found (Answers writes bytes)) _ _ c.from_residual-in_err-check_with.ensures.1
+    (stop-names writes bytes _ _ _ is c.in_ok-read.ensures.good c.in_ok-read.ensures.records c.in_err-check_with.ensures.least)

@@ -8,20 +8,20 @@ use Rattle.odb_engine.proofs.recorded_run.run_value.Goals as goal
 
 pub returns-in_err-read-clause-sent : goal.returns-in_err-read-clause-sent
 returns-in_err-read-clause-sent g c =
-    let says = Runs c.args.policy (g.S.Read.remaining c.args.events.now.reader) in
-    λ bytes is. at-exit (Sent g.W.Write.contents (Answers says bytes) c.args.output.now c.args.output.now) _ _ c.from_residual.ensures.1
-    (λ stop by. (refl, stop-shape says bytes _ _ is c.in_err-read.ensures.least stop by))
+    let writes = Runs c.args.policy (g.S.Read.remaining c.args.events.now.reader) in
+    λ bytes is. at-exit (Sent g.W.Write.contents (Answers writes bytes) c.args.output.now c.args.output.now) _ _ c.from_residual.ensures.1
+    (λ stop by. (refl, stop-shape writes bytes _ _ is c.in_err-read.ensures.least stop by))
 
 pub returns-in_err-check_with-clause-sent : goal.returns-in_err-check_with-clause-sent
 returns-in_err-check_with-clause-sent g c =
-    let says = Runs c.args.policy (g.S.Read.remaining c.args.events.now.reader) in
-    λ bytes is. at-exit (Sent g.W.Write.contents (Answers says bytes) c.args.output.now c.args.output.now) _ _ c.from_residual-in_err-check_with.ensures.1
-    (λ stop by. (refl, stop-names says bytes _ _ _ is c.in_ok-read.ensures.good c.in_ok-read.ensures.records c.in_err-check_with.ensures.least stop by))
+    let writes = Runs c.args.policy (g.S.Read.remaining c.args.events.now.reader) in
+    λ bytes is. at-exit (Sent g.W.Write.contents (Answers writes bytes) c.args.output.now c.args.output.now) _ _ c.from_residual-in_err-check_with.ensures.1
+    (λ stop by. (refl, stop-names writes bytes _ _ _ is c.in_ok-read.ensures.good c.in_ok-read.ensures.records c.in_err-check_with.ensures.least stop by))
 
 pub returns-clause-sent : goal.returns-clause-sent
 returns-clause-sent g c =
-    let says = Runs c.args.policy (g.S.Read.remaining c.args.events.now.reader) in
+    let writes = Runs c.args.policy (g.S.Read.remaining c.args.events.now.reader) in
     let plan = c.in_ok-check_with.field-0 in
     let (recorded, given, sent) = c.run_plan.ensures.sent in
-    λ bytes is. Sent-weaker g.W.Write.contents (RunsBy c.args.policy plan recorded) (Answers says bytes) c.args.output.now c.run_plan.new.output c.run_plan.result
-    (λ ended text so. inr (record { value = _; document = is; shape = c.in_ok-read.ensures.good; batch = _; says = c.in_ok-read.ensures.records; names = c.in_ok-check_with.ensures.good; holds = (plan, c.in_ok-check_with.ensures.plan, (recorded, given, so)) })) sent
+    λ bytes is. Sent-weaker g.W.Write.contents (RunsBy c.args.policy plan recorded) (Answers writes bytes) c.args.output.now c.run_plan.new.output c.run_plan.result
+    (λ ended text so. inr (record { value = _; document = is; shape = c.in_ok-read.ensures.good; batch = _; is_batch = c.in_ok-read.ensures.records; names = c.in_ok-check_with.ensures.good; holds = (plan, c.in_ok-check_with.ensures.plan, (recorded, given, so)) })) sent

@@ -9,11 +9,11 @@ pub returns-clause-sent : goal.returns-clause-sent
 returns-clause-sent g c =
     let allows = (goal.Chooser-dyn g c.args.chooser.now).allows c.args.chooser.now.1 in
     let (bytes, gives, (record_of, _)) = c.in_ok-recorded.ensures.outcomes in
-    let says = ReplaysBy allows c.args.policy c.args.traced c.args.plan.now bytes in
+    let writes = ReplaysBy allows c.args.policy c.args.traced c.args.plan.now bytes in
     let trace = c.in_ok-run_of.field-0 in
     let line = result_text c.args.traced trace.done trace.steps.items in (
       bytes,
       gives,
-      Ends-weaker g.W.Write.contents (Prints line) says ⊥ ⊥ c.args.output.now c.send.new.output c.send.result
-          (printed says line (inr (entries c.in_ok-recorded.recorded, record_of, inl (c.in_ok-run_of.ensures.result c.args.traced)))) (λ f. f, λ f. f) c.send.ensures,
+      Ends-weaker g.W.Write.contents (Prints line) writes ⊥ ⊥ c.args.output.now c.send.new.output c.send.result
+          (printed writes line (inr (entries c.in_ok-recorded.recorded, record_of, inl (c.in_ok-run_of.ensures.result c.args.traced)))) (λ f. f, λ f. f) c.send.ensures,
     )

@@ -9,22 +9,22 @@ use Rattle.odb_engine.proofs.replaying.replay_value.Goals as goal
 pub returns-in_err-read-clause-sent : goal.returns-in_err-read-clause-sent
 returns-in_err-read-clause-sent g c =
     let allows = (goal.Chooser-dyn g c.args.chooser.now).allows c.args.chooser.now.1 in
-    let says = Replays allows c.args.policy c.args.traced (g.S.Read.remaining c.args.outcomes.now.reader) in
-    λ bytes is. at-exit (Sent g.W.Write.contents (Answers says bytes) c.args.output.now c.args.output.now) _ _ c.from_residual.ensures.1
-    (λ stop by. (refl, stop-shape says bytes _ _ is c.in_err-read.ensures.least stop by))
+    let writes = Replays allows c.args.policy c.args.traced (g.S.Read.remaining c.args.outcomes.now.reader) in
+    λ bytes is. at-exit (Sent g.W.Write.contents (Answers writes bytes) c.args.output.now c.args.output.now) _ _ c.from_residual.ensures.1
+    (λ stop by. (refl, stop-shape writes bytes _ _ is c.in_err-read.ensures.least stop by))
 
 pub returns-in_err-check_with-clause-sent : goal.returns-in_err-check_with-clause-sent
 returns-in_err-check_with-clause-sent g c =
     let allows = (goal.Chooser-dyn g c.args.chooser.now).allows c.args.chooser.now.1 in
-    let says = Replays allows c.args.policy c.args.traced (g.S.Read.remaining c.args.outcomes.now.reader) in
-    λ bytes is. at-exit (Sent g.W.Write.contents (Answers says bytes) c.args.output.now c.args.output.now) _ _ c.from_residual-in_err-check_with.ensures.1
-    (λ stop by. (refl, stop-names says bytes _ _ _ is c.in_ok-read.ensures.good c.in_ok-read.ensures.records c.in_err-check_with.ensures.least stop by))
+    let writes = Replays allows c.args.policy c.args.traced (g.S.Read.remaining c.args.outcomes.now.reader) in
+    λ bytes is. at-exit (Sent g.W.Write.contents (Answers writes bytes) c.args.output.now c.args.output.now) _ _ c.from_residual-in_err-check_with.ensures.1
+    (λ stop by. (refl, stop-names writes bytes _ _ _ is c.in_ok-read.ensures.good c.in_ok-read.ensures.records c.in_err-check_with.ensures.least stop by))
 
 pub returns-clause-sent : goal.returns-clause-sent
 returns-clause-sent g c =
     let allows = (goal.Chooser-dyn g c.args.chooser.now).allows c.args.chooser.now.1 in
-    let says = Replays allows c.args.policy c.args.traced (g.S.Read.remaining c.args.outcomes.now.reader) in
+    let writes = Replays allows c.args.policy c.args.traced (g.S.Read.remaining c.args.outcomes.now.reader) in
     let plan = c.in_ok-check_with.field-0 in
     let (recorded, given, sent) = c.replay_plan.ensures.sent in
-    λ bytes is. Sent-weaker g.W.Write.contents (ReplaysBy allows c.args.policy c.args.traced plan recorded) (Answers says bytes) c.args.output.now c.replay_plan.new.output c.replay_plan.result
-    (λ ended text so. inr (record { value = _; document = is; shape = c.in_ok-read.ensures.good; batch = _; says = c.in_ok-read.ensures.records; names = c.in_ok-check_with.ensures.good; holds = (plan, c.in_ok-check_with.ensures.plan, (recorded, given, so)) })) sent
+    λ bytes is. Sent-weaker g.W.Write.contents (ReplaysBy allows c.args.policy c.args.traced plan recorded) (Answers writes bytes) c.args.output.now c.replay_plan.new.output c.replay_plan.result
+    (λ ended text so. inr (record { value = _; document = is; shape = c.in_ok-read.ensures.good; batch = _; is_batch = c.in_ok-read.ensures.records; names = c.in_ok-check_with.ensures.good; holds = (plan, c.in_ok-check_with.ensures.plan, (recorded, given, so)) })) sent
