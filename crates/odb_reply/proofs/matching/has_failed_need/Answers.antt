@@ -1,4 +1,3 @@
-use Rattle.std.proofs.Common.{get_or}
 use Rattle.odb_check.specs.declared.need.Need.TheVariants.{One}
 use Rattle.odb_check.specs.Plans.{plan_records, shape}
 use Rattle.odb_reply.proofs.UnitLemmas.{known_within}
