@@ -1,8 +1,8 @@
--- Recorded events as the list of them.
-use Rattle.std.specs.Prelude.{List}
-use Rattle.odb_doc.specs.declared.event.NamedEvent.{NamedEvent}
+-- Recorded events as the list of their values.
+use Rattle.std.specs.Prelude.{List, map}
 use Rattle.odb_doc.specs.declared.events.Events.{Events}
+use Rattle.odb_doc.specs.Events.{EventValue, event_value}
 
 -- the events, in order
-abbrev pub entries : Events → List NamedEvent
-entries events = events.entries.items
+abbrev pub entries : Events → List EventValue
+entries events = map event_value events.entries.items

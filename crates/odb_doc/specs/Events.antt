@@ -1,15 +1,15 @@
 -- Recorded events: what the elements of `events` are, and what they mean. An event starts a request or reports how it
 -- ended (OData JSON Format 4.01, section 19.5); the document of many is this product's own.
-use Rattle.std.specs.Prelude.{◌≡◌, ◌≤◌, List, Option, Some, None, IsSome, IsSomeAnd, IfSome, option_map, codes, string_bytes}
+use Rattle.std.specs.Prelude.{◌≡◌, ◌≤◌, ℕ, List, Option, Some, None, IsSome, IsSomeAnd, IfSome, codes, string_bytes}
 use Rattle.std.specs.List.{AllZip}
 use Rattle.serde_json.specs.Data.{Data, Num, unsigned, negative, float}
 use Rattle.serde_json.specs.Find.{get}
-use Rattle.serde_json.specs.View.{view}
 use Rattle.odb_doc.specs.declared.event.NamedEvent.{NamedEvent}
-use Rattle.odb_doc.specs.declared.event.NamedEvent.TheVariants.{Start, Report}
+use Rattle.odb_doc.specs.declared.event.NamedEvent.TheVariants as named
+use Rattle.odb_doc.specs.declared.outcome.Outcome.{Outcome}
 use Rattle.odb_doc.specs.declared.member.Object.TheVariants as objects
 use Rattle.odb_doc.specs.Bodies.{body_of}
-use Rattle.odb_doc.specs.Headers.{HasHeaders, headers_in}
+use Rattle.odb_doc.specs.Headers.{HasHeaders}
 use Rattle.odb_doc.specs.Members.{elements_at, text_at, HasOther, IsListObject}
 use Rattle.odb_doc.specs.Outcomes.{HasOutcome, status_of}
 use Rattle.odb_doc.specs.WholeNumbers.{IsWhole}
@@ -46,21 +46,36 @@ IsEventBy None d = IsReport d
 abbrev pub IsEvent : Data → Type 0
 IsEvent d = IsEventBy (get (codes "start") d) d
 
+-- an event by value: the id that it names, and the outcome that it reports
+pub data EventValue : Type 0 where
+  Start : List ℕ → EventValue
+  Report : List ℕ → Outcome → EventValue
+
+abbrev pub event_value : NamedEvent → EventValue
+event_value (named.Start id) = Start (string_bytes id)
+event_value (named.Report id outcome) = Report (string_bytes id) outcome
+
+-- the element reads as this report
+pub record SaysReport (d : Data) (id : List ℕ) (outcome : Outcome) : Type 0 where
+  pub names : text_at (codes "report") d ≡ Some id
+  pub status : status_of d ≡ Some (unsigned outcome.status)
+  pub headers : HasHeaders d outcome.headers
+  pub body : body_of d ≡ outcome.body
+
 -- the element reads as this event
-abbrev pub Says : Data → NamedEvent → Type 0
-Says d (Start id) = text_at (codes "start") d ≡ Some (string_bytes id)
-Says d (Report id outcome) =
-    (text_at (codes "report") d ≡ Some (string_bytes id)) × (status_of d ≡ Some (unsigned outcome.status)) × HasHeaders d (headers_in outcome.headers) × (body_of d ≡ option_map view outcome.body)
+abbrev pub Says : Data → EventValue → Type 0
+Says d (Start id) = text_at (codes "start") d ≡ Some id
+Says d (Report id outcome) = SaysReport d id outcome
 
 -- the elements of the document read as these events, one by one
-abbrev pub AreEventsOf : Data → List NamedEvent → Type 0
+abbrev pub AreEventsOf : Data → List EventValue → Type 0
 AreEventsOf d events = AllZip Says (elements d) events
 
 -- the body of what is reported
-abbrev pub event_body : NamedEvent → Option Data
+abbrev pub event_body : EventValue → Option Data
 event_body (Start id) = None
-event_body (Report id outcome) = option_map view outcome.body
+event_body (Report id outcome) = outcome.body
 
 -- what holds of each event that was read: the body of a report holds whole numbers alone
-pub record IsSoundEvent (event : NamedEvent) : Type 0 where
+pub record IsSoundEvent (event : EventValue) : Type 0 where
   pub whole : IfSome (event_body event) IsWhole

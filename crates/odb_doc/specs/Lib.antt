@@ -20,6 +20,7 @@ pub mod Members
 pub mod Names
 pub mod OutcomeFaults
 pub mod OutcomeLists
+pub mod OutcomeValues
 pub mod Outcomes
 pub mod Records
 pub mod References
@@ -29,6 +30,7 @@ pub mod WholeNumbers
 -- What invariants, private clauses and proofs cite: nothing to believe.
 pub mod BodyKinds
 pub mod BrokenRules
+pub mod DataCodes
 pub mod CanonicalParts
 pub mod RawReports
 pub mod HeaderMaps

@@ -1,16 +1,15 @@
 -- Recorded outcomes: what the elements of `outcomes` are, and what they mean. An outcome is what a service
 -- answered to a request (OData JSON Format 4.01, section 19.5); the document of many is this product's own.
-use Rattle.std.specs.Prelude.{◌≡◌, ◌≤◌, ℕ, List, Option, Some, IsSome, IfSome, option_and_then, option_map, codes, string_bytes, String}
+use Rattle.std.specs.Prelude.{◌≡◌, ◌≤◌, ℕ, List, Option, Some, IsSome, IfSome, option_and_then, codes, string_bytes, String}
 use Rattle.std.specs.declared.alloc.Global.{Global}
 use Rattle.std.specs.List.{AllZip, filter_map}
 use Rattle.serde_json.specs.Data.{Data, Num, unsigned, negative, float}
 use Rattle.serde_json.specs.Find.{get, as_number}
-use Rattle.serde_json.specs.View.{view}
 use Rattle.odb_doc.specs.declared.member.Object.{Object}
 use Rattle.odb_doc.specs.declared.member.Object.TheVariants as objects
 use Rattle.odb_doc.specs.declared.outcome.Outcome.{Outcome}
 use Rattle.odb_doc.specs.Bodies.{body_of}
-use Rattle.odb_doc.specs.Headers.{HasHeaders, IsHeaders, headers_in}
+use Rattle.odb_doc.specs.Headers.{HasHeaders, IsHeaders}
 use Rattle.odb_doc.specs.Members.{elements_at, text_at, HasOther, IsListObject}
 use Rattle.odb_doc.specs.WholeNumbers.{IsWhole}
 
@@ -63,8 +62,8 @@ recorded entry = (string_bytes entry.0, entry.1)
 pub record Says (d : Data) (entry : Recorded) : Type 0 where
   pub id : id_of d ≡ Some entry.0
   pub status : status_of d ≡ Some (unsigned entry.1.status)
-  pub headers : HasHeaders d (headers_in entry.1.headers)
-  pub body : body_of d ≡ option_map view entry.1.body
+  pub headers : HasHeaders d entry.1.headers
+  pub body : body_of d ≡ entry.1.body
 
 -- the elements of the document read as these outcomes, one by one
 abbrev pub AreOutcomesOf : Data → List Recorded → Type 0
@@ -74,4 +73,4 @@ AreOutcomesOf d entries = AllZip Says (elements d) entries
 pub record IsSoundOutcome (entry : Recorded) : Type 0 where
   pub low : 200 ≤ entry.1.status
   pub high : entry.1.status ≤ 599
-  pub whole : IfSome (option_map view entry.1.body) IsWhole
+  pub whole : IfSome entry.1.body IsWhole

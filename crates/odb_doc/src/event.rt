@@ -5,7 +5,7 @@ ghost use Rattle.serde_json.specs.View.{view, number_view};
 ghost use Rattle.odb_doc.specs.declared.event_fault.EventRule.{EventRule};
 ghost use Rattle.odb_doc.specs.BrokenRules.{OnRule};
 ghost use Rattle.odb_doc.specs.RawReports.{IsReportOf, IsLeastBroken};
-ghost use Rattle.odb_doc.specs.Events.{IsReportedStatus, IsSoundEvent, IsStart, Says};
+ghost use Rattle.odb_doc.specs.Events.{IsReportedStatus, IsSoundEvent, IsStart, Says, event_value};
 ghost use Rattle.odb_doc.specs.LeastEventFault.{BreaksEvent};
 ghost use Rattle.odb_doc.specs.Members as members;
 ghost use Rattle.odb_doc.specs.WholeNumbers.{IsWhole};
@@ -75,8 +75,8 @@ fn status_in(raw: &RawOutcome) -> Result<u16, EventRule>
 fn read_report(alloc: Global, element: &mut Value) -> Result<NamedEvent, Broken<EventRule>>
     requires { get (codes "start") (view element.old) ≡ None }
     ensures sound { OnOk result ((rule : EventRule) → ¬ BreaksEvent rule (view element.old)) }
-    ensures says { IfOk result (Says (view element.old)) }
-    ensures fit { IfOk result IsSoundEvent }
+    ensures says { IfOk result (λ event. Says (view element.old) (event_value event)) }
+    ensures fit { IfOk result (λ event. IsSoundEvent (event_value event)) }
     ensures first { IfErr result (OnRule (IsLeastBroken (view element.old))) }
 {
     let bad = EventRule::BadEvents;
@@ -103,8 +103,8 @@ pub(crate) fn read_event(
     element: &mut Value,
 ) -> Result<NamedEvent, Broken<EventRule>>
     ensures sound { OnOk result ((rule : EventRule) → ¬ BreaksEvent rule (view element.old)) }
-    ensures says { IfOk result (Says (view element.old)) }
-    ensures fit { IfOk result IsSoundEvent }
+    ensures says { IfOk result (λ event. Says (view element.old) (event_value event)) }
+    ensures fit { IfOk result (λ event. IsSoundEvent (event_value event)) }
     ensures first { IfErr result (OnRule (IsLeastBroken (view element.old))) }
 {
     if !has_start(element) {

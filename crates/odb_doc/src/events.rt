@@ -3,7 +3,7 @@ ghost use Rattle.std.specs.List.{AllZip};
 ghost use Rattle.std.proofs.Props.{props};
 ghost use Rattle.serde_json.specs.View.{view};
 ghost use Rattle.odb_doc.specs.declared.event_fault.EventFault.TheVariants as faults;
-ghost use Rattle.odb_doc.specs.Events.{AreEventsOf, IsEventsObject, IsSoundEvent, Says, elements};
+ghost use Rattle.odb_doc.specs.Events.{AreEventsOf, IsEventsObject, IsSoundEvent, Says, elements, event_value};
 ghost use Rattle.odb_doc.specs.BrokenRules.{OnPlace};
 ghost use Rattle.odb_doc.specs.LeastEventFault.{AreEvents, IsEventsDocument, IsLeastEventRule, RefusesEvents};
 ghost use Rattle.odb_doc.specs.RawReports.{event_fault};
@@ -20,7 +20,7 @@ use std::alloc::Global;
 #[derive(Debug, Drop)]
 pub struct Events {
     entries: Vec<NamedEvent>,
-    ghost sound: { All IsSoundEvent entries.items } by { Prim.hlevel props },
+    ghost sound: { All IsSoundEvent (map event_value entries.items) } by { Prim.hlevel props },
 }
 
 impl From<Broken<(usize, EventRule)>> for EventFault {
@@ -40,8 +40,9 @@ fn events_from(
     elements: &mut Vec<Value>,
 ) -> Result<Vec<NamedEvent>, Broken<(usize, EventRule)>>
     ensures sound { OnOk result (AreEvents (map view elements.old.items)) }
-    ensures says { IfOk result (λ found. AllZip Says (map view elements.old.items) found.items) }
-    ensures fit { IfOk result (λ found. All IsSoundEvent found.items) }
+    ensures says { IfOk result (λ found. AllZip Says (map view elements.old.items)
+        (map event_value found.items)) }
+    ensures fit { IfOk result (λ found. All IsSoundEvent (map event_value found.items)) }
     ensures first { IfErr result (OnPlace (IsLeastEventRule (map view elements.old.items))) }
     ensures some { OnErr result (0 < length elements.old.items) }
 {
@@ -112,15 +113,15 @@ impl Events {
     /// Returns the event at a position, counted from 0.
     pub fn entry(&self, k: usize) -> &NamedEvent
         requires { k < length (entries self.now) }
-        ensures value { slice_get (entries self.now) k ≡ Some result.now }
-        ensures sound { IsSoundEvent result.now }
+        ensures value { slice_get (entries self.now) k ≡ Some (event_value result.now) }
+        ensures sound { IsSoundEvent (event_value result.now) }
     {
         &self.entries[k]
     }
 
     /// Returns the events in the order of the document. It takes no memory.
     pub fn into_vec(self) -> Vec<NamedEvent>
-        ensures value { result.items ≡ entries self }
+        ensures value { map event_value result.items ≡ entries self }
         ensures sound { All IsSoundEvent (entries self) }
     {
         let Events { entries } = self;

@@ -3,6 +3,7 @@ ghost use Rattle.std.specs.BTreeMap.{get_by_text};
 ghost use Rattle.serde_json.specs.Find.{as_str, as_number};
 ghost use Rattle.serde_json.specs.View.{view, number_view};
 ghost use Rattle.odb_doc.specs.BrokenRules.{OnlyIf};
+ghost use Rattle.odb_doc.specs.Headers.{headers_in};
 ghost use Rattle.odb_doc.specs.Outcomes.{HasOutcome};
 ghost use Rattle.odb_doc.specs.RawOutcomes.{ArePartsOf, HasRawOutcome};
 
@@ -12,8 +13,11 @@ use crate::member::{Object, number_of, text_of, unless_null};
 use serde_json::{Map, Number, Value};
 use std::alloc::Global;
 use std::collections::BTreeMap;
+use std::marker::Model;
 
 /// How a request ended: what its service answered (OData JSON Format 4.01, section 19.5).
+///
+/// Contracts compare outcomes by value: two are equal if their statuses, headers and bodies are.
 #[derive(Debug, Drop)]
 pub struct Outcome {
     /// The HTTP status. A run takes those from 200 to 599.
@@ -22,6 +26,24 @@ pub struct Outcome {
     pub headers: BTreeMap<String, String>,
     /// The body of the answer, if it has one.
     pub body: Option<Value>,
+}
+
+impl Model for Outcome {
+    ghost use Rattle.odb_doc.specs.OutcomeValues.{OutcomeValue, outcome_code};
+
+    ghost Value = { OutcomeValue };
+
+    ghost coded = { outcome_code };
+
+    ghost use Rattle.std.specs.Prelude.{option_map};
+    ghost use Rattle.serde_json.specs.View.{view as data_of};
+    ghost use Rattle.odb_doc.specs.Headers.{headers_in};
+
+    ghost view = { λ outcome. record {
+      status = outcome.status;
+      headers = headers_in outcome.headers;
+      body = option_map data_of outcome.body;
+    } };
 }
 
 /// The members that an outcome may have, moved out of its object.
@@ -49,8 +71,8 @@ impl RawOutcome {
           self.id,
           record {
             status = status;
-            headers = self.headers;
-            body = self.body;
+            headers = headers_in self.headers;
+            body = option_map view self.body;
           },
         ) }
     {
