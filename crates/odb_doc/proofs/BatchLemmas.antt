@@ -8,6 +8,7 @@ use Rattle.odb_names.specs.Methods.{Names}
 use Rattle.odb_names.specs.declared.method.Method.{Method}
 use Rattle.odb_doc.specs.Headers.{Header}
 use Rattle.odb_doc.specs.Members.{given}
+use Rattle.odb_doc.specs.OneLeast.{one_list}
 use Rattle.odb_doc.specs.Records.{Record, Says}
 use Rattle.odb_doc.specs.References.{RefersTo}
 use Rattle.odb_doc.specs.Shapes.{HasMethod, HasGroup}
@@ -72,12 +73,4 @@ one_record texts d r s one two =
     same
 
 pub one_batch : AreOneReading → (ds : List Data) (rs ss : List Record) → AllZip Says ds rs → AllZip Says ds ss → rs ≡ ss
-one_batch texts [] [] [] one two = refl
-one_batch texts [] [] (s ∷ ss) one two = absurd two
-one_batch texts [] (r ∷ rs) ss one two = absurd one
-one_batch texts (d ∷ ds) [] ss one two = absurd one
-one_batch texts (d ∷ ds) (r ∷ rs) [] one two = absurd two
-one_batch texts (d ∷ ds) (r ∷ rs) (s ∷ ss) one two =
-    let first = one_record texts d r s one.0 two.0 in
-    let rest = one_batch texts ds rs ss one.1 two.1 in
-    cc (first, rest)
+one_batch texts ds rs ss one two = one_list Says (one_record texts) ds rs ss one two

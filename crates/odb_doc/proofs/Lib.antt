@@ -15,6 +15,7 @@ mod NameLemmas
 mod OneHeaders
 mod OutcomeLemmas
 mod OutcomeListLemmas
+mod RecordingLemmas
 mod ReferenceLemmas
 mod ReadBackLemmas
 mod RequestLemmas

@@ -55,8 +55,9 @@ abbrev pub event_value : NamedEvent → EventValue
 event_value (named.Start id) = Start (string_bytes id)
 event_value (named.Report id outcome) = Report (string_bytes id) outcome
 
--- the element reads as this report
+-- the element has no `start` and reads as this report
 pub record SaysReport (d : Data) (id : List ℕ) (outcome : Outcome) : Type 0 where
+  pub reports : get (codes "start") d ≡ None
   pub names : text_at (codes "report") d ≡ Some id
   pub status : status_of d ≡ Some (unsigned outcome.status)
   pub headers : HasHeaders d outcome.headers

@@ -1,6 +1,7 @@
--- The rule that is reported is one: proved of all rules with numbers of their own, for the laws of this crate and of those
--- above, since no clause can speak of all rules.
-use Rattle.std.proofs.Common.{◌≡◌, inl, inr, ℕ, subst}
+-- The rule that is reported is one, and what elements read as is one list: proved of all rules with numbers of their own and
+-- of all readings, for the laws of this crate and of those above, since no clause can speak of all of them.
+use Rattle.std.proofs.Common.{◌≡◌, inl, inr, ℕ, List, [], ◌∷◌, refl, subst}
+use Rattle.std.specs.List.{AllZip}
 use Rattle.std.proofs.lemmas.Bool.{cases_order}
 use Rattle.odb_doc.specs.LeastRules.{IsLeast, IsFirst}
 
@@ -23,3 +24,15 @@ one_first number Breaks apart at other_at rule other one two =
       | inr (inl less) ↦ absurd (two.before rule at less one.here.broken)
       | inr (inr more) ↦ absurd (one.before other other_at more two.here.broken)
     ]
+
+-- if each element reads as one value at most, elements read as one list
+pub one_list : {X Y : Type 0} (Says : X → Y → Type 0) → ((x : X) (y z : Y) → Says x y → Says x z → y ≡ z) → (xs : List X) (ys zs : List Y) → AllZip Says xs ys → AllZip Says xs zs → ys ≡ zs
+one_list Says same [] [] [] one two = refl
+one_list Says same [] [] (z ∷ zs) one two = absurd two
+one_list Says same [] (y ∷ ys) zs one two = absurd one
+one_list Says same (x ∷ xs) [] zs one two = absurd one
+one_list Says same (x ∷ xs) (y ∷ ys) [] one two = absurd two
+one_list Says same (x ∷ xs) (y ∷ ys) (z ∷ zs) one two =
+    let first = same x y z one.0 two.0 in
+    let rest = one_list Says same xs ys zs one.1 two.1 in
+    cc (first, rest)

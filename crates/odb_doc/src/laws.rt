@@ -1,19 +1,28 @@
-//! What a value determines: its least fault, and the batch that it is; and what the canonical text of
-//! a batch determines.
+//! What a value determines: its least fault, and the batch, the outcomes or the events that it is; and
+//! what the canonical text of a batch determines.
 //!
 //! The laws are clauses of functions that change nothing. They speak of the words that the clauses of
-//! [`crate::Batch::read`] use, for callers that compare two readings of one value.
+//! [`crate::Batch::read`], [`crate::Outcomes::read`] and [`crate::Events::read`] use, for callers that
+//! compare two readings of one value.
 
 ghost use Rattle.std.specs.Prelude.{◌≡◌, ◌↔◌, ℕ, List, [], fold};
 ghost use Rattle.serde_json.specs.Data.{Data};
 ghost use Rattle.odb_doc.specs.declared.device.TheConstants.{MAX_READS};
 ghost use Rattle.odb_doc.specs.declared.document.TheConstants.{MAX_DOCUMENT_BYTES};
 ghost use Rattle.odb_doc.specs.declared.fault.DocFault.{DocFault};
+ghost use Rattle.odb_doc.specs.declared.event_fault.EventFault.{EventFault};
+ghost use Rattle.odb_doc.specs.declared.outcome_fault.OutcomeFault.{OutcomeFault};
 ghost use Rattle.odb_doc.specs.Canonical.{HasWholeBodies, canonical_text};
 ghost use Rattle.odb_doc.specs.CanonicalLaws.{IsDocumentOf};
+ghost use Rattle.odb_doc.specs.EventFaults as event_faults;
+ghost use Rattle.odb_doc.specs.Events.{EventValue, AreEventsOf};
 ghost use Rattle.odb_doc.specs.FaultTable.{IsNumbered};
+ghost use Rattle.odb_doc.specs.LeastEventFault.{IsEventsDocument, RefusesEvents};
 ghost use Rattle.odb_doc.specs.LeastFault.{IsLeastFault, IsWellShaped};
+ghost use Rattle.odb_doc.specs.LeastOutcomeFault.{IsOutcomesDocument, RefusesOutcomes};
 ghost use Rattle.odb_doc.specs.Names.{distinct, with_name};
+ghost use Rattle.odb_doc.specs.OutcomeFaults as outcome_faults;
+ghost use Rattle.odb_doc.specs.Outcomes.{Recorded, AreOutcomesOf};
 ghost use Rattle.odb_doc.specs.Records.{Record, IsBatchOf};
 
 /// A value has one least fault of shape at most, and none if it is well shaped (OData JSON Format
@@ -44,6 +53,30 @@ pub fn one_batch()
 {
     odb_names::laws::one_reading();
 }
+
+/// A value has one least fault as a document of outcomes at most, and none if it is a good one; and it
+/// is one list of outcomes at most: their ids, and their statuses, headers and bodies by value.
+pub fn one_record()
+    ensures one { (value : Data) (fault other : OutcomeFault) → outcome_faults.IsNumbered fault
+        → outcome_faults.IsNumbered other → RefusesOutcomes fault value
+        → RefusesOutcomes other value → fault ≡ other }
+    ensures none { (value : Data) (fault : OutcomeFault) → outcome_faults.IsNumbered fault
+        → RefusesOutcomes fault value → ¬ IsOutcomesDocument value }
+    ensures outcomes { (value : Data) (entries others : List Recorded)
+        → AreOutcomesOf value entries → AreOutcomesOf value others → entries ≡ others }
+{}
+
+/// A value has one least fault as a document of events at most, and none if it is a good one; and it
+/// is one list of events at most, by their ids and outcomes.
+pub fn one_history()
+    ensures one { (value : Data) (fault other : EventFault) → event_faults.IsNumbered fault
+        → event_faults.IsNumbered other → RefusesEvents fault value
+        → RefusesEvents other value → fault ≡ other }
+    ensures none { (value : Data) (fault : EventFault) → event_faults.IsNumbered fault
+        → RefusesEvents fault value → ¬ IsEventsDocument value }
+    ensures events { (value : Data) (events others : List EventValue)
+        → AreEventsOf value events → AreEventsOf value others → events ≡ others }
+{}
 
 /// The canonical text of a batch is a document of that batch (OData JSON Format 4.01, section 19.1).
 ///

@@ -1,0 +1,111 @@
+-- A document of outcomes, or of events, has one least fault, or else one list of what it records.
+use Rattle.std.proofs.Common.{◌≡◌, ◌∙◌, ℕ, List, Option, None, Some, option_and_then, codes, refl, ap, sym, arith}
+use Rattle.serde_json.specs.Data.{Data}
+use Rattle.serde_json.specs.Find.{get, as_str}
+use Rattle.odb_doc.specs.Bodies.{body_of}
+use Rattle.odb_doc.specs.declared.event_fault.EventRule.{EventRule}
+use Rattle.odb_doc.specs.declared.event_fault.EventRule.TheVariants as event
+use Rattle.odb_doc.specs.declared.event_fault.EventFault.{EventFault}
+use Rattle.odb_doc.specs.declared.event_fault.EventFault.TheVariants as events
+use Rattle.odb_doc.specs.declared.outcome.Outcome.{Outcome}
+use Rattle.odb_doc.specs.declared.outcome_fault.OutcomeRule.{OutcomeRule}
+use Rattle.odb_doc.specs.declared.outcome_fault.OutcomeRule.TheVariants as outcome
+use Rattle.odb_doc.specs.declared.outcome_fault.OutcomeFault.{OutcomeFault}
+use Rattle.odb_doc.specs.declared.outcome_fault.OutcomeFault.TheVariants as outcomes
+use Rattle.odb_doc.specs.EventFaults as event_faults
+use Rattle.odb_doc.specs.Events.{EventValue, Start, Report, AreEventsOf}
+use Rattle.odb_doc.specs.Events as recorded_events
+use Rattle.odb_doc.specs.Headers.{Header, HasHeaders}
+use Rattle.odb_doc.specs.LeastEventFault.{BreaksEventAt, IsEventsDocument, RefusesEvents}
+use Rattle.odb_doc.specs.LeastOutcomeFault.{BreaksOutcomeAt, IsOutcomesDocument, RefusesOutcomes}
+use Rattle.odb_doc.specs.Members.{text_at}
+use Rattle.odb_doc.specs.OneLeast.{one_first, one_list}
+use Rattle.odb_doc.specs.OutcomeFaults as outcome_faults
+use Rattle.odb_doc.specs.Outcomes.{Recorded, AreOutcomesOf, Says}
+use Rattle.odb_doc.specs.Outcomes as recorded_outcomes
+use Rattle.odb_doc.proofs.OneHeaders.{one_headers}
+
+-- ---- the least fault of outcomes
+
+same_outcome_rule : (rule other : OutcomeRule) → outcome_faults.rule_number rule ≡ outcome_faults.rule_number other → rule ≡ other
+same_outcome_rule outcome.BadOutcomes outcome.BadOutcomes same = refl
+same_outcome_rule outcome.OutcomeTwice outcome.OutcomeTwice same = refl
+same_outcome_rule outcome.BadStatus outcome.BadStatus same = refl
+same_outcome_rule outcome.NotWhole outcome.NotWhole same = refl
+same_outcome_rule rule other same = absurd (omega arith)
+
+pub one_outcome_fault : (d : Data) (fault other : OutcomeFault) → outcome_faults.IsNumbered fault → outcome_faults.IsNumbered other → RefusesOutcomes fault d → RefusesOutcomes other d → fault ≡ other
+one_outcome_fault d outcomes.Document outcomes.Document numbered numbered' one two = refl
+one_outcome_fault d outcomes.Document (outcomes.Outcome at rule) numbered numbered' one two = absurd (one two.0)
+one_outcome_fault d (outcomes.Outcome at rule) outcomes.Document numbered numbered' one two = absurd (two one.0)
+one_outcome_fault d (outcomes.Outcome at rule) (outcomes.Outcome other_at other) numbered numbered' one two =
+    let same = one_first outcome_faults.rule_number (BreaksOutcomeAt (recorded_outcomes.elements d)) same_outcome_rule at other_at rule other one.1 two.1 in
+    cc (same.0, same.1)
+one_outcome_fault d outcomes.OutOfMemory other numbered numbered' one two = absurd (numbered refl)
+one_outcome_fault d fault outcomes.OutOfMemory numbered numbered' one two = absurd (numbered' refl)
+
+pub no_outcome_fault : (d : Data) (fault : OutcomeFault) → outcome_faults.IsNumbered fault → RefusesOutcomes fault d → ¬ IsOutcomesDocument d
+no_outcome_fault d outcomes.Document numbered refuses good = refuses good.0
+no_outcome_fault d (outcomes.Outcome at rule) numbered refuses good = good.1 rule at refuses.1.here.broken
+no_outcome_fault d outcomes.OutOfMemory numbered refuses good = numbered refl
+
+-- ---- the least fault of events
+
+same_event_rule : (rule other : EventRule) → event_faults.rule_number rule ≡ event_faults.rule_number other → rule ≡ other
+same_event_rule event.NotWhole event.NotWhole same = refl
+same_event_rule event.BadEvents event.BadEvents same = refl
+same_event_rule rule other same = absurd (omega arith)
+
+pub one_event_fault : (d : Data) (fault other : EventFault) → event_faults.IsNumbered fault → event_faults.IsNumbered other → RefusesEvents fault d → RefusesEvents other d → fault ≡ other
+one_event_fault d events.Document events.Document numbered numbered' one two = refl
+one_event_fault d events.Document (events.Event at rule) numbered numbered' one two = absurd (one two.0)
+one_event_fault d (events.Event at rule) events.Document numbered numbered' one two = absurd (two one.0)
+one_event_fault d (events.Event at rule) (events.Event other_at other) numbered numbered' one two =
+    let same = one_first event_faults.rule_number (BreaksEventAt (recorded_events.elements d)) same_event_rule at other_at rule other one.1 two.1 in
+    cc (same.0, same.1)
+one_event_fault d events.OutOfMemory other numbered numbered' one two = absurd (numbered refl)
+one_event_fault d fault events.OutOfMemory numbered numbered' one two = absurd (numbered' refl)
+
+pub no_event_fault : (d : Data) (fault : EventFault) → event_faults.IsNumbered fault → RefusesEvents fault d → ¬ IsEventsDocument d
+no_event_fault d events.Document numbered refuses good = refuses good.0
+no_event_fault d (events.Event at rule) numbered refuses good = good.1 rule at refuses.1.here.broken
+no_event_fault d events.OutOfMemory numbered refuses good = numbered refl
+
+-- ---- what is recorded
+
+-- an outcome of these parts
+abbrev made : ℕ → List Header → Option Data → Outcome
+made status headers body = record { status = status; headers = headers; body = body }
+
+same_outcome : (d : Data) (outcome other : Outcome) → outcome.status ≡ other.status → HasHeaders d outcome.headers → HasHeaders d other.headers → body_of d ≡ outcome.body → body_of d ≡ other.body → outcome ≡ other
+same_outcome d outcome other status one two body body' =
+    let headers = one_headers d other.headers outcome.headers two one in
+    let same_body : outcome.body ≡ other.body = sym body ∙ body' in
+    let same : made outcome.status outcome.headers outcome.body ≡ made other.status other.headers other.body = cc (status, headers, same_body) in
+    same
+
+one_outcome : (d : Data) (entry other : Recorded) → Says d entry → Says d other → entry ≡ other
+one_outcome d entry other one two =
+    let id : entry.0 ≡ other.0 = cc (one.id, two.id) in
+    let status : entry.1.status ≡ other.1.status = cc (one.status, two.status) in
+    let same = same_outcome d entry.1 other.1 status one.headers two.headers one.body two.body in
+    λ i. (id i, same i)
+
+pub one_record : (d : Data) (entries others : List Recorded) → AreOutcomesOf d entries → AreOutcomesOf d others → entries ≡ others
+one_record d entries others one two = one_list Says one_outcome (recorded_outcomes.elements d) entries others one two
+
+no_start : (d : Data) (id : List ℕ) → text_at (codes "start") d ≡ Some id → get (codes "start") d ≡ None → ⊥
+no_start d id starts reports = let none = ap (option_and_then as_str) reports in cc (starts, none)
+
+one_event : (d : Data) (event other : EventValue) → recorded_events.Says d event → recorded_events.Says d other → event ≡ other
+one_event d (Start id) (Start other) one two = cc (one, two)
+one_event d (Start id) (Report other outcome) one two = absurd (no_start d id one two.reports)
+one_event d (Report id outcome) (Start other) one two = absurd (no_start d other two one.reports)
+one_event d (Report id outcome) (Report other outcome') one two =
+    let named : id ≡ other = cc (one.names, two.names) in
+    let status : outcome.status ≡ outcome'.status = cc (one.status, two.status) in
+    let same = same_outcome d outcome outcome' status one.headers two.headers one.body two.body in
+    cc (named, same)
+
+pub one_events : (d : Data) (events others : List EventValue) → AreEventsOf d events → AreEventsOf d others → events ≡ others
+one_events d events others one two = one_list recorded_events.Says one_event (recorded_events.elements d) events others one two
