@@ -4,26 +4,26 @@ use Rattle.std.specs.List.{AllZip}
 use Rattle.std.proofs.lemmas.List.Elements.{All-push}
 use Rattle.std.proofs.Math.Seq.{take-append_seam}
 use Rattle.odb_doc.specs.Records.{Record}
-use Rattle.odb_doc.specs.declared.event.NamedEvent.{NamedEvent}
-use Rattle.odb_doc.specs.declared.event.NamedEvent.TheVariants as named
+use Rattle.odb_doc.specs.Events.{EventValue}
+use Rattle.odb_doc.specs.Events as named
 use Rattle.odb_sched.specs.declared.event.Event.{Event}
 use Rattle.odb_sched.specs.declared.event.Event.TheVariants as at
 use Rattle.odb_sched.specs.Resolving.{IsKnown, IsResolved, IsFirstUnknown}
 use Rattle.odb_sched.specs.Runs.{event_position}
 
 -- the events before the rest are these by their positions
-pub record HasResolved (rs : List Record) (events rest : List NamedEvent) (found : List Event) : Type 0 where
-  pub before : List NamedEvent
+pub record HasResolved (rs : List Record) (events rest : List EventValue) (found : List Event) : Type 0 where
+  pub before : List EventValue
   pub whole : events ≡ before ++ rest
   pub known : All (IsKnown rs) before
   pub resolved : AllZip (IsResolved rs) before found
   pub within : All (λ event. event_position event < length rs) found
 
-pub resolved_none : (rs : List Record) (events : List NamedEvent) → HasResolved rs events events []
+pub resolved_none : (rs : List Record) (events : List EventValue) → HasResolved rs events events []
 resolved_none rs events = record { before = []; whole = refl; known = λ k event less. absurd (omega arith); resolved = tt; within = λ k event less. absurd (omega arith) }
 
 -- an event with a position names a request of the batch
-known-from : (rs : List Record) (event : NamedEvent) (found : Event) → IsResolved rs event found → IsKnown rs event
+known-from : (rs : List Record) (event : EventValue) (found : Event) → IsResolved rs event found → IsKnown rs event
 known-from rs (named.Start id) (at.Start i) is = (i, is)
 known-from rs (named.Start id) (at.Report i outcome) is = absurd is
 known-from rs (named.Report id outcome) (at.Start i) is = absurd is
@@ -45,7 +45,7 @@ slice_get-seam : {X : Type 0} (xs : List X) (x : X) (rest : List X) → slice_ge
 slice_get-seam [] x rest = refl
 slice_get-seam (y ∷ xs) x rest = slice_get-seam xs x rest
 
-pub resolved_more : (rs : List Record) (events : List NamedEvent) (event : NamedEvent) (later : List NamedEvent) (found : List Event) (next : Event) → HasResolved rs events (event ∷ later) found
+pub resolved_more : (rs : List Record) (events : List EventValue) (event : EventValue) (later : List EventValue) (found : List Event) (next : Event) → HasResolved rs events (event ∷ later) found
     → IsResolved rs event next → event_position next < length rs → HasResolved rs events later (found ++ next ∷ [])
 resolved_more rs events event later found next so_far is within = record {
   before = so_far.before ++ event ∷ [];
@@ -56,14 +56,14 @@ resolved_more rs events event later found next so_far is within = record {
 }
 
 -- all events are resolved
-pub resolved_all : (rs : List Record) (events : List NamedEvent) (found : List Event) → HasResolved rs events [] found
+pub resolved_all : (rs : List Record) (events : List EventValue) (found : List Event) → HasResolved rs events [] found
     → All (IsKnown rs) events × AllZip (IsResolved rs) events found × All (λ event. event_position event < length rs) found
 resolved_all rs events found so_far =
     let whole : events ≡ so_far.before = so_far.whole ∙ append-nil so_far.before in
-    (subst (All (IsKnown rs)) (sym whole) so_far.known, subst (λ (all : List NamedEvent). AllZip (IsResolved rs) all found) (sym whole) so_far.resolved, so_far.within)
+    (subst (All (IsKnown rs)) (sym whole) so_far.known, subst (λ (all : List EventValue). AllZip (IsResolved rs) all found) (sym whole) so_far.resolved, so_far.within)
 
 -- the next event names no request, so it is the first that does not
-pub unknown_next : (rs : List Record) (events : List NamedEvent) (event : NamedEvent) (later : List NamedEvent) (found : List Event) (place : ℕ) → HasResolved rs events (event ∷ later) found
+pub unknown_next : (rs : List Record) (events : List EventValue) (event : EventValue) (later : List EventValue) (found : List Event) (place : ℕ) → HasResolved rs events (event ∷ later) found
     → place ≡ length found → ¬ IsKnown rs event → IsFirstUnknown rs events place
 unknown_next rs events event later found place so_far is unknown =
     let here : place ≡ length so_far.before = is ∙ sym (length-zip (IsResolved rs) so_far.before found so_far.resolved) in
@@ -73,5 +73,5 @@ unknown_next rs events event later found place so_far is unknown =
     })
 
 -- the same rest, written otherwise
-pub resolved_as : (rs : List Record) (events rest other : List NamedEvent) (found : List Event) → rest ≡ other → HasResolved rs events rest found → HasResolved rs events other found
+pub resolved_as : (rs : List Record) (events rest other : List EventValue) (found : List Event) → rest ≡ other → HasResolved rs events rest found → HasResolved rs events other found
 resolved_as rs events rest other found same so_far = rw (← same) so_far

@@ -1,6 +1,7 @@
 ghost use Rattle.std.specs.Prelude.{◌≡◌, ◌<◌, List, length, Some, All, IfOk, IfErr, OnOk};
 ghost use Rattle.std.specs.List.{AllZip};
 ghost use Rattle.odb_doc.specs.EventLists.{entries};
+ghost use Rattle.odb_doc.specs.Events.{event_value};
 ghost use Rattle.odb_doc.specs.Records.{Record};
 ghost use Rattle.odb_check.specs.Plans.{plan_records};
 ghost use Rattle.odb_check.specs.Positions.{id_at};
@@ -80,7 +81,7 @@ impl<T: Drop> From<AllocFailed<T>> for ResolveFault {
 
 /// Returns the id that the event names.
 fn id_of(event: &NamedEvent) -> &str
-    ensures { result.now ≡ named_id event.now }
+    ensures { result.now ≡ named_id (event_value event.now) }
 {
     match event {
         NamedEvent::Start(id) | NamedEvent::Report(id, _) => id.as_str(),
@@ -90,8 +91,8 @@ fn id_of(event: &NamedEvent) -> &str
 /// Returns the event at the position of its request.
 fn at_position(event: NamedEvent, i: u32) -> Event
     ensures place { event_position result ≡ i }
-    ensures same { (batch : List Record) → id_at batch i ≡ Some (named_id event)
-        → IsResolved batch event result }
+    ensures same { (batch : List Record) → id_at batch i ≡ Some (named_id (event_value event))
+        → IsResolved batch (event_value event) result }
 {
     match event {
         NamedEvent::Start(_) => Event::Start(i),
