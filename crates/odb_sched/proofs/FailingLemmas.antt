@@ -4,7 +4,6 @@ use Rattle.std.proofs.lemmas.Bool.{and_parts, and_from, or_cases, or_left, or_ri
 use Rattle.odb_check.specs.declared.need.Need.{Need}
 use Rattle.odb_check.specs.declared.need.Need.TheVariants.{One, Group}
 use Rattle.odb_check.specs.Shape.{Shape, IsPlan, unit_of, needs_of}
-use Rattle.odb_doc.specs.declared.outcome.Outcome.{Outcome}
 use Rattle.odb_sched.specs.Statuses.{is_success}
 use Rattle.odb_sched.specs.Laws.{SucceedsByMembers}
 use Rattle.odb_sched.specs.Failing.{Fails, own, propagated, fails, fails_within, needs_failed, unit_needed}
@@ -76,8 +75,8 @@ pub unless_good : (plan : Shape) (bad : ℕ → Bool) (u : ℕ) → Fails plan b
 unless_good plan bad _ (own i within is_bad) each laws = both_ways _ (each i within refl).0 is_bad
 unless_good plan bad _ (propagated i need within has other failing) each laws = both_ways _ ((each i within refl).1 need has other) (fails-from_Fails plan bad (unit_needed plan need) laws failing)
 
-pub succeeds_by_members : (plan : Shape) (table : ℕ → Outcome) (u : ℕ) → IsPlan plan → SucceedsByMembers plan table u
-succeeds_by_members plan table u laws = (
+pub succeeds_by_members : (plan : Shape) (statuses : ℕ → ℕ) (u : ℕ) → IsPlan plan → SucceedsByMembers plan statuses u
+succeeds_by_members plan statuses u laws = (
   (λ good i within here. (
     not-false _ (false_from_ne_true _ (λ is_bad. both_ways _ (not-true _ good) (subst (λ v. fails plan bad v ≡ true) here (fails-from_Fails plan bad (unit_of plan i) laws (own i within is_bad))))),
     (λ need has other. not_from_false _ (false_from_ne_true _ (λ failing. both_ways _ (not-true _ good)
@@ -89,4 +88,4 @@ succeeds_by_members plan table u laws = (
 )
   where
     bad : ℕ → Bool
-    bad = λ i. not (is_success (table i).status)
+    bad = λ i. not (is_success (statuses i))

@@ -1,7 +1,9 @@
 -- The answer to a request, and why all orders of events give one result.
-use Rattle.std.proofs.Common.{◌≡◌, ℕ, ◌<◌, ◌∙◌, sym, refl, subst, arith, Bool, true, false, not, ◌&&◌, ◌||◌, inl, inr, Some, None, Contains, if◌then◌else◌}
+use Rattle.std.proofs.Common.{◌≡◌, ℕ, ◌<◌, ◌∙◌, sym, refl, subst, arith, List, [], Option, Bool, true, false, not, ◌&&◌, ◌||◌, inl, inr, Some, None, Contains, if◌then◌else◌}
 use Rattle.std.proofs.lemmas.Bool.{both_ways, true≢false, and_parts, and_from, or_cases, false_from_ne_true, not-true, not_from_false}
+use Rattle.serde_json.specs.Data.{Data}
 use Rattle.odb_doc.specs.declared.outcome.Outcome.{Outcome}
+use Rattle.odb_doc.specs.Headers.{Header}
 use Rattle.odb_check.specs.declared.need.Need.{Need}
 use Rattle.odb_check.specs.declared.need.Need.TheVariants.{One, Group}
 use Rattle.odb_check.specs.Shape.{unit_of, needs_of}
@@ -15,7 +17,7 @@ use Rattle.odb_sched.specs.State.{State, size, phase_at}
 use Rattle.odb_sched.specs.Failing.{Fails, own, propagated, unit_needed, succeeds}
 use Rattle.odb_sched.specs.Steps.{is_stopped, is_satisfied, unit_succeeded, unit_failed, is_finished}
 use Rattle.odb_sched.specs.Answers.{answer_of, answer, is_answered_2xx}
-use Rattle.odb_sched.specs.Laws.{Agrees, HasOneResult, HasSoundResult, IsAllOrNone, IsSound}
+use Rattle.odb_sched.specs.Laws.{statuses_of, HasStatuses, HasResultByStatuses, Agrees, HasOneResult, HasSoundResult, IsAllOrNone, IsSound}
 use Rattle.odb_sched.specs.Reached.{IsReached}
 use Rattle.odb_sched.proofs.BelowLemmas.{all_below-Decides, list_all-each}
 use Rattle.odb_sched.proofs.FailingLemmas.{Fails-from_fails, fails-from_Fails, Fails-as}
@@ -90,7 +92,7 @@ succeeded_sound state table _ reached agrees (own i within bad) whole =
 succeeded_sound state table _ reached agrees (propagated i need within has other failing) whole =
     succeeded_sound state table (unit_needed state.shape need) reached agrees failing (unit_satisfied state i need reached within whole has)
 
-pub succeeds-from : (state : State) (table : ℕ → Outcome) (u : ℕ) → IsReached state → Agrees state table → unit_succeeded state u ≡ true → succeeds state.shape table u ≡ true
+pub succeeds-from : (state : State) (table : ℕ → Outcome) (u : ℕ) → IsReached state → Agrees state table → unit_succeeded state u ≡ true → succeeds state.shape (statuses_of table) u ≡ true
 succeeds-from state table u reached agrees whole = not_from_false _ (false_from_ne_true _ (λ failing. succeeded_sound state table u reached agrees (Fails-from_fails state.shape (is_bad_in table) u failing) whole))
 
 pub sound_result : (state : State) → IsReached state → HasSoundResult state
@@ -125,7 +127,7 @@ each_over state i finished unstopped within sound =
     ]
 
 -- a unit that succeeds under the table has succeeded in a finished run that is not stopped
-unit_succeeded-from : (state : State) (table : ℕ → Outcome) (u : ℕ) → IsReached state → is_finished state ≡ true → is_stopped state ≡ false → Agrees state table → succeeds state.shape table u ≡ true → unit_succeeded state u ≡ true
+unit_succeeded-from : (state : State) (table : ℕ → Outcome) (u : ℕ) → IsReached state → is_finished state ≡ true → is_stopped state ≡ false → Agrees state table → succeeds state.shape (statuses_of table) u ≡ true → unit_succeeded state u ≡ true
 unit_succeeded-from state table u reached finished unstopped agrees good = succeeded_in-from state.shape state.phases u (λ i within here.
     let sound : unit_failed state u ≡ false = false_from_ne_true _ (λ failed. both_ways _ (not-true _ good) (fails-from_Fails state.shape (is_bad_in table) u reached.laws (failed_sound state table u agrees failed))) in
     has_succeeded-from (phase_at state i) (each_over state i finished unstopped within (rw here sound))
@@ -142,3 +144,29 @@ one_result state reached finished mode table agrees i within = (
   ),
   (λ e. (sound_result state reached table agrees i within e).1),
 )
+
+-- ---- a table of outcomes with given statuses
+
+headers_by : Phase → List Header
+headers_by Unstarted = []
+headers_by Running = []
+headers_by (Reported outcome) = outcome.headers
+
+body_by : Phase → Option Data
+body_by Unstarted = None
+body_by Running = None
+body_by (Reported outcome) = outcome.body
+
+-- the statuses, with the headers and bodies that were reported
+abbrev table_with : State → (ℕ → ℕ) → ℕ → Outcome
+table_with state statuses i = record { status = statuses i; headers = headers_by (phase_at state i); body = body_by (phase_at state i) }
+
+agrees_with : (state : State) (statuses : ℕ → ℕ) → HasStatuses state statuses → Agrees state (table_with state statuses)
+unfolding headers_by body_by
+agrees_with state statuses has i outcome within at =
+    let status = has i outcome within at in
+    rw at (λ j. record { status = status j; headers = outcome.headers; body = outcome.body })
+
+pub result_by_statuses : (state : State) → IsReached state → is_finished state ≡ true → state.policy.mode ≡ Continue → HasResultByStatuses state
+result_by_statuses state reached finished mode statuses has i within =
+    (one_result state reached finished mode (table_with state statuses) (agrees_with state statuses has) i within).0

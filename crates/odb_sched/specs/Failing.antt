@@ -1,7 +1,6 @@
 -- Which units fail if some requests are bad (OData Protocol 4.01, section 11.7).
 use Rattle.std.specs.Prelude.{◌≡◌, ◌≢◌, ℕ, zero, suc, ◌<◌, ◌==◌, ◌&&◌, ◌||◌, Bool, true, false, not, length, Contains}
 use Rattle.std.specs.List.{list_any}
-use Rattle.odb_doc.specs.declared.outcome.Outcome.{Outcome}
 use Rattle.odb_check.specs.declared.need.Need.{Need}
 use Rattle.odb_check.specs.declared.need.Need.TheVariants.{One, Group}
 use Rattle.odb_check.specs.Shape.{Shape, unit_of, needs_of}
@@ -31,6 +30,7 @@ fails_within plan bad (suc rounds) u = any_below (length plan.units) (λ i. unit
 abbrev pub fails : Shape → (ℕ → Bool) → ℕ → Bool
 fails plan bad u = fails_within plan bad plan.unit_count u
 
--- whether a unit succeeds under a table of outcomes: its members do, and each other unit that they need
-abbrev pub succeeds : Shape → (ℕ → Outcome) → ℕ → Bool
-succeeds plan table u = not (fails plan (λ i. not (is_success (table i).status)) u)
+-- Whether a unit succeeds under a table of statuses: its members do, and each other unit that they need. So headers and
+-- bodies have no part in it.
+abbrev pub succeeds : Shape → (ℕ → ℕ) → ℕ → Bool
+succeeds plan statuses u = not (fails plan (λ i. not (is_success (statuses i))) u)

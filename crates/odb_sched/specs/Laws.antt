@@ -52,16 +52,29 @@ HasFewEvents events = (i : ℕ) → count_by (λ e. event_position e == i) event
 abbrev pub Agrees : State → (ℕ → Outcome) → Type 0
 Agrees state table = (i : ℕ) (outcome : Outcome) → i < size state → phase_at state i ≡ Reported outcome → outcome ≡ table i
 
+-- the statuses in a table of outcomes
+abbrev pub statuses_of : (ℕ → Outcome) → ℕ → ℕ
+statuses_of table i = (table i).status
+
+-- each status that was reported is the one that the table has
+abbrev pub HasStatuses : State → (ℕ → ℕ) → Type 0
+HasStatuses state statuses = (i : ℕ) (outcome : Outcome) → i < size state → phase_at state i ≡ Reported outcome → outcome.status ≡ statuses i
+
+-- Which requests are answered with a success depends on the statuses alone: exactly those whose unit succeeds under them.
+abbrev pub HasResultByStatuses : State → Type 0
+HasResultByStatuses state = (statuses : ℕ → ℕ) → HasStatuses state statuses → (i : ℕ) → i < size state
+    → IsTrue (is_answered_2xx (answer state i)) ↔ IsTrue (succeeds state.shape statuses (unit_of state.shape i))
+
 -- a request is answered with a success exactly when its unit succeeds under the table, and then with the table's outcome
 abbrev pub HasOneResult : State → Type 0
 HasOneResult state = (table : ℕ → Outcome) → Agrees state table → (i : ℕ) → i < size state
-    → (IsTrue (is_answered_2xx (answer state i)) ↔ IsTrue (succeeds state.shape table (unit_of state.shape i)))
+    → (IsTrue (is_answered_2xx (answer state i)) ↔ IsTrue (succeeds state.shape (statuses_of table) (unit_of state.shape i)))
     × (IsTrue (is_answered_2xx (answer state i)) → answer state i ≡ Some (table i))
 
 -- a request that is answered with a success belongs to a unit that succeeds under the table, and has the table's outcome
 abbrev pub HasSoundResult : State → Type 0
 HasSoundResult state = (table : ℕ → Outcome) → Agrees state table → (i : ℕ) → i < size state → IsTrue (is_answered_2xx (answer state i))
-    → IsTrue (succeeds state.shape table (unit_of state.shape i)) × (answer state i ≡ Some (table i))
+    → IsTrue (succeeds state.shape (statuses_of table) (unit_of state.shape i)) × (answer state i ≡ Some (table i))
 
 -- the requests of a unit are all answered with a success, or none is
 abbrev pub IsAllOrNone : State → Type 0
@@ -76,6 +89,6 @@ IsSound state = (i : ℕ) → i < size state → IsTrue (is_answered_2xx (answer
 
 -- A unit succeeds under a table exactly when each member has a success there, and each other unit that a member needs
 -- succeeds.
-abbrev pub SucceedsByMembers : Shape → (ℕ → Outcome) → ℕ → Type 0
-SucceedsByMembers plan table u = IsTrue (succeeds plan table u) ↔ ((i : ℕ) → i < length plan.units → unit_of plan i ≡ u
-    → IsTrue (is_success (table i).status) × ((need : Need) → Contains (needs_of plan i) need → unit_needed plan need ≢ u → IsTrue (succeeds plan table (unit_needed plan need))))
+abbrev pub SucceedsByMembers : Shape → (ℕ → ℕ) → ℕ → Type 0
+SucceedsByMembers plan statuses u = IsTrue (succeeds plan statuses u) ↔ ((i : ℕ) → i < length plan.units → unit_of plan i ≡ u
+    → IsTrue (is_success (statuses i)) × ((need : Need) → Contains (needs_of plan i) need → unit_needed plan need ≢ u → IsTrue (succeeds plan statuses (unit_needed plan need))))

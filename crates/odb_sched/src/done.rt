@@ -115,6 +115,8 @@ impl<'p> Done<'p> {
     pub fn laws(&self)
         ensures finished { steps.is_finished self.now ≡ true }
         ensures one_result { self.now.policy.mode ≡ Continue → laws.HasOneResult self.now }
+        ensures by_statuses { self.now.policy.mode ≡ Continue
+            → laws.HasResultByStatuses self.now }
         ensures sound_result { laws.HasSoundResult self.now }
         ensures all_or_none { laws.IsAllOrNone self.now }
         ensures sound { laws.IsSound self.now }

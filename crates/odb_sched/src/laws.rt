@@ -19,7 +19,7 @@ ghost use Rattle.odb_sched.specs.Failing.{Fails, fails};
 ghost use Rattle.odb_sched.specs.Steps.{may_start, may_report, is_finished};
 ghost use Rattle.odb_sched.specs.Causes.{BarsStart, IsStartCause, BarsReport, IsReportCause};
 ghost use Rattle.odb_sched.specs.Runs.{IsRun, state_after, phase_of};
-ghost use Rattle.odb_sched.specs.Laws.{HaveSucceeded, StartsLast, IsNeverStuck, HasFewEvents, HasOneResult, HasSoundResult, IsAllOrNone, IsSound, SucceedsByMembers};
+ghost use Rattle.odb_sched.specs.Laws.{HaveSucceeded, StartsLast, IsNeverStuck, HasFewEvents, HasOneResult, HasResultByStatuses, HasSoundResult, IsAllOrNone, IsSound, SucceedsByMembers};
 ghost use Rattle.odb_doc.specs.Records.{Record};
 ghost use Rattle.odb_sched.specs.Courses.{step_of};
 ghost use Rattle.odb_sched.specs.Calls.{AsksAll, Call, calls_of, reported_by, Writes};
@@ -87,13 +87,18 @@ pub fn every_call<S: Service, X>()
         → map (λ call. call.0) (calls_of requests events) ≡ reported_by (map step_of events) }
 {}
 
-/// The answers of a finished run are those of each table of outcomes that its reports agree with.
+/// The answers of a finished run are those of each table of outcomes that its reports agree with, and
+/// which of them are successes depends on the statuses alone.
 /// The answers of a group are all successes or none is, and a success depends on successes alone.
 pub fn every_result(plan: &Plan<'_>)
     ensures one_result { (policy : Policy) (events : List Event)
         → policy.mode ≡ Continue → IsRun plan.now policy events
         → is_finished (state_after plan.now policy events) ≡ true
         → HasOneResult (state_after plan.now policy events) }
+    ensures by_statuses { (policy : Policy) (events : List Event)
+        → policy.mode ≡ Continue → IsRun plan.now policy events
+        → is_finished (state_after plan.now policy events) ≡ true
+        → HasResultByStatuses (state_after plan.now policy events) }
     ensures sound_result { (policy : Policy) (events : List Event)
         → IsRun plan.now policy events
         → HasSoundResult (state_after plan.now policy events) }
@@ -109,7 +114,7 @@ pub fn every_result(plan: &Plan<'_>)
 
 /// Shows that the definitions above that compute mean what they should: the phase of a request is that
 /// of its start and its first report, `fails` is the least relation closed under its two rules, and a
-/// unit succeeds under a table if its members do and the other units that they depend on.
+/// unit succeeds under a table of statuses if its members do and the other units that they depend on.
 pub fn every_word(plan: &Plan<'_>)
     ensures phases { (policy : Policy) (events : List Event) (i : ℕ)
         → IsRun plan.now policy events
@@ -117,8 +122,8 @@ pub fn every_word(plan: &Plan<'_>)
     ensures failing { (bad : ℕ → Bool) (u : ℕ)
         → IsTrue (fails (shape plan.now) bad u)
         ↔ Fails (shape plan.now) bad u }
-    ensures succeeding { (table : ℕ → Outcome) (u : ℕ)
-        → SucceedsByMembers (shape plan.now) table u }
+    ensures succeeding { (statuses : ℕ → ℕ) (u : ℕ)
+        → SucceedsByMembers (shape plan.now) statuses u }
 {
     every_plan(plan);
 }

@@ -11,4 +11,4 @@ pub returns-clause-failing : goal.returns-clause-failing
 returns-clause-failing c = λ bad u. ((λ e. Fails-from_fails _ bad u e), (λ failing. fails-from_Fails _ bad u c.every_plan.ensures.order failing))
 
 pub returns-clause-succeeding : goal.returns-clause-succeeding
-returns-clause-succeeding c = λ table u. succeeds_by_members _ table u c.every_plan.ensures.order
+returns-clause-succeeding c = λ statuses u. succeeds_by_members _ statuses u c.every_plan.ensures.order

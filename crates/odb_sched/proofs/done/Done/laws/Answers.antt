@@ -1,13 +1,16 @@
 -- The answers of a reached state have one result, are all or none in a group, and are sound.
 use Rattle.std.proofs.Common.{◌≡◌, subst}
 use Rattle.odb_sched.specs.declared.policy.Mode.TheVariants.{Continue}
-use Rattle.odb_sched.specs.Laws.{HasOneResult, HasSoundResult, IsSound}
+use Rattle.odb_sched.specs.Laws.{HasOneResult, HasResultByStatuses, HasSoundResult, IsSound}
 use Rattle.odb_sched.specs.State.{State}
-use Rattle.odb_sched.proofs.ResultLemmas.{one_result, sound_result, all_or_none, sound_answers}
+use Rattle.odb_sched.proofs.ResultLemmas.{one_result, result_by_statuses, sound_result, all_or_none, sound_answers}
 use Rattle.odb_sched.proofs.done.Done.laws.Goals as goal
 
 pub returns-clause-one_result : goal.returns-clause-one_result
 returns-clause-one_result c = subst (λ (state : State). state.policy.mode ≡ Continue → HasOneResult state) c.self.view_is (λ continues. one_result _ c.self.invariant.reached c.self.invariant.finished continues)
+
+pub returns-clause-by_statuses : goal.returns-clause-by_statuses
+returns-clause-by_statuses c = subst (λ (state : State). state.policy.mode ≡ Continue → HasResultByStatuses state) c.self.view_is (λ continues. result_by_statuses _ c.self.invariant.reached c.self.invariant.finished continues)
 
 pub returns-clause-sound_result : goal.returns-clause-sound_result
 returns-clause-sound_result c = subst HasSoundResult c.self.view_is (sound_result _ c.self.invariant.reached)
