@@ -20,15 +20,12 @@ use Rattle.serde_json.specs.Data.{Data}
 use Rattle.serde_json.specs.Find.{as_str}
 use Rattle.serde_json.specs.View.{view, members_view}
 use Rattle.odb_doc.specs.HeaderMaps.{Entry, Headers, HoldsMembers, AddsMember, RefusesMember}
-use Rattle.odb_doc.specs.Headers.{Header, folded, text_members, text_members_in, HoldsHeaders, headers_in}
+use Rattle.odb_doc.specs.Headers.{Header, folded, text_members, text_members_in, HoldsHeaders, header_of, headers_in}
 use Rattle.odb_doc.specs.Members.{names_of, given}
 use Rattle.odb_doc.proofs.FoldedNames.{names_of-text_members}
 use Rattle.odb_doc.proofs.WatchLemmas.{distinct_new}
 
 -- ---- an insertion into the map
-
-abbrev pub header_of : String Global × String Global → Header
-header_of entry = (string_bytes entry.0, string_bytes entry.1)
 
 insert_step : {X V : Type 0} (o : Ordering) (v : V) (others : Option V) (e new : X) (es more here : List X) → is_some (cond (is_eq o) (Some v) others) ≡ false → (is_some others ≡ false → IsPermutation (new ∷ es) more)
     → IsPermutation (new ∷ e ∷ es) (match_ordering o (new ∷ e ∷ es) here (e ∷ more))

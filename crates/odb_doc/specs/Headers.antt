@@ -63,5 +63,8 @@ abbrev pub HasHeaders : Data → List Header → Type 0
 HasHeaders d headers = HoldsHeaders (get (codes "headers") d) headers
 
 -- the headers that a map holds, in its order
+abbrev pub header_of : String Global × String Global → Header
+header_of entry = (string_bytes entry.0, string_bytes entry.1)
+
 abbrev pub headers_in : BTreeMap (String Global) (String Global) → List Header
-headers_in m = map (λ entry. (string_bytes entry.0, string_bytes entry.1)) m.entries
+headers_in m = map header_of m.entries

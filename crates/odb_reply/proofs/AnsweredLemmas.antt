@@ -22,7 +22,8 @@ use Rattle.odb_sched.specs.State.{State, size}
 use Rattle.odb_sched.specs.Statuses.{is_success}
 use Rattle.odb_reply.specs.Fits.{id_in, Responds, Succeeds, IsSatisfied, Fits, ListsFit, AnswersStatuses}
 use Rattle.odb_reply.specs.ResponseDocuments.{Entry, IsResponse, IsResponseDocument, IsStatus, Says, group_in}
-use Rattle.odb_reply.specs.Responses.{with_some, response, responses_from, response_value}
+use Rattle.odb_doc.specs.Canonical.{with_some}
+use Rattle.odb_reply.specs.Responses.{response, responses_from, response_value}
 use Rattle.odb_reply.proofs.IdLemmas.{id_within}
 use Rattle.odb_reply.proofs.OneLemmas.{IsOnce, once_in_plan, id_of_response, responses_in-value}
 use Rattle.odb_reply.proofs.SliceLemmas.{map_some}

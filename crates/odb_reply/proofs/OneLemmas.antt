@@ -14,7 +14,8 @@ use Rattle.odb_check.specs.declared.fault.NameRule.TheVariants.{IdTwice}
 use Rattle.odb_check.specs.Plans.{plan_records}
 use Rattle.odb_sched.specs.Answers.{answer}
 use Rattle.odb_sched.specs.State.{State}
-use Rattle.odb_reply.specs.Responses.{with_some, response, responses_from, responses, response_value}
+use Rattle.odb_doc.specs.Canonical.{with_some}
+use Rattle.odb_reply.specs.Responses.{response, responses_from, responses, response_value}
 use Rattle.odb_reply.specs.OnePerId.{has_id, HasOnePerId}
 use Rattle.odb_reply.specs.ResponseDocuments.{responses_in}
 use Rattle.odb_reply.proofs.DocumentLemmas.{list_of-items_of}

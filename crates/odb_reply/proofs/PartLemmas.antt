@@ -8,7 +8,8 @@ use Rattle.odb_names.specs.Identifiers.{IsRequestId}
 use Rattle.odb_doc.specs.Records.{Record, IsSoundRecord}
 use Rattle.odb_doc.specs.declared.outcome.Outcome.{Outcome}
 use Rattle.odb_sched.specs.Answers.{status_of}
-use Rattle.odb_reply.specs.Responses.{with_some, response, answer_body, answer_headers, headers_value}
+use Rattle.odb_doc.specs.Canonical.{with_some, headers_value}
+use Rattle.odb_reply.specs.Responses.{response, answer_body, answer_headers}
 use Rattle.odb_reply.proofs.QuoteLemmas.{text-plain}
 use Rattle.odb_reply.specs.Parts.{group_part, member_part, end_part}
 

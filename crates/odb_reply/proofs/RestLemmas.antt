@@ -9,7 +9,8 @@ use Rattle.odb_doc.specs.Records.{Record, IsSoundRecord}
 use Rattle.odb_check.specs.Plans.{plan_records}
 use Rattle.odb_sched.specs.Answers.{answer, status_of}
 use Rattle.odb_sched.specs.State.{State}
-use Rattle.odb_reply.specs.Responses.{response, response_text, answer_body, answer_headers, headers_value}
+use Rattle.odb_doc.specs.Canonical.{headers_value}
+use Rattle.odb_reply.specs.Responses.{response, response_text, answer_body, answer_headers}
 use Rattle.odb_reply.specs.Parts.{rest_text, group_part, member_part, end_part}
 use Rattle.odb_reply.proofs.PartLemmas.{response-parts}
 

@@ -1,42 +1,25 @@
 -- The response to a batch whose run has finished (OData JSON Format 4.01, section 19.5).
-use Rattle.std.specs.Prelude.{ℕ, ◌+◌, List, [], ◌∷◌, map, Option, Some, None, option_map, String, string_bytes, codes}
-use Rattle.std.specs.declared.alloc.Global.{Global}
+use Rattle.std.specs.Prelude.{ℕ, ◌+◌, List, [], ◌∷◌, Option, Some, None, option_map, codes}
 use Rattle.serde_json.specs.Data.{Data, unsigned, number, string, array, object, Members, no_members, put}
-use Rattle.serde_json.specs.View.{view, items_of, members_of}
+use Rattle.serde_json.specs.View.{items_of}
 use Rattle.serde_json.specs.Written.{compact_text}
+use Rattle.odb_doc.specs.Canonical.{headers_value, with_some}
+use Rattle.odb_doc.specs.Headers.{Header}
 use Rattle.odb_doc.specs.Records.{Record}
 use Rattle.odb_doc.specs.declared.outcome.Outcome.{Outcome}
 use Rattle.odb_check.specs.Plans.{plan_records}
 use Rattle.odb_sched.specs.Answers.{answer, status_of}
 use Rattle.odb_sched.specs.State.{State}
 
--- a map of texts, by their names
-abbrev pub Headers : Type 0
-Headers = List (String Global × String Global)
-
--- the members of an object that has these headers
-abbrev pub header_members : Headers → Members
-header_members headers = members_of (map (λ header. (header.0, string (string_bytes header.1))) headers)
-
--- the object of these headers, if there are any
-abbrev pub headers_value : Headers → Option Data
-headers_value [] = None
-headers_value (header ∷ headers) = Some (object (header_members (header ∷ headers)))
-
 -- the headers of an answer. A failed dependency has none
-abbrev pub answer_headers : Option Outcome → Headers
+abbrev pub answer_headers : Option Outcome → List Header
 answer_headers None = []
-answer_headers (Some outcome) = outcome.headers.entries
+answer_headers (Some outcome) = outcome.headers
 
 -- the body of an answer, if any. A failed dependency has none
 abbrev pub answer_body : Option Outcome → Option Data
 answer_body None = None
-answer_body (Some outcome) = option_map view outcome.body
-
--- with this member, if there is a value for it
-abbrev pub with_some : List ℕ → Option Data → Members → Members
-with_some name None members = members
-with_some name (Some d) members = put name d members
+answer_body (Some outcome) = outcome.body
 
 -- the members of the response to a request with this answer
 abbrev pub response_members : Record → Option Outcome → Members

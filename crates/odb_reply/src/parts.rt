@@ -2,6 +2,8 @@ ghost use Rattle.std.specs.Prelude.{◌≡◌, ◌<◌, ◌+◌, ◌∷◌, ◌+
 ghost use Rattle.serde_json.specs.Data.{string, object};
 ghost use Rattle.serde_json.specs.View.{view};
 ghost use Rattle.serde_json.specs.Written.{compact_text, comma_if};
+ghost use Rattle.odb_doc.specs.Canonical.{header_members, headers_value};
+ghost use Rattle.odb_doc.specs.Headers.{headers_in};
 ghost use Rattle.odb_doc.specs.WholeNumbers.{IsWhole};
 ghost use Rattle.odb_check.specs.Plans.{plan_records};
 ghost use Rattle.odb_sched.specs.Answers.{shown};
@@ -92,7 +94,7 @@ fn push_headers(
     headers: &BTreeMap<String, String>,
 ) -> Result<(), AllocError>
     ensures { OnOk result (string_bytes text.new ≡ string_bytes text.old
-        ++ (codes "\"headers\":" ++ compact_text (object (responses.header_members headers.now.entries))
+        ++ (codes "\"headers\":" ++ compact_text (object (header_members (headers_in headers.now)))
         ++ codes ",")) }
 {
     text.push_str("\"headers\":{")?;
@@ -112,7 +114,7 @@ fn push_answer_headers(
 ) -> Result<(), AllocError>
     ensures { OnOk result (string_bytes text.new ≡ string_bytes text.old
         ++ parts.member_part (codes "\"headers\":")
-        (responses.headers_value (responses.answer_headers (shown answer.now)))) }
+        (headers_value (responses.answer_headers (shown answer.now)))) }
 {
     match answer {
         Answer::Reported(outcome) if !outcome.headers.is_empty() => {

@@ -1,7 +1,6 @@
 use Rattle.std.proofs.Common.{◌≡◌, ◌++◌, false, map, string_bytes}
 use Rattle.odb_doc.specs.CanonicalParts.{headers_left}
-use Rattle.odb_doc.specs.Headers.{headers_in}
-use Rattle.odb_doc.proofs.HeaderLemmas.{header_of}
+use Rattle.odb_doc.specs.Headers.{header_of, headers_in}
 use Rattle.odb_doc.proofs.parts.push_members.Given as goal
 
 -- the text so far, and then the headers that are left, are the whole
