@@ -1,6 +1,12 @@
 use Rattle.odb_doc.proofs.BatchLemmas.{AreOneReading}
-use Rattle.odb_doc.proofs.TextLemmas.{reads_back, equal_texts, text_again}
+use Rattle.odb_doc.proofs.TextLemmas.{from_text, value_read, reads_back, equal_texts, text_again}
 use Rattle.odb_doc.proofs.laws.one_text.Goals as goal
+
+pub returns-clause-from_text : goal.returns-clause-from_text
+returns-clause-from_text c = from_text
+
+pub returns-clause-value : goal.returns-clause-value
+returns-clause-value c = value_read
 
 pub returns-clause-reads_back : goal.returns-clause-reads_back
 returns-clause-reads_back c =
