@@ -6,12 +6,12 @@ use Rattle.std.specs.List.{AllZip, AllByRecursion}
 use Rattle.std.specs.List.Sorted.{IsStrictlySortedBy}
 use Rattle.std.specs.Map.{keys_of}
 use Rattle.std.specs.Ordering.{nat_cmp}
-use Rattle.std.proofs.lemmas.Bool.{or_from, or_parts}
-use Rattle.serde_json.specs.Data.{Data, null, boolean, number, string, array, object, Items, no_items, item, Members, no_members, member, put, depth, items_depth, members_depth}
+use Rattle.std.proofs.lemmas.Bool.{or_from}
+use Rattle.serde_json.specs.Data.{Data, null, boolean, number, string, array, object, Items, no_items, item, Members, no_members, member, depth, items_depth, members_depth}
 use Rattle.serde_json.specs.Find.{get, get_member, as_array}
 use Rattle.serde_json.specs.Read.{read}
 use Rattle.serde_json.specs.View.{items_of}
-use Rattle.serde_json.specs.Written.{has_float, items_have_float, members_have_float}
+use Rattle.serde_json.specs.Written.{items_have_float, members_have_float}
 use Rattle.odb_names.specs.Methods.{method_name}
 use Rattle.odb_doc.specs.Canonical.{HasWholeBodies, HasHeldBodies, body_at, names_value, header_members, headers_value, with_some, request_members, request_value, canonical_value, canonical_text}
 use Rattle.odb_doc.specs.Headers.{Header}
@@ -20,49 +20,14 @@ use Rattle.odb_doc.specs.Members.{list_of, given}
 use Rattle.odb_doc.specs.Records.{Record, Says, IsBatchOf}
 use Rattle.odb_doc.specs.Shapes.{elements}
 use Rattle.odb_doc.specs.WholeNumbers.{IsWhole}
-use Rattle.odb_doc.proofs.ReadBackLemmas.{by_order, ordered-put, held-put, read_back}
+use Rattle.odb_doc.proofs.ReadBackLemmas.{by_order, read_back}
+use Rattle.odb_doc.proofs.SafeLemmas.{IsSafe, AreSafe, safe-put, safe-string, safe-none}
 
--- ---- values that are written without loss, nested at most so deep
-
-record IsSafe (n : ℕ) (d : Data) : Type 0 where
-  held : IsHeld d
-  whole : has_float d ≡ false
-  shallow : depth d ≤ n
-
-record AreSafe (n : ℕ) (ms : Members) : Type 0 where
-  ordered : AreOrdered ms
-  held : AreMembersHeld ms
-  whole : members_have_float ms ≡ false
-  shallow : members_depth ms ≤ n
-
-whole-put : (k : List ℕ) (d : Data) (ms : Members) → has_float d ≡ false → members_have_float ms ≡ false → members_have_float (put k d ms) ≡ false
-whole-put k d no_members new rest = or_from (has_float d) false new refl
-whole-put k d (member l e ms) new rest =
-    let parts = or_parts (has_float e) (members_have_float ms) rest in
-    by_order (λ all. members_have_float all ≡ false) (slice_cmp nat_cmp k l) _ _ _
-    (or_from (has_float d) _ new rest) (or_from (has_float d) _ new parts.1) (or_from (has_float e) _ parts.0 (whole-put k d ms new parts.1))
-
-shallow-put : (n : ℕ) (k : List ℕ) (d : Data) (ms : Members) → depth d ≤ n → members_depth ms ≤ n → members_depth (put k d ms) ≤ n
-shallow-put n k d no_members new rest = omega arith
-shallow-put n k d (member l e ms) new rest =
-    by_order (λ all. members_depth all ≤ n) (slice_cmp nat_cmp k l) _ _ _ (omega arith) (omega arith) (omega (arith, shallow-put n k d ms new (omega arith)))
-
-safe-put : (n : ℕ) (k : List ℕ) (d : Data) (ms : Members) → IsSafe n d → AreSafe n ms → AreSafe n (put k d ms)
-safe-put n k d ms new rest = record {
-  ordered = ordered-put k d ms rest.ordered;
-  held = held-put k d ms new.held rest.held;
-  whole = whole-put k d ms new.whole rest.whole;
-  shallow = shallow-put n k d ms new.shallow rest.shallow;
-}
+-- ---- the value of a request
 
 safe-with_some : (n : ℕ) (k : List ℕ) (o : Option Data) (ms : Members) → IfSome o (IsSafe n) → AreSafe n ms → AreSafe n (with_some k o ms)
 safe-with_some n k None ms new rest = rest
 safe-with_some n k (Some d) ms new rest = safe-put n k d ms new rest
-
-safe-string : (n : ℕ) (s : List ℕ) → IsSafe n (string s)
-safe-string n s = record { held = tt; whole = refl; shallow = omega arith }
-
--- ---- the value of a request
 
 safe-group : (n : ℕ) (group : Option (List ℕ)) → IfSome (option_map string group) (IsSafe n)
 safe-group n None = tt
@@ -116,9 +81,6 @@ safe-headers n (header ∷ headers) some ordered = record {
   whole = headers-whole (header ∷ headers);
   shallow = omega (arith, some, headers-shallow (header ∷ headers));
 }
-
-safe-none : (n : ℕ) → AreSafe n no_members
-safe-none n = record { ordered = tt; held = tt; whole = refl; shallow = omega arith }
 
 safe-request : (n : ℕ) (r : Record) → 1 ≤ n → IfSome r.body (IsSafe n) → IsStrictlySortedBy (slice_cmp nat_cmp) (keys_of r.headers) → AreSafe n (request_members r)
 safe-request n r some body ordered =

@@ -16,7 +16,8 @@ mod OneHeaders
 mod OutcomeLemmas
 mod OutcomeListLemmas
 mod ReferenceLemmas
-mod ReadBackLemmas
+pub mod ReadBackLemmas
+pub mod SafeLemmas
 mod RequestLemmas
 mod RuleLemmas
 mod SetLemmas

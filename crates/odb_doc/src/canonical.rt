@@ -1,8 +1,10 @@
-ghost use Rattle.std.specs.Prelude.{◌≡◌, ◌↔◌, ℕ, None, option_map, string_bytes, IsTrue, IfOk, IfSome, OnOk};
+ghost use Rattle.std.specs.Prelude.{◌≡◌, ◌≤◌, ◌↔◌, ℕ, length, None, option_map, string_bytes, IsTrue, IfOk, IfSome, OnOk};
 ghost use Rattle.serde_json.specs.View.{view};
 ghost use Rattle.odb_doc.specs.declared.fault.TextFault.TheVariants as faults;
 ghost use Rattle.odb_doc.specs.Batches.{records};
-ghost use Rattle.odb_doc.specs.Canonical.{HasHeldBodies, HasWholeBodies, IsFirstNotWhole, canonical_text};
+ghost use Rattle.odb_doc.specs.Canonical.{HasHeldBodies, HasWholeBodies, IsFirstNotWhole, canonical_text, canonical_value};
+ghost use Rattle.odb_doc.specs.CanonicalLaws.{HasCanonicalText};
+ghost use Rattle.odb_doc.specs.Documents.{IsDocument, most_bytes};
 ghost use Rattle.odb_doc.specs.HeldValues.{IsHeld};
 ghost use Rattle.odb_doc.specs.WholeNumbers.{HasWholeBody};
 
@@ -77,6 +79,9 @@ impl Batch<'_> {
         ensures text { IfOk result (λ text. string_bytes text ≡ canonical_text (records self.now)) }
         ensures whole { OnOk result (HasWholeBodies (records self.now)) }
         ensures held { OnOk result (HasHeldBodies (records self.now)) }
+        ensures document { IfOk result (λ text. HasCanonicalText (records self.now)
+            → length (string_bytes text) ≤ most_bytes
+            → IsDocument (string_bytes text) (canonical_value (records self.now))) }
         ensures not_whole { (at : ℕ) → (result ≡ Err (faults.NotWhole at))
             ↔ IsFirstNotWhole (records self.now) at }
     {
