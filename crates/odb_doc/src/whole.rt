@@ -12,13 +12,7 @@ fn is_integer(number: &Number) -> bool
     ensures value { IsTrue result ↔ (is_float (number_view number.now) ≡ false) }
     ensures held { IsTrue result → IsHeldNumber (number_view number.now) }
 {
-    match number.as_u64() {
-        Some(_) => true,
-        None => match number.as_i64() {
-            Some(_) => true,
-            None => false,
-        },
-    }
+    number.as_u64().is_some() || number.as_i64().is_some()
 }
 
 /// Returns whether each number in the value is whole: digits without a fraction and an exponent, from
