@@ -1,4 +1,4 @@
--- The canonical text of a batch is read back as the canonical value.
+-- The canonical value of a batch is written without loss.
 use Rattle.std.proofs.Common.{◌≡◌, ℕ, zero, suc, ◌<◌, ◌≤◌, false, length, List, [], ◌∷◌, map, Option, None, Some, option_map, option_and_then, unwrap_or, codes, Less, refl, subst, arith}
 use Rattle.std.specs.Prelude.{IfSome}
 use Rattle.std.specs.Cmp.Lexicographic.{slice_cmp}
@@ -9,18 +9,17 @@ use Rattle.std.specs.Ordering.{nat_cmp}
 use Rattle.std.proofs.lemmas.Bool.{or_from}
 use Rattle.serde_json.specs.Data.{Data, null, boolean, number, string, array, object, Items, no_items, item, Members, no_members, member, depth, items_depth, members_depth}
 use Rattle.serde_json.specs.Find.{get, get_member, as_array}
-use Rattle.serde_json.specs.Read.{read}
 use Rattle.serde_json.specs.View.{items_of}
 use Rattle.serde_json.specs.Written.{items_have_float, members_have_float}
 use Rattle.odb_names.specs.Methods.{method_name}
-use Rattle.odb_doc.specs.Canonical.{HasWholeBodies, HasHeldBodies, body_at, names_value, header_members, headers_value, with_some, request_members, request_value, canonical_value, canonical_text}
+use Rattle.odb_doc.specs.Canonical.{HasWholeBodies, HasHeldBodies, body_at, names_value, header_members, headers_value, with_some, request_members, request_value, canonical_value}
 use Rattle.odb_doc.specs.Headers.{Header}
 use Rattle.odb_doc.specs.HeldValues.{IsBelow, AreOrdered, IsHeld, AreItemsHeld, AreMembersHeld}
 use Rattle.odb_doc.specs.Members.{list_of, given}
 use Rattle.odb_doc.specs.Records.{Record, Says, IsBatchOf}
 use Rattle.odb_doc.specs.Shapes.{elements}
 use Rattle.odb_doc.specs.WholeNumbers.{IsWhole}
-use Rattle.odb_doc.proofs.ReadBackLemmas.{by_order, read_back}
+use Rattle.odb_doc.proofs.ReadBackLemmas.{by_order}
 use Rattle.odb_doc.proofs.SafeLemmas.{IsSafe, AreSafe, safe-put, safe-string, safe-none}
 
 -- ---- the value of a request
@@ -200,10 +199,13 @@ safe-requests n (d ∷ ds) (r ∷ rs) some says bodies =
       shallow = omega (arith, first.shallow, rest.shallow);
     }
 
--- the text of a batch of a value that nests so deep is read as the canonical value
-pub canonical-read : (value : Data) (rs : List Record) → depth value ≤ 127 → IsBatchOf value rs → HasHeldBodies rs → HasWholeBodies rs → read (canonical_text rs) ≡ Some (canonical_value rs)
-unfolding canonical_text
-canonical-read value rs shallow says held whole =
+-- the canonical value of a batch of a value that nests so deep is written without loss
+pub canonical-safe : (value : Data) (rs : List Record) → depth value ≤ 127 → IsBatchOf value rs → HasHeldBodies rs → HasWholeBodies rs → IsSafe 127 (canonical_value rs)
+canonical-safe value rs shallow says held whole =
     let bodies = λ (i : ℕ) (within : i < length rs). safe-body 124 (body_at rs i) (held i within) (whole i within) (nests-bodies value rs shallow says i within) in
     let items = safe-requests 124 (elements value) rs (omega arith) says bodies in
-    read_back (canonical_value rs) ((tt, tt), (items.held, tt)) (or_from (items_have_float (items_of (map request_value rs))) false items.whole refl) (omega (arith, items.shallow))
+    record {
+      held = ((tt, tt), (items.held, tt));
+      whole = or_from (items_have_float (items_of (map request_value rs))) false items.whole refl;
+      shallow = omega (arith, items.shallow);
+    }

@@ -6,6 +6,7 @@ mod DistinctLemmas
 mod ElementLemmas
 mod FaultLemmas
 mod LeastLemmas
+mod LineLemmas
 mod HeaderLemmas
 mod FoldedNames
 mod PartLemmas

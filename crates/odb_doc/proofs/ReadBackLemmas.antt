@@ -194,7 +194,7 @@ is-number (negative (negsuc n)) range whole = IsNumber-signed_decimal (negsuc n)
 is-number (float x) range whole = absurd (cc (whole))
 
 mutual
-  outline-numbers : (d : Data) → IsHeld d → has_float d ≡ false → tree.HasNumbers (outline d)
+  pub outline-numbers : (d : Data) → IsHeld d → has_float d ≡ false → tree.HasNumbers (outline d)
   outline-numbers null held whole = tt
   outline-numbers (boolean b) held whole = tt
   outline-numbers (number n) held whole = is-number n held whole

@@ -4,7 +4,7 @@
 //! The laws are clauses of functions that change nothing. They speak of the words that the clauses of
 //! [`crate::Batch::read`] use, for callers that compare two readings of one value.
 
-ghost use Rattle.std.specs.Prelude.{◌≡◌, ◌≤◌, ◌↔◌, ℕ, List, [], Some, fold};
+ghost use Rattle.std.specs.Prelude.{◌≡◌, ◌≤◌, ◌↔◌, ◌++◌, ℕ, List, [], Some, codes, fold};
 ghost use Rattle.serde_json.specs.Data.{Data, depth};
 ghost use Rattle.serde_json.specs.Read.{read};
 ghost use Rattle.serde_json.specs.Written.{compact_text};
@@ -52,13 +52,16 @@ pub fn one_batch()
 /// What a text is read as, and that what is written for a value is read back as that value.
 ///
 /// What `serde_json` reads from a text is a value that a `Value` can hold and that nests at most 127
-/// deep. The compact text of such a value, if each number in it is whole, is read as the value itself.
-/// That a value in hand is one that a `Value` can hold, [`crate::is_whole`] ensures.
+/// deep. The compact text of such a value, if each number in it is whole, is read as the value itself,
+/// also with a newline at its end. [`crate::is_whole`] ensures of a value in hand that a `Value` can
+/// hold it.
 pub fn every_value()
     ensures held { (text : List ℕ) (value : Data) → read text ≡ Some value → IsHeld value }
     ensures nests { (text : List ℕ) (value : Data) → read text ≡ Some value → depth value ≤ 127 }
     ensures reads_back { (value : Data) → IsHeld value → IsWhole value → depth value ≤ 127
         → read (compact_text value) ≡ Some value }
+    ensures line { (value : Data) → IsHeld value → IsWhole value → depth value ≤ 127
+        → read (compact_text value ++ codes "\n") ≡ Some value }
 {}
 
 /// The canonical text of a batch is a document of that batch (OData JSON Format 4.01, section 19.1).
@@ -68,9 +71,10 @@ pub fn every_value()
 /// [`crate::Batch::canonical`] ensures what they ask of the bodies. A batch that was read from a text is
 /// such a batch (`from_text`).
 ///
-/// What `serde_json` reads from the canonical text is the canonical value, which has no fault of shape
-/// and is the same batch. So two batches have equal canonical texts if and only if they are equal, and
-/// the canonical text of what is read from a canonical text is that text.
+/// What `serde_json` reads from the canonical text, also with a newline at its end, is the canonical
+/// value, which has no fault of shape and is the same batch. So two batches have equal canonical texts
+/// if and only if they are equal, and the canonical text of what is read from a canonical text is that
+/// text.
 pub fn one_text()
     ensures from_text { (text : List ℕ) (batch : List Record) → IsDocumentOf text batch
         → HasWholeBodies batch → HasCanonicalText batch }
@@ -78,6 +82,8 @@ pub fn one_text()
         → read (canonical_text batch) ≡ Some (canonical_value batch) }
     ensures reads_back { (batch : List Record) → HasCanonicalText batch
         → IsDocumentOf (canonical_text batch) batch }
+    ensures line { (batch : List Record) → HasCanonicalText batch
+        → IsDocumentOf (canonical_text batch ++ codes "\n") batch }
     ensures equal { (batch other : List Record) → HasCanonicalText batch → HasCanonicalText other
         → (canonical_text batch ≡ canonical_text other) ↔ (batch ≡ other) }
     ensures again { (batch other : List Record) → HasCanonicalText batch

@@ -1,4 +1,5 @@
 use Rattle.serde_json.proofs.Nesting.{depth-read}
+use Rattle.odb_doc.proofs.LineLemmas.{value_line}
 use Rattle.odb_doc.proofs.ReadBackLemmas.{held-read, read_back}
 use Rattle.odb_doc.proofs.laws.every_value.Goals as goal
 
@@ -10,3 +11,6 @@ returns-clause-nests c = depth-read
 
 pub returns-clause-reads_back : goal.returns-clause-reads_back
 returns-clause-reads_back c = read_back
+
+pub returns-clause-line : goal.returns-clause-line
+returns-clause-line c = value_line
