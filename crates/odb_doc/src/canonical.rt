@@ -66,7 +66,8 @@ impl Batch<'_> {
     ///
     /// Batches with the same requests have the same text, whatever their documents look like: what
     /// is treated as absent is left out, methods and the names of headers are in lower case, and each
-    /// name of `dependsOn` appears once. No newline ends it.
+    /// name of `dependsOn` appears once. No newline ends it. [`crate::parse`] takes it for a document of
+    /// the same batch, unless it is too long.
     ///
     /// Allocates the text, and the text of one body, or of one string with escapes, at a time. It takes
     /// O(n) for a text of n bytes.
