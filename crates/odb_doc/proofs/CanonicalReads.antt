@@ -1,76 +1,40 @@
--- The canonical text of a batch that was read is read back as the canonical value.
-use Rattle.std.proofs.Common.{◌≡◌, ℕ, suc, ◌≤◌, false, List, [], ◌∷◌, map, Option, None, Some, option_map, option_and_then, unwrap_or, codes, Less, refl, subst, arith}
+-- The canonical value of a batch is written without loss.
+use Rattle.std.proofs.Common.{◌≡◌, ℕ, zero, suc, ◌<◌, ◌≤◌, false, length, List, [], ◌∷◌, map, Option, None, Some, option_map, option_and_then, unwrap_or, codes, Less, refl, subst, arith}
 use Rattle.std.specs.Prelude.{IfSome}
 use Rattle.std.specs.Cmp.Lexicographic.{slice_cmp}
 use Rattle.std.specs.List.{AllZip, AllByRecursion}
 use Rattle.std.specs.List.Sorted.{IsStrictlySortedBy}
 use Rattle.std.specs.Map.{keys_of}
 use Rattle.std.specs.Ordering.{nat_cmp}
-use Rattle.std.proofs.lemmas.Bool.{or_from, or_parts}
-use Rattle.serde_json.specs.Data.{Data, null, boolean, number, string, array, object, Items, no_items, item, Members, no_members, member, put, depth, items_depth, members_depth}
+use Rattle.std.proofs.lemmas.Bool.{or_from}
+use Rattle.serde_json.specs.Data.{Data, null, boolean, number, string, array, object, Items, no_items, item, Members, no_members, member, depth, items_depth, members_depth}
 use Rattle.serde_json.specs.Find.{get, get_member, as_array}
-use Rattle.serde_json.specs.Read.{read}
 use Rattle.serde_json.specs.View.{items_of}
-use Rattle.serde_json.specs.Written.{has_float, items_have_float, members_have_float}
-use Rattle.serde_json.proofs.Nesting.{depth-read}
+use Rattle.serde_json.specs.Written.{items_have_float, members_have_float}
 use Rattle.odb_names.specs.Methods.{method_name}
-use Rattle.odb_doc.specs.Canonical.{HasWholeBodies, names_value, header_members, headers_value, with_some, request_members, request_value, canonical_value, canonical_text}
+use Rattle.odb_doc.specs.Canonical.{HasWholeBodies, HasHeldBodies, body_at, names_value, header_members, headers_value, with_some, request_members, request_value, canonical_value}
 use Rattle.odb_doc.specs.Headers.{Header}
+use Rattle.odb_doc.specs.HeldValues.{IsBelow, AreOrdered, IsHeld, AreItemsHeld, AreMembersHeld}
 use Rattle.odb_doc.specs.Members.{list_of, given}
 use Rattle.odb_doc.specs.Records.{Record, Says, IsBatchOf}
 use Rattle.odb_doc.specs.Shapes.{elements}
 use Rattle.odb_doc.specs.WholeNumbers.{IsWhole}
-use Rattle.odb_doc.proofs.ReadBackLemmas.{AreOrdered, IsBelow, IsReadable, AreItemsReadable, AreMembersReadable, by_order, ordered-put, readable-put, readable-read, read_back}
+use Rattle.odb_doc.proofs.ReadBackLemmas.{by_order}
+use Rattle.odb_doc.proofs.SafeLemmas.{IsSafe, AreSafe, safe-put, safe-string, safe-none}
 
--- ---- values that are written without loss, nested at most so deep
-
-record IsSafe (n : ℕ) (d : Data) : Type 0 where
-  readable : IsReadable d
-  whole : has_float d ≡ false
-  shallow : depth d ≤ n
-
-record AreSafe (n : ℕ) (ms : Members) : Type 0 where
-  ordered : AreOrdered ms
-  readable : AreMembersReadable ms
-  whole : members_have_float ms ≡ false
-  shallow : members_depth ms ≤ n
-
-whole-put : (k : List ℕ) (d : Data) (ms : Members) → has_float d ≡ false → members_have_float ms ≡ false → members_have_float (put k d ms) ≡ false
-whole-put k d no_members new rest = or_from (has_float d) false new refl
-whole-put k d (member l e ms) new rest =
-    let parts = or_parts (has_float e) (members_have_float ms) rest in
-    by_order (λ all. members_have_float all ≡ false) (slice_cmp nat_cmp k l) _ _ _
-    (or_from (has_float d) _ new rest) (or_from (has_float d) _ new parts.1) (or_from (has_float e) _ parts.0 (whole-put k d ms new parts.1))
-
-shallow-put : (n : ℕ) (k : List ℕ) (d : Data) (ms : Members) → depth d ≤ n → members_depth ms ≤ n → members_depth (put k d ms) ≤ n
-shallow-put n k d no_members new rest = omega arith
-shallow-put n k d (member l e ms) new rest =
-    by_order (λ all. members_depth all ≤ n) (slice_cmp nat_cmp k l) _ _ _ (omega arith) (omega arith) (omega (arith, shallow-put n k d ms new (omega arith)))
-
-safe-put : (n : ℕ) (k : List ℕ) (d : Data) (ms : Members) → IsSafe n d → AreSafe n ms → AreSafe n (put k d ms)
-safe-put n k d ms new rest = record {
-  ordered = ordered-put k d ms rest.ordered;
-  readable = readable-put k d ms new.readable rest.readable;
-  whole = whole-put k d ms new.whole rest.whole;
-  shallow = shallow-put n k d ms new.shallow rest.shallow;
-}
+-- ---- the value of a request
 
 safe-with_some : (n : ℕ) (k : List ℕ) (o : Option Data) (ms : Members) → IfSome o (IsSafe n) → AreSafe n ms → AreSafe n (with_some k o ms)
 safe-with_some n k None ms new rest = rest
 safe-with_some n k (Some d) ms new rest = safe-put n k d ms new rest
 
-safe-string : (n : ℕ) (s : List ℕ) → IsSafe n (string s)
-safe-string n s = record { readable = tt; whole = refl; shallow = omega arith }
-
--- ---- the value of a request
-
 safe-group : (n : ℕ) (group : Option (List ℕ)) → IfSome (option_map string group) (IsSafe n)
 safe-group n None = tt
 safe-group n (Some group) = safe-string n group
 
-names-readable : (names : List (List ℕ)) → AreItemsReadable (items_of (map string names))
-names-readable [] = tt
-names-readable (name ∷ names) = (tt, names-readable names)
+names-held : (names : List (List ℕ)) → AreItemsHeld (items_of (map string names))
+names-held [] = tt
+names-held (name ∷ names) = (tt, names-held names)
 
 names-whole : (names : List (List ℕ)) → items_have_float (items_of (map string names)) ≡ false
 names-whole [] = refl
@@ -83,7 +47,7 @@ names-shallow (name ∷ names) = omega (arith, names-shallow names)
 safe-names : (n : ℕ) (names : List (List ℕ)) → 1 ≤ n → IfSome (names_value names) (IsSafe n)
 safe-names n [] some = tt
 safe-names n (name ∷ names) some = record {
-  readable = names-readable (name ∷ names);
+  held = names-held (name ∷ names);
   whole = names-whole (name ∷ names);
   shallow = omega (arith, some, names-shallow (name ∷ names));
 }
@@ -97,9 +61,9 @@ unfolding IsStrictlySortedBy
 headers-ordered [] ordered = tt
 headers-ordered (header ∷ headers) ordered = (headers-below header.0 headers ordered.0, headers-ordered headers ordered.1)
 
-headers-readable : (headers : List Header) → AreMembersReadable (header_members headers)
-headers-readable [] = tt
-headers-readable (header ∷ headers) = (tt, headers-readable headers)
+headers-held : (headers : List Header) → AreMembersHeld (header_members headers)
+headers-held [] = tt
+headers-held (header ∷ headers) = (tt, headers-held headers)
 
 headers-whole : (headers : List Header) → members_have_float (header_members headers) ≡ false
 headers-whole [] = refl
@@ -112,13 +76,10 @@ headers-shallow (header ∷ headers) = omega (arith, headers-shallow headers)
 safe-headers : (n : ℕ) (headers : List Header) → 1 ≤ n → IsStrictlySortedBy (slice_cmp nat_cmp) (keys_of headers) → IfSome (headers_value headers) (IsSafe n)
 safe-headers n [] some ordered = tt
 safe-headers n (header ∷ headers) some ordered = record {
-  readable = (headers-ordered (header ∷ headers) ordered, headers-readable (header ∷ headers));
+  held = (headers-ordered (header ∷ headers) ordered, headers-held (header ∷ headers));
   whole = headers-whole (header ∷ headers);
   shallow = omega (arith, some, headers-shallow (header ∷ headers));
 }
-
-safe-none : (n : ℕ) → AreSafe n no_members
-safe-none n = record { ordered = tt; readable = tt; whole = refl; shallow = omega arith }
 
 safe-request : (n : ℕ) (r : Record) → 1 ≤ n → IfSome r.body (IsSafe n) → IsStrictlySortedBy (slice_cmp nat_cmp) (keys_of r.headers) → AreSafe n (request_members r)
 safe-request n r some body ordered =
@@ -130,88 +91,121 @@ safe-request n r some body ordered =
     safe-put n (codes "method") (string (method_name r.method)) _ (safe-string n (method_name r.method)) (
     safe-put n (codes "url") (string r.url) no_members (safe-string n r.url) (safe-none n)))))))
 
--- ---- the bodies of a value that was read
+-- ---- what holds of a value holds of the bodies in it
 
--- readable, and nested at most so deep
-record IsRead (n : ℕ) (d : Data) : Type 0 where
-  readable : IsReadable d
-  shallow : depth d ≤ n
+module _ (P : ℕ → Data → Type 0)
+    (members : (n : ℕ) (k : List ℕ) (ms : Members) → P (suc n) (object ms) → IfSome (get_member k ms) (P n))
+    (items : (n : ℕ) (ds : Items) → P (suc n) (array ds) → AllByRecursion (P n) (list_of ds)) where
+  at-get : (n : ℕ) (k : List ℕ) (d : Data) → P (suc n) d → IfSome (get k d) (P n)
+  at-get n k null holds = tt
+  at-get n k (boolean b) holds = tt
+  at-get n k (number x) holds = tt
+  at-get n k (string s) holds = tt
+  at-get n k (array ds) holds = tt
+  at-get n k (object ms) holds = members n k ms holds
 
-member-read : (n : ℕ) (k : List ℕ) (ms : Members) → AreMembersReadable ms → members_depth ms ≤ n → IfSome (get_member k ms) (IsRead n)
-member-read n k no_members readable shallow = tt
-member-read n k (member l e ms) readable shallow =
-    let rest = member-read n k ms readable.1 (omega arith) in
-    by_order (λ found. IfSome found (IsRead n)) (slice_cmp nat_cmp k l) (get_member k ms) (Some e) (get_member k ms) rest (record { readable = readable.0; shallow = omega arith }) rest
+  at-array : (n : ℕ) (d : Data) → P (suc n) d → IfSome (as_array d) (λ ds. AllByRecursion (P n) (list_of ds))
+  at-array n null holds = tt
+  at-array n (boolean b) holds = tt
+  at-array n (number x) holds = tt
+  at-array n (string s) holds = tt
+  at-array n (array ds) holds = items n ds holds
+  at-array n (object ms) holds = tt
 
-get-read : (n : ℕ) (k : List ℕ) (d : Data) → IsRead (suc n) d → IfSome (get k d) (IsRead n)
-get-read n k null safe = tt
-get-read n k (boolean b) safe = tt
-get-read n k (number x) safe = tt
-get-read n k (string s) safe = tt
-get-read n k (array ds) safe = tt
-get-read n k (object ms) safe = member-read n k ms safe.readable.1 (omega (arith, safe.shallow))
+  at-given : (n : ℕ) (o : Option Data) → IfSome o (P n) → IfSome (given o) (P n)
+  at-given n None holds = tt
+  at-given n (Some null) holds = tt
+  at-given n (Some (boolean b)) holds = holds
+  at-given n (Some (number x)) holds = holds
+  at-given n (Some (string s)) holds = holds
+  at-given n (Some (array ds)) holds = holds
+  at-given n (Some (object ms)) holds = holds
 
-array-read : (n : ℕ) (d : Data) → IsRead (suc n) d → IfSome (as_array d) (λ ds. AreItemsReadable ds × (items_depth ds ≤ n))
-array-read n null safe = tt
-array-read n (boolean b) safe = tt
-array-read n (number x) safe = tt
-array-read n (string s) safe = tt
-array-read n (array ds) safe = (safe.readable, omega (arith, safe.shallow))
-array-read n (object ms) safe = tt
+  at-listed : (n : ℕ) (o : Option Items) → IfSome o (λ ds. AllByRecursion (P n) (list_of ds)) → AllByRecursion (P n) (unwrap_or (option_map list_of o) [])
+  at-listed n None holds = tt
+  at-listed n (Some ds) holds = holds
 
-list-read : (n : ℕ) (ds : Items) → AreItemsReadable ds → items_depth ds ≤ n → AllByRecursion (IsRead n) (list_of ds)
-list-read n no_items readable shallow = tt
-list-read n (item d ds) readable shallow = (record { readable = readable.0; shallow = omega arith }, list-read n ds readable.1 (omega arith))
+  at-elements_of : (n : ℕ) (o : Option Data) → IfSome o (P (suc n)) → AllByRecursion (P n) (unwrap_or (option_map list_of (option_and_then as_array o)) [])
+  at-elements_of n None holds = tt
+  at-elements_of n (Some d) holds = at-listed n (as_array d) (at-array n d holds)
 
-given-read : (n : ℕ) (o : Option Data) → IfSome o (IsRead n) → IfSome (given o) (IsRead n)
-given-read n None safe = tt
-given-read n (Some null) safe = tt
-given-read n (Some (boolean b)) safe = safe
-given-read n (Some (number x)) safe = safe
-given-read n (Some (string s)) safe = safe
-given-read n (Some (array ds)) safe = safe
-given-read n (Some (object ms)) safe = safe
+  at-elements : (n : ℕ) (d : Data) → P (suc (suc n)) d → AllByRecursion (P n) (elements d)
+  at-elements n d holds = at-elements_of n (get (codes "requests") d) (at-get (suc n) (codes "requests") d holds)
 
-listed-read : (n : ℕ) (o : Option Items) → IfSome o (λ ds. AreItemsReadable ds × (items_depth ds ≤ n)) → AllByRecursion (IsRead n) (unwrap_or (option_map list_of o) [])
-listed-read n None safe = tt
-listed-read n (Some ds) safe = list-read n ds safe.0 safe.1
+  at-bodies : (n : ℕ) (ds : List Data) (rs : List Record) → AllZip Says ds rs → AllByRecursion (P (suc n)) ds → (i : ℕ) → i < length rs → IfSome (body_at rs i) (P n)
+  at-bodies n [] [] says holds i within = absurd (omega (arith, within))
+  at-bodies n [] (r ∷ rs) says holds i within = absurd says
+  at-bodies n (d ∷ ds) [] says holds i within = absurd says
+  at-bodies n (d ∷ ds) (r ∷ rs) says holds zero within =
+      subst (λ (o : Option Data). IfSome o (P n)) says.0.body (at-given n (get (codes "body") d) (at-get n (codes "body") d holds.0))
+  at-bodies n (d ∷ ds) (r ∷ rs) says holds (suc i) within = at-bodies n ds rs says.1 holds.1 i (omega (arith, within))
 
-elements-of : (n : ℕ) (o : Option Data) → IfSome o (IsRead (suc n)) → AllByRecursion (IsRead n) (unwrap_or (option_map list_of (option_and_then as_array o)) [])
-elements-of n None safe = tt
-elements-of n (Some d) safe = listed-read n (as_array d) (array-read n d safe)
+  at-batch : (n : ℕ) (value : Data) (rs : List Record) → P (suc (suc (suc n))) value → IsBatchOf value rs → (i : ℕ) → i < length rs → IfSome (body_at rs i) (P n)
+  at-batch n value rs holds says = at-bodies n (elements value) rs says (at-elements (suc n) value holds)
 
-elements-read : (n : ℕ) (d : Data) → IsRead (suc (suc n)) d → AllByRecursion (IsRead n) (elements d)
-elements-read n d safe = elements-of n (get (codes "requests") d) (get-read (suc n) (codes "requests") d safe)
+abbrev Nests : ℕ → Data → Type 0
+Nests n d = depth d ≤ n
 
-safe-body : (n : ℕ) (o : Option Data) → IfSome o (IsRead n) → IfSome o IsWhole → IfSome o (IsSafe n)
-safe-body n None safe whole = tt
-safe-body n (Some d) safe whole = record { readable = safe.readable; whole = whole; shallow = safe.shallow }
+nests-member : (n : ℕ) (k : List ℕ) (ms : Members) → members_depth ms ≤ n → IfSome (get_member k ms) (Nests n)
+nests-member n k no_members shallow = tt
+nests-member n k (member l e ms) shallow =
+    let rest = nests-member n k ms (omega arith) in
+    by_order (λ found. IfSome found (Nests n)) (slice_cmp nat_cmp k l) (get_member k ms) (Some e) (get_member k ms) rest (omega arith) rest
+
+nests-list : (n : ℕ) (ds : Items) → items_depth ds ≤ n → AllByRecursion (Nests n) (list_of ds)
+nests-list n no_items shallow = tt
+nests-list n (item d ds) shallow = (omega arith, nests-list n ds (omega arith))
+
+nests-bodies : (value : Data) (rs : List Record) → depth value ≤ 127 → IsBatchOf value rs → (i : ℕ) → i < length rs → IfSome (body_at rs i) (Nests 124)
+nests-bodies = at-batch Nests (λ n k ms shallow. nests-member n k ms (omega (arith, shallow))) (λ n ds shallow. nests-list n ds (omega (arith, shallow))) 124
+
+abbrev Holds : ℕ → Data → Type 0
+Holds n d = IsHeld d
+
+held-member : (k : List ℕ) (ms : Members) → AreMembersHeld ms → IfSome (get_member k ms) IsHeld
+held-member k no_members held = tt
+held-member k (member l e ms) held =
+    let rest = held-member k ms held.1 in
+    by_order (λ found. IfSome found IsHeld) (slice_cmp nat_cmp k l) (get_member k ms) (Some e) (get_member k ms) rest held.0 rest
+
+held-list : (ds : Items) → AreItemsHeld ds → AllByRecursion IsHeld (list_of ds)
+held-list no_items held = tt
+held-list (item d ds) held = (held.0, held-list ds held.1)
+
+pub held-bodies : (value : Data) (rs : List Record) → IsHeld value → IsBatchOf value rs → HasHeldBodies rs
+held-bodies = at-batch Holds (λ n k ms held. held-member k ms held.1) (λ n ds held. held-list ds held) 0
 
 -- ---- the whole
 
+safe-body : (n : ℕ) (o : Option Data) → IfSome o IsHeld → IfSome o IsWhole → IfSome o (Nests n) → IfSome o (IsSafe n)
+safe-body n None held whole shallow = tt
+safe-body n (Some d) held whole shallow = record { held = held; whole = whole; shallow = shallow }
+
 record AreItemsSafe (n : ℕ) (ds : Items) : Type 0 where
-  readable : AreItemsReadable ds
+  held : AreItemsHeld ds
   whole : items_have_float ds ≡ false
   shallow : items_depth ds ≤ n
 
-safe-requests : (n : ℕ) (ds : List Data) (rs : List Record) → 1 ≤ n → AllZip Says ds rs → AllByRecursion (IsRead (suc n)) ds → HasWholeBodies rs → AreItemsSafe (suc n) (items_of (map request_value rs))
-safe-requests n [] [] some says read whole = record { readable = tt; whole = refl; shallow = omega arith }
-safe-requests n [] (r ∷ rs) some says read whole = absurd says
-safe-requests n (d ∷ ds) [] some says read whole = absurd says
-safe-requests n (d ∷ ds) (r ∷ rs) some says read whole =
-    let given-body : IfSome r.body (IsRead n) = subst (λ (o : Option Data). IfSome o (IsRead n)) says.0.body (given-read n (get (codes "body") d) (get-read n (codes "body") d read.0)) in
-    let first = safe-request n r some (safe-body n r.body given-body (whole 0 (omega arith))) says.0.headers.ordered in
-    let rest = safe-requests n ds rs some says.1 read.1 (λ i within. whole (suc i) (omega (arith, within))) in
+safe-requests : (n : ℕ) (ds : List Data) (rs : List Record) → 1 ≤ n → AllZip Says ds rs → ((i : ℕ) → i < length rs → IfSome (body_at rs i) (IsSafe n)) → AreItemsSafe (suc n) (items_of (map request_value rs))
+safe-requests n [] [] some says bodies = record { held = tt; whole = refl; shallow = omega arith }
+safe-requests n [] (r ∷ rs) some says bodies = absurd says
+safe-requests n (d ∷ ds) [] some says bodies = absurd says
+safe-requests n (d ∷ ds) (r ∷ rs) some says bodies =
+    let first = safe-request n r some (bodies 0 (omega arith)) says.0.headers.ordered in
+    let rest = safe-requests n ds rs some says.1 (λ i within. bodies (suc i) (omega (arith, within))) in
     record {
-      readable = ((first.ordered, first.readable), rest.readable);
+      held = ((first.ordered, first.held), rest.held);
       whole = or_from (members_have_float (request_members r)) _ first.whole rest.whole;
       shallow = omega (arith, first.shallow, rest.shallow);
     }
 
--- a batch that was read, and whose bodies hold whole numbers alone, has a text that is read back
-pub canonical-read : (bytes : List ℕ) (value : Data) (rs : List Record) → read bytes ≡ Some value → IsBatchOf value rs → HasWholeBodies rs → read (canonical_text rs) ≡ Some (canonical_value rs)
-unfolding canonical_text
-canonical-read bytes value rs is says whole =
-    let safe : IsRead 127 value = record { readable = readable-read bytes value is; shallow = depth-read bytes value is } in
-    let items = safe-requests 124 (elements value) rs (omega arith) says (elements-read 125 value safe) whole in
-    read_back (canonical_value rs) ((tt, tt), (items.readable, tt)) (or_from (items_have_float (items_of (map request_value rs))) false items.whole refl) (omega (arith, items.shallow))
+-- the canonical value of a batch of a value that nests so deep is written without loss
+pub canonical-safe : (value : Data) (rs : List Record) → depth value ≤ 127 → IsBatchOf value rs → HasHeldBodies rs → HasWholeBodies rs → IsSafe 127 (canonical_value rs)
+canonical-safe value rs shallow says held whole =
+    let bodies = λ (i : ℕ) (within : i < length rs). safe-body 124 (body_at rs i) (held i within) (whole i within) (nests-bodies value rs shallow says i within) in
+    let items = safe-requests 124 (elements value) rs (omega arith) says bodies in
+    record {
+      held = ((tt, tt), (items.held, tt));
+      whole = or_from (items_have_float (items_of (map request_value rs))) false items.whole refl;
+      shallow = omega (arith, items.shallow);
+    }

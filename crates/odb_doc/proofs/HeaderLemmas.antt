@@ -45,7 +45,7 @@ all_less : (k : String Global) (es : List (String Global × String Global)) → 
 all_less k [] all = tt
 all_less k (e ∷ es) all = (all.0, all_less k es all.1)
 
-ordered_entries : (es : List (String Global × String Global)) → IsStrictlySortedBy string_cmp (keys_of es) → IsStrictlySortedBy (slice_cmp nat_cmp) (keys_of (map header_of es))
+pub ordered_entries : (es : List (String Global × String Global)) → IsStrictlySortedBy string_cmp (keys_of es) → IsStrictlySortedBy (slice_cmp nat_cmp) (keys_of (map header_of es))
 unfolding IsStrictlySortedBy
 ordered_entries [] ordered = tt
 ordered_entries (e ∷ es) ordered = (all_less e.0 es ordered.0, ordered_entries es ordered.1)

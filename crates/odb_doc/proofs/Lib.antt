@@ -6,6 +6,7 @@ mod DistinctLemmas
 mod ElementLemmas
 mod FaultLemmas
 mod LeastLemmas
+mod LineLemmas
 mod HeaderLemmas
 mod FoldedNames
 mod PartLemmas
@@ -17,7 +18,8 @@ mod OutcomeLemmas
 mod OutcomeListLemmas
 mod RecordingLemmas
 mod ReferenceLemmas
-mod ReadBackLemmas
+pub mod ReadBackLemmas
+pub mod SafeLemmas
 mod RequestLemmas
 mod RuleLemmas
 mod SetLemmas

@@ -20,43 +20,7 @@ use Rattle.serde_json.specs.Read.{is_integer, number_from, number_of, of_json, o
 use Rattle.serde_json.specs.Written.{number_text, outline, items_outline, members_outline, has_float, items_have_float, members_have_float, compact_text}
 use Rattle.serde_json.proofs.Numbers.{number_of-decimal, number_of-negative}
 use Rattle.serde_json.proofs.Texts.{print-outline}
-
--- ---- what a value is that was read
-
--- an integer of 64 bits, or a float
-abbrev IsInRange : Num → Type 0
-IsInRange (unsigned n) = n < 2 ^ 64
-IsInRange (negative (pos n)) = ⊥
-IsInRange (negative (negsuc n)) = n < 2 ^ 63
-IsInRange (float x) = ⊤
-
--- the name is below each of these
-abbrev pub IsBelow : List ℕ → Members → Type 0
-IsBelow name no_members = ⊤
-IsBelow name (member k d ms) = (slice_cmp nat_cmp name k ≡ Less) × IsBelow name ms
-
--- the names rise
-abbrev pub AreOrdered : Members → Type 0
-AreOrdered no_members = ⊤
-AreOrdered (member k d ms) = IsBelow k ms × AreOrdered ms
-
-abbrev mutual
-  -- each integer has 64 bits, and the names of each object rise
-  pub IsReadable : Data → Type 0
-  IsReadable null = ⊤
-  IsReadable (boolean b) = ⊤
-  IsReadable (number n) = IsInRange n
-  IsReadable (string s) = ⊤
-  IsReadable (array ds) = AreItemsReadable ds
-  IsReadable (object ms) = AreOrdered ms × AreMembersReadable ms
-
-  pub AreItemsReadable : Items → Type 0
-  AreItemsReadable no_items = ⊤
-  AreItemsReadable (item d ds) = IsReadable d × AreItemsReadable ds
-
-  pub AreMembersReadable : Members → Type 0
-  AreMembersReadable no_members = ⊤
-  AreMembersReadable (member k d ms) = IsReadable d × AreMembersReadable ms
+use Rattle.odb_doc.specs.HeldValues.{IsHeldNumber, IsBelow, AreOrdered, IsHeld, AreItemsHeld, AreMembersHeld}
 
 -- ---- one more member
 
@@ -88,11 +52,11 @@ pub ordered-put : (k : List ℕ) (d : Data) (ms : Members) → AreOrdered ms →
 ordered-put k d no_members ordered = (tt, tt)
 ordered-put k d (member l e ms) ordered = ordered-at _ k l d e ms refl ordered (ordered-put k d ms ordered.1)
 
-pub readable-put : (k : List ℕ) (d : Data) (ms : Members) → IsReadable d → AreMembersReadable ms → AreMembersReadable (put k d ms)
-readable-put k d no_members new rest = (new, tt)
-readable-put k d (member l e ms) new rest = by_order AreMembersReadable (slice_cmp nat_cmp k l) _ _ _ (new, rest) (new, rest.1) (rest.0, readable-put k d ms new rest.1)
+pub held-put : (k : List ℕ) (d : Data) (ms : Members) → IsHeld d → AreMembersHeld ms → AreMembersHeld (put k d ms)
+held-put k d no_members new rest = (new, tt)
+held-put k d (member l e ms) new rest = by_order AreMembersHeld (slice_cmp nat_cmp k l) _ _ _ (new, rest) (new, rest.1) (rest.0, held-put k d ms new rest.1)
 
--- ---- what was read is readable
+-- ---- what was read is held
 
 module _ {A B : Type 0} (P : A → Type 0) (Q : B → Type 0) where
   IfSome-map : (h : A → B) → ((a : A) → P a → Q (h a)) → (o : Option A) → IfSome o P → IfSome (option_map h o) Q
@@ -111,27 +75,27 @@ either : {A : Type 0} (P : A → Type 0) (b : Bool) (x y : Option A) → (b ≡ 
 either P true x y p q = p refl
 either P false x y p q = q
 
-negative-range : (n : ℕ) → 0 < n → n ≤ 2 ^ 63 → IsInRange (negative (neg_ℤ (pos n)))
+negative-range : (n : ℕ) → 0 < n → n ≤ 2 ^ 63 → IsHeldNumber (negative (neg_ℤ (pos n)))
 negative-range zero some fits = absurd (omega (arith, some))
 negative-range (suc n) some fits = omega (arith, fits)
 
 -- the same of a number that may not be there, so that a number by cases is taken apart
 record MayRange (o : Option Num) : Type 0 where
-  is : IfSome o IsInRange
+  is : IfSome o IsHeldNumber
 
-no-number : (b : Bool) (n : Num) → IsInRange n → MayRange (if b then Some n else None)
-no-number b n range = record { is = either IsInRange b (Some n) None (λ _. range) tt }
+no-number : (b : Bool) (n : Num) → IsHeldNumber n → MayRange (if b then Some n else None)
+no-number b n range = record { is = either IsHeldNumber b (Some n) None (λ _. range) tt }
 
 positive-number : (a : Bool) (n : ℕ) (x : Option Num) → MayRange x → MayRange (if a && nat_lt n (2 ^ 64) then Some (unsigned n) else x)
-positive-number a n x other = record { is = either IsInRange (a && nat_lt n (2 ^ 64)) (Some (unsigned n)) x (λ is. grind (arith, nat_tests)) other.is }
+positive-number a n x other = record { is = either IsHeldNumber (a && nat_lt n (2 ^ 64)) (Some (unsigned n)) x (λ is. grind (arith, nat_tests)) other.is }
 
 negative-number : (a : Bool) (n : ℕ) (x : Option Num) → MayRange x → MayRange (if a && nat_lt 0 n && nat_le n (2 ^ 63) then Some (negative (neg_ℤ (pos n))) else x)
 negative-number a n x other = record {
-  is = either IsInRange (a && nat_lt 0 n && nat_le n (2 ^ 63)) (Some (negative (neg_ℤ (pos n)))) x (λ is. negative-range n (grind (arith, nat_tests)) (grind (arith, nat_tests))) other.is;
+  is = either IsHeldNumber (a && nat_lt 0 n && nat_le n (2 ^ 63)) (Some (negative (neg_ℤ (pos n)))) x (λ is. negative-range n (grind (arith, nat_tests)) (grind (arith, nat_tests))) other.is;
 }
 
 either-number : (b : Bool) (x y : Option Num) → MayRange x → MayRange y → MayRange (if b then x else y)
-either-number b x y first second = record { is = either IsInRange b x y (λ _. first.is) second.is }
+either-number b x y first second = record { is = either IsHeldNumber b x y (λ _. first.is) second.is }
 
 number_from-range : (sign : Bool) (p : Parts) → MayRange (number_from sign p)
 number_from-range false p = positive-number (is_integer p) _ _ (no-number _ _ tt)
@@ -142,30 +106,30 @@ unfolding number_of
 number_of-range s = either-number (slice_index s 0 == 45) _ _ (number_from-range true (scan_numeral (drop 1 s))) (number_from-range false (scan_numeral s))
 
 mutual
-  readable-of_json : (j : json.Json) → IfSome (of_json j) IsReadable
-  readable-of_json json.null = tt
-  readable-of_json (json.boolean b) = tt
-  readable-of_json (json.number s) = IfSome-map IsInRange IsReadable number (λ n x. x) (number_of s) (number_of-range s).is
-  readable-of_json (json.string s) = tt
-  readable-of_json (json.array js) = IfSome-map AreItemsReadable IsReadable array (λ ds x. x) (of_items js) (readable-of_items js)
-  readable-of_json (json.object ms) = IfSome-map (λ found. AreOrdered found × AreMembersReadable found) IsReadable object (λ found x. x) (of_members ms no_members) (readable-of_members ms no_members tt tt)
+  held-of_json : (j : json.Json) → IfSome (of_json j) IsHeld
+  held-of_json json.null = tt
+  held-of_json (json.boolean b) = tt
+  held-of_json (json.number s) = IfSome-map IsHeldNumber IsHeld number (λ n x. x) (number_of s) (number_of-range s).is
+  held-of_json (json.string s) = tt
+  held-of_json (json.array js) = IfSome-map AreItemsHeld IsHeld array (λ ds x. x) (of_items js) (held-of_items js)
+  held-of_json (json.object ms) = IfSome-map (λ found. AreOrdered found × AreMembersHeld found) IsHeld object (λ found x. x) (of_members ms no_members) (held-of_members ms no_members tt tt)
 
-  readable-of_items : (js : json.Items) → IfSome (of_items js) AreItemsReadable
-  readable-of_items json.no_items = tt
-  readable-of_items (json.item j js) =
-      IfSome-and_then IsReadable AreItemsReadable _ (λ d x. IfSome-map AreItemsReadable AreItemsReadable (item d) (λ ds y. (x, y)) (of_items js) (readable-of_items js)) (of_json j) (readable-of_json j)
+  held-of_items : (js : json.Items) → IfSome (of_items js) AreItemsHeld
+  held-of_items json.no_items = tt
+  held-of_items (json.item j js) =
+      IfSome-and_then IsHeld AreItemsHeld _ (λ d x. IfSome-map AreItemsHeld AreItemsHeld (item d) (λ ds y. (x, y)) (of_items js) (held-of_items js)) (of_json j) (held-of_json j)
 
-  readable-of_members : (ms : json.Members) (found : Members) → AreOrdered found → AreMembersReadable found → IfSome (of_members ms found) (λ all. AreOrdered all × AreMembersReadable all)
-  readable-of_members json.no_members found ordered readable = (ordered, readable)
-  readable-of_members (json.member k j ms) found ordered readable =
-      IfSome-and_then IsReadable (λ all. AreOrdered all × AreMembersReadable all) _ (λ d x. readable-of_members ms (put k d found) (ordered-put k d found ordered) (readable-put k d found x readable)) (of_json j) (readable-of_json j)
+  held-of_members : (ms : json.Members) (found : Members) → AreOrdered found → AreMembersHeld found → IfSome (of_members ms found) (λ all. AreOrdered all × AreMembersHeld all)
+  held-of_members json.no_members found ordered held = (ordered, held)
+  held-of_members (json.member k j ms) found ordered held =
+      IfSome-and_then IsHeld (λ all. AreOrdered all × AreMembersHeld all) _ (λ d x. held-of_members ms (put k d found) (ordered-put k d found ordered) (held-put k d found x held)) (of_json j) (held-of_json j)
 
-pub readable-read : (text : List ℕ) (d : Data) → read text ≡ Some d → IsReadable d
-readable-read text d is =
+pub held-read : (text : List ℕ) (d : Data) → read text ≡ Some d → IsHeld d
+held-read text d is =
     let parsed : Option json.Json = option_and_then (λ p. json.if_last p.0 p.1) (json.value max_depth (tokens text)) in
-    subst (λ o. IfSome o IsReadable) is (IfSome-and_then (λ _. ⊤) IsReadable of_json (λ j _. readable-of_json j) parsed (any parsed))
+    subst (λ o. IfSome o IsHeld) is (IfSome-and_then (λ _. ⊤) IsHeld of_json (λ j _. held-of_json j) parsed (any parsed))
 
--- ---- what is readable is read back
+-- ---- what is held is read back
 
 abbrev join : Members → Members → Members
 join no_members ms = ms
@@ -193,59 +157,59 @@ put-last : (done : Members) (k : List ℕ) (d : Data) (ms : Members) → Precede
 put-last no_members k d ms before = refl
 put-last (member l e done) k d ms before = rw (turned l k Less before.0.0) (ap (member l e) (put-last done k d ms before.1))
 
-number-reads : (n : Num) → IsInRange n → is_float n ≡ false → number_of (number_text n) ≡ Some n
+number-reads : (n : Num) → IsHeldNumber n → is_float n ≡ false → number_of (number_text n) ≡ Some n
 number-reads (unsigned n) range whole = number_of-decimal n range
 number-reads (negative (pos n)) range whole = absurd range
 number-reads (negative (negsuc n)) range whole = number_of-negative n range
 number-reads (float x) range whole = absurd (cc (whole))
 
 mutual
-  outline-reads : (d : Data) → IsReadable d → has_float d ≡ false → of_json (outline d) ≡ Some d
-  outline-reads null readable whole = refl
-  outline-reads (boolean b) readable whole = refl
-  outline-reads (number n) readable whole = ap (option_map number) (number-reads n readable whole)
-  outline-reads (string s) readable whole = refl
-  outline-reads (array ds) readable whole = ap (option_map array) (outline-items ds readable whole)
-  outline-reads (object ms) readable whole = ap (option_map object) (outline-members ms no_members tt readable.0 readable.1 whole)
+  outline-reads : (d : Data) → IsHeld d → has_float d ≡ false → of_json (outline d) ≡ Some d
+  outline-reads null held whole = refl
+  outline-reads (boolean b) held whole = refl
+  outline-reads (number n) held whole = ap (option_map number) (number-reads n held whole)
+  outline-reads (string s) held whole = refl
+  outline-reads (array ds) held whole = ap (option_map array) (outline-items ds held whole)
+  outline-reads (object ms) held whole = ap (option_map object) (outline-members ms no_members tt held.0 held.1 whole)
 
-  outline-items : (ds : Items) → AreItemsReadable ds → items_have_float ds ≡ false → of_items (items_outline ds) ≡ Some ds
-  outline-items no_items readable whole = refl
-  outline-items (item d ds) readable whole =
+  outline-items : (ds : Items) → AreItemsHeld ds → items_have_float ds ≡ false → of_items (items_outline ds) ≡ Some ds
+  outline-items no_items held whole = refl
+  outline-items (item d ds) held whole =
       let parts = or_parts (has_float d) (items_have_float ds) whole in
-      ap (option_and_then (λ e. option_map (item e) (of_items (items_outline ds)))) (outline-reads d readable.0 parts.0) ∙ ap (option_map (item d)) (outline-items ds readable.1 parts.1)
+      ap (option_and_then (λ e. option_map (item e) (of_items (items_outline ds)))) (outline-reads d held.0 parts.0) ∙ ap (option_map (item d)) (outline-items ds held.1 parts.1)
 
-  outline-members : (ms done : Members) → Precede done ms → AreOrdered ms → AreMembersReadable ms → members_have_float ms ≡ false → of_members (members_outline ms) done ≡ Some (join done ms)
-  outline-members no_members done before ordered readable whole = ap Some (sym (join-none done))
-  outline-members (member k d ms) done before ordered readable whole =
+  outline-members : (ms done : Members) → Precede done ms → AreOrdered ms → AreMembersHeld ms → members_have_float ms ≡ false → of_members (members_outline ms) done ≡ Some (join done ms)
+  outline-members no_members done before ordered held whole = ap Some (sym (join-none done))
+  outline-members (member k d ms) done before ordered held whole =
       let parts = or_parts (has_float d) (members_have_float ms) whole in
-      ap (option_and_then (λ e. of_members (members_outline ms) (put k e done))) (outline-reads d readable.0 parts.0)
+      ap (option_and_then (λ e. of_members (members_outline ms) (put k e done))) (outline-reads d held.0 parts.0)
       ∙ ap (of_members (members_outline ms)) (put-last done k d ms before)
-      ∙ outline-members ms (join done (member k d no_members)) (precede-more done k d ms before ordered.0) ordered.1 readable.1 parts.1
+      ∙ outline-members ms (join done (member k d no_members)) (precede-more done k d ms before ordered.0) ordered.1 held.1 parts.1
       ∙ ap Some (join-more done k d ms)
 
-is-number : (n : Num) → IsInRange n → is_float n ≡ false → IsNumber (number_text n)
+is-number : (n : Num) → IsHeldNumber n → is_float n ≡ false → IsNumber (number_text n)
 is-number (unsigned n) range whole = IsNumber-decimal n range
 is-number (negative (pos n)) range whole = absurd range
 is-number (negative (negsuc n)) range whole = IsNumber-signed_decimal (negsuc n) range
 is-number (float x) range whole = absurd (cc (whole))
 
 mutual
-  outline-numbers : (d : Data) → IsReadable d → has_float d ≡ false → tree.HasNumbers (outline d)
-  outline-numbers null readable whole = tt
-  outline-numbers (boolean b) readable whole = tt
-  outline-numbers (number n) readable whole = is-number n readable whole
-  outline-numbers (string s) readable whole = tt
-  outline-numbers (array ds) readable whole = items-numbers ds readable whole
-  outline-numbers (object ms) readable whole = members-numbers ms readable.1 whole
+  pub outline-numbers : (d : Data) → IsHeld d → has_float d ≡ false → tree.HasNumbers (outline d)
+  outline-numbers null held whole = tt
+  outline-numbers (boolean b) held whole = tt
+  outline-numbers (number n) held whole = is-number n held whole
+  outline-numbers (string s) held whole = tt
+  outline-numbers (array ds) held whole = items-numbers ds held whole
+  outline-numbers (object ms) held whole = members-numbers ms held.1 whole
 
-  items-numbers : (ds : Items) → AreItemsReadable ds → items_have_float ds ≡ false → tree.ItemsHaveNumbers (items_outline ds)
-  items-numbers no_items readable whole = tt
-  items-numbers (item d ds) readable whole = let parts = or_parts (has_float d) (items_have_float ds) whole in (outline-numbers d readable.0 parts.0, items-numbers ds readable.1 parts.1)
+  items-numbers : (ds : Items) → AreItemsHeld ds → items_have_float ds ≡ false → tree.ItemsHaveNumbers (items_outline ds)
+  items-numbers no_items held whole = tt
+  items-numbers (item d ds) held whole = let parts = or_parts (has_float d) (items_have_float ds) whole in (outline-numbers d held.0 parts.0, items-numbers ds held.1 parts.1)
 
-  members-numbers : (ms : Members) → AreMembersReadable ms → members_have_float ms ≡ false → tree.MembersHaveNumbers (members_outline ms)
-  members-numbers no_members readable whole = tt
-  members-numbers (member k d ms) readable whole =
-      let parts = or_parts (has_float d) (members_have_float ms) whole in (outline-numbers d readable.0 parts.0, members-numbers ms readable.1 parts.1)
+  members-numbers : (ms : Members) → AreMembersHeld ms → members_have_float ms ≡ false → tree.MembersHaveNumbers (members_outline ms)
+  members-numbers no_members held whole = tt
+  members-numbers (member k d ms) held whole =
+      let parts = or_parts (has_float d) (members_have_float ms) whole in (outline-numbers d held.0 parts.0, members-numbers ms held.1 parts.1)
 
 mutual
   outline-depth : (d : Data) → tree.depth (outline d) ≡ depth d
@@ -264,9 +228,9 @@ mutual
   members-depth no_members = refl
   members-depth (member k d ms) = ap₂ max (outline-depth d) (members-depth ms)
 
-pub read_back : (d : Data) → IsReadable d → has_float d ≡ false → depth d ≤ max_depth → read (compact_text d) ≡ Some d
-read_back d readable whole shallow =
+pub read_back : (d : Data) → IsHeld d → has_float d ≡ false → depth d ≤ max_depth → read (compact_text d) ≡ Some d
+read_back d held whole shallow =
     let lexed : tokens (compact_text d) ≡ tree.json_tokens (outline d) ++ [] =
-    ap tokens (sym (print-outline d)) ∙ tokens-print (tree.json_tokens (outline d)) (ArePrintable-json_tokens (outline d) (outline-numbers d readable whole)) ∙ sym (append-nil (tree.json_tokens (outline d))) in
+    ap tokens (sym (print-outline d)) ∙ tokens-print (tree.json_tokens (outline d)) (ArePrintable-json_tokens (outline d) (outline-numbers d held whole)) ∙ sym (append-nil (tree.json_tokens (outline d))) in
     ap (λ o. option_and_then of_json (option_and_then (λ p. json.if_last p.0 p.1) o)) (ap (json.value max_depth) lexed ∙ value-json_tokens (outline d) max_depth [] (rw (outline-depth d) shallow))
-    ∙ outline-reads d readable whole
+    ∙ outline-reads d held whole

@@ -1,11 +1,12 @@
 -- The canonical value of a batch and its text: members in byte order, without those that mean nothing (OData JSON
 -- Format 4.01, section 19.1).
-use Rattle.std.specs.Prelude.{ℕ, List, [], ◌∷◌, map, Option, Some, None, option_map, option_and_then, slice_get, length, codes}
+use Rattle.std.specs.Prelude.{ℕ, ◌<◌, List, [], ◌∷◌, map, Option, Some, None, IfSome, option_map, option_and_then, slice_get, length, codes}
 use Rattle.serde_json.specs.Data.{Data, string, array, object, Members, no_members, member, put}
 use Rattle.serde_json.specs.View.{items_of}
 use Rattle.serde_json.specs.Written.{compact_text}
 use Rattle.odb_names.specs.Methods.{method_name}
 use Rattle.odb_doc.specs.Headers.{Header}
+use Rattle.odb_doc.specs.HeldValues.{IsHeld}
 use Rattle.odb_doc.specs.Records.{Record}
 use Rattle.odb_doc.specs.WholeNumbers as whole
 
@@ -53,6 +54,10 @@ canonical_text rs = compact_text (canonical_value rs)
 -- the body of the request at a position, if any
 abbrev pub body_at : List Record → ℕ → Option Data
 body_at rs i = option_and_then (λ r. r.body) (slice_get rs i)
+
+-- each body is one that a `Value` can hold
+abbrev pub HasHeldBodies : List Record → Type 0
+HasHeldBodies rs = (i : ℕ) → i < length rs → IfSome (body_at rs i) IsHeld
 
 -- each number in the bodies is whole
 abbrev pub HasWholeBodies : List Record → Type 0

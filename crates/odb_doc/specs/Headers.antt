@@ -51,12 +51,16 @@ pub record IsHeaders (o : Option Data) : Type 0 where
   pub texts : IsSome (listed_in o)
   pub apart : IsDistinct bytes_eq (folded_names o)
 
+-- in byte order of the names, each name once
+abbrev pub IsInOrder : List Header → Type 0
+IsInOrder headers = IsStrictlySortedBy (slice_cmp nat_cmp) (keys_of headers)
+
 -- the members of the value with their names in lower case, each name once, in byte order of the names
 pub record HoldsHeaders (o : Option Data) (headers : List Header) : Type 0 where
   pub listed : List Header
   pub are : listed_in o ≡ Some listed
   pub same : IsPermutation (map folded listed) headers
-  pub ordered : IsStrictlySortedBy (slice_cmp nat_cmp) (keys_of headers)
+  pub ordered : IsInOrder headers
 
 -- the same of the member `headers`
 abbrev pub HasHeaders : Data → List Header → Type 0

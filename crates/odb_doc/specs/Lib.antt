@@ -11,6 +11,7 @@ pub mod Events
 pub mod FaultTable
 pub mod Faults
 pub mod Headers
+pub mod HeldValues
 pub mod LeastEventFault
 pub mod LeastFault
 pub mod LeastOutcomeFault

@@ -1,8 +1,11 @@
-ghost use Rattle.std.specs.Prelude.{◌≡◌, ◌↔◌, ℕ, None, option_map, string_bytes, IsTrue, IfOk, IfSome, OnOk};
+ghost use Rattle.std.specs.Prelude.{◌≡◌, ◌≤◌, ◌↔◌, ℕ, length, None, option_map, string_bytes, IsTrue, IfOk, IfSome, OnOk};
 ghost use Rattle.serde_json.specs.View.{view};
 ghost use Rattle.odb_doc.specs.declared.fault.TextFault.TheVariants as faults;
 ghost use Rattle.odb_doc.specs.Batches.{records};
-ghost use Rattle.odb_doc.specs.Canonical.{HasWholeBodies, IsFirstNotWhole, canonical_text};
+ghost use Rattle.odb_doc.specs.Canonical.{HasHeldBodies, HasWholeBodies, IsFirstNotWhole, canonical_text, canonical_value};
+ghost use Rattle.odb_doc.specs.CanonicalLaws.{HasCanonicalText};
+ghost use Rattle.odb_doc.specs.Documents.{IsDocument, most_bytes};
+ghost use Rattle.odb_doc.specs.HeldValues.{IsHeld};
 ghost use Rattle.odb_doc.specs.WholeNumbers.{HasWholeBody};
 
 use crate::batch::Batch;
@@ -17,7 +20,10 @@ const REQUEST_BYTES: usize = 128;
 
 /// Returns whether each number in the body of a request is whole.
 fn has_whole_body(request: &Request<'_>) -> bool
-    ensures { IsTrue result ↔ HasWholeBody (option_map (λ body. view body.now) request.now.body) }
+    ensures value { IsTrue result
+        ↔ HasWholeBody (option_map (λ body. view body.now) request.now.body) }
+    ensures held { IsTrue result
+        → IfSome (option_map (λ body. view body.now) request.now.body) IsHeld }
 {
     match request.body {
         Some(body) => is_whole(body),
@@ -29,6 +35,7 @@ fn has_whole_body(request: &Request<'_>) -> bool
 fn first_not_whole(batch: &Batch<'_>) -> Option<u32>
     ensures first { IfSome result (IsFirstNotWhole (records batch.now)) }
     ensures none { result ≡ None → HasWholeBodies (records batch.now) }
+    ensures held { result ≡ None → HasHeldBodies (records batch.now) }
 {
     for i in 0..batch.len() {
         if !has_whole_body(batch.request(i)) {
@@ -59,7 +66,8 @@ impl Batch<'_> {
     ///
     /// Batches with the same requests have the same text, whatever their documents look like: what
     /// is treated as absent is left out, methods and the names of headers are in lower case, and each
-    /// name of `dependsOn` appears once. No newline ends it.
+    /// name of `dependsOn` appears once. No newline ends it. [`crate::parse`] takes it for a document of
+    /// the same batch, unless it is too long.
     ///
     /// Allocates the text, and the text of one body, or of one string with escapes, at a time. It takes
     /// O(n) for a text of n bytes.
@@ -71,6 +79,10 @@ impl Batch<'_> {
     pub fn canonical(&self, alloc: Global) -> Result<String, TextFault>
         ensures text { IfOk result (λ text. string_bytes text ≡ canonical_text (records self.now)) }
         ensures whole { OnOk result (HasWholeBodies (records self.now)) }
+        ensures held { OnOk result (HasHeldBodies (records self.now)) }
+        ensures document { IfOk result (λ text. HasCanonicalText (records self.now)
+            → length (string_bytes text) ≤ most_bytes
+            → IsDocument (string_bytes text) (canonical_value (records self.now))) }
         ensures not_whole { (at : ℕ) → (result ≡ Err (faults.NotWhole at))
             ↔ IsFirstNotWhole (records self.now) at }
     {

@@ -5,18 +5,22 @@
 //! [`crate::Batch::read`], [`crate::Outcomes::read`] and [`crate::Events::read`] use, for callers that
 //! compare two readings of one value.
 
-ghost use Rattle.std.specs.Prelude.{◌≡◌, ◌↔◌, ℕ, List, [], fold};
-ghost use Rattle.serde_json.specs.Data.{Data};
+ghost use Rattle.std.specs.Prelude.{◌≡◌, ◌≤◌, ◌↔◌, ◌++◌, ℕ, List, [], Some, codes, fold};
+ghost use Rattle.serde_json.specs.Data.{Data, depth};
+ghost use Rattle.serde_json.specs.Read.{read};
+ghost use Rattle.serde_json.specs.Written.{compact_text};
 ghost use Rattle.odb_doc.specs.declared.device.TheConstants.{MAX_READS};
 ghost use Rattle.odb_doc.specs.declared.document.TheConstants.{MAX_DOCUMENT_BYTES};
 ghost use Rattle.odb_doc.specs.declared.fault.DocFault.{DocFault};
 ghost use Rattle.odb_doc.specs.declared.event_fault.EventFault.{EventFault};
 ghost use Rattle.odb_doc.specs.declared.outcome_fault.OutcomeFault.{OutcomeFault};
-ghost use Rattle.odb_doc.specs.Canonical.{HasWholeBodies, canonical_text};
-ghost use Rattle.odb_doc.specs.CanonicalLaws.{IsDocumentOf};
+ghost use Rattle.odb_doc.specs.Canonical.{HasWholeBodies, canonical_text, canonical_value};
+ghost use Rattle.odb_doc.specs.CanonicalLaws.{HasCanonicalText, IsDocumentOf};
 ghost use Rattle.odb_doc.specs.EventFaults as event_faults;
 ghost use Rattle.odb_doc.specs.Events.{EventValue, AreEventsOf};
 ghost use Rattle.odb_doc.specs.FaultTable.{IsNumbered};
+ghost use Rattle.odb_doc.specs.Headers.{IsInOrder};
+ghost use Rattle.odb_doc.specs.HeldValues.{IsHeld};
 ghost use Rattle.odb_doc.specs.LeastEventFault.{IsEventsDocument, RefusesEvents};
 ghost use Rattle.odb_doc.specs.LeastFault.{IsLeastFault, IsWellShaped};
 ghost use Rattle.odb_doc.specs.LeastOutcomeFault.{IsOutcomesDocument, RefusesOutcomes};
@@ -24,6 +28,9 @@ ghost use Rattle.odb_doc.specs.Names.{distinct, with_name};
 ghost use Rattle.odb_doc.specs.OutcomeFaults as outcome_faults;
 ghost use Rattle.odb_doc.specs.Outcomes.{Recorded, AreOutcomesOf};
 ghost use Rattle.odb_doc.specs.Records.{Record, IsBatchOf};
+ghost use Rattle.odb_doc.specs.WholeNumbers.{IsWhole};
+
+use crate::outcome::Outcome;
 
 /// A value has one least fault of shape at most, and none if it is well shaped (OData JSON Format
 /// 4.01, section 19.1).
@@ -78,22 +85,52 @@ pub fn one_history()
         → AreEventsOf value events → AreEventsOf value others → events ≡ others }
 {}
 
+/// The headers of every outcome are in byte order of their names, each name once (RFC 9110, section 5).
+pub fn every_outcome(outcome: &Outcome)
+    ensures headers { IsInOrder outcome.now.headers }
+{
+    let _headers = outcome.headers.iter();
+}
+
+/// What a text is read as, and that what is written for a value is read back as that value.
+///
+/// What `serde_json` reads from a text is a value that a `Value` can hold and that nests at most 127
+/// deep. The compact text of such a value, if each number in it is whole, is read as the value itself,
+/// also with a newline at its end. [`crate::is_whole`] ensures of a value in hand that a `Value` can
+/// hold it.
+pub fn every_value()
+    ensures held { (text : List ℕ) (value : Data) → read text ≡ Some value → IsHeld value }
+    ensures nests { (text : List ℕ) (value : Data) → read text ≡ Some value → depth value ≤ 127 }
+    ensures reads_back { (value : Data) → IsHeld value → IsWhole value → depth value ≤ 127
+        → read (compact_text value) ≡ Some value }
+    ensures line { (value : Data) → IsHeld value → IsWhole value → depth value ≤ 127
+        → read (compact_text value ++ codes "\n") ≡ Some value }
+{}
+
 /// The canonical text of a batch is a document of that batch (OData JSON Format 4.01, section 19.1).
 ///
-/// `text` is any document that `batch` was read from, such as the bytes that [`crate::parse`] and
-/// [`crate::Batch::read`] made it of, and each number in the bodies is whole. What `serde_json` reads
-/// from the canonical text has no fault of shape, and is the same batch. So two batches have equal
-/// canonical texts if and only if they are equal, and the canonical text of what is read from a
-/// canonical text is that text.
+/// The laws hold for each batch that [`crate::Batch::read`] made of a value that nests at most 127 deep,
+/// whether the value was read from a text or built in memory, if each number in the bodies is whole.
+/// [`crate::Batch::canonical`] ensures what they ask of the bodies. A batch that was read from a text is
+/// such a batch (`from_text`).
+///
+/// What `serde_json` reads from the canonical text, also with a newline at its end, is the canonical
+/// value, which has no fault of shape and is the same batch. So two batches have equal canonical texts
+/// if and only if they are equal, and the canonical text of what is read from a canonical text is that
+/// text.
 pub fn one_text()
-    ensures reads_back { (text : List ℕ) (batch : List Record) → IsDocumentOf text batch
-        → HasWholeBodies batch → IsDocumentOf (canonical_text batch) batch }
-    ensures equal { (text other_text : List ℕ) (batch other : List Record)
-        → IsDocumentOf text batch → IsDocumentOf other_text other
-        → HasWholeBodies batch → HasWholeBodies other
+    ensures from_text { (text : List ℕ) (batch : List Record) → IsDocumentOf text batch
+        → HasWholeBodies batch → HasCanonicalText batch }
+    ensures value { (batch : List Record) → HasCanonicalText batch
+        → read (canonical_text batch) ≡ Some (canonical_value batch) }
+    ensures reads_back { (batch : List Record) → HasCanonicalText batch
+        → IsDocumentOf (canonical_text batch) batch }
+    ensures line { (batch : List Record) → HasCanonicalText batch
+        → IsDocumentOf (canonical_text batch ++ codes "\n") batch }
+    ensures equal { (batch other : List Record) → HasCanonicalText batch → HasCanonicalText other
         → (canonical_text batch ≡ canonical_text other) ↔ (batch ≡ other) }
-    ensures again { (text : List ℕ) (batch other : List Record) → IsDocumentOf text batch
-        → HasWholeBodies batch → IsDocumentOf (canonical_text batch) other
+    ensures again { (batch other : List Record) → HasCanonicalText batch
+        → IsDocumentOf (canonical_text batch) other
         → canonical_text other ≡ canonical_text batch }
 {
     odb_names::laws::one_reading();
