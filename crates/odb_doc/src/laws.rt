@@ -87,7 +87,7 @@ pub fn one_history()
 
 /// The headers of every outcome are in byte order of their names, each name once (RFC 9110, section 5).
 pub fn every_outcome(outcome: &Outcome)
-    ensures headers { IsInOrder outcome.now.headers }
+    ensures { IsInOrder outcome.now.headers }
 {
     let _headers = outcome.headers.iter();
 }
