@@ -1,21 +1,28 @@
--- What a replay may write of the same requests, by one record, in an order: one text.
-use Rattle.std.proofs.Common.{◌∙◌, ℕ, Bool, List, Option, inl, inr, sym, ap, rules}
+-- What a replay may write of the same requests, by one document of outcomes, in an order: one text.
+use Rattle.std.proofs.Common.{◌≡◌, ◌∙◌, ℕ, Bool, List, Option, Some, inl, inr, sym, ap, rules}
 use Rattle.odb_doc.specs.declared.outcome.Outcome.{Outcome}
-use Rattle.odb_doc.specs.Outcomes.{Recorded}
+use Rattle.odb_doc.specs.declared.fault.Place.TheVariants as places
+use Rattle.odb_doc.specs.LeastOutcomeFault.{IsOutcomesDocument, RefusesOutcomes}
+use Rattle.odb_doc.specs.OutcomeFaults as documents
+use Rattle.odb_doc.specs.Outcomes.{Recorded, AreOutcomesOf}
+use Rattle.odb_doc.specs.Records.{Record}
 use Rattle.odb_check.specs.declared.plan.Plan.{Plan}
 use Rattle.odb_check.specs.Plans.{plan_records}
 use Rattle.odb_sched.specs.declared.fault.ExecFault.TheVariants as fault
 use Rattle.odb_sched.specs.declared.order.Order.{Order}
 use Rattle.odb_sched.specs.declared.policy.Policy.{Policy}
 use Rattle.odb_sched.specs.Choosing.{AllowsOrder}
+use Rattle.odb_sched.specs.Courses.{Allowance}
 use Rattle.odb_sched.specs.Orders.{Faults, HasOneCourse, HasOneFault, FaultsOrFinishes}
 use Rattle.odb_sched.specs.Recordings.{recorded_for}
 use Rattle.odb_sched.specs.State.{State, at_first}
 use Rattle.odb_engine.specs.declared.ending.Ended.{Ended}
 use Rattle.odb_engine.specs.Cascade.{line_of}
 use Rattle.odb_engine.specs.Laws.{IsOne}
-use Rattle.odb_engine.specs.Replays.{ReplaysPlan, ReplaysBatch, LacksOutcome, execution_refusal, result_text}
+use Rattle.odb_engine.specs.Inputs.{SomeDocument}
+use Rattle.odb_engine.specs.Replays.{Replays, ReplaysBy, ReplaysPlan, LacksOutcome, execution_refusal, outcomes_refusal, result_text}
 use Rattle.odb_engine.proofs.PlanLemmas.{replays-plan}
+use Rattle.odb_engine.proofs.SecondLemmas.{IsOneKind, second_one, some_document_one}
 
 -- the laws of odb_sched on an order, at the start of a run and with recorded outcomes
 pub record HasOrder (order : Order) (recorded : List (Option Outcome)) (first : State) : Type 0 where
@@ -38,6 +45,22 @@ module _ (order : Order) (policy : Policy) (traced : Bool) (plan : Plan) (entrie
       let same = law.fault (fault.NoOutcome x.at) (fault.NoOutcome y.at) (missing a s x) (missing b t y) in
       (x.ends ∙ sym y.ends, x.line ∙ ap (λ cause. line_of (execution_refusal cause)) same ∙ sym y.line)
 
-  pub one_replay : HasOrder order (recorded_for (plan_records plan) entries) (at_first plan policy) → IsOne (ReplaysBatch (AllowsOrder order) policy traced entries (plan_records plan))
-  one_replay law a b s t (one, same, x) (two, equal, y) =
-      one_plan law a b s t (replays-plan (AllowsOrder order) policy traced plan one (sym same) entries a s x) (replays-plan (AllowsOrder order) policy traced plan two (sym equal) entries b t y)
+-- what the reader of outcomes writes of one plan it writes of the other
+replays-by : (allows : Allowance) (policy : Policy) (traced : Bool) (plan other : Plan) → plan_records plan ≡ plan_records other → (outcomes : List ℕ) (ended : Ended) (text : List ℕ)
+    → SomeDocument (Some outcomes) (λ bytes. ReplaysBy allows policy traced other bytes ended text) → SomeDocument (Some outcomes) (λ bytes. ReplaysBy allows policy traced plan bytes ended text)
+replays-by allows policy traced plan other same outcomes ended text (bytes, gives, inl x) = (bytes, gives, inl x)
+replays-by allows policy traced plan other same outcomes ended text (bytes, gives, inr (entries, is, x)) =
+    (bytes, gives, inr (entries, is, replays-plan allows policy traced plan other same entries ended text x))
+
+-- the laws of odb_doc on documents of outcomes
+abbrev pub AreOneRecord : Type 0
+AreOneRecord = IsOneKind documents.IsNumbered RefusesOutcomes IsOutcomesDocument AreOutcomesOf
+
+-- the requests of a batch and the reader of outcomes have one text
+pub replays_one : (order : Order) → ((recorded : List (Option Outcome)) (first : State) → HasOrder order recorded first) → AreOneRecord
+    → (policy : Policy) (traced : Bool) (outcomes : List ℕ) (batch : List Record) → IsOne (Replays (AllowsOrder order) policy traced (Some outcomes) batch)
+replays_one order courses law policy traced outcomes batch a b s t (one, same, x) (two, equal, y) =
+    some_document_one outcomes (ReplaysBy (AllowsOrder order) policy traced two)
+    (λ bytes. second_one places.Outcomes documents.IsNumbered RefusesOutcomes outcomes_refusal IsOutcomesDocument AreOutcomesOf law bytes (ReplaysPlan (AllowsOrder order) policy traced two)
+    (λ entries. one_plan order policy traced two entries (courses (recorded_for (plan_records two) entries) (at_first two policy)))) a b s t
+    (replays-by (AllowsOrder order) policy traced two one (equal ∙ sym same) outcomes a s x) y

@@ -100,17 +100,12 @@ same_batch : AreFunctional → (bytes : List ℕ) (P Q : List Record → Type 0)
 same_batch law bytes P Q one two =
     law.one_batch two.value one.batch two.batch (subst (λ v. IsBatchOf v one.batch) (one_value bytes one.value two.value one.document two.document) one.is_batch) two.is_batch
 
-pub answers_one : AreFunctional → (P : List Record → Writes) (bytes : List ℕ) → ((xs : List Record) → Accepts bytes (λ batch. batch ≡ xs) → IsOne (P xs)) → IsOne (Answers P bytes)
+-- one text is written of a document, if one is of each batch whose names are good
+pub answers_one : AreFunctional → (P : List Record → Writes) (bytes : List ℕ) → ((batch : List Record) → HasGoodNames batch → IsOne (P batch)) → IsOne (Answers P bytes)
 answers_one law P bytes one a b s t (inl x) (inl y) =
     let same = least_one law bytes x.refusal y.refusal x.is y.is in
     (x.ends ∙ sym y.ends, x.line ∙ ap line_of same ∙ sym y.line)
 answers_one law P bytes one a b s t (inl x) (inr y) = absurd (least_not law bytes (λ batch. P batch b t) x.refusal x.is y)
 answers_one law P bytes one a b s t (inr x) (inl y) = absurd (least_not law bytes (λ batch. P batch a s) y.refusal y.is x)
 answers_one law P bytes one a b s t (inr x) (inr y) =
-    let here : Accepts bytes (λ batch. batch ≡ y.batch) = record { value = y.value; document = y.document; shape = y.shape; batch = y.batch; is_batch = y.is_batch; names = y.names; holds = refl } in
-    one y.batch here a b s t (subst (λ xs. P xs a s) (same_batch law bytes (λ batch. P batch a s) (λ batch. P batch b t) x y) x.holds) y.holds
-
--- if a text is determined for some requests, it is for the documents of them
-pub answers_of : AreFunctional → (P : List Record → Writes) (bytes : List ℕ) (requests : List Record) → Accepts bytes (λ batch. batch ≡ requests) → IsOne (P requests) → IsOne (Answers P bytes)
-answers_of law P bytes requests accepted one = answers_one law P bytes
-    (λ xs here. subst (λ batch. IsOne (P batch)) (sym accepted.holds ∙ same_batch law bytes (λ batch. batch ≡ requests) (λ batch. batch ≡ xs) accepted here ∙ here.holds) one)
+    one y.batch y.names a b s t (subst (λ xs. P xs a s) (same_batch law bytes (λ batch. P batch a s) (λ batch. P batch b t) x y) x.holds) y.holds

@@ -7,6 +7,7 @@ mod RunLemmas
 mod RunLawLemmas
 mod RunPlanLemmas
 mod LawLemmas
+mod SecondLemmas
 mod PlanLemmas
 mod CourseLemmas
 mod TextLemmas

@@ -14,7 +14,7 @@ use Rattle.odb_engine.specs.declared.stop.Stop.{Stop}
 use Rattle.odb_engine.specs.Cascade.{line_of}
 use Rattle.odb_engine.specs.Stops.{Refuses, StopsBy}
 use Rattle.odb_engine.specs.Matches.{IsLeastOfResponses, Lists, Matches, Misfits, match_refusal, responses_refusal, status_line, status_lines}
-use Rattle.odb_engine.specs.Matches.IsLeastOfResponses.{OfValue}
+use Rattle.odb_engine.specs.Cascade.IsLeastOf.{OfValue}
 use Rattle.odb_engine.proofs.EngineLemmas.{reports, stopped-by}
 
 -- the lines from a position on

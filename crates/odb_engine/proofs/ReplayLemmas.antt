@@ -72,7 +72,7 @@ answer-reported (Reported other) b outcome e = at (is_success other.status && no
     at true same = absurd (true≢false (sym (ap is_some same)))
     at false same = same
 
-whole-body : (found : Option Outcome) → ((outcome : Outcome) → found ≡ Some outcome → IfSome (option_map view outcome.body) IsWhole) → HasWholeBody found
+whole-body : (found : Option Outcome) → ((outcome : Outcome) → found ≡ Some outcome → IfSome outcome.body IsWhole) → HasWholeBody found
 whole-body None each = tt
 whole-body (Some outcome) each = each outcome refl
 
@@ -81,7 +81,7 @@ pub whole-bodies : (batch : List Record) (entries : List Recorded) (state : Stat
     → ((i : ℕ) (outcome : Outcome) → reported state i ≡ Some outcome → OffersRecorded (recorded_for batch entries) i (Ok outcome)) → HasWholeBodies state
 whole-bodies batch entries state sound offers i within = whole-body (answer state i) (λ outcome is.
     let (entry, fit, same) = sound-offered batch entries i outcome sound (offers i outcome (answer-reported (phase_at state i) (unit_succeeded state (unit_of state.shape i)) outcome is)) in
-    subst (λ o. IfSome (option_map view o.body) IsWhole) same fit.whole)
+    subst (λ o. IfSome o.body IsWhole) same fit.whole)
 
 abbrev is_failed : Result Outcome ServiceFault → Bool
 is_failed (Ok outcome) = false

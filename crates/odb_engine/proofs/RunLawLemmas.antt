@@ -3,8 +3,8 @@ use Rattle.std.proofs.Common.{◌≡◌, ◌⊎◌, ◌∙◌, ℕ, zero, suc, �
 use Rattle.std.specs.List.{AllZip}
 use Rattle.std.proofs.lemmas.Bool.{cases_order, both_ways}
 use Rattle.std.proofs.lemmas.List.Elements.{All-head, All-tail}
-use Rattle.odb_doc.specs.declared.event.NamedEvent.{NamedEvent}
-use Rattle.odb_doc.specs.declared.event.NamedEvent.TheVariants as named
+use Rattle.odb_doc.specs.Events.{EventValue}
+use Rattle.odb_doc.specs.Events as named
 use Rattle.odb_doc.specs.Records.{Record}
 use Rattle.odb_check.specs.declared.fault.NameRule.TheVariants as rules
 use Rattle.odb_check.specs.declared.plan.Plan.{Plan}
@@ -46,16 +46,16 @@ one-position batch good i j id here there = at (cases_order i j)
     at (inr (inl less)) = absurd (twice j i less there here)
     at (inr (inr less)) = absurd (twice i j less here there)
 
-one-event : (batch : List Record) → HasGoodNames batch → (n : NamedEvent) (e f : Event) → IsResolved batch n e → IsResolved batch n f → e ≡ f
-one-event batch good (named.Start id) (event.Start i) (event.Start j) a b = ap (λ k. event.Start k) (one-position batch good i j (string_bytes id) a b)
+one-event : (batch : List Record) → HasGoodNames batch → (n : EventValue) (e f : Event) → IsResolved batch n e → IsResolved batch n f → e ≡ f
+one-event batch good (named.Start id) (event.Start i) (event.Start j) a b = ap (λ k. event.Start k) (one-position batch good i j id a b)
 one-event batch good (named.Start id) (event.Start i) (event.Report j q) a b = absurd b
 one-event batch good (named.Start id) (event.Report i p) f a b = absurd a
 one-event batch good (named.Report id o) (event.Start i) f a b = absurd a
 one-event batch good (named.Report id o) (event.Report i p) (event.Start j) a b = absurd b
 one-event batch good (named.Report id o) (event.Report i p) (event.Report j q) (a, s) (b, t) =
-    ap (λ k. event.Report k p) (one-position batch good i j (string_bytes id) a b) ∙ ap (λ x. event.Report j x) (s ∙ sym t)
+    ap (λ k. event.Report k p) (one-position batch good i j id a b) ∙ ap (λ x. event.Report j x) (s ∙ sym t)
 
-one-list : (batch : List Record) → HasGoodNames batch → (ns : List NamedEvent) (es fs : List Event) → AllZip (IsResolved batch) ns es → AllZip (IsResolved batch) ns fs → es ≡ fs
+one-list : (batch : List Record) → HasGoodNames batch → (ns : List EventValue) (es fs : List Event) → AllZip (IsResolved batch) ns es → AllZip (IsResolved batch) ns fs → es ≡ fs
 one-list batch good [] [] [] a b = refl
 one-list batch good [] [] (f ∷ fs) a b = absurd b
 one-list batch good [] (e ∷ es) fs a b = absurd a
@@ -66,27 +66,27 @@ one-list batch good (n ∷ ns) (e ∷ es) (f ∷ fs) (a, xs) (b, ys) =
 
 -- ---- events that name no request
 
-known-one : (batch : List Record) (n : NamedEvent) (e : Event) → IsResolved batch n e → IsKnown batch n
+known-one : (batch : List Record) (n : EventValue) (e : Event) → IsResolved batch n e → IsKnown batch n
 known-one batch (named.Start id) (event.Start i) is = (i, is)
 known-one batch (named.Start id) (event.Report i o) is = absurd is
 known-one batch (named.Report id o) (event.Start i) is = absurd is
 known-one batch (named.Report id o) (event.Report i p) is = (i, is.0)
 
-not-unknown : (batch : List Record) (ns : List NamedEvent) (es : List Event) (at : ℕ) → AllZip (IsResolved batch) ns es → IsSomeAnd (slice_get ns at) (λ n. ¬ IsKnown batch n) → ⊥
+not-unknown : (batch : List Record) (ns : List EventValue) (es : List Event) (at : ℕ) → AllZip (IsResolved batch) ns es → IsSomeAnd (slice_get ns at) (λ n. ¬ IsKnown batch n) → ⊥
 not-unknown batch [] es zero all un = un
 not-unknown batch [] es (suc at) all un = un
 not-unknown batch (n ∷ ns) [] at all un = absurd all
 not-unknown batch (n ∷ ns) (e ∷ es) zero all un = un (known-one batch n e all.0)
 not-unknown batch (n ∷ ns) (e ∷ es) (suc at) all un = not-unknown batch ns es at all.1 un
 
-known-before : (batch : List Record) (ns : List NamedEvent) (a b : ℕ) → a < b → All (IsKnown batch) (take b ns) → IsSomeAnd (slice_get ns a) (λ n. ¬ IsKnown batch n) → ⊥
+known-before : (batch : List Record) (ns : List EventValue) (a b : ℕ) → a < b → All (IsKnown batch) (take b ns) → IsSomeAnd (slice_get ns a) (λ n. ¬ IsKnown batch n) → ⊥
 known-before batch [] zero b less all un = un
 known-before batch [] (suc a) b less all un = un
 known-before batch (n ∷ ns) a zero less all un = omega (arith, less)
 known-before batch (n ∷ ns) zero (suc b) less all un = un (All-head (IsKnown batch) n (take b ns) all)
 known-before batch (n ∷ ns) (suc a) (suc b) less all un = known-before batch ns a b (omega (arith, less)) (All-tail (IsKnown batch) n (take b ns) all) un
 
-one-unknown : (batch : List Record) (ns : List NamedEvent) (a b : ℕ) → IsFirstUnknown batch ns a → IsFirstUnknown batch ns b → a ≡ b
+one-unknown : (batch : List Record) (ns : List EventValue) (a b : ℕ) → IsFirstUnknown batch ns a → IsFirstUnknown batch ns b → a ≡ b
 one-unknown batch ns a b x y = at (cases_order a b)
   where
     at : (a ≡ b) ⊎ ((a < b) ⊎ (b < a)) → a ≡ b
@@ -151,7 +151,7 @@ not-stopped state events cause x run = both_ways _ x.barred (may-come state x.be
 
 -- ---- what is written of a plan
 
-module _ (causes : HaveOneCause) (policy : Policy) (plan : Plan) (good : HasGoodNames (plan_records plan)) (ns : List NamedEvent) where
+module _ (causes : HaveOneCause) (policy : Policy) (plan : Plan) (good : HasGoodNames (plan_records plan)) (ns : List EventValue) where
   abbrev first : State
   first = at_first plan policy
 

@@ -2,9 +2,8 @@
 use Rattle.std.proofs.Common.{ℕ, zero, suc, Bool, true, false, not, ◌&&◌, get_or, List, [], ◌∷◌, All, Some, None, if◌then◌else◌, refl, sym, subst}
 use Rattle.std.specs.List.{AllZip}
 use Rattle.std.proofs.lemmas.List.Elements.{All-nil, All-cons, All-head, All-tail, All-set, All-replicate}
-use Rattle.odb_doc.specs.declared.event.NamedEvent.{NamedEvent}
-use Rattle.odb_doc.specs.declared.event.NamedEvent.TheVariants as named
-use Rattle.odb_doc.specs.Events.{IsSoundEvent}
+use Rattle.odb_doc.specs.Events.{EventValue, IsSoundEvent}
+use Rattle.odb_doc.specs.Events as named
 use Rattle.odb_doc.specs.Records.{Record}
 use Rattle.odb_check.specs.declared.plan.Plan.{Plan}
 use Rattle.odb_check.specs.Plans.{plan_records}
@@ -39,7 +38,7 @@ abbrev IsWholeEvent : Event → Type 0
 IsWholeEvent (event.Start i) = Unit {0}
 IsWholeEvent (event.Report i outcome) = HasWholeBody (Some outcome)
 
-whole-resolved : (batch : List Record) (recorded : NamedEvent) (e : Event) → IsResolved batch recorded e → IsSoundEvent recorded → IsWholeEvent e
+whole-resolved : (batch : List Record) (recorded : EventValue) (e : Event) → IsResolved batch recorded e → IsSoundEvent recorded → IsWholeEvent e
 whole-resolved batch (named.Start id) (event.Start i) is sound = tt
 whole-resolved batch (named.Start id) (event.Report i outcome) is sound = absurd is
 whole-resolved batch (named.Report id outcome) (event.Start i) is sound = absurd is
@@ -68,7 +67,7 @@ at-or P [] i d other each = other
 at-or P (x ∷ xs) zero d other each = All-head P x xs each
 at-or P (x ∷ xs) (suc i) d other each = at-or P xs i d other (All-tail P x xs each)
 
-all-resolved : (batch : List Record) (recorded : List NamedEvent) (events : List Event) → AllZip (IsResolved batch) recorded events → All IsSoundEvent recorded → All IsWholeEvent events
+all-resolved : (batch : List Record) (recorded : List EventValue) (events : List Event) → AllZip (IsResolved batch) recorded events → All IsSoundEvent recorded → All IsWholeEvent events
 all-resolved batch [] [] is sound = All-nil IsWholeEvent
 all-resolved batch [] (e ∷ events) is sound = absurd is
 all-resolved batch (n ∷ recorded) [] is sound = absurd is
@@ -76,7 +75,7 @@ all-resolved batch (n ∷ recorded) (e ∷ events) (is, rest) sound =
     All-cons IsWholeEvent e events (whole-resolved batch n e is (All-head IsSoundEvent n recorded sound)) (all-resolved batch recorded events rest (All-tail IsSoundEvent n recorded sound))
 
 -- a run by recorded events answers whole bodies alone
-pub whole-bodies : (policy : Policy) (plan : Plan) (recorded : List NamedEvent) (events : List Event) → AreResolved plan recorded events → All IsSoundEvent recorded → HasWholeBodies (end_of policy plan events)
+pub whole-bodies : (policy : Policy) (plan : Plan) (recorded : List EventValue) (events : List Event) → AreResolved plan recorded events → All IsSoundEvent recorded → HasWholeBodies (end_of policy plan events)
 whole-bodies policy plan recorded events is sound i within =
     let first = at_first plan policy in
     let state = end_of policy plan events in
@@ -84,13 +83,13 @@ whole-bodies policy plan recorded events is sound i within =
     whole-answer (phase_at state i) (unit_succeeded state (unit_of state.shape i)) (at-or IsWholePhase state.phases i Unstarted tt each)
 
 -- an event that names no request
-pub unknown-event : (policy : Policy) (plan : Plan) (recorded : List NamedEvent) (cause : ResolveFault) → RefusesNamed cause (plan_records plan) recorded → ids.IsNumbered cause
+pub unknown-event : (policy : Policy) (plan : Plan) (recorded : List EventValue) (cause : ResolveFault) → RefusesNamed cause (plan_records plan) recorded → ids.IsNumbered cause
     → IsLeastOfRun policy plan recorded (resolve_refusal cause)
 unknown-event policy plan recorded (fault.UnknownEvent at) first numbered = OfIds at first refl
 unknown-event policy plan recorded fault.OutOfMemory first numbered = absurd (numbered refl)
 
 -- an event that may not come
-pub barred-event : (policy : Policy) (plan : Plan) (recorded : List NamedEvent) (events : List Event) (cause : RunRefusal) → AreResolved plan recorded events
+pub barred-event : (policy : Policy) (plan : Plan) (recorded : List EventValue) (events : List Event) (cause : RunRefusal) → AreResolved plan recorded events
     → Refuses (at_first plan policy) events cause → refusals.IsNumbered cause → IsLeastOfRun policy plan recorded (run_refusal cause)
 barred-event policy plan recorded events (refusal.Start at cause) resolved stops numbered = OfEvent events (refusal.Start at cause) resolved stops refl
 barred-event policy plan recorded events (refusal.Report at cause) resolved stops numbered = OfEvent events (refusal.Report at cause) resolved stops refl

@@ -1,7 +1,10 @@
 -- Plans of the same requests have the same runs by recorded events.
-use Rattle.std.proofs.Common.{◌≡◌, ◌↔◌, ◌∙◌, ℕ, false, List, [], length, inl, inr, refl, sym, ap, subst}
+use Rattle.std.proofs.Common.{◌≡◌, ◌↔◌, ◌∙◌, ℕ, false, List, [], length, Some, inl, inr, refl, sym, ap, subst}
 use Rattle.std.specs.List.{AllZip}
-use Rattle.odb_doc.specs.declared.event.NamedEvent.{NamedEvent}
+use Rattle.odb_doc.specs.declared.fault.Place.TheVariants as places
+use Rattle.odb_doc.specs.EventFaults as documents
+use Rattle.odb_doc.specs.Events.{EventValue, AreEventsOf}
+use Rattle.odb_doc.specs.LeastEventFault.{IsEventsDocument, RefusesEvents}
 use Rattle.odb_doc.specs.Records.{Record}
 use Rattle.odb_check.specs.declared.plan.Plan.{Plan}
 use Rattle.odb_check.specs.LeastNameFault.{HasGoodNames}
@@ -28,12 +31,14 @@ use Rattle.odb_engine.specs.declared.ending.Ended.{Ended}
 use Rattle.odb_engine.specs.Cascade.{Refusal}
 use Rattle.odb_engine.specs.Laws.{IsOne}
 use Rattle.odb_engine.specs.Replays.{response_line}
-use Rattle.odb_engine.specs.Runs.{AreResolved, IsLeastOfRun, IsResult, RunsPlan, RunsBatch, end_of}
+use Rattle.odb_engine.specs.Runs.{AreResolved, IsLeastOfRun, IsResult, Runs, RunsBy, RunsPlan, end_of, events_refusal}
 use Rattle.odb_engine.specs.Runs.IsLeastOfRun.{OfIds, OfEvent, OfEnd}
 use Rattle.odb_engine.proofs.PlanLemmas.{with_plan, IsRunFrom-plan, after_all-plan, at_first-plan, plan-kept, response_value-plan, result_text-plan}
+use Rattle.odb_engine.specs.Inputs.{SomeDocument}
 use Rattle.odb_engine.proofs.RunLawLemmas.{HaveOneCause, one-run}
+use Rattle.odb_engine.proofs.SecondLemmas.{IsOneKind, second_one, some_document_one}
 
-module _ (policy : Policy) (plan other : Plan) (same : plan_records plan ≡ plan_records other) (ns : List NamedEvent) where
+module _ (policy : Policy) (plan other : Plan) (same : plan_records plan ≡ plan_records other) (ns : List EventValue) where
   abbrev first : Plan → State
   first p = at_first p policy
 
@@ -111,7 +116,20 @@ module _ (policy : Policy) (plan other : Plan) (same : plan_records plan ≡ pla
   runs-plan ended text (inl x) = inl (record { refusal = x.refusal; is = least-plan x.refusal x.is; ends = x.ends; line = x.line })
   runs-plan ended text (inr x) = inr (result-plan ended text x)
 
--- the requests and the events have one text
-pub one-batch : HaveOneCause → (policy : Policy) (plan : Plan) (ns : List NamedEvent) → HasGoodNames (plan_records plan) → IsOne (RunsBatch policy ns (plan_records plan))
-one-batch causes policy plan ns good a b s t (one, same, x) (two, equal, y) =
-    one-run causes policy plan good ns a b s t (runs-plan policy plan one (sym same) ns a s x) (runs-plan policy plan two (sym equal) ns b t y)
+-- what the reader of events writes of one plan it writes of the other
+runs-by : (policy : Policy) (plan other : Plan) → plan_records plan ≡ plan_records other → (events : List ℕ) (ended : Ended) (text : List ℕ)
+    → SomeDocument (Some events) (λ bytes. RunsBy policy other bytes ended text) → SomeDocument (Some events) (λ bytes. RunsBy policy plan bytes ended text)
+runs-by policy plan other same events ended text (bytes, gives, inl x) = (bytes, gives, inl x)
+runs-by policy plan other same events ended text (bytes, gives, inr (named, is, x)) = (bytes, gives, inr (named, is, runs-plan policy plan other same named ended text x))
+
+-- the laws of odb_doc on documents of events
+abbrev pub AreOneHistory : Type 0
+AreOneHistory = IsOneKind documents.IsNumbered RefusesEvents IsEventsDocument AreEventsOf
+
+-- the requests of a batch and the reader of events have one text
+pub runs_one : HaveOneCause → AreOneHistory → (policy : Policy) (events : List ℕ) (batch : List Record) → HasGoodNames batch → IsOne (Runs policy (Some events) batch)
+runs_one causes law policy events batch good a b s t (one, same, x) (two, equal, y) =
+    let names = subst HasGoodNames (sym equal) good in
+    some_document_one events (RunsBy policy two)
+    (λ bytes. second_one places.Events documents.IsNumbered RefusesEvents events_refusal IsEventsDocument AreEventsOf law bytes (RunsPlan policy two) (one-run causes policy two names)) a b s t
+    (runs-by policy two one (equal ∙ sym same) events a s x) y

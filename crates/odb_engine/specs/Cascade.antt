@@ -51,6 +51,12 @@ pub record HasValue (bytes : List ℕ) (P : Data → Type 0) : Type 0 where
   pub document : IsDocument bytes value
   pub holds : P value
 
+-- The least fault of a document: of its bytes, with this place, or else of its value. `Refuses` says which fault a value
+-- has, and `shown` what is reported of it.
+pub data IsLeastOf {F : Type 0} (place : Place) (IsNumbered : F → Type 0) (Refuses : F → Data → Type 0) (shown : F → Refusal) (bytes : List ℕ) (refusal : Refusal) : Type 0 where
+  OfBytes : RefusesBytes place bytes refusal → IsLeastOf place IsNumbered Refuses shown bytes refusal
+  OfValue : (fault : F) → IsNumbered fault → HasValue bytes (Refuses fault) → refusal ≡ shown fault → IsLeastOf place IsNumbered Refuses shown bytes refusal
+
 -- the value has no fault of shape, and its requests have this property
 pub record HasBatch (value : Data) (P : List Record → Type 0) : Type 0 where
   pub batch : List Record

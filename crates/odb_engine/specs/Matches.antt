@@ -12,7 +12,7 @@ use Rattle.odb_reply.specs.MatchFaults as matches
 use Rattle.odb_reply.specs.ResponseDocuments.{Entry, IsResponseDocument, RefusesResponses, Says, responses_in}
 use Rattle.odb_reply.specs.ResponseFaults as documents
 use Rattle.odb_engine.specs.declared.ending.Ended.{Ended}
-use Rattle.odb_engine.specs.Cascade.{Writes, Prints, Refusal, Reports, RefusesBytes, HasValue}
+use Rattle.odb_engine.specs.Cascade.{Writes, Prints, Refusal, Reports, HasValue, IsLeastOf}
 use Rattle.odb_check.specs.Texts.{newline}
 use Rattle.odb_engine.specs.Lines.{fit_line}
 
@@ -36,10 +36,9 @@ responses_refusal fault = record { code = documents.fault_code fault; name = doc
 abbrev pub match_refusal : MatchFault → Refusal
 match_refusal fault = record { code = matches.fault_code fault; name = matches.fault_name fault; place = matches.fault_place fault }
 
--- the first fault of a response document: of its bytes, or else of its value
-pub data IsLeastOfResponses (bytes : List ℕ) (refusal : Refusal) : Type 0 where
-  OfBytes : RefusesBytes places.Responses bytes refusal → IsLeastOfResponses bytes refusal
-  OfValue : (fault : ResponseFault) → documents.IsNumbered fault → HasValue bytes (RefusesResponses fault) → refusal ≡ responses_refusal fault → IsLeastOfResponses bytes refusal
+-- the first fault of a response document
+abbrev pub IsLeastOfResponses : List ℕ → Refusal → Type 0
+IsLeastOfResponses bytes refusal = IsLeastOf places.Responses documents.IsNumbered RefusesResponses responses_refusal bytes refusal
 
 -- the bytes are a response document that lists these responses
 abbrev pub Lists : List ℕ → List Entry → Type 0

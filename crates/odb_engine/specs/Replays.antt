@@ -22,7 +22,7 @@ use Rattle.odb_engine.specs.declared.ending.Ended.{Ended}
 use Rattle.odb_engine.specs.declared.ending.Ended.TheVariants.{Done, Refused}
 use Rattle.odb_check.specs.Texts.{newline}
 use Rattle.odb_engine.specs.Traces.{trace_text}
-use Rattle.odb_engine.specs.Cascade.{Writes, Refusal, line_of, Reports, RefusesBytes, HasValue, Accepts}
+use Rattle.odb_engine.specs.Cascade.{Writes, Refusal, line_of, Reports, HasValue, IsLeastOf, Accepts}
 use Rattle.odb_sched.specs.declared.fault.ExecFault.{ExecFault}
 use Rattle.odb_sched.specs.ExecFaults.{exec_code, exec_name, exec_place}
 use Rattle.odb_engine.specs.Inputs.{SomeDocument}
@@ -66,20 +66,15 @@ pub record LacksOutcome (allows : Allowance) (policy : Policy) (plan : Plan) (en
 abbrev pub ReplaysPlan : Allowance → Policy → Bool → Plan → List Recorded → Writes
 ReplaysPlan allows policy traced plan entries ended text = IsResult allows policy traced plan entries ended text ⊎ LacksOutcome allows policy plan entries ended text
 
--- the same of requests: what a plan of them gives
-abbrev pub ReplaysBatch : Allowance → Policy → Bool → List Recorded → List Record → Writes
-ReplaysBatch allows policy traced entries batch ended text = (plan : Plan) × (plan_records plan ≡ batch) × ReplaysPlan allows policy traced plan entries ended text
-
 abbrev pub outcomes_refusal : OutcomeFault → Refusal
 outcomes_refusal fault = record { code = outcomes.fault_code fault; name = outcomes.fault_name fault; place = outcomes.fault_place fault }
 
 abbrev pub execution_refusal : ExecFault → Refusal
 execution_refusal fault = record { code = exec_code fault; name = exec_name fault; place = exec_place fault }
 
--- the least fault of an outcomes document: of its bytes, or else of its value
-pub data IsLeastOfOutcomes (bytes : List ℕ) (refusal : Refusal) : Type 0 where
-  OfBytes : RefusesBytes places.Outcomes bytes refusal → IsLeastOfOutcomes bytes refusal
-  OfValue : (fault : OutcomeFault) → outcomes.IsNumbered fault → HasValue bytes (RefusesOutcomes fault) → refusal ≡ outcomes_refusal fault → IsLeastOfOutcomes bytes refusal
+-- the least fault of an outcomes document
+abbrev pub IsLeastOfOutcomes : List ℕ → Refusal → Type 0
+IsLeastOfOutcomes bytes refusal = IsLeastOf places.Outcomes outcomes.IsNumbered RefusesOutcomes outcomes_refusal bytes refusal
 
 -- the bytes are a document of these outcomes
 abbrev pub IsRecordOf : List ℕ → List Recorded → Type 0

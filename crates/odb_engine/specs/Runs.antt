@@ -2,10 +2,9 @@
 use Rattle.std.specs.Prelude.{◌≡◌, ◌⊎◌, ℕ, List, Option, true, false, codes}
 use Rattle.std.specs.List.{AllZip}
 use Rattle.odb_doc.specs.declared.fault.Place.TheVariants as places
-use Rattle.odb_doc.specs.declared.event.NamedEvent.{NamedEvent}
 use Rattle.odb_doc.specs.declared.event_fault.EventFault.{EventFault}
 use Rattle.odb_doc.specs.EventFaults as documents
-use Rattle.odb_doc.specs.Events.{AreEventsOf}
+use Rattle.odb_doc.specs.Events.{EventValue, AreEventsOf}
 use Rattle.odb_doc.specs.LeastEventFault.{IsEventsDocument, RefusesEvents}
 use Rattle.odb_doc.specs.Records.{Record}
 use Rattle.odb_check.specs.declared.plan.Plan.{Plan}
@@ -26,7 +25,7 @@ use Rattle.odb_reply.specs.OnePerId.{HasOnePerId}
 use Rattle.odb_reply.specs.Responses.{response_value}
 use Rattle.odb_engine.specs.declared.ending.Ended.{Ended}
 use Rattle.odb_engine.specs.declared.ending.Ended.TheVariants.{Done}
-use Rattle.odb_engine.specs.Cascade.{Writes, Refusal, Reports, RefusesBytes, HasValue}
+use Rattle.odb_engine.specs.Cascade.{Writes, Refusal, Reports, HasValue, IsLeastOf}
 use Rattle.odb_engine.specs.Inputs.{SomeDocument}
 use Rattle.odb_engine.specs.Replays.{response_line}
 
@@ -43,17 +42,16 @@ run_refusal cause = record { code = events.run_code cause; name = events.run_nam
 abbrev pub unfinished : Refusal
 unfinished = record { code = codes "F66"; name = codes "Unfinished"; place = places.Events }
 
--- the least fault of an events document: of its bytes, or else of its value
-pub data IsLeastOfEvents (bytes : List ℕ) (refusal : Refusal) : Type 0 where
-  OfBytes : RefusesBytes places.Events bytes refusal → IsLeastOfEvents bytes refusal
-  OfValue : (fault : EventFault) → documents.IsNumbered fault → HasValue bytes (RefusesEvents fault) → refusal ≡ events_refusal fault → IsLeastOfEvents bytes refusal
+-- the least fault of an events document
+abbrev pub IsLeastOfEvents : List ℕ → Refusal → Type 0
+IsLeastOfEvents bytes refusal = IsLeastOf places.Events documents.IsNumbered RefusesEvents events_refusal bytes refusal
 
 -- the bytes are a document of these events
-abbrev pub AreEventsIn : List ℕ → List NamedEvent → Type 0
+abbrev pub AreEventsIn : List ℕ → List EventValue → Type 0
 AreEventsIn bytes named = HasValue bytes (λ value. IsEventsDocument value × AreEventsOf value named)
 
 -- the events by the positions of the requests that they name
-abbrev pub AreResolved : Plan → List NamedEvent → List Event → Type 0
+abbrev pub AreResolved : Plan → List EventValue → List Event → Type 0
 AreResolved plan named events = AllZip (IsResolved (plan_records plan)) named events
 
 -- the state after these events
@@ -62,14 +60,14 @@ end_of policy plan events = state_after plan policy events
 
 -- The least fault of recorded events on a plan: the first that names no request; or else the first that may not come,
 -- with its first cause; or else that the run is not finished after all of them.
-pub data IsLeastOfRun (policy : Policy) (plan : Plan) (named : List NamedEvent) (refusal : Refusal) : Type 0 where
+pub data IsLeastOfRun (policy : Policy) (plan : Plan) (named : List EventValue) (refusal : Refusal) : Type 0 where
   OfIds : (at : ℕ) → IsFirstUnknown (plan_records plan) named at → refusal ≡ resolve_refusal (UnknownEvent at) → IsLeastOfRun policy plan named refusal
   OfEvent : (events : List Event) (cause : RunRefusal) → AreResolved plan named events → StopsAt (at_first plan policy) events cause → refusal ≡ run_refusal cause → IsLeastOfRun policy plan named refusal
   OfEnd : (events : List Event) → AreResolved plan named events → IsRun plan policy events → is_finished (end_of policy plan events) ≡ false → refusal ≡ unfinished → IsLeastOfRun policy plan named refusal
 
 -- The response to a finished run of the plan, under the policy, by just these events. In it no request starts before all
 -- that it names has ended with 2xx, and the response has exactly one element per id.
-pub record IsResult (policy : Policy) (plan : Plan) (named : List NamedEvent) (ended : Ended) (text : List ℕ) : Type 0 where
+pub record IsResult (policy : Policy) (plan : Plan) (named : List EventValue) (ended : Ended) (text : List ℕ) : Type 0 where
   pub ends : ended ≡ Done
   pub events : List Event
   pub resolved : AreResolved plan named events
@@ -80,16 +78,12 @@ pub record IsResult (policy : Policy) (plan : Plan) (named : List NamedEvent) (e
   pub one_per_id : HasOnePerId (plan_records plan) (response_value (end_of policy plan events))
 
 -- what is written of a plan by recorded events
-abbrev pub RunsPlan : Policy → Plan → List NamedEvent → Writes
+abbrev pub RunsPlan : Policy → Plan → List EventValue → Writes
 RunsPlan policy plan named ended text = Reports (IsLeastOfRun policy plan named) ended text ⊎ IsResult policy plan named ended text
-
--- the same of requests: what a plan of them gives
-abbrev pub RunsBatch : Policy → List NamedEvent → List Record → Writes
-RunsBatch policy named batch ended text = (plan : Plan) × (plan_records plan ≡ batch) × RunsPlan policy plan named ended text
 
 -- what is written of a plan and the bytes of an events document
 abbrev pub RunsBy : Policy → Plan → List ℕ → Writes
-RunsBy policy plan bytes ended text = Reports (IsLeastOfEvents bytes) ended text ⊎ ((named : List NamedEvent) × AreEventsIn bytes named × RunsPlan policy plan named ended text)
+RunsBy policy plan bytes ended text = Reports (IsLeastOfEvents bytes) ended text ⊎ ((named : List EventValue) × AreEventsIn bytes named × RunsPlan policy plan named ended text)
 
 -- what is written of the requests of a batch: what a plan of them and some events document give
 abbrev pub Runs : Policy → Option (List ℕ) → List Record → Writes

@@ -1,23 +1,18 @@
-//! What the contracts of the engines determine: for the same document, one text.
+//! What the contracts of the engines determine: for the same bytes of the documents, one text.
 //!
-//! The laws are clauses of a function that changes nothing. They use the relations that the clauses
-//! of the engines use.
+//! The laws are clauses of functions that change nothing. They speak of the very relations that the
+//! clauses `ends` of the engines cite.
 
-ghost use Rattle.std.specs.Prelude.{◌≡◌, ℕ, Bool, List};
-ghost use Rattle.odb_doc.specs.declared.event.NamedEvent.{NamedEvent};
-ghost use Rattle.odb_doc.specs.Outcomes.{Recorded};
-ghost use Rattle.odb_check.specs.Plans.{plan_records};
+ghost use Rattle.std.specs.Prelude.{ℕ, Bool, List, Some};
 ghost use Rattle.odb_sched.specs.Choosing.{AllowsOrder};
 ghost use Rattle.odb_sched.specs.declared.order.Order.{Order};
 ghost use Rattle.odb_sched.specs.declared.policy.Policy.{Policy};
-ghost use Rattle.odb_engine.specs.Cascade.{Accepts, Answers};
-ghost use Rattle.odb_engine.specs.Commands.{Canonical, Counts, Plans};
+ghost use Rattle.odb_engine.specs.Cascade.{Answers};
+ghost use Rattle.odb_engine.specs.Commands.{BySecond, Canonical, Counts, Plans};
 ghost use Rattle.odb_engine.specs.Laws.{IsOne};
 ghost use Rattle.odb_engine.specs.Matches.{Matches};
-ghost use Rattle.odb_engine.specs.Replays.{ReplaysBatch};
-ghost use Rattle.odb_engine.specs.Runs.{RunsBatch};
-
-use odb_check::Plan;
+ghost use Rattle.odb_engine.specs.Replays.{Replays};
+ghost use Rattle.odb_engine.specs.Runs.{Runs};
 
 /// Two texts that a check may write for the same bytes are equal, and so are the ends; likewise for a
 /// plan, a canonical text and a match. So what these commands write is a function of the bytes.
@@ -26,7 +21,7 @@ pub fn one_text()
     ensures plan { (bytes : List ℕ) → IsOne (Answers Plans bytes) }
     ensures canon { (bytes : List ℕ) → IsOne (Answers Canonical bytes) }
     ensures matching { (bytes responses : List ℕ)
-        → IsOne (Answers (λ batch. Matches batch responses) bytes) }
+        → IsOne (Answers (BySecond (Some responses) Matches) bytes) }
 {
     odb_doc::laws::one_batch();
     odb_doc::laws::one_fault();
@@ -35,34 +30,34 @@ pub fn one_text()
     odb_reply::laws::one_match();
 }
 
-/// In an order, as that of `First`, `Last` or `Wide`, a plan, a policy and a record of outcomes have one
-/// course. So two texts that a replay may write of the same requests by the same record are equal, and
-/// so are the ends, whatever else their plans hold; likewise for a document of these requests.
-pub fn one_replay(plan: &Plan<'_>)
-    ensures requests { (order : Order) (policy : Policy) (traced : Bool) (entries : List Recorded)
-        → IsOne (ReplaysBatch (AllowsOrder order) policy traced entries (plan_records plan.now)) }
-    ensures document { (order : Order) (policy : Policy) (traced : Bool) (entries : List Recorded)
-        (bytes : List ℕ) → Accepts bytes (λ batch. batch ≡ plan_records plan.now)
-        → IsOne (Answers (ReplaysBatch (AllowsOrder order) policy traced entries) bytes) }
+/// In an order, as that of `First`, `Last` or `Wide`, two texts that a replay may write for the same
+/// bytes of a batch document and of an outcomes document are equal, and so are the ends: for each
+/// policy, with or without the trace, and also if one of the documents is refused.
+///
+/// `outcomes` is what the second reader has left. The relation is that of [`crate::replay_batch`].
+pub fn one_replay()
+    ensures { (order : Order) (policy : Policy) (traced : Bool) (bytes outcomes : List ℕ)
+        → IsOne (Answers (Replays (AllowsOrder order) policy traced (Some outcomes)) bytes) }
 {
     odb_doc::laws::one_batch();
     odb_doc::laws::one_fault();
     odb_check::laws::one_fault();
-    odb_sched::laws::every_order(plan);
+    odb_doc::laws::one_record();
+    odb_sched::laws::every_order();
 }
 
-/// Two texts that a run by recorded events may write of the same requests by the same events are equal,
-/// and so are the ends, whatever else their plans hold; likewise for a document of these requests.
-pub fn one_run(plan: &Plan<'_>)
-    ensures requests { (policy : Policy) (events : List NamedEvent)
-        → IsOne (RunsBatch policy events (plan_records plan.now)) }
-    ensures document { (policy : Policy) (events : List NamedEvent) (bytes : List ℕ)
-        → Accepts bytes (λ batch. batch ≡ plan_records plan.now)
-        → IsOne (Answers (RunsBatch policy events) bytes) }
+/// Two texts that a run by recorded events may write for the same bytes of a batch document and of an
+/// events document are equal, and so are the ends: for each policy, and also if one of the documents
+/// is refused.
+///
+/// `events` is what the second reader has left. The relation is that of [`crate::run_batch`].
+pub fn one_run()
+    ensures { (policy : Policy) (bytes events : List ℕ)
+        → IsOne (Answers (Runs policy (Some events)) bytes) }
 {
     odb_doc::laws::one_batch();
     odb_doc::laws::one_fault();
     odb_check::laws::one_fault();
+    odb_doc::laws::one_history();
     odb_sched::laws::every_cause();
-    odb_check::laws::every_plan(plan);
 }

@@ -14,7 +14,7 @@ ghost use Rattle.odb_sched.specs.declared.order.Order.{Order};
 ghost use Rattle.odb_sched.specs.declared.refusal.StartRefusal.{StartRefusal};
 ghost use Rattle.odb_sched.specs.declared.refusal.StartRefusal.TheVariants.{WidthReached};
 ghost use Rattle.odb_sched.specs.declared.refusal.ReportRefusal.{ReportRefusal};
-ghost use Rattle.odb_sched.specs.State.{State, size, shape, phase_at, at_first};
+ghost use Rattle.odb_sched.specs.State.{State, size, shape, phase_at};
 ghost use Rattle.odb_sched.specs.Failing.{Fails, fails};
 ghost use Rattle.odb_sched.specs.Steps.{may_start, may_report, is_finished};
 ghost use Rattle.odb_sched.specs.Causes.{BarsStart, IsStartCause, BarsReport, IsReportCause};
@@ -129,15 +129,13 @@ pub fn every_word(plan: &Plan<'_>)
 }
 
 /// In an order, as that of `First`, `Last` or `Wide`, and with recorded outcomes, an execution has one
-/// course: any two that finish have the same steps and the same answers, any two that do not have the
+/// course from each state, so from the first of a plan and a policy: any two that finish have the same steps and the same answers, any two that do not have the
 /// same fault, and none has a fault where another finishes.
-pub fn every_order(plan: &Plan<'_>)
-    ensures one_course { (order : Order) (outcomes : List (Option Outcome)) (policy : Policy)
-        → HasOneCourse order outcomes (at_first plan.now policy) }
-    ensures one_fault { (order : Order) (outcomes : List (Option Outcome)) (policy : Policy)
-        → HasOneFault order outcomes (at_first plan.now policy) }
-    ensures fault_or_end { (order : Order) (outcomes : List (Option Outcome)) (policy : Policy)
-        → FaultsOrFinishes order outcomes (at_first plan.now policy) }
-{
-    every_plan(plan);
-}
+pub fn every_order()
+    ensures one_course { (order : Order) (outcomes : List (Option Outcome)) (first : State)
+        → HasOneCourse order outcomes first }
+    ensures one_fault { (order : Order) (outcomes : List (Option Outcome)) (first : State)
+        → HasOneFault order outcomes first }
+    ensures fault_or_end { (order : Order) (outcomes : List (Option Outcome)) (first : State)
+        → FaultsOrFinishes order outcomes first }
+{}

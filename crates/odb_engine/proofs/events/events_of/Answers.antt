@@ -2,7 +2,7 @@ use Rattle.std.proofs.Common.{refl, IfOk, IfErr}
 use Rattle.odb_doc.specs.EventLists.{entries}
 use Rattle.odb_engine.specs.Stops.{Stopped}
 use Rattle.odb_engine.specs.Runs.{AreEventsIn, IsLeastOfEvents, events_refusal}
-use Rattle.odb_engine.specs.Runs.IsLeastOfEvents.{OfValue}
+use Rattle.odb_engine.specs.Cascade.IsLeastOf.{OfValue}
 use Rattle.odb_engine.proofs.EngineLemmas.{at-exit, stopped-by}
 use Rattle.odb_engine.proofs.events.events_of.Goals as goal
 

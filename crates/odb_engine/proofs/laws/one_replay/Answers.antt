@@ -1,38 +1,21 @@
-use Rattle.odb_check.specs.Plans.{plan_records}
+use Rattle.std.proofs.Common.{Some}
 use Rattle.odb_sched.specs.Choosing.{AllowsOrder}
-use Rattle.odb_sched.specs.Recordings.{recorded_for}
-use Rattle.odb_engine.specs.Replays.{ReplaysBatch}
-use Rattle.odb_engine.proofs.CourseLemmas as courses
-use Rattle.odb_engine.proofs.LawLemmas.{AreFunctional, answers_of}
+use Rattle.odb_engine.specs.Replays.{Replays}
+use Rattle.odb_engine.proofs.CourseLemmas.{AreOneRecord, replays_one}
+use Rattle.odb_engine.proofs.LawLemmas.{AreFunctional, answers_one}
 use Rattle.odb_engine.proofs.laws.one_replay.Goals as goal
 
-pub returns-clause-requests : goal.returns-clause-requests
-returns-clause-requests c =
-    let plan = c.args.plan.now in
-    λ order policy traced entries.
-    let recorded = recorded_for (plan_records plan) entries in
-    let law : courses.HasOrder order recorded _ = record {
-      course = c.every_order.ensures.one_course order recorded policy;
-      fault = c.every_order.ensures.one_fault order recorded policy;
-      apart = c.every_order.ensures.fault_or_end order recorded policy;
-    } in
-    courses.one_replay order policy traced plan entries law
-
-pub returns-clause-document : goal.returns-clause-document
-returns-clause-document c =
-    let plan = c.args.plan.now in
-    λ order policy traced entries bytes accepted.
-    let recorded = recorded_for (plan_records plan) entries in
-    let law : courses.HasOrder order recorded _ = record {
-      course = c.every_order.ensures.one_course order recorded policy;
-      fault = c.every_order.ensures.one_fault order recorded policy;
-      apart = c.every_order.ensures.fault_or_end order recorded policy;
-    } in
-    let laws : AreFunctional = record {
+pub returns : goal.returns
+returns c =
+    let law : AreFunctional = record {
       one_shape = c.one_fault.ensures.one;
       no_shape = c.one_fault.ensures.none;
       one_batch = c.one_batch.ensures;
       one_name = c.one_fault-2.ensures.one;
       no_name = c.one_fault-2.ensures.none;
     } in
-    answers_of laws (ReplaysBatch (AllowsOrder order) policy traced entries) bytes (plan_records plan) accepted (courses.one_replay order policy traced plan entries law)
+    let recorded : AreOneRecord = record { one_fault = c.one_record.ensures.one; no_fault = c.one_record.ensures.none; one_reading = c.one_record.ensures.outcomes } in
+    λ order policy traced bytes outcomes. answers_one law (Replays (AllowsOrder order) policy traced (Some outcomes)) bytes
+    (λ batch good. replays_one order
+    (λ outcomes first. record { course = c.every_order.ensures.one_course order outcomes first; fault = c.every_order.ensures.one_fault order outcomes first; apart = c.every_order.ensures.fault_or_end order outcomes first })
+    recorded policy traced outcomes batch)

@@ -1,9 +1,9 @@
-use Rattle.std.proofs.Common.{◌∙◌, sym}
-use Rattle.odb_engine.specs.Commands.{Canonical, Counts, Plans}
+use Rattle.std.proofs.Common.{◌∙◌, Some, sym}
+use Rattle.odb_engine.specs.Commands.{BySecond, Canonical, Counts, Plans}
 use Rattle.odb_engine.specs.Matches.{Matches}
 use Rattle.odb_engine.proofs.CanonLawLemmas.{canonical_one}
 use Rattle.odb_engine.proofs.LawLemmas.{AreFunctional, answers_one}
-use Rattle.odb_engine.proofs.MatchLawLemmas.{AreOneMatch, matches_one}
+use Rattle.odb_engine.proofs.MatchLawLemmas.{AreOneMatch, match_one}
 use Rattle.odb_engine.proofs.laws.one_text.Goals as goal
 
 pub returns-clause-check : goal.returns-clause-check
@@ -56,4 +56,4 @@ returns-clause-matching c =
       no_misfit = c.one_match.ensures.none;
       one_table = c.one_match.ensures.table;
     } in
-    λ bytes responses. answers_one law (λ batch. Matches batch responses) bytes (λ xs here. matches_one reply xs responses)
+    λ bytes responses. answers_one law (BySecond (Some responses) Matches) bytes (λ batch good. match_one reply responses batch)

@@ -2,7 +2,7 @@ use Rattle.std.proofs.Common.{refl, IfOk, IfErr}
 use Rattle.odb_doc.specs.OutcomeLists.{entries}
 use Rattle.odb_engine.specs.Stops.{Stopped}
 use Rattle.odb_engine.specs.Replays.{IsLeastOfOutcomes, IsRecordOf, outcomes_refusal}
-use Rattle.odb_engine.specs.Replays.IsLeastOfOutcomes.{OfValue}
+use Rattle.odb_engine.specs.Cascade.IsLeastOf.{OfValue}
 use Rattle.odb_engine.proofs.EngineLemmas.{at-exit, stopped-by}
 use Rattle.odb_engine.proofs.running.outcomes_of.Goals as goal
 
