@@ -1,8 +1,8 @@
 #!/usr/bin/env python3
 """Compares what the completion scripts offer with the help of each command.
 
-Each line is completed by bash, and by zsh and fish if they are installed; if not, a line says so,
-and their scripts are read here alone. What is offered has to be what the help lists: commands,
+Each line is completed by bash, and by zsh and fish if they are installed; if not, a line reports
+that, and their scripts are read here alone. What is offered has to be what the help lists: commands,
 options and values, with the text of the help if the shell shows one, and files if a document
 may follow. With `--mistakes` it shows that each of the planted mistakes below is found. The last
 line is `N passed, N failed`.

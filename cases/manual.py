@@ -4,7 +4,7 @@
 The page has to be the one that is put together here: its sections in order, each command with the
 use, the arguments and the options that its `--help` lists, a `\\-` for each hyphen, in brackets what
 may be left out, and the exit statuses. `groff` finds nothing to warn of, and sets each section and
-each exit status; if it is not installed, a line says so. With `--mistakes` it shows that each of
+each exit status; if it is not installed, a line reports that. With `--mistakes` it shows that each of
 the planted mistakes below is found. The last line is `N passed, N failed`.
 """
 

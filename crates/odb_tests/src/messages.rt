@@ -1,5 +1,5 @@
-//! What each fault and each cause says: the message that it is shown by. The texts are written from
-//! docs/faults.md; no clause speaks of them.
+//! The message of each fault and each cause. The texts are written from docs/faults.md, since no
+//! clause speaks of them.
 
 use odb_check::{CheckFault, NameRule, Need};
 use odb_doc::{
@@ -355,14 +355,14 @@ const MISFITS: &[(MatchFault, &str)] = &[
     (MatchFault::OutOfMemory, "out of memory"),
 ];
 
-fn says<T: Display>(alloc: Global, fault: &T, want: &str) -> Result<bool, AllocError> {
+fn has_message<T: Display>(alloc: Global, fault: &T, want: &str) -> Result<bool, AllocError> {
     Ok(format!(in alloc; "{fault}")?.as_str() == want)
 }
 
 /// Fails with the first message of a table that its fault does not have.
 fn compare<T: Display>(alloc: Global, table: &[(T, &str)]) -> Result<(), Fail> {
     for (fault, want) in table {
-        if !says(alloc, fault, want)? {
+        if !has_message(alloc, fault, want)? {
             return Err(Fail::new(*want));
         }
     }
