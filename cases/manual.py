@@ -1,13 +1,14 @@
 #!/usr/bin/env python3
-"""Compares the manual page and the completions with the help of each command.
+"""Compares the manual page with the help of each command, line by line.
 
-What `--help` lists, commands, arguments, options and values, has to appear in the section of the
-command in the manual page, and the options and values in each completion script. Bash completes some
-lines as it should, and `groff` finds nothing to warn of. What is not installed is said in a line and
-left out. The last line is `N passed, N failed`.
+The page has to be the one that is put together here: its sections in order, each command with the
+use, the arguments and the options that its `--help` lists, a `\\-` for each hyphen, in brackets what
+may be left out, and the exit statuses. `groff` finds nothing to warn of, and sets each section and
+each exit status; if it is not installed, a line reports that. With `--mistakes` it shows that each of
+the planted mistakes below is found. The last line is `N passed, N failed`.
 """
 
-import os
+import difflib
 import re
 import shutil
 import subprocess
@@ -15,157 +16,134 @@ import sys
 
 sys.dont_write_bytecode = True
 
+from helps import Texts, read_helps
 from program import read_arguments
 
-CHECKS = {"bash": ["bash", "-n"], "zsh": ["zsh", "-n"], "fish": ["fish", "--no-execute"]}
+PAGE = """\
+.TH ODB_BATCH 1
+.SH NAME
+odb_batch \\- check, plan and replay OData JSON batch requests
+.SH SYNOPSIS
+.B odb_batch
+[COMMAND] [ARGUMENTS]
+.SH DESCRIPTION
+{about}
+.SH OPTIONS
+{options}
+.SH COMMANDS
+A refused document is reported by one line: the code, the name and the place of its first fault.
+{commands}
+.SH EXIT STATUS
+Exit status: 0 for a result, 1 for a fault of a document, 2 for wrong arguments, \
+3 if a file or the output fails, 4 if out of memory
+"""
 
-# Lines that are completed in bash, each with what is offered for its last word.
-LINES = [
-    ("odb_batch ch", ["check"]),
-    ("odb_batch re", ["replay"]),
-    ("odb_batch --v", ["--version"]),
-    ("odb_batch replay --", ["--order", "--stop", "--width", "--trace", "--help"]),
-    ("odb_batch replay batch outcomes --order ", ["first", "last", "wide"]),
-    ("odb_batch replay --order w", ["wide"]),
-    ("odb_batch run --", ["--stop", "--width", "--help"]),
-    ("odb_batch run batch events --st", ["--stop"]),
-    ("odb_batch completions ", ["bash", "zsh", "fish"]),
-    ("odb_batch check b", []),
+# What a reader has to find in the page as it is set, in this order.
+SET = [
+    "NAME",
+    "SYNOPSIS",
+    "DESCRIPTION",
+    "OPTIONS",
+    "COMMANDS",
+    "replay FILE OUTCOMES [--order ORDER] [--stop] [--width N] [--trace]",
+    "run FILE EVENTS [--stop] [--width N]",
+    "EXIT STATUS",
+    "0 for a result",
+    "1 for a fault",
+    "2 for wrong arguments",
+    "3 if a file or the output fails",
+    "4 if out of memory",
 ]
 
-
-class Program:
-    def __init__(self, binary):
-        self.binary = binary
-
-    def text(self, *words):
-        """What the program prints, which has to end with status 0."""
-        done = subprocess.run([self.binary, *words], capture_output=True, text=True, timeout=60)
-        if done.returncode or done.stderr:
-            sys.exit(f"{' '.join(words)}: status {done.returncode}, {done.stderr}")
-        return done.stdout
-
-    def listed(self, title, *words):
-        """What the help of a command lists under a title."""
-        lines = self.text(*words, "--help").partition(f"\n{title}:\n")[2].split("\n\n")[0]
-        return [line.strip() for line in lines.splitlines()]
-
-    def commands(self):
-        return [line.split()[0] for line in self.listed("Commands")]
-
-    def options(self, *words):
-        """The names of the options, `-h` and `--help` alike."""
-        return [name for line in self.listed("Options", *words) for name in re.findall(r"(?<!\S)--?[a-z]+", line.split("  ")[0].replace(",", " "), re.I)]
-
-    def arguments(self, *words):
-        return [line.split("  ")[0].strip("<>[]") for line in self.listed("Arguments", *words)]
-
-    def values(self, *words):
-        """The values that are listed of options and arguments."""
-        found = re.findall(r"\[possible values: ([^\]]*)\]", self.text(*words, "--help"))
-        return [value for values in found for value in values.split(", ")]
+# What a page may have wrong: a title, and what makes such a page of the right one.
+MISTAKES = {
+    "no exit statuses": lambda page: page.partition(".SH EXIT STATUS")[0],
+    "no status for memory": lambda page: page.replace(", 4 if out of memory", ""),
+    "bare hyphens": lambda page: page.replace("\\-", "-"),
+    "options as demanded": lambda page: re.sub(r"\[(\\-\\-.*?)\]", r"\1", page),
+    "arguments as optional": lambda page: page.replace(".SS plan FILE", ".SS plan [FILE]"),
+    "the values of an option left out": lambda page: page.replace("One of: first last wide\n", ""),
+    "an option without a short name": lambda page: page.replace(".B \\-V, ", ".B "),
+    "an option without its value": lambda page: page.replace(".B \\-\\-width N", ".B \\-\\-width"),
+    "sections in another order": lambda page: page.replace(".SH NAME", ".SH SYNOPSIS", 1),
+    "a paragraph without a tag": lambda page: page.replace(".TP\n.B FILE", ".B FILE", 1),
+}
 
 
-def lacking(names, text):
-    """The names that are no words of the text."""
-    words = set(re.findall(r"[\w-]+", text))
-    return [name for name in names if name not in words]
+def roff(words):
+    """A text as the page has it, in which a hyphen stays a hyphen."""
+    return words.replace("\\", "\\e").replace("-", "\\-")
 
 
-def manual_faults(program):
-    """What the manual page lacks of the help."""
-    page = program.text("man").replace("\\-", "-")
-    top, *sections = re.split(r"(?m)^\.SS ", page)
-    named = {section.split()[0]: section for section in sections}
-    if list(named) != program.commands():
-        yield f"the page has the commands {', '.join(named)}"
-    for name in lacking(program.options(), top):
-        yield f"the page lacks {name}"
-    for command, section in named.items():
-        wanted = program.options(command) + program.arguments(command) + program.values(command)
-        for name in lacking(wanted, section):
-            yield f"the section of {command} lacks {name}"
-    for name in program.commands():
-        about = program.text(name, "--help").splitlines()[0]
-        if about not in page.splitlines():
-            yield f"the section of {name} does not say what it does"
+def described(item):
+    """The paragraph of an option or an argument."""
+    name = " ".join(filter(None, [", ".join(item.names), item.value]))
+    values = [f"One of: {roff(' '.join(item.values))}"] if item.values else []
+    return "\n".join([".TP", f".B {roff(name)}", roff(item.about), *values])
 
 
-def words_for(command, shell, script):
-    """The part of a script that is about a command, or of the program where there is none."""
-    marks = {
-        "bash": f"' {command} " if command else "'1 '",
-        "zsh": f"'{command} " if command else "compadd -- -",
-        "fish": f"_from {command}'" if command else "__fish_use_subcommand",
-    }
-    return "\n".join(line for line in script.splitlines() if marks[shell] in line)
+def used(item):
+    """An argument or an option in the heading of its command: in brackets unless it is demanded."""
+    name = f"{item.long} {item.value}".strip() if item.names else item.value
+    return roff(name) if item.demanded else f"[{roff(name)}]"
 
 
-def written(option, shell):
-    """How a script names an option."""
-    if shell != "fish":
-        return option
-    return f"-l {option[2:]}" if option.startswith("--") else f"-s {option[1:]}"
+def section(name, command):
+    """The section of a command. Its heading leaves out the help option, which each command has."""
+    items = command.arguments + command.options
+    heading = " ".join([".SS", name, *(used(item) for item in items if "--help" not in item.names)])
+    return "\n".join([heading, roff(command.about), *map(described, items)])
 
 
-def script_faults(program, shell):
-    """What a completion script lacks of the help."""
-    script = program.text("completions", shell)
-    for command in lacking(program.commands(), script):
-        yield f"{shell}: {command} is missing"
-    for command in ["", *program.commands()]:
-        part = words_for(command, shell, script)
-        words = [command] if command else []
-        for option in program.options(*words):
-            if f"{written(option, shell)} " not in re.sub(r"[')]|$", " ", part.replace("\n", " ") + " "):
-                yield f"{shell}: {command} lacks {option}"
-        for value in lacking(program.values(*words), part):
-            yield f"{shell}: {command} lacks {value}"
+def page_of(program, commands):
+    """The page that belongs to the help."""
+    return PAGE.format(
+        about=roff(program.about),
+        options="\n".join(map(described, program.options)),
+        commands="\n".join(section(name, command) for name, command in commands.items()),
+    )
 
 
-def syntax_faults(program, shell):
-    """What the shell itself finds wrong."""
-    if not shutil.which(shell):
-        print(f"{shell} is not installed: its script is not read by it")
-        return
-    done = subprocess.run(CHECKS[shell], input=program.text("completions", shell), capture_output=True, text=True)
-    if done.returncode or done.stderr:
-        yield f"{shell}: {done.stderr.strip()}"
+def page_faults(texts):
+    """Where the page differs from the one that belongs to the help."""
+    wanted, found = page_of(*read_helps(texts)).splitlines(), texts.text("man").splitlines()
+    yield from difflib.unified_diff(wanted, found, "wanted", "printed", lineterm="", n=0)
 
 
-def completed(script, line):
-    """What bash offers for the last word of a line."""
-    words = line.split(" ")
-    listed = " ".join(f"'{word}'" for word in words)
-    call = f"COMP_WORDS=({listed}); COMP_CWORD={len(words) - 1}; _odb_batch; printf '%s\\n' \"${{COMPREPLY[@]}}\""
-    done = subprocess.run(["bash", "--norc", "-c", script + call], capture_output=True, text=True)
-    return done.stdout.split(), done.stderr
-
-
-def bash_faults(program):
-    script = program.text("completions", "bash")
-    for line, wanted in LINES:
-        found, errors = completed(script, line)
-        if found != wanted or errors:
-            yield f"bash offers {found} for {line!r}, and says {errors!r}"
-
-
-def groff_faults(program):
+def groff_faults(texts):
+    """What groff warns of, and what is missing in the page that it sets."""
     if not shutil.which("groff"):
         print("groff is not installed: the manual page is not set")
         return
-    done = subprocess.run(["groff", "-man", "-Tutf8", "-ww"], input=program.text("man"), capture_output=True, text=True)
+    words = ["groff", "-man", "-Tascii", "-P-cbou", "-rLL=100n", "-ww"]
+    done = subprocess.run(words, input=texts.text("man"), capture_output=True, text=True)
     if done.returncode or done.stderr:
         yield f"groff: {done.stderr.strip()}"
-    if "odb_batch" not in done.stdout:
-        yield "groff sets an empty page"
+    rest = " ".join(done.stdout.split())
+    for wanted in SET:
+        _, found, rest = rest.partition(wanted)
+        if not found:
+            yield f"groff does not set {wanted!r}, or not there"
+            return
+
+
+def look_for_mistakes(texts):
+    """Prints whether each planted mistake is found; returns the titles of those that are not."""
+    missed = [title for title, change in MISTAKES.items() if not any(page_faults(texts.changed(("man",), change)))]
+    print(f"{len(MISTAKES) - len(missed)} mistakes found, {len(missed)} not found")
+    return missed
+
+
+def more_options(option):
+    option("--mistakes", action="store_true", help="show that each planted mistake is found")
 
 
 def main():
-    program = Program(read_arguments("Compares manual page and completions with the help.").binary)
-    checks = [manual_faults(program), groff_faults(program), bash_faults(program)]
-    checks += [it(program, shell) for shell in CHECKS for it in (script_faults, syntax_faults)]
-    found = [list(check) for check in checks]
+    options = read_arguments("Compares the manual page with the help.", more_options)
+    texts = Texts(options.binary)
+    found = [list(check(texts)) for check in (page_faults, groff_faults)]
+    if options.mistakes:
+        found.append([f"not found: {title}" for title in look_for_mistakes(texts)])
     for line in sum(found, []):
         print(line)
     failed = len(list(filter(None, found)))

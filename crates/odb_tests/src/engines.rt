@@ -7,6 +7,7 @@ ghost use Rattle.odb_engine.specs.Inputs.{IsFresh};
 mod devices;
 mod failures;
 mod reads;
+mod remains;
 
 use odb_check::Seed;
 use odb_doc::{Input, Output};
