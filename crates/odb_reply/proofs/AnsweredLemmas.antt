@@ -1,9 +1,9 @@
 -- What the response to a finished run lists, and that it fits the batch.
-use Rattle.std.proofs.Common.{◌≡◌, ◌∙◌, ◌+◌, ◌<◌, ℕ, zero, suc, true, List, [], ◌∷◌, length, Option, Some, None, option_map, option_and_then, slice_get, codes, refl, ap, sym, subst, arith, Contains, IfSome, IsSome, All}
+use Rattle.std.proofs.Common.{◌≡◌, ◌∙◌, ◌+◌, ◌<◌, ℕ, zero, suc, true, List, [], ◌∷◌, length, Option, Some, None, option_map, option_and_then, slice_get, codes, refl, ap, sym, subst, arith, ◌≤◌, nat_le, nat_lt, leb-true, ltb-true, Contains, IfSome, IsSome, All}
 use Rattle.std.proofs.lemmas.List.Elements.{All-nil, All-cons}
 use Rattle.serde_json.specs.Find.{as_str}
 use Rattle.std.specs.List.{AllZip}
-use Rattle.std.proofs.lemmas.Bool.{true≢false}
+use Rattle.std.proofs.lemmas.Bool.{true≢false, and_parts}
 use Rattle.serde_json.specs.Data.{Data, string, number, unsigned, object, put, no_members}
 use Rattle.odb_doc.specs.declared.outcome.Outcome.{Outcome}
 use Rattle.odb_doc.specs.Outcomes as members
@@ -16,11 +16,12 @@ use Rattle.odb_check.specs.Plans.{plan_records}
 use Rattle.odb_check.specs.Positions.{id_at, group_at}
 use Rattle.odb_check.specs.Shape.{IsShapeOf, needs_of, unit_of}
 use Rattle.odb_check.specs.Units.{unit_at}
-use Rattle.odb_sched.specs.Answers.{answer, status_of, is_answered_2xx}
+use Rattle.odb_sched.specs.Answers.{answer, status_of, is_answered_2xx, HasStatuses}
 use Rattle.odb_sched.specs.Laws.{IsSound}
 use Rattle.odb_sched.specs.State.{State, size}
-use Rattle.odb_sched.specs.Statuses.{is_success}
-use Rattle.odb_reply.specs.Fits.{id_in, Responds, Succeeds, IsSatisfied, Fits, ListsFit, AnswersStatuses}
+use Rattle.odb_sched.specs.Statuses.{is_success, is_status}
+use Rattle.odb_sched.proofs.StatusLemmas.{status-answer}
+use Rattle.odb_reply.specs.Fits.{id_in, Responds, Succeeds, IsSatisfied, Fits, ListsFit}
 use Rattle.odb_reply.specs.ResponseDocuments.{Entry, IsResponse, IsResponseDocument, IsStatus, Says, group_in}
 use Rattle.odb_doc.specs.Canonical.{with_some}
 use Rattle.odb_reply.specs.Responses.{response, responses_from, response_value}
@@ -203,10 +204,16 @@ all_responses state i (request ∷ requests) statuses =
     let next : i + suc k ≡ i + 1 + k = omega arith in
     subst (λ (j : ℕ). IsStatus (unsigned (status_of (answer state j)))) next (statuses (suc k) (omega arith))))
 
-pub IsResponseDocument-answered : (state : State) → size state ≡ length (plan_records state.plan) → AnswersStatuses state → IsResponseDocument (response_value state)
-IsResponseDocument-answered state count statuses = record {
+-- a status from 200 to 599 is one that a response may have
+in_range : (n : ℕ) → is_status n ≡ true → IsStatus (unsigned n)
+in_range n e =
+    let (low, high) = and_parts (nat_le 200 n) (nat_lt n 600) e in
+    let least : 200 ≤ n = leb-true 200 n low in
+    let below : n < 600 = ltb-true n 600 high in
+    (omega arith, omega arith)
+
+pub IsResponseDocument-answered : (state : State) → HasStatuses state → IsResponseDocument (response_value state)
+IsResponseDocument-answered state statuses = record {
   array = refl;
-  each = rw (responses_in-value state) (all_responses state 0 (plan_records state.plan) (λ k within.
-      let place : k ≡ 0 + k = omega arith in
-      subst (λ (j : ℕ). IsStatus (unsigned (status_of (answer state j)))) place (statuses k (omega (arith, count)))));
+  each = rw (responses_in-value state) (all_responses state 0 (plan_records state.plan) (λ k within. in_range (status_of (answer state (0 + k))) (status-answer state (0 + k) statuses)));
 }

@@ -1,17 +1,15 @@
 -- When the responses of a service fit a batch (OData JSON Format 4.01, section 19.5; OData Protocol 4.01, section 11.7).
-use Rattle.std.specs.Prelude.{◌≡◌, ◌<◌, ℕ, List, length, Option, Some, option_map, slice_get, Contains, IsTrue}
+use Rattle.std.specs.Prelude.{◌≡◌, ℕ, List, length, Option, Some, option_map, slice_get, Contains, IsTrue}
 use Rattle.std.specs.List.{AllZip}
-use Rattle.serde_json.specs.Data.{Data, unsigned}
+use Rattle.serde_json.specs.Data.{Data}
 use Rattle.odb_doc.specs.Records.{Record}
 use Rattle.odb_check.specs.declared.need.Need.{Need}
 use Rattle.odb_check.specs.declared.need.Need.TheVariants.{One, Group}
 use Rattle.odb_check.specs.Needs.{needs_at}
 use Rattle.odb_check.specs.Positions.{id_at, group_at, IsId}
 use Rattle.odb_check.specs.Units.{unit_at}
-use Rattle.odb_sched.specs.Answers.{answer, status_of}
-use Rattle.odb_sched.specs.State.{State, size}
 use Rattle.odb_sched.specs.Statuses.{is_success}
-use Rattle.odb_reply.specs.ResponseDocuments.{Entry, IsStatus, Says, responses_in}
+use Rattle.odb_reply.specs.ResponseDocuments.{Entry, Says, responses_in}
 
 -- the id of the response at a place
 abbrev pub id_in : List Entry → ℕ → Option (List ℕ)
@@ -63,7 +61,3 @@ pub record ListsFit (rs : List Record) (d : Data) : Type 0 where
   pub listed : List Entry
   pub says : AllZip Says (responses_in d) listed
   pub fits : Fits rs listed
-
--- each status that a finished run answers is one that a response may have
-abbrev pub AnswersStatuses : State → Type 0
-AnswersStatuses state = (i : ℕ) → i < size state → IsStatus (unsigned (status_of (answer state i)))

@@ -10,7 +10,7 @@ ghost use Rattle.odb_doc.specs.Records.{Record};
 ghost use Rattle.odb_check.specs.Plans.{plan_records};
 ghost use Rattle.odb_reply.specs.declared.match_fault.MatchFault.{MatchFault};
 ghost use Rattle.odb_reply.specs.declared.response_fault.ResponseFault.{ResponseFault};
-ghost use Rattle.odb_reply.specs.Fits.{AnswersStatuses, Fits, IsTableOf, ListsFit};
+ghost use Rattle.odb_reply.specs.Fits.{Fits, IsTableOf, ListsFit};
 ghost use Rattle.odb_reply.specs.LeastMatchFault.{HasNoMisfit, RefusesMatch};
 ghost use Rattle.odb_reply.specs.MatchFaults as matches;
 ghost use Rattle.odb_reply.specs.ResponseDocuments.{Entry, IsResponseDocument, RefusesResponses, Says};
@@ -52,12 +52,12 @@ pub fn one_match()
 
 /// Each id of the batch is the id of exactly one response, and no response has another id. The
 /// responses fit the batch, as [`crate::match_responses`] checks those of a service: each has the
-/// group of its request, and none is a success if a dependency of its request is not. If
-/// each status that is answered is from 100 to 599, [`crate::Responses::read`] accepts the response.
+/// group of its request, and none is a success if a dependency of its request is not. The response is
+/// a response document, as [`crate::Responses::read`] accepts it.
 pub fn every_response(done: &Done<'_>)
     ensures one_per_id { HasOnePerId (plan_records done.now.plan) (response_value done.now) }
     ensures fits { ListsFit (plan_records done.now.plan) (response_value done.now) }
-    ensures document { AnswersStatuses done.now → IsResponseDocument (response_value done.now) }
+    ensures document { IsResponseDocument (response_value done.now) }
 {
     done.laws();
     odb_check::laws::every_plan(done.plan());

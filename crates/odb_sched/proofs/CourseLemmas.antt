@@ -1,5 +1,7 @@
 -- An execution from step to step.
-use Rattle.std.proofs.Common.{◌≡◌, ℕ, ◌<◌, ◌≤◌, ◌+◌, ◌*◌, ◌∙◌, ap, sym, refl, subst, arith, Bool, true, false, List, [], ◌∷◌, ◌++◌, length, map, replicate, slice_set, inl, inr, ◌⊎◌, zero, suc, get_or, All, Some, is_some, unwrap_or, Result, Ok, Err}
+use Rattle.std.proofs.Common.{◌≡◌, ℕ, ◌<◌, ◌≤◌, ◌+◌, ◌*◌, ◌∙◌, ap, sym, refl, subst, arith, Bool, true, false, List, [], ◌∷◌, ◌++◌, length, map, replicate, slice_set, inl, inr, ◌⊎◌, zero, suc, get_or, All, Option, Some, is_some, unwrap_or, Result, Ok, Err, IfErr}
+use Rattle.std.specs.Result.{IsErrAnd}
+use Rattle.std.proofs.lemmas.Result.{err_from_is_err_and}
 use Rattle.std.proofs.lemmas.Bool.{both_ways, and_parts, cases_eq, true≢false}
 use Rattle.std.specs.List.{sum_by}
 use Rattle.std.proofs.lemmas.List.Sums.{sum_by-set}
@@ -16,6 +18,7 @@ use Rattle.odb_sched.specs.declared.event.Event.{Event}
 use Rattle.odb_sched.specs.declared.event.Event.TheVariants.{Start, Report}
 use Rattle.odb_sched.specs.declared.step.Step.{Step}
 use Rattle.odb_sched.specs.declared.step.Step.TheVariants as step
+use Rattle.odb_sched.specs.declared.order.Order.{Order}
 use Rattle.odb_sched.specs.declared.service.ServiceFault.{ServiceFault}
 use Rattle.odb_sched.specs.declared.service.ServiceFault.TheVariants as service
 use Rattle.odb_sched.specs.declared.fault.ExecFault.{ExecFault}
@@ -32,6 +35,7 @@ use Rattle.odb_sched.specs.Choosing.{Positions, positions_of, IsAmong}
 use Rattle.odb_sched.specs.Courses.{Allowance, Offer, ready_set, running_set, IsAllowed, IsOffered, step_of, AreChosen, IsCourse, IsDue, IsFinishedBy, IsCausedBy, position_in}
 use Rattle.odb_sched.specs.Advances.{MayTake, IsNext, IsTaken, IsTakenBy}
 use Rattle.odb_sched.specs.Calls.{Performing, IsCall, Asks, AsksAll, IsDueNow, Faults, IsCutShort}
+use Rattle.odb_sched.specs.Choices.{Picking, Picks, PicksAll}
 use Rattle.odb_sched.specs.Laws.{StartsLast}
 use Rattle.odb_doc.specs.Records.{Record}
 use Rattle.odb_sched.proofs.ChoiceLemmas.{positions-listed, listed-in}
@@ -233,23 +237,47 @@ so_far-first allows offers first state steps here none = record {
       omega arith;
 }
 
--- the next step is due after what was done so far, so its fault is that of the whole
-module _ {S : Type 0} (performs : Performing S) (requests : List Record) (allows allows_now : Allowance) (offers offers_now : Offer) (first state : State) (steps : List Step) (s : Step)
-    (far : SoFar allows allows_now offers offers_now first state steps) (next : IsNext allows_now state s) where
-  due-now : (i : ℕ) → s ≡ step.Report i → IsDueNow allows (after_all first far.events) i
+-- the next step is due after what was done so far, and was picked, so its fault is that of the whole
+module _ {S C : Type 0} (performs : Performing S) (chooses : Picking C) (names : C → Option Order) (requests : List Record) (allows allows_now : Allowance) (offers offers_now : Offer) (first state : State) (steps : List Step) (s : Step)
+    (far : SoFar allows allows_now offers offers_now first state steps) (next : IsNext allows_now state s) (chooser chooser_new : C) (picked : Picks chooses (names chooser) state s chooser chooser_new) where
+  due-now : (i : ℕ) → s ≡ step.Report i → IsDueNow allows chooses names (after_all first far.events) chooser chooser_new i
   due-now i same =
       let report : IsNext allows_now state (step.Report i) = subst (IsNext allows_now state) same next in
-      rw (← far.state_is) (record { within = report.within; runs = report.may; allowed = far.allowed (ready_set state) (running_set state) (step.Report i) report.allowed })
+      rw (← far.state_is) (record {
+        within = report.within;
+        runs = report.may;
+        allowed = far.allowed (ready_set state) (running_set state) (step.Report i) report.allowed;
+        picked = subst (λ x. Picks chooses (names chooser) state x chooser chooser_new) same picked;
+      })
 
-  pub faults-now : (cause : ExecFault) (old new : S) → Faults performs requests (λ i. s ≡ step.Report i) cause old new → Faults performs requests (IsDueNow allows (after_all first far.events)) cause old new
+  pub faults-now : (cause : ExecFault) (old new : S) → Faults performs requests (λ i. s ≡ step.Report i) cause old new
+      → Faults performs requests (IsDueNow allows chooses names (after_all first far.events) chooser chooser_new) cause old new
   faults-now (fault.NoOutcome i) old new faulty = (due-now i faulty.0, faulty.1)
   faults-now (fault.Service i) old new faulty = (due-now i faulty.0, faulty.1)
   faults-now (fault.BadStatus i) old new (same, outcome, bad, call) = (due-now i same, outcome, bad, call)
   faults-now fault.OutOfMemory old new faulty = (faulty.0, due-now faulty.0 faulty.1, faulty.2)
 
-  pub cut_short : (cause : ExecFault) (service old new : S) → StartsLast requests far.events → AsksAll performs requests far.events service old → Faults performs requests (λ i. s ≡ step.Report i) cause old new
-      → IsCutShort allows offers performs requests first service new cause
-  cut_short cause service old new ended calls faulty = record { events = far.events; course = far.course; dependencies_first = ended; between = old; calls = calls; faulty = faults-now cause old new faulty }
+  cut_short : (cause : ExecFault) (service old new : S) (chooser_first : C) → StartsLast requests far.events → AsksAll performs requests far.events service old → PicksAll chooses names first far.events chooser_first chooser
+      → Faults performs requests (λ i. s ≡ step.Report i) cause old new → IsCutShort allows offers performs chooses names requests first service new chooser_first chooser_new cause
+  cut_short cause service old new chooser_first ended calls choices faulty = record {
+    events = far.events;
+    course = far.course;
+    dependencies_first = ended;
+    between = old;
+    calls = calls;
+    chooser_between = chooser;
+    choices = choices;
+    faulty = faults-now cause old new faulty;
+  }
+
+  -- at the exit of a `?` on that fault
+  pub cut_short_at : {T : Type 0} (returned : Result T ExecFault) (cause : ExecFault) (service old new : S) (chooser_first : C) → IsErrAnd returned (λ other. other ≡ cause) → StartsLast requests far.events
+      → AsksAll performs requests far.events service old → PicksAll chooses names first far.events chooser_first chooser → Faults performs requests (λ i. s ≡ step.Report i) cause old new
+      → IfErr returned (IsCutShort allows offers performs chooses names requests first service new chooser_first chooser_new)
+  cut_short_at returned cause service old new chooser_first exit ended calls choices faulty =
+      let (other, same, is) = err_from_is_err_and returned exit in
+      subst (λ r. IfErr r (IsCutShort allows offers performs chooses names requests first service new chooser_first chooser_new)) (sym same)
+      (subst (IsCutShort allows offers performs chooses names requests first service new chooser_first chooser_new) (sym is) (cut_short cause service old new chooser_first ended calls choices faulty))
 
 module _ (source : Plan) (policy : Policy) where
   left-source : events_left (at_first source policy) ≡ 2 * length (plan_records source)

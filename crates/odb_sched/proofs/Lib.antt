@@ -5,7 +5,9 @@ pub mod PhaseLemmas
 pub mod SatisfiedLemmas
 pub mod StartLemmas
 pub mod CauseLemmas
+pub mod OneFaultLemmas
 pub mod StuckLemmas
+pub mod StatusLemmas
 pub mod ReachedLemmas
 pub mod RunLemmas
 pub mod EventLemmas
@@ -32,6 +34,7 @@ pub mod KeptLemmas
 pub mod TakenLemmas
 pub mod ChoiceLemmas
 pub mod CourseLemmas
+pub mod PickLemmas
 pub mod CallLemmas
 pub mod RecordedLemmas
 pub mod OrderLemmas

@@ -18,9 +18,11 @@ use Rattle.odb_sched.specs.State.{State, size, phase_at, shape, at_first, starte
 use Rattle.odb_sched.specs.Steps.{all_satisfied, may_start, may_report, may_come}
 use Rattle.odb_sched.specs.Runs.{event_position}
 use Rattle.odb_sched.specs.Reached.{IsReached}
+use Rattle.odb_sched.specs.Answers.{outcome_of}
 use Rattle.odb_sched.proofs.PhaseLemmas.{Unstarted-from, Running-from, get_or-replicate_Unstarted}
 use Rattle.odb_sched.proofs.SatisfiedLemmas.{all_satisfied-set}
 use Rattle.odb_sched.proofs.StartLemmas.{may_start-parts}
+use Rattle.odb_sched.proofs.StatusLemmas.{no_outcome, one_outcome, statuses-set}
 
 -- what a phase adds to the count of running requests
 abbrev weight : Phase → ℕ
@@ -32,6 +34,7 @@ reached_first source policy laws = record {
   each = length-replicate (length (shape source).units) Unstarted;
   narrow = let none : count_by is_running (replicate (length (shape source).units) Unstarted) ≡ length (shape source).units * 0 = sum_by-replicate weight (length (shape source).units) Unstarted in omega arith;
   needs = λ i within begun. absurd (both_ways _ begun (ap is_unstarted (get_or-replicate_Unstarted (length (shape source).units) i)));
+  statuses = λ i. no_outcome _ (ap outcome_of (get_or-replicate_Unstarted (length (shape source).units) i));
 }
 
 -- how many run after a write over a phase
@@ -57,6 +60,7 @@ reached_started state i reached within may =
       each = length-set state.phases i Running ∙ reached.each;
       narrow = let count = count_after state.phases i Running (omega arith) in let none : weight (phase_at state i) ≡ 0 = rw here refl in omega arith;
       needs = needs_after state i Running reached (rw here refl) start.satisfied;
+      statuses = statuses-set state i Running reached.statuses (no_outcome Running refl);
     }
 
 pub reached_reported : (state : State) (i : ℕ) (outcome : Outcome) → IsReached state → i < size state → may_report state i outcome ≡ true → IsReached (reported state i outcome)
@@ -70,6 +74,7 @@ reached_reported state i outcome reached within may =
       each = length-set state.phases i (Reported outcome) ∙ reached.each;
       narrow = let count = count_after state.phases i (Reported outcome) (omega arith) in omega arith;
       needs = needs_after state i (Reported outcome) reached (rw here refl) (reached.needs i within (rw here refl));
+      statuses = statuses-set state i (Reported outcome) reached.statuses (one_outcome outcome parts.1);
     }
 
 pub reached_after : (state : State) (event : Event) → IsReached state → event_position event < size state → may_come state event ≡ true → IsReached (after state event)

@@ -17,7 +17,7 @@ use Rattle.odb_sched.specs.State.{State, size, phase_at}
 use Rattle.odb_sched.specs.Failing.{Fails, own, propagated, unit_needed, succeeds}
 use Rattle.odb_sched.specs.Steps.{is_stopped, is_satisfied, unit_succeeded, unit_failed, is_finished}
 use Rattle.odb_sched.specs.Answers.{answer_of, answer, is_answered_2xx}
-use Rattle.odb_sched.specs.Laws.{statuses_of, HasStatuses, HasResultByStatuses, Agrees, HasOneResult, HasSoundResult, IsAllOrNone, IsSound}
+use Rattle.odb_sched.specs.Laws.{statuses_of, AgreesInStatus, HasResultByStatuses, Agrees, HasOneResult, HasSoundResult, IsAllOrNone, IsSound}
 use Rattle.odb_sched.specs.Reached.{IsReached}
 use Rattle.odb_sched.proofs.BelowLemmas.{all_below-Decides, list_all-each}
 use Rattle.odb_sched.proofs.FailingLemmas.{Fails-from_fails, fails-from_Fails, Fails-as}
@@ -161,7 +161,7 @@ body_by (Reported outcome) = outcome.body
 abbrev table_with : State → (ℕ → ℕ) → ℕ → Outcome
 table_with state statuses i = record { status = statuses i; headers = headers_by (phase_at state i); body = body_by (phase_at state i) }
 
-agrees_with : (state : State) (statuses : ℕ → ℕ) → HasStatuses state statuses → Agrees state (table_with state statuses)
+agrees_with : (state : State) (statuses : ℕ → ℕ) → AgreesInStatus state statuses → Agrees state (table_with state statuses)
 unfolding headers_by body_by
 agrees_with state statuses has i outcome within at =
     let status = has i outcome within at in

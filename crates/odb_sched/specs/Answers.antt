@@ -1,5 +1,5 @@
 -- What the requests of a finished run are answered (OData JSON Format 4.01, section 19.5).
-use Rattle.std.specs.Prelude.{ℕ, ◌&&◌, Bool, false, not, List, Option, Some, None, is_none, if◌then◌else◌}
+use Rattle.std.specs.Prelude.{ℕ, ◌≡◌, ◌&&◌, Bool, false, not, List, Option, Some, None, is_none, IsTrue, if◌then◌else◌}
 use Rattle.odb_doc.specs.declared.outcome.Outcome.{Outcome}
 use Rattle.odb_check.specs.Shape.{unit_of}
 use Rattle.odb_sched.specs.declared.phase.Phase.{Phase}
@@ -7,7 +7,7 @@ use Rattle.odb_sched.specs.declared.phase.Phase.TheVariants.{Unstarted, Running,
 use Rattle.odb_sched.specs.declared.done.Answer.{Answer}
 use Rattle.odb_sched.specs.declared.done.Answer.TheVariants as answers
 use Rattle.odb_sched.specs.Below.{passing_below}
-use Rattle.odb_sched.specs.Statuses.{is_success}
+use Rattle.odb_sched.specs.Statuses.{is_success, is_status}
 use Rattle.odb_sched.specs.Phases.{has_succeeded}
 use Rattle.odb_sched.specs.State.{State, size, phase_at}
 use Rattle.odb_sched.specs.Steps.{unit_succeeded}
@@ -52,3 +52,7 @@ shown answers.FailedDependency = None
 abbrev pub status_of : Option Outcome → ℕ
 status_of None = 424
 status_of (Some outcome) = outcome.status
+
+-- each outcome that was reported has a status from 200 to 599
+abbrev pub HasStatuses : State → Type 0
+HasStatuses state = (i : ℕ) (outcome : Outcome) → reported state i ≡ Some outcome → IsTrue (is_status outcome.status)

@@ -1,4 +1,4 @@
--- The calls that an execution makes of its service.
+-- The calls that an execution makes of its service and of its chooser.
 use Rattle.std.specs.Prelude.{◌≡◌, ◌⊎◌, ℕ, ◌<◌, true, false, List, [], ◌∷◌, ◌++◌, slice_get, Option, Some, None, Result, Ok, Err}
 use Rattle.odb_doc.specs.declared.outcome.Outcome.{Outcome}
 use Rattle.odb_doc.specs.Records.{Record}
@@ -6,6 +6,7 @@ use Rattle.odb_sched.specs.declared.event.Event.{Event}
 use Rattle.odb_sched.specs.declared.event.Event.TheVariants.{Start, Report}
 use Rattle.odb_sched.specs.declared.step.Step.{Step}
 use Rattle.odb_sched.specs.declared.step.Step.TheVariants as step
+use Rattle.odb_sched.specs.declared.order.Order.{Order}
 use Rattle.odb_sched.specs.declared.service.ServiceFault.{ServiceFault}
 use Rattle.odb_sched.specs.declared.service.ServiceFault.TheVariants as service
 use Rattle.odb_sched.specs.declared.fault.ExecFault.{ExecFault}
@@ -16,6 +17,7 @@ use Rattle.odb_sched.specs.State.{State, size, phase_at}
 use Rattle.odb_sched.specs.Runs.{after_all}
 use Rattle.odb_sched.specs.Laws.{StartsLast}
 use Rattle.odb_sched.specs.Courses.{Allowance, Offer, IsAllowed, IsCourse, IsFinishedBy}
+use Rattle.odb_sched.specs.Choices.{Picking, Picks, PicksAll}
 
 -- what one call does: the service before it, the position, the request, the answer, and the service after it
 abbrev pub Performing : Type 0 → Type 1
@@ -59,17 +61,20 @@ reported_by (step.Report i ∷ steps) = i ∷ reported_by steps
 abbrev pub Writes : {S X : Type 0} → Performing S → (S → List X) → (Call → X) → Type 0
 Writes {S = S} performs log entry = (old new : S) (i : ℕ) (request : Record) (outcome : Outcome) → performs old i request (Ok outcome) new → log new ≡ log old ++ entry (i, request, outcome) ∷ []
 
--- an execution: its course, the dependencies that ended before each start, and each call of the service
-pub record IsExecution {S : Type 0} (allows : Allowance) (offers : Offer) (performs : Performing S) (requests : List Record) (state : State) (old new : S) (steps : List Step) (last : State) : Type 0 where
+-- an execution: its course, the dependencies that ended before each start, each call of the service, and each of the chooser
+pub record IsExecution {S C : Type 0} (allows : Allowance) (offers : Offer) (performs : Performing S) (chooses : Picking C) (names : C → Option Order) (requests : List Record) (state : State)
+    (old new : S) (chooser chooser_new : C) (steps : List Step) (last : State) : Type 0 where
   pub course : IsFinishedBy allows offers state steps last
   pub dependencies_first : StartsLast requests course.events
   pub calls : AsksAll performs requests course.events old new
+  pub choices : PicksAll chooses names state course.events chooser chooser_new
 
--- the request is running, and its report is allowed
-pub record IsDueNow (allows : Allowance) (state : State) (i : ℕ) : Type 0 where
+-- the request is running, and its report is allowed and was picked
+pub record IsDueNow {C : Type 0} (allows : Allowance) (chooses : Picking C) (names : C → Option Order) (state : State) (old new : C) (i : ℕ) : Type 0 where
   pub within : i < size state
   pub runs : is_running (phase_at state i) ≡ true
   pub allowed : IsAllowed allows state (step.Report i)
+  pub picked : Picks chooses (names old) state (step.Report i) old new
 
 -- the last call, for a request that is due, was answered by what is this fault
 abbrev pub Faults : {S : Type 0} → Performing S → List Record → (ℕ → Type 0) → ExecFault → S → S → Type 0
@@ -78,15 +83,20 @@ Faults performs requests due (fault.Service i) old new = due i × IsCall perform
 Faults performs requests due (fault.BadStatus i) old new = due i × (outcome : Outcome) × (is_status outcome.status ≡ false) × IsCall performs requests i (Ok outcome) old new
 Faults performs requests due fault.OutOfMemory old new = (i : ℕ) × due i × IsCall performs requests i (Err service.OutOfMemory) old new
 
--- an execution that ended in a faulty call: its course so far with its calls, and then that one
-pub record IsCutShort {S : Type 0} (allows : Allowance) (offers : Offer) (performs : Performing S) (requests : List Record) (state : State) (old new : S) (cause : ExecFault) : Type 0 where
+-- an execution that ended in a faulty call: its course so far with its calls, and then the choice of that report and its call
+pub record IsCutShort {S C : Type 0} (allows : Allowance) (offers : Offer) (performs : Performing S) (chooses : Picking C) (names : C → Option Order) (requests : List Record) (state : State)
+    (old new : S) (chooser chooser_new : C) (cause : ExecFault) : Type 0 where
   pub events : List Event
   pub course : IsCourse allows offers state events
   pub dependencies_first : StartsLast requests events
   pub between : S
   pub calls : AsksAll performs requests events old between
-  pub faulty : Faults performs requests (IsDueNow allows (after_all state events)) cause between new
+  pub chooser_between : C
+  pub choices : PicksAll chooses names state events chooser chooser_between
+  pub faulty : Faults performs requests (IsDueNow allows chooses names (after_all state events) chooser_between chooser_new) cause between new
 
--- An execution was not completed: it ran out of memory before its first step and asked for nothing, or a call was faulty.
-abbrev pub IsBrokenOff : {S : Type 0} → Allowance → Offer → Performing S → List Record → State → S → S → ExecFault → Type 0
-IsBrokenOff allows offers performs requests state old new cause = ((cause ≡ fault.OutOfMemory) × (new ≡ old)) ⊎ IsCutShort allows offers performs requests state old new cause
+-- An execution was not completed: it ran out of memory before its first step, and asked neither the chooser nor the service, or
+-- a call was faulty.
+abbrev pub IsBrokenOff : {S C : Type 0} → Allowance → Offer → Performing S → Picking C → (C → Option Order) → List Record → State → S → S → C → C → ExecFault → Type 0
+IsBrokenOff allows offers performs chooses names requests state old new chooser chooser_new cause =
+    ((cause ≡ fault.OutOfMemory) × (new ≡ old) × (chooser_new ≡ chooser)) ⊎ IsCutShort allows offers performs chooses names requests state old new chooser chooser_new cause

@@ -57,12 +57,12 @@ abbrev pub statuses_of : (ℕ → Outcome) → ℕ → ℕ
 statuses_of table i = (table i).status
 
 -- each status that was reported is the one that the table has
-abbrev pub HasStatuses : State → (ℕ → ℕ) → Type 0
-HasStatuses state statuses = (i : ℕ) (outcome : Outcome) → i < size state → phase_at state i ≡ Reported outcome → outcome.status ≡ statuses i
+abbrev pub AgreesInStatus : State → (ℕ → ℕ) → Type 0
+AgreesInStatus state statuses = (i : ℕ) (outcome : Outcome) → i < size state → phase_at state i ≡ Reported outcome → outcome.status ≡ statuses i
 
 -- Which requests are answered with a success depends on the statuses alone: exactly those whose unit succeeds under them.
 abbrev pub HasResultByStatuses : State → Type 0
-HasResultByStatuses state = (statuses : ℕ → ℕ) → HasStatuses state statuses → (i : ℕ) → i < size state
+HasResultByStatuses state = (statuses : ℕ → ℕ) → AgreesInStatus state statuses → (i : ℕ) → i < size state
     → IsTrue (is_answered_2xx (answer state i)) ↔ IsTrue (succeeds state.shape statuses (unit_of state.shape i))
 
 -- a request is answered with a success exactly when its unit succeeds under the table, and then with the table's outcome

@@ -11,6 +11,7 @@ pub mod Answers
 pub mod Laws
 pub mod Choosing
 pub mod Courses
+pub mod Choices
 pub mod Calls
 pub mod Recordings
 pub mod Orders

@@ -15,15 +15,25 @@ pub enum Choice {
 /// Decides in which order a plan is executed, as far as its dependencies complete that open.
 ///
 /// Each chooser defines which steps it allows, given the sets of ready and running positions: the
-/// order of the two slices carries no meaning. A chooser that names an order by
-/// [`Chooser::order`] is not asked for a step.
+/// order of the two slices carries no meaning. It defines by `names` the order that it follows, if
+/// any, and by `chooses` what a call of [`Chooser::choose`] does to it. Before each step an execution
+/// asks for the order, and if the chooser names none it calls `choose` once. A chooser that promises
+/// nothing of its calls writes `λ _ _ _ _ _. Unit {0}`.
 pub trait Chooser {
-    ghost use Rattle.std.specs.Prelude.{◌≡◌, ◌<◌, ◌+◌, length, IfSome};
+    ghost use Rattle.std.specs.Prelude.{◌≡◌, ◌<◌, ◌+◌, length, Option, IfSome};
+    ghost use Rattle.odb_sched.specs.declared.order.Order.{Order};
     ghost use Rattle.odb_sched.specs.declared.step.Step.{Step};
     ghost use Rattle.odb_sched.specs.Choosing.{Positions, positions_of, IsInRange, picked, AllowsOrder};
 
     /// Which steps it allows for the ready and the running positions.
     ghost allows: { Self → Positions → Positions → Step → Type 0 };
+
+    /// What one call of [`Chooser::choose`] does: the chooser before it, the ready and the running
+    /// positions, the step that it picks, and the chooser after it.
+    ghost chooses: { Self → Positions → Positions → Step → Self → Type 0 };
+
+    /// The order that it names now, if any.
+    ghost names: { Self → Option Order };
 
     /// Returns the next step, given the ready and the running positions. An execution does not call
     /// it if [`Chooser::order`] names an order.
@@ -32,17 +42,17 @@ pub trait Chooser {
         ensures in_range { IsInRange ready.now running.now result }
         ensures allowed { allows self.old (positions_of ready.now) (positions_of running.now)
             (picked ready.now running.now result) }
+        ensures chosen { chooses self.old (positions_of ready.now) (positions_of running.now)
+            (picked ready.now running.now result) self.new }
         ensures narrows { (ready running : Positions) (step : Step)
             → allows self.new ready running step → allows self.old ready running step };
 
     /// Returns the built-in order that this chooser follows, if any. An execution then picks the
     /// steps by that order itself, which takes less time, and never calls [`Chooser::choose`].
     fn order(&self) -> Option<Order>
-        ensures { IfSome result (λ order. (ready running : Positions) (step : Step)
-            → AllowsOrder order ready running step → allows self.now ready running step) }
-    {
-        None
-    }
+        ensures named { result ≡ names self.now }
+        ensures followed { IfSome result (λ order. (ready running : Positions) (step : Step)
+            → AllowsOrder order ready running step → allows self.now ready running step) };
 }
 
 /// Returns the place of the least position.
@@ -87,6 +97,10 @@ impl Chooser for First {
 
     ghost allows = { λ _. AllowsFirst };
 
+    ghost chooses = { λ old _ _ _ new. new ≡ old };
+
+    ghost names = { λ _. Some order.First };
+
     fn choose(&mut self, ready: &[u32], running: &[u32]) -> Choice {
         if running.is_empty() {
             Choice::Start(least_place(ready))
@@ -95,9 +109,7 @@ impl Chooser for First {
         }
     }
 
-    fn order(&self) -> Option<Order>
-        ensures named { result ≡ Some order.First }
-    {
+    fn order(&self) -> Option<Order> {
         Some(Order::First)
     }
 }
@@ -113,6 +125,10 @@ impl Chooser for Last {
 
     ghost allows = { λ _. AllowsLast };
 
+    ghost chooses = { λ old _ _ _ new. new ≡ old };
+
+    ghost names = { λ _. Some order.Last };
+
     fn choose(&mut self, ready: &[u32], running: &[u32]) -> Choice {
         if running.is_empty() {
             Choice::Start(greatest_place(ready))
@@ -121,9 +137,7 @@ impl Chooser for Last {
         }
     }
 
-    fn order(&self) -> Option<Order>
-        ensures named { result ≡ Some order.Last }
-    {
+    fn order(&self) -> Option<Order> {
         Some(Order::Last)
     }
 }
@@ -139,6 +153,10 @@ impl Chooser for Wide {
 
     ghost allows = { λ _. AllowsWide };
 
+    ghost chooses = { λ old _ _ _ new. new ≡ old };
+
+    ghost names = { λ _. Some order.Wide };
+
     fn choose(&mut self, ready: &[u32], running: &[u32]) -> Choice {
         if ready.is_empty() {
             Choice::Report(least_place(running))
@@ -147,9 +165,7 @@ impl Chooser for Wide {
         }
     }
 
-    fn order(&self) -> Option<Order>
-        ensures named { result ≡ Some order.Wide }
-    {
+    fn order(&self) -> Option<Order> {
         Some(Order::Wide)
     }
 }
@@ -161,6 +177,10 @@ impl Chooser for Order {
 
     ghost allows = { AllowsOrder };
 
+    ghost chooses = { λ old _ _ _ new. new ≡ old };
+
+    ghost names = { Some };
+
     fn choose(&mut self, ready: &[u32], running: &[u32]) -> Choice {
         match *self {
             Order::First => First.choose(ready, running),
@@ -169,9 +189,7 @@ impl Chooser for Order {
         }
     }
 
-    fn order(&self) -> Option<Order>
-        ensures named { result ≡ Some self.now }
-    {
+    fn order(&self) -> Option<Order> {
         Some(*self)
     }
 }

@@ -29,7 +29,8 @@ pub enum Answer<'a> {
 impl Answer<'_> {
     ghost use Rattle.odb_sched.specs.Answers.{shown, status_of};
 
-    /// Returns the HTTP status, which is 424 for a failed dependency.
+    /// Returns the HTTP status, which is 424 for a failed dependency. That of an answer of a finished
+    /// run is from 200 to 599 ([`Done::answer`]).
     pub fn status(&self) -> u16
         ensures { result ≡ status_of (shown self.now) }
     {
@@ -69,7 +70,9 @@ impl<'p> Model for Done<'p> {
 }
 
 impl<'p> Done<'p> {
+    ghost use Rattle.std.specs.Prelude.{IsTrue};
     ghost use Rattle.odb_sched.specs.Answers as answers;
+    ghost use Rattle.odb_sched.specs.Statuses.{is_status};
 
     /// Returns the finished run with these phases. `pending` has for each unit how many of its
     /// members have not reported a success.
@@ -120,14 +123,16 @@ impl<'p> Done<'p> {
         ensures sound_result { laws.HasSoundResult self.now }
         ensures all_or_none { laws.IsAllOrNone self.now }
         ensures sound { laws.IsSound self.now }
+        ensures statuses { answers.HasStatuses self.now }
     {
         let _ = &self.plan;
     }
 
-    /// Returns the answer to request `i`, counted from 0.
+    /// Returns the answer to request `i`, counted from 0. Its status is from 200 to 599.
     pub fn answer(&self, i: u32) -> Answer<'_>
         requires { i < states.size self.now }
-        ensures { answers.shown result ≡ answers.answer self.now i }
+        ensures value { answers.shown result ≡ answers.answer self.now i }
+        ensures status { IsTrue (is_status (answers.status_of (answers.shown result))) }
     {
         match &self.phases[i as usize] {
             Phase::Reported(outcome) => {

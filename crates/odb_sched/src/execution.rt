@@ -1,4 +1,4 @@
-ghost use Rattle.std.specs.Prelude.{◌≡◌, ◌≢◌, ◌<◌, ◌≤◌, ◌+◌, ◌*◌, ℕ, true, List, [], length, Result, IfOk, IfErr, OnOk, Option, IfSome, None, Some, Ok, All, IsTrue, ◌↔◌};
+ghost use Rattle.std.specs.Prelude.{◌≡◌, ◌≢◌, ◌<◌, ◌≤◌, ◌+◌, ◌*◌, ℕ, true, List, [], length, Result, IfOk, IfErr, OnOk, Option, IfSome, IsSome, None, Some, Ok, All, IsTrue, ◌↔◌};
 ghost use Rattle.std.specs.Vec.{vec_capacity};
 ghost use Rattle.odb_check.specs.Plans.{plan_records};
 ghost use Rattle.odb_sched.specs.declared.policy.Mode.TheVariants.{Continue};
@@ -7,7 +7,8 @@ ghost use Rattle.odb_sched.specs.declared.step.Step.TheVariants as kinds;
 ghost use Rattle.odb_sched.specs.State.{size, at_first};
 ghost use Rattle.odb_sched.specs.Steps.{is_finished};
 ghost use Rattle.odb_sched.specs.Choosing.{Positions, positions_of, IsAmong};
-ghost use Rattle.odb_sched.specs.Courses.{IsDue, IsCausedBy, position_in};
+ghost use Rattle.odb_sched.specs.Choices.{Behind, Picks};
+ghost use Rattle.odb_sched.specs.Courses.{IsDue, IsCausedBy, position_in, ready_set, running_set};
 ghost use Rattle.odb_sched.specs.Calls.{IsExecution, IsCutShort, IsBrokenOff, Faults};
 ghost use Rattle.odb_sched.specs.Advances.{MayTake, IsNext, IsTakenBy};
 ghost use Rattle.odb_sched.specs.Answers.{reported};
@@ -41,6 +42,8 @@ fn pick(chooser: &mut dyn Chooser, ready: &[u32], running: &[u32]) -> Step
     ensures among { IsAmong ready.now running.now result }
     ensures allowed { allows chooser.old (positions_of ready.now) (positions_of running.now)
         result }
+    ensures chosen { Behind chooses chooser.old (positions_of ready.now)
+        (positions_of running.now) result chooser.new }
     ensures narrows { (ready running : Positions) (step : Step)
         → allows chooser.new ready running step → allows chooser.old ready running step }
 {
@@ -54,6 +57,9 @@ fn pick(chooser: &mut dyn Chooser, ready: &[u32], running: &[u32]) -> Step
 fn next_choice(scheduler: &Scheduler<'_>, chooser: &mut dyn Chooser) -> Option<Step>
     ensures finished { result ≡ None → is_finished scheduler.now ≡ true }
     ensures next { IfSome result (IsNext (allows chooser.old) scheduler.now) }
+    ensures chosen { IfSome result (λ step. Behind chooses chooser.old (ready_set scheduler.now)
+        (running_set scheduler.now) step chooser.new) }
+    ensures unasked { result ≡ None → chooser.new ≡ chooser.old }
     ensures narrows { (ready running : Positions) (step : Step)
         → allows chooser.new ready running step → allows chooser.old ready running step }
 {
@@ -69,6 +75,9 @@ fn next_step(scheduler: &mut Scheduler<'_>, chooser: &mut dyn Chooser) -> Option
     ensures same { scheduler.new ≡ scheduler.old }
     ensures finished { result ≡ None → is_finished scheduler.old ≡ true }
     ensures next { IfSome result (IsNext (allows chooser.old) scheduler.old) }
+    ensures picked { IfSome result (λ step. Picks (Behind chooses) (names chooser.old)
+        scheduler.old step chooser.old chooser.new) }
+    ensures unasked { result ≡ None → chooser.new ≡ chooser.old }
     ensures narrows { (ready running : Positions) (step : Step)
         → allows chooser.new ready running step → allows chooser.old ready running step }
 {
@@ -156,10 +165,11 @@ fn take_all<S: Service>(
     requires unlisted { steps.old.items ≡ [] }
     requires room { 2 * length (plan_records plan.now) ≤ vec_capacity steps.old }
     ensures execution { OnOk result (IsExecution (allows chooser.old) (S.offers service.old)
-        S.performs (plan_records plan.now) (at_first plan.now policy) service.old service.new
-        steps.new.items scheduler.new) }
+        S.performs (Behind chooses) names (plan_records plan.now) (at_first plan.now policy)
+        service.old service.new chooser.old chooser.new steps.new.items scheduler.new) }
     ensures cut_short { IfErr result (IsCutShort (allows chooser.old) (S.offers service.old)
-        S.performs (plan_records plan.now) (at_first plan.now policy) service.old service.new) }
+        S.performs (Behind chooses) names (plan_records plan.now) (at_first plan.now policy)
+        service.old service.new chooser.old chooser.new) }
     ensures finished { OnOk result (is_finished scheduler.new ≡ true) }
     ensures few_steps { OnOk result
         (length steps.new.items ≤ 2 * length (plan_records plan.now)) }
@@ -197,14 +207,15 @@ fn prepared<'a: 'p, 'p>(
 ///
 /// A run has at most two steps per request, and memory for all of them is reserved before the first. A
 /// run cannot deadlock, so there is no fault for that. The service is asked once for each report, and
-/// for nothing else ([`crate::laws::every_call`]).
+/// for nothing else ([`crate::laws::every_call`]). The chooser is asked once for each step before which
+/// it names no order, and for nothing else.
 ///
 /// # Errors
 ///
 /// F80, F81 or F82 for the request whose report was chosen, if the service has no outcome for it,
 /// failed, or returned a status that is not from 200 to 599. `OutOfMemory` if allocation failed:
-/// before the first step and any call of the service, or in the service. Chooser and service keep the
-/// effects of the calls so far.
+/// before the first step and any call of chooser or service, or in the service. Chooser and service
+/// keep the effects of the calls so far.
 pub fn execute<'a: 'p, 'p, S: Service>(
     alloc: Global,
     plan: &'p Plan<'a>,
@@ -213,10 +224,13 @@ pub fn execute<'a: 'p, 'p, S: Service>(
     service: &mut S,
 ) -> Result<Trace<'p>, ExecFault>
     ensures execution { IfOk result (λ trace. IsExecution (allows chooser.old)
-        (S.offers service.old) S.performs (plan_records plan.now) (at_first plan.now policy)
-        service.old service.new trace.steps.items trace.done) }
+        (S.offers service.old) S.performs (Behind chooses) names (plan_records plan.now)
+        (at_first plan.now policy) service.old service.new chooser.old chooser.new
+        trace.steps.items trace.done) }
     ensures broken_off { IfErr result (IsBrokenOff (allows chooser.old) (S.offers service.old)
-        S.performs (plan_records plan.now) (at_first plan.now policy) service.old service.new) }
+        S.performs (Behind chooses) names (plan_records plan.now) (at_first plan.now policy)
+        service.old service.new chooser.old chooser.new) }
+    ensures unasked { IsSome (names chooser.old) → chooser.new ≡ chooser.old }
     ensures plan { IfOk result (λ trace. trace.done.plan ≡ plan.now) }
     ensures within { IfOk result (λ trace.
         All (λ step. position_in step < size trace.done) trace.steps.items) }

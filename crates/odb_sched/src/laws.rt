@@ -14,15 +14,22 @@ ghost use Rattle.odb_sched.specs.declared.order.Order.{Order};
 ghost use Rattle.odb_sched.specs.declared.refusal.StartRefusal.{StartRefusal};
 ghost use Rattle.odb_sched.specs.declared.refusal.StartRefusal.TheVariants.{WidthReached};
 ghost use Rattle.odb_sched.specs.declared.refusal.ReportRefusal.{ReportRefusal};
-ghost use Rattle.odb_sched.specs.State.{State, size, shape, phase_at};
+ghost use Rattle.odb_sched.specs.declared.refusal.RunRefusal.{RunRefusal};
+ghost use Rattle.odb_sched.specs.Refusals as refusals;
+ghost use Rattle.odb_doc.specs.Events.{EventValue};
+ghost use Rattle.odb_sched.specs.declared.resolving.ResolveFault.{ResolveFault};
+ghost use Rattle.odb_sched.specs.Resolving.{RefusesNamed};
+ghost use Rattle.odb_sched.specs.ResolveFaults as resolving;
+ghost use Rattle.odb_sched.specs.State.{State, size, shape, phase_at, at_first};
 ghost use Rattle.odb_sched.specs.Failing.{Fails, fails};
 ghost use Rattle.odb_sched.specs.Steps.{may_start, may_report, is_finished};
 ghost use Rattle.odb_sched.specs.Causes.{BarsStart, IsStartCause, BarsReport, IsReportCause};
-ghost use Rattle.odb_sched.specs.Runs.{IsRun, state_after, phase_of};
+ghost use Rattle.odb_sched.specs.Runs.{IsRun, state_after, phase_of, Refuses};
 ghost use Rattle.odb_sched.specs.Laws.{HaveSucceeded, StartsLast, IsNeverStuck, HasFewEvents, HasOneResult, HasResultByStatuses, HasSoundResult, IsAllOrNone, IsSound, SucceedsByMembers};
 ghost use Rattle.odb_doc.specs.Records.{Record};
 ghost use Rattle.odb_sched.specs.Courses.{step_of};
 ghost use Rattle.odb_sched.specs.Calls.{AsksAll, Call, calls_of, reported_by, Writes};
+ghost use Rattle.odb_sched.specs.Answers.{HasStatuses};
 ghost use Rattle.odb_sched.specs.Orders.{HasOneCourse, HasOneFault, FaultsOrFinishes};
 
 use crate::service::Service;
@@ -59,7 +66,8 @@ pub fn every_start(plan: &Plan<'_>)
 }
 
 /// A start or a report may come if and only if no cause bars it, S1 to S5 or P1 and P2. Of the causes
-/// that bar one, a single one is the first.
+/// that bar one, a single one is the first. A list of events that is not a run is refused at one place
+/// for one cause, and recorded events have one first event whose id is not in the batch.
 pub fn every_cause()
     ensures start { (state : State) (i : ℕ) → IsTrue (may_start state i)
         ↔ ((cause : StartRefusal) → ¬ BarsStart cause state i) }
@@ -71,6 +79,13 @@ pub fn every_cause()
     ensures one_report { (state : State) (i : ℕ) (outcome : Outcome) (cause other : ReportRefusal)
         → IsReportCause state i outcome cause → IsReportCause state i outcome other
         → cause ≡ other }
+    ensures one_refusal { (state : State) (events : List Event) (cause other : RunRefusal)
+        → refusals.IsNumbered cause → refusals.IsNumbered other
+        → Refuses state events cause → Refuses state events other → cause ≡ other }
+    ensures one_unknown { (requests : List Record) (events : List EventValue)
+        (fault other : ResolveFault) → resolving.IsNumbered fault → resolving.IsNumbered other
+        → RefusesNamed fault requests events → RefusesNamed other requests events
+        → fault ≡ other }
 {}
 
 /// What a service's own log has of an execution. If each answered call adds one entry, the log has one
@@ -90,6 +105,7 @@ pub fn every_call<S: Service, X>()
 /// The answers of a finished run are those of each table of outcomes that its reports agree with, and
 /// which of them are successes depends on the statuses alone.
 /// The answers of a group are all successes or none is, and a success depends on successes alone.
+/// Each status that a request reported is from 200 to 599.
 pub fn every_result(plan: &Plan<'_>)
     ensures one_result { (policy : Policy) (events : List Event)
         → policy.mode ≡ Continue → IsRun plan.now policy events
@@ -108,6 +124,9 @@ pub fn every_result(plan: &Plan<'_>)
     ensures sound { (policy : Policy) (events : List Event)
         → IsRun plan.now policy events
         → IsSound (state_after plan.now policy events) }
+    ensures statuses { (policy : Policy) (events : List Event)
+        → IsRun plan.now policy events
+        → HasStatuses (state_after plan.now policy events) }
 {
     every_plan(plan);
 }

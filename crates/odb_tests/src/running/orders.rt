@@ -6,7 +6,13 @@ use odb_sched::{Choice, Chooser, First, Last, Order, Wide};
 struct Front;
 
 impl Chooser for Front {
+    ghost use Rattle.std.specs.Prelude.{None};
+
     ghost allows = { λ _ _ _ _. Unit {0} };
+
+    ghost chooses = { λ _ _ _ _ _. Unit {0} };
+
+    ghost names = { λ _. None };
 
     fn choose(&mut self, ready: &[u32], _running: &[u32]) -> Choice {
         if ready.is_empty() {
@@ -14,6 +20,10 @@ impl Chooser for Front {
         } else {
             Choice::Start(0)
         }
+    }
+
+    fn order(&self) -> Option<Order> {
+        None
     }
 }
 

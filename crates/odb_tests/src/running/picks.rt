@@ -23,7 +23,15 @@ pub enum Picks {
 const LISTS: &[&[usize]] = &[&[], &[1, 1, 1, 1, 1, 1], &[2, 0, 3, 1, 7, 5]];
 
 impl Chooser for Picks {
+    ghost use Rattle.std.specs.Prelude.{Some, None};
+    ghost use Rattle.odb_tests.specs.declared.running.picks.Picks.TheVariants as picks;
+
     ghost allows = { λ _ _ _ _. Unit {0} };
+
+    ghost chooses = { λ _ _ _ _ _. Unit {0} };
+
+    ghost names = { λ picked. elim picked [ picks.Named order ↦ Some order
+        | picks.Asked order ↦ None | picks.WideLast ↦ None | picks.Listed list next ↦ None ] };
 
     fn choose(&mut self, ready: &[u32], running: &[u32]) -> Choice {
         match *self {

@@ -4,9 +4,9 @@ use Rattle.odb_doc.specs.declared.outcome.Outcome.{Outcome}
 use Rattle.odb_doc.specs.OutcomeLists.{entries}
 use Rattle.odb_check.specs.Plans.{plan_records}
 use Rattle.odb_sched.specs.Answers.{reported}
-use Rattle.odb_sched.specs.Calls.{IsExecution}
-use Rattle.odb_sched.specs.Courses.{IsDue, IsCausedBy}
-use Rattle.odb_sched.specs.Recordings.{OffersRecorded, PerformsRecorded}
+use Rattle.odb_sched.specs.Courses.{IsDue, IsCausedBy, IsFinishedBy}
+use Rattle.odb_sched.specs.Laws.{StartsLast}
+use Rattle.odb_sched.specs.Recordings.{OffersRecorded}
 use Rattle.odb_sched.specs.State.{at_first}
 use Rattle.odb_reply.specs.OnePerId.{HasOnePerId}
 use Rattle.odb_reply.specs.Responses.{response_value}
@@ -35,14 +35,16 @@ returns-clause-result g c =
     let plan = c.args.plan.now in
     let first = at_first plan c.args.policy in
     let trace = c.in_ok-trace.trace in
-    let done = subst (λ s. IsExecution allows (OffersRecorded s) PerformsRecorded (plan_records plan) first s c.execute.new.service trace.steps.items trace.done) c.in_ok-new.ensures c.in_ok-trace.ensures.execution in
+    let execution = c.in_ok-trace.ensures.execution in
+    let (course, ended) = subst (λ s. (course : IsFinishedBy allows (OffersRecorded s) first trace.steps.items trace.done) × StartsLast (plan_records plan) course.events) c.in_ok-new.ensures
+    (execution.course, execution.dependencies_first) in
     λ traced. record {
       ends = refl;
       steps = trace.steps.items;
       last = trace.done;
-      course = done.course;
+      course = course;
       result = refl;
-      dependencies_first = done.dependencies_first;
+      dependencies_first = ended;
       one_per_id = subst (λ p. HasOnePerId (plan_records p) (response_value trace.done)) c.in_ok-trace.ensures.plan c.every_response.ensures.one_per_id;
     }
 

@@ -13,5 +13,5 @@ returns c =
     record {
       one_per_id = one_per_id state good;
       fits = ListsFit-answered state good c.laws.ensures.sound same c.plan.ensures.size;
-      document = IsResponseDocument-answered state c.plan.ensures.size;
+      document = IsResponseDocument-answered state c.laws.ensures.statuses;
     }

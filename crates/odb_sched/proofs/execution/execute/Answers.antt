@@ -3,13 +3,17 @@ use Rattle.std.proofs.Common.{◌∙◌, sym, subst}
 use Rattle.odb_sched.specs.State.{at_first}
 use Rattle.odb_check.specs.Plans.{plan_records}
 use Rattle.odb_sched.specs.Calls.{IsExecution}
+use Rattle.odb_sched.specs.Choices.{Behind}
 use Rattle.odb_sched.proofs.CourseLemmas.{finished-within, finished-plan, finished-offered}
+use Rattle.odb_sched.proofs.PickLemmas.{unasked, cut-unasked}
 use Rattle.odb_sched.proofs.execution.execute.Goals as goal
 
 pub returns-clause-execution : goal.returns-clause-execution
 returns-clause-execution g c =
-    subst (λ done. IsExecution ((goal.Chooser-dyn g c.args.chooser.now).allows c.args.chooser.now.1) (g.S.Service.offers c.args.service.now) g.S.Service.performs (plan_records c.args.plan.now)
-    (at_first c.args.plan.now c.args.policy) c.args.service.now c.take_all.new.service c.take_all.new.steps.items done) (sym c.close.ensures.state) c.in_ok-take_all.ensures.execution
+    subst (λ done. IsExecution ((goal.Chooser-dyn g c.args.chooser.now).allows c.args.chooser.now.1) (g.S.Service.offers c.args.service.now) g.S.Service.performs
+    (Behind (λ z. (goal.Chooser-dyn g z).chooses z.1)) (λ z. (goal.Chooser-dyn g z).names z.1) (plan_records c.args.plan.now)
+    (at_first c.args.plan.now c.args.policy) c.args.service.now c.take_all.new.service c.args.chooser.now (c.args.chooser.now.0, c.take_all.new.chooser)
+    c.take_all.new.steps.items done) (sym c.close.ensures.state) c.in_ok-take_all.ensures.execution
 
 pub returns-clause-one_result : goal.returns-clause-one_result
 returns-clause-one_result g c continues = c.close.ensures.one_result (c.in_ok-take_all.ensures.mode ∙ continues)
@@ -28,3 +32,15 @@ pub returns-clause-plan : goal.returns-clause-plan
 returns-clause-plan g c =
     finished-plan c.args.plan.now c.args.policy ((goal.Chooser-dyn g c.args.chooser.now).allows c.args.chooser.now.1) (g.S.Service.offers c.args.service.now)
     c.take_all.new.steps.items c.close.result (returns-clause-execution g c).course
+
+pub returns-clause-unasked : goal.returns-clause-unasked
+returns-clause-unasked g c = λ named.
+    unasked (Behind (λ z. (goal.Chooser-dyn g z).chooses z.1)) (λ z. (goal.Chooser-dyn g z).names z.1) (at_first c.args.plan.now c.args.policy) c.in_ok-take_all.ensures.execution.course.events
+    c.args.chooser.now (c.args.chooser.now.0, c.take_all.new.chooser) named c.in_ok-take_all.ensures.execution.choices
+
+pub returns-in_err-take_all-clause-unasked : goal.returns-in_err-take_all-clause-unasked
+returns-in_err-take_all-clause-unasked g c = λ named.
+    cut-unasked (Behind (λ z. (goal.Chooser-dyn g z).chooses z.1)) (λ z. (goal.Chooser-dyn g z).names z.1)
+    ((goal.Chooser-dyn g c.args.chooser.now).allows c.args.chooser.now.1) (g.S.Service.offers c.args.service.now) g.S.Service.performs (plan_records c.args.plan.now)
+    (at_first c.args.plan.now c.args.policy) c.args.service.now c.take_all.new.service
+    c.args.chooser.now (c.args.chooser.now.0, c.take_all.new.chooser) c.in_err-take_all.field-0.0 named c.in_err-take_all.ensures.cut_short

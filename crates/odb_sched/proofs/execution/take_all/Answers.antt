@@ -8,7 +8,10 @@ use Rattle.odb_check.specs.Plans.{plan_records}
 use Rattle.odb_sched.specs.Steps.{is_finished}
 use Rattle.odb_sched.specs.Advances.{IsTakenBy}
 use Rattle.odb_sched.proofs.RunLemmas.{reached_at_first}
-use Rattle.odb_sched.proofs.CourseLemmas.{events_left, so_far-first, room-first, one_more, fewer-left, caused-first, asks-push, cut_short, few-steps, next-within, reached-so_far, same-policy}
+use Rattle.odb_sched.proofs.CourseLemmas.{events_left, so_far-first, room-first, one_more, fewer-left, caused-first, asks-push, cut_short_at, few-steps, next-within, reached-so_far, same-policy}
+use Rattle.odb_sched.specs.Choices.{Behind}
+use Rattle.odb_sched.specs.Runs.{after_all}
+use Rattle.odb_sched.proofs.PickLemmas.{picks-push, picked-event, no_step}
 use Rattle.odb_sched.proofs.execution.take_all.Goals as goal
 
 pub loop-step-init : goal.loop-step-init
@@ -18,6 +21,7 @@ loop-step-init g c =
       far = so_far-first ((goal.Chooser-dyn g c.args.chooser.now).allows c.args.chooser.now.1) (g.S.Service.offers c.args.service.now)
           (at_first c.args.plan.now c.args.policy) c.args.scheduler.now c.args.steps.now.items c.requires.first c.requires.unlisted;
       calls = refl;
+      choices = refl;
       room = room-first c.args.plan.now c.args.policy c.args.scheduler.now c.args.steps.now.items (vec_capacity c.args.steps.now)
           c.requires.first c.requires.unlisted c.requires.room;
     }
@@ -92,6 +96,10 @@ loop-step-preserved g c =
           c.push.new.self.items items (reached_at_first plan c.args.policy c.every_plan.ensures.order)
           c.loop-step.invariant.far c.in-Some.ensures.next taken c.in-Some.ensures.narrows c.in_ok-take.ensures.narrows;
       calls = asks-push g.S.Service.performs (plan_records plan) c.loop-step.invariant.far.events taken.event c.args.service.now c.loop-step.service c.take.new.service c.loop-step.invariant.calls taken_by.asked;
+      choices = picks-push (Behind (λ z. (goal.Chooser-dyn g z).chooses z.1)) (λ z. (goal.Chooser-dyn g z).names z.1) first c.loop-step.invariant.far.events taken.event
+          c.args.chooser.now c.loop-step.chooser.now (c.loop-step.chooser.now.0, c.next_step.new.chooser) c.loop-step.invariant.choices
+          (picked-event (Behind (λ z. (goal.Chooser-dyn g z).chooses z.1)) (λ z. (goal.Chooser-dyn g z).names z.1) c.loop-step.scheduler (after_all first c.loop-step.invariant.far.events) c.in-Some.step taken.event
+          c.loop-step.chooser.now (c.loop-step.chooser.now.0, c.next_step.new.chooser) c.loop-step.invariant.far.state_is taken.step_is c.in-Some.ensures.picked);
       room = omega arith;
     }
 
@@ -108,19 +116,21 @@ returns-clause-execution g c =
       };
       dependencies_first = c.every_run.ensures.dependencies_first c.args.policy far.events far.course.run;
       calls = c.loop-step.invariant.calls;
+      choices = no_step (Behind (λ z. (goal.Chooser-dyn g z).chooses z.1)) (λ z. (goal.Chooser-dyn g z).names z.1) (at_first c.args.plan.now c.args.policy) far.events
+          c.args.chooser.now c.loop-step.chooser.now (c.loop-step.chooser.now.0, c.next_step.new.chooser) (c.next_step.ensures.unasked c.in_default.is) c.loop-step.invariant.choices;
     }
 
 pub returns-in_err-take-clause-cut_short : goal.returns-in_err-take-clause-cut_short
 returns-in_err-take-clause-cut_short g c =
     let far = c.loop-step.invariant.far in
-    let broken = cut_short g.S.Service.performs (plan_records c.args.plan.now)
+    cut_short_at g.S.Service.performs (Behind (λ z. (goal.Chooser-dyn g z).chooses z.1)) (λ z. (goal.Chooser-dyn g z).names z.1) (plan_records c.args.plan.now)
     ((goal.Chooser-dyn g c.args.chooser.now).allows c.args.chooser.now.1) ((goal.Chooser-dyn g c.loop-step.chooser.now).allows c.loop-step.chooser.now.1)
     (g.S.Service.offers c.args.service.now) (g.S.Service.offers c.loop-step.service)
     (at_first c.args.plan.now c.args.policy) c.loop-step.scheduler c.loop-step.steps.items c.in-Some.step
-    far c.in-Some.ensures.next c.in_err-take.field-0.0 c.args.service.now c.loop-step.service c.take.new.service
+    far c.in-Some.ensures.next c.loop-step.chooser.now (c.loop-step.chooser.now.0, c.next_step.new.chooser) c.in-Some.ensures.picked
+    c.from_residual.result c.in_err-take.field-0.0 c.args.service.now c.loop-step.service c.take.new.service c.args.chooser.now c.from_residual.ensures.1
     (c.every_run.ensures.dependencies_first c.args.policy far.events far.course.run)
-    c.loop-step.invariant.calls c.in_err-take.ensures.faulty in
-    search (rules, broken)
+    c.loop-step.invariant.calls c.loop-step.invariant.choices c.in_err-take.ensures.faulty
 
 pub returns-clause-mode : goal.returns-clause-mode
 returns-clause-mode g c =

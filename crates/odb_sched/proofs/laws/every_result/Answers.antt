@@ -20,3 +20,6 @@ returns-clause-all_or_none c = λ policy events run. all_or_none (state_after c.
 
 pub returns-clause-sound : goal.returns-clause-sound
 returns-clause-sound c = λ policy events run. sound_answers _ (reached_run _ policy events c.every_plan.ensures.order run)
+
+pub returns-clause-statuses : goal.returns-clause-statuses
+returns-clause-statuses c = λ policy events run. (reached_run _ policy events c.every_plan.ensures.order run).statuses

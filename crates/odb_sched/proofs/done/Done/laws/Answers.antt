@@ -3,6 +3,7 @@ use Rattle.std.proofs.Common.{◌≡◌, subst}
 use Rattle.odb_sched.specs.declared.policy.Mode.TheVariants.{Continue}
 use Rattle.odb_sched.specs.Laws.{HasOneResult, HasResultByStatuses, HasSoundResult, IsSound}
 use Rattle.odb_sched.specs.State.{State}
+use Rattle.odb_sched.specs.Answers.{HasStatuses}
 use Rattle.odb_sched.proofs.ResultLemmas.{one_result, result_by_statuses, sound_result, all_or_none, sound_answers}
 use Rattle.odb_sched.proofs.done.Done.laws.Goals as goal
 
@@ -20,3 +21,6 @@ returns-clause-all_or_none c = all_or_none c.args.self.now
 
 pub returns-clause-sound : goal.returns-clause-sound
 returns-clause-sound c = subst IsSound c.self.view_is (sound_answers _ c.self.invariant.reached)
+
+pub returns-clause-statuses : goal.returns-clause-statuses
+returns-clause-statuses c = subst HasStatuses c.self.view_is c.self.invariant.reached.statuses
