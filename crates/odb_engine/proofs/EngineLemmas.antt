@@ -13,9 +13,6 @@ use Rattle.odb_doc.specs.Documents.{IsDocument}
 use Rattle.odb_doc.specs.FaultTable as document
 use Rattle.odb_doc.specs.LeastFault.{IsWellShaped, IsLeastFault}
 use Rattle.odb_doc.specs.Records.{Record, IsBatchOf}
-use Rattle.odb_check.specs.declared.fault.CheckFault.{CheckFault}
-use Rattle.odb_check.specs.FaultTable as names
-use Rattle.odb_check.specs.LeastNameFault.{RefusesNames}
 use Rattle.odb_engine.specs.declared.ending.Ended.{Ended}
 use Rattle.odb_engine.specs.declared.ending.Ended.TheVariants.{Done, Refused}
 use Rattle.odb_engine.specs.declared.ending.EngineFault.{EngineFault}
@@ -24,10 +21,10 @@ use Rattle.odb_engine.specs.declared.reading.ReadFault.TheVariants as reads
 use Rattle.odb_engine.specs.declared.stop.Stop.{Stop}
 use Rattle.odb_engine.specs.declared.stop.Stop.TheVariants as stops
 use Rattle.odb_engine.specs.Inputs.{most_read, GivesDocument, SomeDocument}
-use Rattle.odb_engine.specs.Cascade.{Writes, Prints, Refusal, line_of, Reports, RefusesBytes, IsLeast, Answers, document_refusal, names_refusal}
+use Rattle.odb_engine.specs.Cascade.{Writes, Prints, Refusal, line_of, Reports, RefusesBytes, IsLeast, Answers, document_refusal}
 use Rattle.odb_engine.specs.Cascade.IsLeast.{OfBytes, OfShape, OfNames}
 use Rattle.odb_engine.specs.Engines.{Ends, WritesPrefix}
-use Rattle.odb_engine.specs.Stops.{Found, Refuses, Sent, Stopped, text_found, StopsBy, stop_of}
+use Rattle.odb_engine.specs.Stops.{Found, Refuses, RefusesNamesOf, Sent, Stopped, text_found, StopsBy, stop_of}
 
 -- a result of the search for a text
 abbrev pub FoundText : Type 0
@@ -97,10 +94,10 @@ stop-shape P bytes fault value is_document least = stopped-by (λ refusal. Answe
     (λ numbered. inl (reports (IsLeast bytes) (document_refusal fault) (OfShape fault numbered (record { value = value; document = is_document; holds = least }) refl)))
 
 -- the names of its requests have a fault
-pub stop-names : (P : List Record → Writes) (bytes : List ℕ) (fault : CheckFault) (value : Data) (batch : List Record) → IsDocument bytes value → IsWellShaped value → IsBatchOf value batch
-    → RefusesNames fault batch → (stop : Stop) → StopsBy (names.IsNumbered fault) (names_refusal fault) stop → Refuses (Answers P bytes) stop
-stop-names P bytes fault value batch is_document shape is_batch least = stopped-by (λ refusal. Answers P bytes Refused (line_of refusal)) _ _
-    (λ numbered. inl (reports (IsLeast bytes) (names_refusal fault) (OfNames fault numbered (record { value = value; document = is_document; holds = record { batch = batch; shape = shape; is_batch = is_batch; holds = least } }) refl)))
+pub stop-names : (P : List Record → Writes) (bytes : List ℕ) (value : Data) (batch : List Record) → IsDocument bytes value → IsWellShaped value → IsBatchOf value batch
+    → (stop : Stop) → Stopped (RefusesNamesOf batch) stop → Refuses (Answers P bytes) stop
+stop-names P bytes value batch is_document shape is_batch = Stopped-weaker (RefusesNamesOf batch) (λ refusal. Answers P bytes Refused (line_of refusal))
+    (λ refusal refuses. inl (reports (IsLeast bytes) refusal (OfNames refuses.fault refuses.numbered (record { value = value; document = is_document; holds = record { batch = batch; shape = shape; is_batch = is_batch; holds = refuses.refuses } }) refuses.is)))
 
 -- what may be written in less cases may be written
 pub Refuses-weaker : (P Q : Writes) (stop : Stop) → ((ended : Ended) (text : List ℕ) → P ended text → Q ended text) → Refuses P stop → Refuses Q stop

@@ -1,9 +1,13 @@
 -- For private clauses: why an engine stops before it writes, and what it writes of what it found.
-use Rattle.std.specs.Prelude.{◌≡◌, ◌≢◌, ◌↔◌, List, ℕ, Option, Result, Ok, Err, IsTrue, OnOk, OnErr, String, string_bytes}
+use Rattle.std.specs.Prelude.{◌≡◌, ◌≢◌, ◌↔◌, ◌⊎◌, List, ℕ, Option, Result, Ok, Err, IsTrue, OnOk, OnErr, String, string_bytes}
 use Rattle.std.specs.declared.alloc.Global.{Global}
 use Rattle.std.specs.Io.KnownBytes.{Appends}
-use Rattle.odb_doc.specs.Devices.{Writing}
+use Rattle.odb_doc.specs.Devices.{Reading, Writing}
 use Rattle.odb_reply.specs.Outputs.{AppendsPrefix}
+use Rattle.odb_doc.specs.Records.{Record}
+use Rattle.odb_check.specs.declared.fault.CheckFault.{CheckFault}
+use Rattle.odb_check.specs.FaultTable as names
+use Rattle.odb_check.specs.LeastNameFault.{RefusesNames}
 use Rattle.odb_engine.specs.declared.ending.Ended.{Ended}
 use Rattle.odb_engine.specs.declared.ending.Ended.TheVariants.{Done, Refused}
 use Rattle.odb_engine.specs.declared.ending.EngineFault.{EngineFault}
@@ -12,7 +16,7 @@ use Rattle.odb_engine.specs.declared.stop.Stop.{Stop}
 use Rattle.odb_engine.specs.declared.stop.Stop.TheVariants as stops
 use Rattle.odb_engine.specs.declared.reading.ReadFault.{ReadFault}
 use Rattle.odb_engine.specs.declared.reading.ReadFault.TheVariants as reads
-use Rattle.odb_engine.specs.Cascade.{Writes, Prints, Refusal, line_of}
+use Rattle.odb_engine.specs.Cascade.{Writes, Prints, Refusal, line_of, Accepts, names_refusal}
 use Rattle.odb_engine.specs.Engines.{Ends}
 
 -- a stop by a fault is one by such a fault
@@ -58,3 +62,14 @@ StopsBy Numbered refusal stops.OutOfMemory = Unit {0}
 abbrev pub stop_of : ReadFault → Stop
 stop_of reads.Read = stops.Read
 stop_of reads.OutOfMemory = stops.OutOfMemory
+
+-- the names of these requests have a fault
+pub record RefusesNamesOf (batch : List Record) (refusal : Refusal) : Type 0 where
+  pub fault : CheckFault
+  pub numbered : names.IsNumbered fault
+  pub refuses : RefusesNames fault batch
+  pub is : refusal ≡ names_refusal fault
+
+-- the second input is as it was, or the bytes are a batch that the check accepts
+abbrev pub AskedOnceAccepted : {S : Type 0} → List ℕ → Reading S → Reading S → Type 0
+AskedOnceAccepted bytes old new = (new ≡ old) ⊎ Accepts bytes (λ _. Unit {0})

@@ -1,7 +1,7 @@
 use Rattle.odb_engine.specs.Cascade.{Answers}
 use Rattle.odb_engine.specs.Runs.{Runs}
 use Rattle.odb_engine.proofs.EngineLemmas.{Ends-stopped}
-use Rattle.odb_engine.proofs.recorded_run.run_batch.Goals as goal
+use Rattle.odb_engine.proofs.recorded_run.run_batch_with.Goals as goal
 
 pub returns-in-Err-clause-ends : goal.returns-in-Err-clause-ends
 returns-in-Err-clause-ends g c =
