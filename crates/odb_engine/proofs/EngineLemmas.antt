@@ -126,7 +126,7 @@ Ends-weaker contents P Q F G old new result to read is = record {
     at (inr part) = inr (prefix-weaker P Q _ _ to part)
 
 pub Sent-weaker : {W : Type 0} (contents : W → Option (List ℕ)) (P Q : Writes) (old new : Writing W) (sent : Result (Result Ended EngineFault) Stop) → ((ended : Ended) (text : List ℕ) → P ended text → Q ended text)
-    → Sent contents P old new sent → Sent contents Q old new sent
+    → Sent contents P ⊥ old new sent → Sent contents Q ⊥ old new sent
 Sent-weaker contents P Q old new (Ok result) to sent = Ends-weaker contents P Q ⊥ ⊥ old new result to (λ f. f, λ f. f) sent
 Sent-weaker contents P Q old new (Err stop) to (same, refuses) = (same, Refuses-weaker P Q stop to refuses)
 
@@ -135,7 +135,7 @@ pub printed : (P : Writes) (line : List ℕ) → P Done line → (ended : Ended)
 printed P line so ended text (ends, same) = subst (λ e. P e text) (sym ends) (subst (P Done) (sym same) so)
 
 -- what is written of what was found is what may be written
-answered : (P : Writes) (found : FoundText) → Found P found → (ended : Ended) (text : List ℕ) → text_found found ended text → P ended text
+pub answered : (P : Writes) (found : FoundText) → Found P found → (ended : Ended) (text : List ℕ) → text_found found ended text → P ended text
 answered P (Ok found) so ended text prints = printed P (string_bytes found) so ended text prints
 answered P (Err (stops.Refused code name place)) so ended text (ends, line) = subst (λ e. P e text) (sym ends) (subst (P Refused) (sym line) so)
 answered P (Err stops.Read) so ended text none = absurd none
@@ -147,17 +147,9 @@ pub Ends-found : {W : Type 0} (contents : W → Option (List ℕ)) (P : Writes) 
 Ends-found contents P ReadFailed old new found result so read is =
     Ends-weaker contents (text_found found) P _ ReadFailed old new result (answered P found so) read is
 
-abbrev stop_in : {T : Type 0} → Result T Stop → Stop
+abbrev pub stop_in : {T : Type 0} → Result T Stop → Stop
 stop_in (Ok value) = stops.Read
 stop_in (Err stop) = stop
-
--- an engine that ends by a stop before which nothing was written
-pub Ends-stopped : {T W : Type 0} (contents : W → Option (List ℕ)) (P : Writes) (ReadFailed : Type 0) (old mid new : Writing W) (stop : Stop) (result : Result Ended EngineFault)
-    → (mid ≡ old) × Refuses P stop → (◌≡◌ {A = Result T Stop} (Err stop) (Err stops.Read) ↔ ReadFailed) → Ends contents (text_found (Err stop)) (◌≡◌ {A = FoundText} (Err stop) (Err stops.Read)) mid new result
-    → Ends contents P ReadFailed old new result
-Ends-stopped contents P ReadFailed old mid new stop result (same, refuses) read is =
-    subst (λ o. Ends contents P ReadFailed o new result) same (Ends-found contents P ReadFailed mid new (Err stop) result refuses
-    (λ e. read.0 (ap (λ r. Err (stop_in r)) e), λ f. ap (λ r. Err (stop_in r)) (read.1 f)) is)
 
 abbrev pub the_refusal : List ℕ → List ℕ → Place → Refusal
 the_refusal code name place = record { code = code; name = name; place = place }

@@ -1,11 +1,11 @@
-ghost use Rattle.std.specs.Prelude.{◌≡◌, ◌↔◌, ◌⊎◌, ℕ, List, false, Err, IsTrue};
+ghost use Rattle.std.specs.Prelude.{◌≡◌, ◌≢◌, ◌↔◌, ◌⊎◌, ℕ, List, false, Err, IsTrue, IfErr, IfOk, OnOk};
 ghost use Rattle.serde_json.specs.View.{view};
 ghost use Rattle.odb_doc.specs.Documents.{IsDocument};
 ghost use Rattle.odb_engine.specs.declared.stop.Stop.TheVariants as stops;
-ghost use Rattle.odb_engine.specs.Cascade.{Answers};
+ghost use Rattle.odb_engine.specs.Cascade.{Accepts, Answers};
 ghost use Rattle.odb_engine.specs.Engines.{Ends};
-ghost use Rattle.odb_engine.specs.Stops.{AskedOnceAccepted, Found};
-ghost use Rattle.odb_engine.specs.Inputs.{AskedFor, IsFresh, ReadsFew, SomeDocument};
+ghost use Rattle.odb_engine.specs.Stops.{Found, FoundBy};
+ghost use Rattle.odb_engine.specs.Inputs.{AskedFor, IsFresh, ReadsBatch, ReadsFew, SomeDocument};
 ghost use Rattle.odb_engine.specs.Commands.{BySecond};
 
 use crate::ending::{Ended, EngineFault, end};
@@ -51,21 +51,24 @@ pub trait PairCommand {
         ensures second { ReadsFew S.remaining second.old second.new };
 }
 
-/// Returns what the command prints of the batch in a value.
+/// Returns what the command prints of the batch in a value. Stops only if the check does not accept
+/// the batch; then the second document was not read.
 fn text_of<S: Read, C: PairCommand>(
     alloc: Global,
     value: &Value,
     second: &mut Input<S>,
     command: &C,
     setup: Setup,
-) -> Result<String, Stop>
+) -> Result<Result<String, Stop>, Stop>
     requires { IsFresh second.old }
     ensures found { (bytes : List ℕ) → IsDocument bytes (view value.now)
-        → Found (Answers (BySecond (S.remaining second.old.reader) (C.writes command.now)) bytes)
+        → FoundBy (Answers (BySecond (S.remaining second.old.reader) (C.writes command.now)) bytes)
         result }
-    ensures asked { (bytes : List ℕ) → IsDocument bytes (view value.now)
-        → AskedOnceAccepted bytes second.old second.new }
-    ensures read { (result ≡ Err stops.Read) ↔ IsTrue second.new.failed }
+    ensures accepted { (bytes : List ℕ) → IsDocument bytes (view value.now)
+        → OnOk result (Accepts bytes (λ _. Unit {0})) }
+    ensures unasked { IfErr result (λ _. second.new ≡ second.old) }
+    ensures failed { IfOk result (λ found. (found ≡ Err stops.Read) ↔ IsTrue second.new.failed) }
+    ensures read { result ≢ Err stops.Read }
     ensures second { ReadsFew S.remaining second.old second.new }
 {
     let batch = Held {
@@ -73,24 +76,27 @@ fn text_of<S: Read, C: PairCommand>(
         remains: setup.remains,
     };
     let plan = plan_of(alloc, &batch.value, setup)?;
-    command.text(alloc, &plan.value, second, setup.remains)
+    Ok(command.text(alloc, &plan.value, second, setup.remains))
 }
 
-/// Returns what the command prints of the batch in a document.
+/// Returns what the command prints of the batch in a document. Stops only if the check does not accept
+/// the batch; then the second document was not read.
 fn found_by<R: Read, S: Read, C: PairCommand>(
     alloc: Global,
     batch: &mut Input<R>,
     second: &mut Input<S>,
     command: &C,
     setup: Setup,
-) -> Result<String, Stop>
+) -> Result<Result<String, Stop>, Stop>
     requires batch { IsFresh batch.old }
     requires second { IsFresh second.old }
     ensures found { SomeDocument (R.remaining batch.old.reader) (λ bytes.
-        Found (Answers (BySecond (S.remaining second.old.reader) (C.writes command.now)) bytes) result
-        × AskedFor R.remaining batch.old batch.new bytes second.old second.new) }
-    ensures read { (result ≡ Err stops.Read)
-        ↔ (IsTrue batch.new.failed ⊎ IsTrue second.new.failed) }
+        FoundBy (Answers (BySecond (S.remaining second.old.reader) (C.writes command.now)) bytes)
+        result
+        × OnOk result (ReadsBatch R.remaining batch.old batch.new bytes)) }
+    ensures unasked { IfErr result (λ _. second.new ≡ second.old) }
+    ensures failed { IfOk result (λ found. (found ≡ Err stops.Read) ↔ IsTrue second.new.failed) }
+    ensures read { (result ≡ Err stops.Read) ↔ IsTrue batch.new.failed }
     ensures batch { ReadsFew R.remaining batch.old batch.new }
     ensures second { ReadsFew S.remaining second.old second.new }
 {
@@ -122,6 +128,8 @@ pub fn answer_pair<R: Read, S: Read, W: Write, C: PairCommand>(
     ensures batch { ReadsFew R.remaining batch.old batch.new }
     ensures second { ReadsFew S.remaining second.old second.new }
 {
-    let found = found_by(alloc, batch, second, command, setup);
-    end(alloc, found, output)
+    match found_by(alloc, batch, second, command, setup) {
+        Ok(found) => end(alloc, found, output),
+        Err(stop) => end(alloc, Err(stop), output),
+    }
 }

@@ -1,14 +1,14 @@
-ghost use Rattle.std.specs.Prelude.{◌≡◌, ◌↔◌, ◌⊎◌, ℕ, List, false, Err, IsTrue};
+ghost use Rattle.std.specs.Prelude.{◌≡◌, ◌≢◌, ◌↔◌, ◌⊎◌, ℕ, List, false, Err, IsTrue, IfErr, OnOk};
 ghost use Rattle.serde_json.specs.View.{view};
 ghost use Rattle.odb_doc.specs.Documents.{IsDocument};
 ghost use Rattle.odb_engine.specs.declared.stop.Stop.TheVariants as stops;
-ghost use Rattle.odb_engine.specs.Inputs.{AskedFor, IsFresh, ReadsFew, SomeDocument};
-ghost use Rattle.odb_engine.specs.Cascade.{Answers};
+ghost use Rattle.odb_engine.specs.Inputs.{AskedFor, IsFresh, ReadsBatch, ReadsFew, SomeDocument};
+ghost use Rattle.odb_engine.specs.Cascade.{Accepts, Answers};
 ghost use Rattle.odb_engine.specs.Engines.{Ends};
-ghost use Rattle.odb_engine.specs.Stops.{AskedOnceAccepted, Sent};
+ghost use Rattle.odb_engine.specs.Stops.{Sent};
 ghost use Rattle.odb_engine.specs.Runs as runs;
 
-use crate::ending::{Ended, EngineFault, end};
+use crate::ending::{Ended, EngineFault, conclude};
 use crate::events::{done_of, events_of};
 use crate::held::{Held, Remains};
 use crate::planning::plan_of;
@@ -35,7 +35,7 @@ fn run_plan<S: Read, W: Write>(
     requires events { IsFresh events.old }
     requires output { output.old.failed ≡ false }
     ensures sent { SomeDocument (S.remaining events.old.reader) (λ bytes. Sent W.contents
-        (runs.RunsBy policy plan.now bytes) output.old output.new result) }
+        (runs.RunsBy policy plan.now bytes) ⊥ output.old output.new result) }
     ensures read { (result ≡ Err stops.Read) ↔ IsTrue events.new.failed }
     ensures events { ReadsFew S.remaining events.old events.new }
 {
@@ -47,7 +47,8 @@ fn run_plan<S: Read, W: Write>(
     Ok(send_done(alloc, output, &done.value))
 }
 
-/// Runs the batch in a value. If it stops, nothing is written.
+/// Runs the batch in a value. Stops only if the check does not accept the batch; then the events were
+/// not read, and nothing is written.
 fn run_value<S: Read, W: Write>(
     alloc: Global,
     value: &Value,
@@ -60,10 +61,11 @@ fn run_value<S: Read, W: Write>(
     requires output { output.old.failed ≡ false }
     ensures sent { (bytes : List ℕ) → IsDocument bytes (view value.now) → Sent W.contents
         (Answers (runs.Runs policy (S.remaining events.old.reader)) bytes)
-        output.old output.new result }
-    ensures asked { (bytes : List ℕ) → IsDocument bytes (view value.now)
-        → AskedOnceAccepted bytes events.old events.new }
-    ensures read { (result ≡ Err stops.Read) ↔ IsTrue events.new.failed }
+        (IsTrue events.new.failed) output.old output.new result }
+    ensures accepted { (bytes : List ℕ) → IsDocument bytes (view value.now)
+        → OnOk result (Accepts bytes (λ _. Unit {0})) }
+    ensures unasked { IfErr result (λ _. events.new ≡ events.old) }
+    ensures read { result ≢ Err stops.Read }
     ensures events { ReadsFew S.remaining events.old events.new }
 {
     let batch = Held {
@@ -71,10 +73,12 @@ fn run_value<S: Read, W: Write>(
         remains: setup.remains,
     };
     let plan = plan_of(alloc, &batch.value, setup)?;
-    run_plan(alloc, &plan.value, events, output, policy, setup.remains)
+    let sent = run_plan(alloc, &plan.value, events, output, policy, setup.remains);
+    Ok(conclude(alloc, sent, output))
 }
 
-/// Runs the batch in a document. If it stops, nothing is written.
+/// Runs the batch in a document. Stops only if the check does not accept the batch; then the events
+/// were not read, and nothing is written.
 fn run_document<R: Read, S: Read, W: Write>(
     alloc: Global,
     batch: &mut Input<R>,
@@ -88,10 +92,10 @@ fn run_document<R: Read, S: Read, W: Write>(
     requires output { output.old.failed ≡ false }
     ensures sent { SomeDocument (R.remaining batch.old.reader) (λ bytes. Sent W.contents
         (Answers (runs.Runs policy (S.remaining events.old.reader)) bytes)
-        output.old output.new result
-        × AskedFor R.remaining batch.old batch.new bytes events.old events.new) }
-    ensures read { (result ≡ Err stops.Read)
-        ↔ (IsTrue batch.new.failed ⊎ IsTrue events.new.failed) }
+        (IsTrue events.new.failed) output.old output.new result
+        × OnOk result (ReadsBatch R.remaining batch.old batch.new bytes)) }
+    ensures unasked { IfErr result (λ _. events.new ≡ events.old) }
+    ensures read { (result ≡ Err stops.Read) ↔ IsTrue batch.new.failed }
     ensures batch { ReadsFew R.remaining batch.old batch.new }
     ensures events { ReadsFew S.remaining events.old events.new }
 {
@@ -165,8 +169,5 @@ pub fn run_batch_with<R: Read, S: Read, W: Write>(
     ensures events { ReadsFew S.remaining events.old events.new }
 {
     let sent = run_document(alloc, batch, events, output, policy, setup);
-    match sent {
-        Ok(ended) => ended,
-        Err(stop) => end(alloc, Err(stop), output),
-    }
+    conclude(alloc, sent, output)
 }

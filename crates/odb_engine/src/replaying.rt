@@ -1,14 +1,14 @@
-ghost use Rattle.std.specs.Prelude.{◌≡◌, ◌↔◌, ◌⊎◌, ℕ, List, false, Err, IsTrue};
+ghost use Rattle.std.specs.Prelude.{◌≡◌, ◌≢◌, ◌↔◌, ◌⊎◌, ℕ, List, false, Err, IsTrue, IfErr, OnOk};
 ghost use Rattle.serde_json.specs.View.{view};
 ghost use Rattle.odb_doc.specs.Documents.{IsDocument};
 ghost use Rattle.odb_engine.specs.declared.stop.Stop.TheVariants as stops;
-ghost use Rattle.odb_engine.specs.Inputs.{AskedFor, IsFresh, ReadsFew, SomeDocument};
-ghost use Rattle.odb_engine.specs.Cascade.{Answers};
+ghost use Rattle.odb_engine.specs.Inputs.{AskedFor, IsFresh, ReadsBatch, ReadsFew, SomeDocument};
+ghost use Rattle.odb_engine.specs.Cascade.{Accepts, Answers};
 ghost use Rattle.odb_engine.specs.Engines.{Ends};
-ghost use Rattle.odb_engine.specs.Stops.{AskedOnceAccepted, Sent};
+ghost use Rattle.odb_engine.specs.Stops.{Sent};
 ghost use Rattle.odb_engine.specs.Replays as replays;
 
-use crate::ending::{Ended, EngineFault, end};
+use crate::ending::{Ended, EngineFault, conclude};
 use crate::held::{Held, Remains};
 use crate::planning::plan_of;
 use crate::reading::value_of;
@@ -38,7 +38,7 @@ fn replay_plan<S: Read, W: Write>(
     requires outcomes { IsFresh outcomes.old }
     requires output { output.old.failed ≡ false }
     ensures sent { SomeDocument (S.remaining outcomes.old.reader) (λ bytes. Sent W.contents
-        (replays.ReplaysBy (allows chooser.old) policy traced plan.now bytes)
+        (replays.ReplaysBy (allows chooser.old) policy traced plan.now bytes) ⊥
         output.old output.new result) }
     ensures read { (result ≡ Err stops.Read) ↔ IsTrue outcomes.new.failed }
     ensures outcomes { ReadsFew S.remaining outcomes.old outcomes.new }
@@ -51,7 +51,8 @@ fn replay_plan<S: Read, W: Write>(
     Ok(send(alloc, output, &trace.value, traced))
 }
 
-/// Replays the batch in a value. If it stops, nothing is written.
+/// Replays the batch in a value. Stops only if the check does not accept the batch; then the outcomes
+/// were not read, and nothing is written.
 fn replay_value<S: Read, W: Write>(
     alloc: Global,
     value: &Value,
@@ -66,10 +67,12 @@ fn replay_value<S: Read, W: Write>(
     requires output { output.old.failed ≡ false }
     ensures sent { (bytes : List ℕ) → IsDocument bytes (view value.now) → Sent W.contents
         (Answers (replays.Replays (allows chooser.old) policy traced
-        (S.remaining outcomes.old.reader)) bytes) output.old output.new result }
-    ensures asked { (bytes : List ℕ) → IsDocument bytes (view value.now)
-        → AskedOnceAccepted bytes outcomes.old outcomes.new }
-    ensures read { (result ≡ Err stops.Read) ↔ IsTrue outcomes.new.failed }
+        (S.remaining outcomes.old.reader)) bytes) (IsTrue outcomes.new.failed)
+        output.old output.new result }
+    ensures accepted { (bytes : List ℕ) → IsDocument bytes (view value.now)
+        → OnOk result (Accepts bytes (λ _. Unit {0})) }
+    ensures unasked { IfErr result (λ _. outcomes.new ≡ outcomes.old) }
+    ensures read { result ≢ Err stops.Read }
     ensures outcomes { ReadsFew S.remaining outcomes.old outcomes.new }
 {
     let batch = Held {
@@ -77,7 +80,7 @@ fn replay_value<S: Read, W: Write>(
         remains: setup.remains,
     };
     let plan = plan_of(alloc, &batch.value, setup)?;
-    replay_plan(
+    let sent = replay_plan(
         alloc,
         &plan.value,
         outcomes,
@@ -86,10 +89,12 @@ fn replay_value<S: Read, W: Write>(
         chooser,
         traced,
         setup.remains,
-    )
+    );
+    Ok(conclude(alloc, sent, output))
 }
 
-/// Replays the batch in a document. If it stops, nothing is written.
+/// Replays the batch in a document. Stops only if the check does not accept the batch; then the
+/// outcomes were not read, and nothing is written.
 fn replay_of<R: Read, S: Read, W: Write>(
     alloc: Global,
     batch: &mut Input<R>,
@@ -105,10 +110,11 @@ fn replay_of<R: Read, S: Read, W: Write>(
     requires output { output.old.failed ≡ false }
     ensures sent { SomeDocument (R.remaining batch.old.reader) (λ bytes. Sent W.contents
         (Answers (replays.Replays (allows chooser.old) policy traced
-        (S.remaining outcomes.old.reader)) bytes) output.old output.new result
-        × AskedFor R.remaining batch.old batch.new bytes outcomes.old outcomes.new) }
-    ensures read { (result ≡ Err stops.Read)
-        ↔ (IsTrue batch.new.failed ⊎ IsTrue outcomes.new.failed) }
+        (S.remaining outcomes.old.reader)) bytes) (IsTrue outcomes.new.failed)
+        output.old output.new result
+        × OnOk result (ReadsBatch R.remaining batch.old batch.new bytes)) }
+    ensures unasked { IfErr result (λ _. outcomes.new ≡ outcomes.old) }
+    ensures read { (result ≡ Err stops.Read) ↔ IsTrue batch.new.failed }
     ensures batch { ReadsFew R.remaining batch.old batch.new }
     ensures outcomes { ReadsFew S.remaining outcomes.old outcomes.new }
 {
@@ -207,8 +213,5 @@ pub fn replay_batch_with<R: Read, S: Read, W: Write>(
     let sent = replay_of(
         alloc, batch, outcomes, output, policy, chooser, traced, setup,
     );
-    match sent {
-        Ok(ended) => ended,
-        Err(stop) => end(alloc, Err(stop), output),
-    }
+    conclude(alloc, sent, output)
 }
