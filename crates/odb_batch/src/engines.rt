@@ -4,10 +4,10 @@ ghost use Rattle.odb_engine.specs.Inputs.{IsFresh};
 
 use crate::command_line::Replay;
 use crate::ending::{Status, failed, finish};
-use odb_check::Seed;
 use odb_doc::{Input, Output};
 use odb_engine::{
-    Remains, canon_batch, check_batch, match_batch, plan_batch, replay_batch, run_batch,
+    Setup, canon_batch_with, check_batch_with, match_batch_with, plan_batch_with,
+    replay_batch_with, run_batch_with,
 };
 use odb_sched::Policy;
 use std::rt::Runtime;
@@ -16,14 +16,11 @@ use std::{fs, io};
 /// What the commands take of where the program runs.
 #[derive(Clone, Copy, Drop)]
 pub struct Surroundings {
-    /// Keeps the tables of names fast whatever the names.
-    pub seed: Seed,
+    /// What each engine is passed beside its documents and options.
+    pub setup: Setup,
     /// Whether standard error is a terminal: then it is also printed why a file cannot be opened.
     pub is_watched: bool,
 }
-
-/// The process is about to exit: what was read is not worth dropping.
-const REMAINS: Remains = Remains::Left;
 
 /// Prints that the file cannot be opened, and why if a person reads it. Returns the status.
 fn not_opened<R: Runtime>(rt: &R, around: Surroundings, path: &str, error: io::Error) -> Status {
@@ -51,15 +48,14 @@ fn open<R: Runtime>(rt: &R, around: Surroundings, path: &str) -> Result<Input<R:
 pub fn check<R: Runtime + AllocGlobal>(rt: &R, around: Surroundings, file: Option<&str>) -> Status {
     let mut output = Output::new(io::writer(rt));
     let ended = match file {
-        None => check_batch(
+        None => check_batch_with(
             rt.alloc(),
             &mut Input::new(rt.reader()),
             &mut output,
-            around.seed,
-            REMAINS,
+            around.setup,
         ),
         Some(path) => match open(rt, around, path) {
-            Ok(mut input) => check_batch(rt.alloc(), &mut input, &mut output, around.seed, REMAINS),
+            Ok(mut input) => check_batch_with(rt.alloc(), &mut input, &mut output, around.setup),
             Err(status) => return status,
         },
     };
@@ -72,7 +68,7 @@ pub fn plan<R: Runtime + AllocGlobal>(rt: &R, around: Surroundings, path: &str) 
     match open(rt, around, path) {
         Ok(mut input) => finish(
             rt,
-            plan_batch(rt.alloc(), &mut input, &mut output, around.seed, REMAINS),
+            plan_batch_with(rt.alloc(), &mut input, &mut output, around.setup),
         ),
         Err(status) => status,
     }
@@ -84,7 +80,7 @@ pub fn canon<R: Runtime + AllocGlobal>(rt: &R, around: Surroundings, path: &str)
     match open(rt, around, path) {
         Ok(mut input) => finish(
             rt,
-            canon_batch(rt.alloc(), &mut input, &mut output, around.seed, REMAINS),
+            canon_batch_with(rt.alloc(), &mut input, &mut output, around.setup),
         ),
         Err(status) => status,
     }
@@ -106,13 +102,12 @@ pub fn fit<R: Runtime + AllocGlobal>(
         Err(status) => return status,
     };
     let mut output = Output::new(io::writer(rt));
-    let ended = match_batch(
+    let ended = match_batch_with(
         rt.alloc(),
         &mut batch,
         &mut responses,
         &mut output,
-        around.seed,
-        REMAINS,
+        around.setup,
     );
     finish(rt, ended)
 }
@@ -132,7 +127,7 @@ pub fn replay<R: Runtime + AllocGlobal>(
         Err(status) => return status,
     };
     let mut order = replay.order;
-    let ended = replay_batch(
+    let ended = replay_batch_with(
         rt.alloc(),
         &mut batch,
         &mut outcomes,
@@ -140,8 +135,7 @@ pub fn replay<R: Runtime + AllocGlobal>(
         replay.policy,
         &mut order,
         replay.traced,
-        around.seed,
-        REMAINS,
+        around.setup,
     );
     finish(rt, ended)
 }
@@ -163,14 +157,13 @@ pub fn run_events<R: Runtime + AllocGlobal>(
         Err(status) => return status,
     };
     let mut output = Output::new(io::writer(rt));
-    let ended = run_batch(
+    let ended = run_batch_with(
         rt.alloc(),
         &mut batch,
         &mut events,
         &mut output,
         policy,
-        around.seed,
-        REMAINS,
+        around.setup,
     );
     finish(rt, ended)
 }

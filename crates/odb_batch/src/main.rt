@@ -20,6 +20,7 @@ use command_line::{BadArguments, Task, Text};
 use ending::{Status, failed};
 use engines::{Surroundings, canon, check, fit, plan, replay, run_events};
 use odb_check::Seed;
+use odb_engine::{Remains, Setup};
 use std::io::IsTerminal;
 use std::process::ExitCode;
 use std::random::RandomSource;
@@ -95,7 +96,11 @@ fn run<R: Runtime + AllocGlobal>(rt: &R, around: Surroundings, words: &[String])
 
 fn surroundings(rt: &HostRuntime) -> Surroundings {
     Surroundings {
-        seed: seed(rt),
+        setup: Setup {
+            seed: seed(rt),
+            // The process is about to exit: what was read is not worth dropping.
+            remains: Remains::Left,
+        },
         is_watched: rt.stderr().is_terminal(),
     }
 }

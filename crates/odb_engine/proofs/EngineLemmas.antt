@@ -13,9 +13,6 @@ use Rattle.odb_doc.specs.Documents.{IsDocument}
 use Rattle.odb_doc.specs.FaultTable as document
 use Rattle.odb_doc.specs.LeastFault.{IsWellShaped, IsLeastFault}
 use Rattle.odb_doc.specs.Records.{Record, IsBatchOf}
-use Rattle.odb_check.specs.declared.fault.CheckFault.{CheckFault}
-use Rattle.odb_check.specs.FaultTable as names
-use Rattle.odb_check.specs.LeastNameFault.{RefusesNames}
 use Rattle.odb_engine.specs.declared.ending.Ended.{Ended}
 use Rattle.odb_engine.specs.declared.ending.Ended.TheVariants.{Done, Refused}
 use Rattle.odb_engine.specs.declared.ending.EngineFault.{EngineFault}
@@ -24,10 +21,10 @@ use Rattle.odb_engine.specs.declared.reading.ReadFault.TheVariants as reads
 use Rattle.odb_engine.specs.declared.stop.Stop.{Stop}
 use Rattle.odb_engine.specs.declared.stop.Stop.TheVariants as stops
 use Rattle.odb_engine.specs.Inputs.{most_read, GivesDocument, SomeDocument}
-use Rattle.odb_engine.specs.Cascade.{Writes, Prints, Refusal, line_of, Reports, RefusesBytes, IsLeast, Answers, document_refusal, names_refusal}
+use Rattle.odb_engine.specs.Cascade.{Writes, Prints, Refusal, line_of, Reports, RefusesBytes, IsLeast, Answers, document_refusal}
 use Rattle.odb_engine.specs.Cascade.IsLeast.{OfBytes, OfShape, OfNames}
 use Rattle.odb_engine.specs.Engines.{Ends, WritesPrefix}
-use Rattle.odb_engine.specs.Stops.{Found, Refuses, Sent, Stopped, text_found, StopsBy, stop_of}
+use Rattle.odb_engine.specs.Stops.{Found, Refuses, RefusesNamesOf, Sent, Stopped, text_found, StopsBy, stop_of}
 
 -- a result of the search for a text
 abbrev pub FoundText : Type 0
@@ -97,10 +94,10 @@ stop-shape P bytes fault value is_document least = stopped-by (λ refusal. Answe
     (λ numbered. inl (reports (IsLeast bytes) (document_refusal fault) (OfShape fault numbered (record { value = value; document = is_document; holds = least }) refl)))
 
 -- the names of its requests have a fault
-pub stop-names : (P : List Record → Writes) (bytes : List ℕ) (fault : CheckFault) (value : Data) (batch : List Record) → IsDocument bytes value → IsWellShaped value → IsBatchOf value batch
-    → RefusesNames fault batch → (stop : Stop) → StopsBy (names.IsNumbered fault) (names_refusal fault) stop → Refuses (Answers P bytes) stop
-stop-names P bytes fault value batch is_document shape is_batch least = stopped-by (λ refusal. Answers P bytes Refused (line_of refusal)) _ _
-    (λ numbered. inl (reports (IsLeast bytes) (names_refusal fault) (OfNames fault numbered (record { value = value; document = is_document; holds = record { batch = batch; shape = shape; is_batch = is_batch; holds = least } }) refl)))
+pub stop-names : (P : List Record → Writes) (bytes : List ℕ) (value : Data) (batch : List Record) → IsDocument bytes value → IsWellShaped value → IsBatchOf value batch
+    → (stop : Stop) → Stopped (RefusesNamesOf batch) stop → Refuses (Answers P bytes) stop
+stop-names P bytes value batch is_document shape is_batch = Stopped-weaker (RefusesNamesOf batch) (λ refusal. Answers P bytes Refused (line_of refusal))
+    (λ refusal refuses. inl (reports (IsLeast bytes) refusal (OfNames refuses.fault refuses.numbered (record { value = value; document = is_document; holds = record { batch = batch; shape = shape; is_batch = is_batch; holds = refuses.refuses } }) refuses.is)))
 
 -- what may be written in less cases may be written
 pub Refuses-weaker : (P Q : Writes) (stop : Stop) → ((ended : Ended) (text : List ℕ) → P ended text → Q ended text) → Refuses P stop → Refuses Q stop
@@ -129,7 +126,7 @@ Ends-weaker contents P Q F G old new result to read is = record {
     at (inr part) = inr (prefix-weaker P Q _ _ to part)
 
 pub Sent-weaker : {W : Type 0} (contents : W → Option (List ℕ)) (P Q : Writes) (old new : Writing W) (sent : Result (Result Ended EngineFault) Stop) → ((ended : Ended) (text : List ℕ) → P ended text → Q ended text)
-    → Sent contents P old new sent → Sent contents Q old new sent
+    → Sent contents P ⊥ old new sent → Sent contents Q ⊥ old new sent
 Sent-weaker contents P Q old new (Ok result) to sent = Ends-weaker contents P Q ⊥ ⊥ old new result to (λ f. f, λ f. f) sent
 Sent-weaker contents P Q old new (Err stop) to (same, refuses) = (same, Refuses-weaker P Q stop to refuses)
 
@@ -138,7 +135,7 @@ pub printed : (P : Writes) (line : List ℕ) → P Done line → (ended : Ended)
 printed P line so ended text (ends, same) = subst (λ e. P e text) (sym ends) (subst (P Done) (sym same) so)
 
 -- what is written of what was found is what may be written
-answered : (P : Writes) (found : FoundText) → Found P found → (ended : Ended) (text : List ℕ) → text_found found ended text → P ended text
+pub answered : (P : Writes) (found : FoundText) → Found P found → (ended : Ended) (text : List ℕ) → text_found found ended text → P ended text
 answered P (Ok found) so ended text prints = printed P (string_bytes found) so ended text prints
 answered P (Err (stops.Refused code name place)) so ended text (ends, line) = subst (λ e. P e text) (sym ends) (subst (P Refused) (sym line) so)
 answered P (Err stops.Read) so ended text none = absurd none
@@ -150,17 +147,9 @@ pub Ends-found : {W : Type 0} (contents : W → Option (List ℕ)) (P : Writes) 
 Ends-found contents P ReadFailed old new found result so read is =
     Ends-weaker contents (text_found found) P _ ReadFailed old new result (answered P found so) read is
 
-abbrev stop_in : {T : Type 0} → Result T Stop → Stop
+abbrev pub stop_in : {T : Type 0} → Result T Stop → Stop
 stop_in (Ok value) = stops.Read
 stop_in (Err stop) = stop
-
--- an engine that ends by a stop before which nothing was written
-pub Ends-stopped : {T W : Type 0} (contents : W → Option (List ℕ)) (P : Writes) (ReadFailed : Type 0) (old mid new : Writing W) (stop : Stop) (result : Result Ended EngineFault)
-    → (mid ≡ old) × Refuses P stop → (◌≡◌ {A = Result T Stop} (Err stop) (Err stops.Read) ↔ ReadFailed) → Ends contents (text_found (Err stop)) (◌≡◌ {A = FoundText} (Err stop) (Err stops.Read)) mid new result
-    → Ends contents P ReadFailed old new result
-Ends-stopped contents P ReadFailed old mid new stop result (same, refuses) read is =
-    subst (λ o. Ends contents P ReadFailed o new result) same (Ends-found contents P ReadFailed mid new (Err stop) result refuses
-    (λ e. read.0 (ap (λ r. Err (stop_in r)) e), λ f. ap (λ r. Err (stop_in r)) (read.1 f)) is)
 
 abbrev pub the_refusal : List ℕ → List ℕ → Place → Refusal
 the_refusal code name place = record { code = code; name = name; place = place }

@@ -16,13 +16,12 @@ use Rattle.odb_sched.specs.declared.event.Event.TheVariants as event
 use Rattle.odb_sched.specs.declared.policy.Policy.{Policy}
 use Rattle.odb_sched.specs.declared.refusal.RunRefusal.{RunRefusal}
 use Rattle.odb_sched.specs.declared.refusal.RunRefusal.TheVariants as refusal
+use Rattle.odb_sched.specs.declared.resolving.ResolveFault.{ResolveFault}
 use Rattle.odb_sched.specs.declared.resolving.ResolveFault.TheVariants.{UnknownEvent}
-use Rattle.odb_sched.specs.Resolving.{IsFirstUnknown, IsKnown, IsResolved}
-use Rattle.odb_doc.specs.declared.outcome.Outcome.{Outcome}
-use Rattle.odb_sched.specs.declared.refusal.StartRefusal.{StartRefusal}
-use Rattle.odb_sched.specs.declared.refusal.ReportRefusal.{ReportRefusal}
-use Rattle.odb_sched.specs.Causes.{IsStartCause, IsReportCause}
-use Rattle.odb_sched.specs.Runs.{IsRunFrom, RefusesEvent, StopsAt, after_all}
+use Rattle.odb_sched.specs.Refusals as refusals
+use Rattle.odb_sched.specs.ResolveFaults as resolving
+use Rattle.odb_sched.specs.Resolving.{IsFirstUnknown, IsKnown, IsResolved, RefusesNamed}
+use Rattle.odb_sched.specs.Runs.{IsRunFrom, RefusesEvent, Refuses, StopsAt, after_all}
 use Rattle.odb_sched.specs.State.{State, after, at_first}
 use Rattle.odb_sched.specs.Steps.{is_finished, may_come}
 use Rattle.odb_engine.specs.declared.ending.Ended.{Ended}
@@ -79,67 +78,31 @@ not-unknown batch (n ∷ ns) [] at all un = absurd all
 not-unknown batch (n ∷ ns) (e ∷ es) zero all un = un (known-one batch n e all.0)
 not-unknown batch (n ∷ ns) (e ∷ es) (suc at) all un = not-unknown batch ns es at all.1 un
 
-known-before : (batch : List Record) (ns : List EventValue) (a b : ℕ) → a < b → All (IsKnown batch) (take b ns) → IsSomeAnd (slice_get ns a) (λ n. ¬ IsKnown batch n) → ⊥
-known-before batch [] zero b less all un = un
-known-before batch [] (suc a) b less all un = un
-known-before batch (n ∷ ns) a zero less all un = omega (arith, less)
-known-before batch (n ∷ ns) zero (suc b) less all un = un (All-head (IsKnown batch) n (take b ns) all)
-known-before batch (n ∷ ns) (suc a) (suc b) less all un = known-before batch ns a b (omega (arith, less)) (All-tail (IsKnown batch) n (take b ns) all) un
+-- the laws of odb_sched on refusals
+pub record HaveOneCause : Type 0 where
+  pub one_refusal : (state : State) (events : List Event) (cause other : RunRefusal) → refusals.IsNumbered cause → refusals.IsNumbered other → Refuses state events cause → Refuses state events other → cause ≡ other
+  pub one_unknown : (requests : List Record) (events : List EventValue) (fault other : ResolveFault) → resolving.IsNumbered fault → resolving.IsNumbered other → RefusesNamed fault requests events → RefusesNamed other requests events → fault ≡ other
 
-one-unknown : (batch : List Record) (ns : List EventValue) (a b : ℕ) → IsFirstUnknown batch ns a → IsFirstUnknown batch ns b → a ≡ b
-one-unknown batch ns a b x y = at (cases_order a b)
-  where
-    at : (a ≡ b) ⊎ ((a < b) ⊎ (b < a)) → a ≡ b
-    at (inl same) = same
-    at (inr (inl less)) = absurd (known-before batch ns a b less y.before x.unknown)
-    at (inr (inr less)) = absurd (known-before batch ns b a less x.before y.unknown)
+one-unknown : HaveOneCause → (batch : List Record) (ns : List EventValue) (a b : ℕ) → IsFirstUnknown batch ns a → IsFirstUnknown batch ns b → UnknownEvent a ≡ UnknownEvent b
+one-unknown law batch ns a b x y = law.one_unknown batch ns (UnknownEvent a) (UnknownEvent b) (λ is. cc (is)) (λ is. cc (is)) x y
 
 -- ---- events that may not come
 
-abbrev first_or : Event → List Event → Event
-first_or d [] = d
-first_or d (e ∷ es) = e
-
-abbrev rest_of : List Event → List Event
-rest_of [] = []
-rest_of (e ∷ es) = es
-
--- the events before one that may not come, and that event
-same-stop : (state : State) (xs ys : List Event) (e f : Event) (later others : List Event) → xs ++ e ∷ later ≡ ys ++ f ∷ others → IsRunFrom state xs → IsRunFrom state ys
-    → may_come (after_all state xs) e ≡ false → may_come (after_all state ys) f ≡ false → (xs ≡ ys) × (e ≡ f)
-same-stop state [] [] e f later others same run walk barred closed = (refl, ap (first_or e) same)
-same-stop state [] (y ∷ ys) e f later others same run walk barred closed =
-    absurd (both_ways _ barred (ap (λ x. may_come state x) (ap (first_or e) same) ∙ walk.1))
-same-stop state (x ∷ xs) [] e f later others same run walk barred closed =
-    absurd (both_ways _ closed (ap (λ y. may_come state y) (sym (ap (first_or f) same)) ∙ run.1))
-same-stop state (x ∷ xs) (y ∷ ys) e f later others same run walk barred closed =
-    let head = ap (first_or x) same in
-    let (front, last) = same-stop (after state x) xs ys e f later others (ap rest_of same) run.2 (subst (λ z. IsRunFrom (after state z) ys) (sym head) walk.2)
-    barred (subst (λ z. may_come (after_all (after state z) ys) f ≡ false) (sym head) closed) in
-    (ap (λ z. z ∷ xs) head ∙ ap (λ zs. y ∷ zs) front, last)
-
--- the laws of runs on the causes of refusals
-pub record HaveOneCause : Type 0 where
-  pub one_start : (state : State) (i : ℕ) (cause other : StartRefusal) → IsStartCause state i cause → IsStartCause state i other → cause ≡ other
-  pub one_report : (state : State) (i : ℕ) (outcome : Outcome) (cause other : ReportRefusal) → IsReportCause state i outcome cause → IsReportCause state i outcome other → cause ≡ other
-
-one-cause : HaveOneCause → (state : State) (at : ℕ) (e : Event) (a b : RunRefusal) → RefusesEvent state at e a → RefusesEvent state at e b → a ≡ b
-one-cause causes state at (event.Start i) (refusal.Start p c) (refusal.Start q d) x y = ap (λ k. refusal.Start k c) (x.0 ∙ sym y.0) ∙ ap (refusal.Start q) (causes.one_start state i c d x.1 y.1)
-one-cause causes state at (event.Start i) (refusal.Start p c) (refusal.Report q d) x y = absurd y
-one-cause causes state at (event.Start i) (refusal.Start p c) refusal.OutOfMemory x y = absurd y
-one-cause causes state at (event.Start i) (refusal.Report p c) b x y = absurd x
-one-cause causes state at (event.Start i) refusal.OutOfMemory b x y = absurd x
-one-cause causes state at (event.Report i o) (refusal.Start p c) b x y = absurd x
-one-cause causes state at (event.Report i o) refusal.OutOfMemory b x y = absurd x
-one-cause causes state at (event.Report i o) (refusal.Report p c) (refusal.Start q d) x y = absurd y
-one-cause causes state at (event.Report i o) (refusal.Report p c) refusal.OutOfMemory x y = absurd y
-one-cause causes state at (event.Report i o) (refusal.Report p c) (refusal.Report q d) x y = ap (λ k. refusal.Report k c) (x.0 ∙ sym y.0) ∙ ap (refusal.Report q) (causes.one_report state i o c d x.1 y.1)
+-- what may not come has a numbered refusal
+refuses : (state : State) (events : List Event) (cause : RunRefusal) → StopsAt state events cause → refusals.IsNumbered cause × Refuses state events cause
+refuses state events (refusal.Start at cause) stops = ((λ is. cc (is)), stops)
+refuses state events (refusal.Report at cause) stops = ((λ is. cc (is)), stops)
+refuses state events refusal.OutOfMemory stops = absurd (no-memory (after_all state stops.before) (length stops.before) stops.event stops.refused)
+  where
+    no-memory : (s : State) (at : ℕ) (e : Event) → RefusesEvent s at e refusal.OutOfMemory → ⊥
+    no-memory s at (event.Start i) none = none
+    no-memory s at (event.Report i outcome) none = none
 
 one-stop : HaveOneCause → (state : State) (events : List Event) (a b : RunRefusal) → StopsAt state events a → StopsAt state events b → a ≡ b
-one-stop causes state events a b x y =
-    let (front, last) = same-stop state x.before y.before x.event y.event x.later y.later (sym x.whole ∙ y.whole) x.run y.run x.barred y.barred in
-    one-cause causes (after_all state y.before) (length y.before) y.event a b
-    (subst (λ e. RefusesEvent (after_all state y.before) (length y.before) e a) last (subst (λ (xs : List Event). RefusesEvent (after_all state xs) (length xs) x.event a) front x.refused)) y.refused
+one-stop law state events a b x y =
+    let (numbered, one) = refuses state events a x in
+    let (numbered', two) = refuses state events b y in
+    law.one_refusal state events a b numbered numbered' one two
 
 -- an event of a run may come
 may-come : (state : State) (xs : List Event) (e : Event) (later : List Event) → IsRunFrom state (xs ++ e ∷ later) → may_come (after_all state xs) e ≡ true
@@ -159,7 +122,7 @@ module _ (causes : HaveOneCause) (policy : Policy) (plan : Plan) (good : HasGood
   same-events es fs a b = one-list (plan_records plan) good ns es fs a b
 
   one-least : (a b : Refusal) → IsLeastOfRun policy plan ns a → IsLeastOfRun policy plan ns b → a ≡ b
-  one-least a b (OfIds i x same) (OfIds j y equal) = same ∙ ap (λ k. resolve_refusal (UnknownEvent k)) (one-unknown (plan_records plan) ns i j x y) ∙ sym equal
+  one-least a b (OfIds i x same) (OfIds j y equal) = same ∙ ap (λ fault. resolve_refusal fault) (one-unknown causes (plan_records plan) ns i j x y) ∙ sym equal
   one-least a b (OfIds i x same) (OfEvent fs d r y equal) = absurd (not-unknown (plan_records plan) ns fs i r x.unknown)
   one-least a b (OfIds i x same) (OfEnd fs r run barred equal) = absurd (not-unknown (plan_records plan) ns fs i r x.unknown)
   one-least a b (OfEvent es c q x same) (OfIds j y equal) = absurd (not-unknown (plan_records plan) ns es j q y.unknown)

@@ -2,7 +2,6 @@
 use Rattle.std.specs.Prelude.{◌≡◌, ◌⊎◌, ℕ, Bool, List, [], ◌∷◌, ◌++◌, Option, Err, codes, if◌then◌else◌}
 use Rattle.odb_doc.specs.declared.fault.Place.TheVariants as places
 use Rattle.odb_doc.specs.declared.outcome_fault.OutcomeFault.{OutcomeFault}
-use Rattle.odb_doc.specs.Devices.{Reading}
 use Rattle.odb_doc.specs.LeastOutcomeFault.{IsOutcomesDocument, RefusesOutcomes}
 use Rattle.odb_doc.specs.OutcomeFaults as outcomes
 use Rattle.odb_doc.specs.Outcomes.{Recorded, AreOutcomesOf}
@@ -22,7 +21,7 @@ use Rattle.odb_engine.specs.declared.ending.Ended.{Ended}
 use Rattle.odb_engine.specs.declared.ending.Ended.TheVariants.{Done, Refused}
 use Rattle.odb_check.specs.Texts.{newline}
 use Rattle.odb_engine.specs.Traces.{trace_text}
-use Rattle.odb_engine.specs.Cascade.{Writes, Refusal, line_of, Reports, HasValue, IsLeastOf, Accepts}
+use Rattle.odb_engine.specs.Cascade.{Writes, Refusal, line_of, Reports, HasValue, IsLeastOf}
 use Rattle.odb_sched.specs.declared.fault.ExecFault.{ExecFault}
 use Rattle.odb_sched.specs.ExecFaults.{exec_code, exec_name, exec_place}
 use Rattle.odb_engine.specs.Inputs.{SomeDocument}
@@ -87,7 +86,3 @@ ReplaysBy allows policy traced plan bytes ended text = Reports (IsLeastOfOutcome
 -- what is written of the requests of a batch: what a plan of them and some outcomes document give
 abbrev pub Replays : Allowance → Policy → Bool → Option (List ℕ) → List Record → Writes
 Replays allows policy traced left batch ended text = (plan : Plan) × (plan_records plan ≡ batch) × SomeDocument left (λ bytes. ReplaysBy allows policy traced plan bytes ended text)
-
--- the second input is unchanged, or the batch is one that the check accepts
-abbrev pub AskedFor : {S : Type 0} → List ℕ → Reading S → Reading S → Type 0
-AskedFor bytes old new = (new ≡ old) ⊎ Accepts bytes (λ _. Unit {0})

@@ -4,6 +4,10 @@ use Rattle.std.specs.declared.alloc.Global.{Global}
 use Rattle.std.specs.Io.KnownBytes.{Appends}
 use Rattle.odb_doc.specs.Devices.{Writing}
 use Rattle.odb_reply.specs.Outputs.{AppendsPrefix}
+use Rattle.odb_doc.specs.Records.{Record}
+use Rattle.odb_check.specs.declared.fault.CheckFault.{CheckFault}
+use Rattle.odb_check.specs.FaultTable as names
+use Rattle.odb_check.specs.LeastNameFault.{RefusesNames}
 use Rattle.odb_engine.specs.declared.ending.Ended.{Ended}
 use Rattle.odb_engine.specs.declared.ending.Ended.TheVariants.{Done, Refused}
 use Rattle.odb_engine.specs.declared.ending.EngineFault.{EngineFault}
@@ -12,7 +16,7 @@ use Rattle.odb_engine.specs.declared.stop.Stop.{Stop}
 use Rattle.odb_engine.specs.declared.stop.Stop.TheVariants as stops
 use Rattle.odb_engine.specs.declared.reading.ReadFault.{ReadFault}
 use Rattle.odb_engine.specs.declared.reading.ReadFault.TheVariants as reads
-use Rattle.odb_engine.specs.Cascade.{Writes, Prints, Refusal, line_of}
+use Rattle.odb_engine.specs.Cascade.{Writes, Prints, Refusal, line_of, names_refusal}
 use Rattle.odb_engine.specs.Engines.{Ends}
 
 -- a stop by a fault is one by such a fault
@@ -30,10 +34,10 @@ abbrev pub Found : Writes → Result (String Global) Stop → Type 0
 Found P (Ok text) = P Done (string_bytes text)
 Found P (Err stop) = Refuses P stop
 
--- what an engine that writes its result itself returns: how it ended, or why nothing was written
-abbrev pub Sent : {W : Type 0} → (W → Option (List ℕ)) → Writes → Writing W → Writing W → Result (Result Ended EngineFault) Stop → Type 0
-Sent contents P old new (Ok result) = Ends contents P ⊥ old new result
-Sent contents P old new (Err stop) = (new ≡ old) × Refuses P stop
+-- what a phase of an engine that writes its result itself returns: how it ended, or why nothing was written
+abbrev pub Sent : {W : Type 0} → (W → Option (List ℕ)) → Writes → Type 0 → Writing W → Writing W → Result (Result Ended EngineFault) Stop → Type 0
+Sent contents P ReadFailed old new (Ok result) = Ends contents P ReadFailed old new result
+Sent contents P ReadFailed old new (Err stop) = (new ≡ old) × Refuses P stop
 
 -- The writer has received the text, or a prefix of it. Write means exactly that the output failed, and no input did.
 pub record Sends {W : Type 0} (contents : W → Option (List ℕ)) (text : List ℕ) (old new : Writing W) (result : Result (Unit {0}) EngineFault) : Type 0 where
@@ -58,3 +62,15 @@ StopsBy Numbered refusal stops.OutOfMemory = Unit {0}
 abbrev pub stop_of : ReadFault → Stop
 stop_of reads.Read = stops.Read
 stop_of reads.OutOfMemory = stops.OutOfMemory
+
+-- the names of these requests have a fault
+pub record RefusesNamesOf (batch : List Record) (refusal : Refusal) : Type 0 where
+  pub fault : CheckFault
+  pub numbered : names.IsNumbered fault
+  pub refuses : RefusesNames fault batch
+  pub is : refusal ≡ names_refusal fault
+
+-- what is found of two documents, unless the first phase stops
+abbrev pub FoundBy : Writes → Result (Result (String Global) Stop) Stop → Type 0
+FoundBy P (Ok found) = Found P found
+FoundBy P (Err stop) = Refuses P stop

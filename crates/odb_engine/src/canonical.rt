@@ -8,9 +8,9 @@ ghost use Rattle.odb_engine.specs.Commands as commands;
 
 use crate::command::{Command, answer};
 use crate::ending::{Ended, EngineFault};
-use crate::held::Remains;
+use crate::setup::Setup;
 use crate::stop::Stop;
-use odb_check::{Plan, Seed};
+use odb_check::Plan;
 use odb_doc::{Batch, Input, Output};
 use std::alloc::Global;
 use std::io::{Read, Write};
@@ -30,7 +30,8 @@ impl Command for Canonical {
 
 /// Writes the canonical text of the batch in a document, and a newline; or the line of the least fault.
 ///
-/// Two batches mean the same if and only if these texts are equal. The arguments are those of
+/// Two batches whose bodies have whole numbers alone mean the same if and only if their canonical
+/// texts are equal. The arguments are those of
 /// [`crate::check_batch`]. Takes O(n log n) time for a document of n bytes, and the text is held in
 /// memory.
 ///
@@ -41,8 +42,6 @@ pub fn canon_batch<R: Read, W: Write>(
     alloc: Global,
     input: &mut Input<R>,
     output: &mut Output<W>,
-    seed: Seed,
-    remains: Remains,
 ) -> Result<Ended, EngineFault>
     requires input { IsFresh input.old }
     requires output { output.old.failed ≡ false }
@@ -52,5 +51,27 @@ pub fn canon_batch<R: Read, W: Write>(
     ensures memory { result ≡ Err EngineFault.OutOfMemory → output.new ≡ output.old }
     ensures reads { ReadsFew R.remaining input.old input.new }
 {
-    answer(alloc, input, output, &Canonical, seed, remains)
+    canon_batch_with(alloc, input, output, Setup::plain())
+}
+
+/// Does what [`canon_batch`] does, with a setup of the caller's.
+///
+/// # Errors
+///
+/// Those of [`crate::check_batch`].
+pub fn canon_batch_with<R: Read, W: Write>(
+    alloc: Global,
+    input: &mut Input<R>,
+    output: &mut Output<W>,
+    setup: Setup,
+) -> Result<Ended, EngineFault>
+    requires input { IsFresh input.old }
+    requires output { output.old.failed ≡ false }
+    ensures ends { SomeDocument (R.remaining input.old.reader) (λ bytes. Ends W.contents
+        (Answers commands.Canonical bytes) (IsTrue input.new.failed)
+        output.old output.new result) }
+    ensures memory { result ≡ Err EngineFault.OutOfMemory → output.new ≡ output.old }
+    ensures reads { ReadsFew R.remaining input.old input.new }
+{
+    answer(alloc, input, output, &Canonical, setup)
 }

@@ -6,10 +6,10 @@ ghost use Rattle.odb_engine.specs.Commands as commands;
 
 use crate::command::{Command, answer};
 use crate::ending::{Ended, EngineFault};
-use crate::held::Remains;
 use crate::lines::accepted_line;
+use crate::setup::Setup;
 use crate::stop::Stop;
-use odb_check::{Plan, Seed};
+use odb_check::Plan;
 use odb_doc::{Batch, Input, Output};
 use std::alloc::Global;
 use std::io::{Read, Write};
@@ -38,9 +38,8 @@ impl Command for Plans {
 
 /// Checks the batch in a document: writes the line of its counts, or of its least fault.
 ///
-/// The input must be new, and the output must not have failed. The seed should be random and secret:
-/// it keeps the tables of names fast whatever the names. `remains` sets whether the document is
-/// dropped at the end. What is written depends on neither.
+/// The input must be new, and the output must not have failed. Names are looked up without a seed, and
+/// the document is dropped at the end; [`check_batch_with`] takes a [`Setup`] for both.
 ///
 /// Takes O(n log n) time and O(n) memory for a document of n bytes.
 ///
@@ -53,8 +52,6 @@ pub fn check_batch<R: Read, W: Write>(
     alloc: Global,
     input: &mut Input<R>,
     output: &mut Output<W>,
-    seed: Seed,
-    remains: Remains,
 ) -> Result<Ended, EngineFault>
     requires input { IsFresh input.old }
     requires output { output.old.failed ≡ false }
@@ -64,7 +61,29 @@ pub fn check_batch<R: Read, W: Write>(
     ensures memory { result ≡ Err EngineFault.OutOfMemory → output.new ≡ output.old }
     ensures reads { ReadsFew R.remaining input.old input.new }
 {
-    answer(alloc, input, output, &Counts, seed, remains)
+    check_batch_with(alloc, input, output, Setup::plain())
+}
+
+/// Does what [`check_batch`] does, with a setup of the caller's.
+///
+/// # Errors
+///
+/// Those of [`check_batch`].
+pub fn check_batch_with<R: Read, W: Write>(
+    alloc: Global,
+    input: &mut Input<R>,
+    output: &mut Output<W>,
+    setup: Setup,
+) -> Result<Ended, EngineFault>
+    requires input { IsFresh input.old }
+    requires output { output.old.failed ≡ false }
+    ensures ends { SomeDocument (R.remaining input.old.reader) (λ bytes. Ends W.contents
+        (Answers commands.Counts bytes) (IsTrue input.new.failed)
+        output.old output.new result) }
+    ensures memory { result ≡ Err EngineFault.OutOfMemory → output.new ≡ output.old }
+    ensures reads { ReadsFew R.remaining input.old input.new }
+{
+    answer(alloc, input, output, &Counts, setup)
 }
 
 /// Plans the batch in a document: writes a line per request, or the line of its least fault.
@@ -79,8 +98,6 @@ pub fn plan_batch<R: Read, W: Write>(
     alloc: Global,
     input: &mut Input<R>,
     output: &mut Output<W>,
-    seed: Seed,
-    remains: Remains,
 ) -> Result<Ended, EngineFault>
     requires input { IsFresh input.old }
     requires output { output.old.failed ≡ false }
@@ -90,5 +107,27 @@ pub fn plan_batch<R: Read, W: Write>(
     ensures memory { result ≡ Err EngineFault.OutOfMemory → output.new ≡ output.old }
     ensures reads { ReadsFew R.remaining input.old input.new }
 {
-    answer(alloc, input, output, &Plans, seed, remains)
+    plan_batch_with(alloc, input, output, Setup::plain())
+}
+
+/// Does what [`plan_batch`] does, with a setup of the caller's.
+///
+/// # Errors
+///
+/// Those of [`check_batch`].
+pub fn plan_batch_with<R: Read, W: Write>(
+    alloc: Global,
+    input: &mut Input<R>,
+    output: &mut Output<W>,
+    setup: Setup,
+) -> Result<Ended, EngineFault>
+    requires input { IsFresh input.old }
+    requires output { output.old.failed ≡ false }
+    ensures ends { SomeDocument (R.remaining input.old.reader) (λ bytes. Ends W.contents
+        (Answers commands.Plans bytes) (IsTrue input.new.failed)
+        output.old output.new result) }
+    ensures memory { result ≡ Err EngineFault.OutOfMemory → output.new ≡ output.old }
+    ensures reads { ReadsFew R.remaining input.old input.new }
+{
+    answer(alloc, input, output, &Plans, setup)
 }

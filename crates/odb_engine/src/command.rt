@@ -8,10 +8,12 @@ ghost use Rattle.odb_engine.specs.Stops.{Found};
 ghost use Rattle.odb_engine.specs.Inputs.{IsFresh, ReadsFew, SomeDocument};
 
 use crate::ending::{Ended, EngineFault, end};
-use crate::held::{Held, Remains};
+use crate::held::Held;
+use crate::planning::plan_of;
 use crate::reading::value_of;
+use crate::setup::Setup;
 use crate::stop::Stop;
-use odb_check::{Plan, Seed, check_with};
+use odb_check::Plan;
 use odb_doc::{Batch, Input, Output, Place};
 use serde_json::Value;
 use std::alloc::Global;
@@ -44,8 +46,7 @@ fn text_of<C: Command>(
     alloc: Global,
     value: &Value,
     command: &C,
-    seed: Seed,
-    remains: Remains,
+    setup: Setup,
 ) -> Result<String, Stop>
     ensures found { (bytes : List ℕ) → IsDocument bytes (view value.now)
         → Found (Answers (C.writes command.now) bytes) result }
@@ -53,12 +54,9 @@ fn text_of<C: Command>(
 {
     let batch = Held {
         value: Batch::read(alloc, value)?,
-        remains,
+        remains: setup.remains,
     };
-    let plan = Held {
-        value: check_with(alloc, seed, &batch.value)?,
-        remains,
-    };
+    let plan = plan_of(alloc, &batch.value, setup)?;
     command.text(alloc, &batch.value, &plan.value)
 }
 
@@ -67,8 +65,7 @@ fn found_by<R: Read, C: Command>(
     alloc: Global,
     input: &mut Input<R>,
     command: &C,
-    seed: Seed,
-    remains: Remains,
+    setup: Setup,
 ) -> Result<String, Stop>
     requires { IsFresh input.old }
     ensures found { SomeDocument (R.remaining input.old.reader)
@@ -78,9 +75,9 @@ fn found_by<R: Read, C: Command>(
 {
     let value = Held {
         value: value_of(alloc, input, Place::Batch)?,
-        remains,
+        remains: setup.remains,
     };
-    text_of(alloc, &value.value, command, seed, remains)
+    text_of(alloc, &value.value, command, setup)
 }
 
 /// Runs a command over one document: writes what it prints of the batch, or the line of the least
@@ -90,8 +87,7 @@ pub fn answer<R: Read, W: Write, C: Command>(
     input: &mut Input<R>,
     output: &mut Output<W>,
     command: &C,
-    seed: Seed,
-    remains: Remains,
+    setup: Setup,
 ) -> Result<Ended, EngineFault>
     requires input { IsFresh input.old }
     requires output { output.old.failed ≡ false }
@@ -101,6 +97,6 @@ pub fn answer<R: Read, W: Write, C: Command>(
     ensures memory { result ≡ Err EngineFault.OutOfMemory → output.new ≡ output.old }
     ensures reads { ReadsFew R.remaining input.old input.new }
 {
-    let found = found_by(alloc, input, command, seed, remains);
+    let found = found_by(alloc, input, command, setup);
     end(alloc, found, output)
 }

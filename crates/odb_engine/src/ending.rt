@@ -1,4 +1,4 @@
-ghost use Rattle.std.specs.Prelude.{◌≡◌, false, Err};
+ghost use Rattle.std.specs.Prelude.{◌≡◌, false, Err, IfErr, IfOk};
 ghost use Rattle.odb_engine.specs.declared.ending.EngineFault.TheVariants as faults;
 ghost use Rattle.odb_engine.specs.declared.stop.Stop.TheVariants as stops;
 ghost use Rattle.odb_engine.specs.Engines.{Ends};
@@ -73,4 +73,22 @@ pub fn end<W: Write>(
     };
     write_text(output, &text)?;
     Ok(ended)
+}
+
+/// Returns how an engine has ended; or writes the line of the fault by which it stopped before it
+/// wrote anything.
+pub fn conclude<W: Write>(
+    alloc: Global,
+    sent: Result<Result<Ended, EngineFault>, Stop>,
+    output: &mut Output<W>,
+) -> Result<Ended, EngineFault>
+    requires { IfErr sent (λ _. output.old.failed ≡ false) }
+    ensures ended { IfOk sent (λ ended. (result ≡ ended) × (output.new ≡ output.old)) }
+    ensures stopped { IfErr sent (λ stop. Ends W.contents (text_found (Err stop))
+        (stop ≡ stops.Read) output.old output.new result) }
+{
+    match sent {
+        Ok(result) => result,
+        Err(stop) => end(alloc, Err(stop), output),
+    }
 }

@@ -8,17 +8,17 @@ ghost use Rattle.odb_engine.specs.Cascade.{Answers};
 ghost use Rattle.odb_engine.specs.Commands.{BySecond};
 ghost use Rattle.odb_engine.specs.Engines.{Ends};
 ghost use Rattle.odb_engine.specs.Stops.{Found};
-ghost use Rattle.odb_engine.specs.Inputs.{IsFresh, ReadsFew, SomeDocument};
+ghost use Rattle.odb_engine.specs.Inputs.{AskedFor, IsFresh, ReadsFew, SomeDocument};
 ghost use Rattle.odb_engine.specs.Matches.{Matches, match_text, status_line};
-ghost use Rattle.odb_engine.specs.Replays.{AskedFor};
 
 use crate::ending::{Ended, EngineFault};
 use crate::held::{Held, Remains};
 use crate::lines::fit_line;
 use crate::pair::{PairCommand, answer_pair};
 use crate::reading::value_of;
+use crate::setup::Setup;
 use crate::stop::Stop;
-use odb_check::{Plan, Seed};
+use odb_check::Plan;
 use odb_doc::{Input, Output, Place};
 use odb_reply::{Responses, Table, match_responses};
 use serde_json::Value;
@@ -86,8 +86,8 @@ impl PairCommand for Match {
 ///
 /// The responses fit the batch if each request has exactly one and nothing else has one, if each has
 /// the group of its request, and if no success rests on a failure. The responses are read only if the
-/// check accepts the batch. The inputs must be new, and the output must not have failed; the seed and
-/// `remains` are as for [`crate::check_batch`].
+/// check accepts the batch. The inputs must be new, and the output must not have failed.
+/// [`match_batch_with`] takes a [`Setup`] too, as [`crate::check_batch_with`] does.
 ///
 /// Takes O(n log n) time and O(n) memory for documents of n bytes.
 ///
@@ -99,8 +99,6 @@ pub fn match_batch<R: Read, S: Read, W: Write>(
     batch: &mut Input<R>,
     responses: &mut Input<S>,
     output: &mut Output<W>,
-    seed: Seed,
-    remains: Remains,
 ) -> Result<Ended, EngineFault>
     requires batch { IsFresh batch.old }
     requires responses { IsFresh responses.old }
@@ -108,10 +106,36 @@ pub fn match_batch<R: Read, S: Read, W: Write>(
     ensures ends { SomeDocument (R.remaining batch.old.reader) (λ bytes. Ends W.contents
         (Answers (BySecond (S.remaining responses.old.reader) Matches) bytes)
         (IsTrue batch.new.failed ⊎ IsTrue responses.new.failed) output.old output.new result
-        × AskedFor bytes responses.old responses.new) }
+        × AskedFor R.remaining batch.old batch.new bytes responses.old responses.new) }
     ensures memory { result ≡ Err EngineFault.OutOfMemory → output.new ≡ output.old }
     ensures batch { ReadsFew R.remaining batch.old batch.new }
     ensures responses { ReadsFew S.remaining responses.old responses.new }
 {
-    answer_pair(alloc, batch, responses, output, &Match, seed, remains)
+    match_batch_with(alloc, batch, responses, output, Setup::plain())
+}
+
+/// Does what [`match_batch`] does, with a setup of the caller's.
+///
+/// # Errors
+///
+/// Those of [`match_batch`].
+pub fn match_batch_with<R: Read, S: Read, W: Write>(
+    alloc: Global,
+    batch: &mut Input<R>,
+    responses: &mut Input<S>,
+    output: &mut Output<W>,
+    setup: Setup,
+) -> Result<Ended, EngineFault>
+    requires batch { IsFresh batch.old }
+    requires responses { IsFresh responses.old }
+    requires output { output.old.failed ≡ false }
+    ensures ends { SomeDocument (R.remaining batch.old.reader) (λ bytes. Ends W.contents
+        (Answers (BySecond (S.remaining responses.old.reader) Matches) bytes)
+        (IsTrue batch.new.failed ⊎ IsTrue responses.new.failed) output.old output.new result
+        × AskedFor R.remaining batch.old batch.new bytes responses.old responses.new) }
+    ensures memory { result ≡ Err EngineFault.OutOfMemory → output.new ≡ output.old }
+    ensures batch { ReadsFew R.remaining batch.old batch.new }
+    ensures responses { ReadsFew S.remaining responses.old responses.new }
+{
+    answer_pair(alloc, batch, responses, output, &Match, setup)
 }

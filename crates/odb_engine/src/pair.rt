@@ -1,19 +1,20 @@
-ghost use Rattle.std.specs.Prelude.{◌≡◌, ◌↔◌, ◌⊎◌, ℕ, List, false, Err, IsTrue};
+ghost use Rattle.std.specs.Prelude.{◌≡◌, ◌≢◌, ◌↔◌, ◌⊎◌, ℕ, List, false, Err, IsTrue, IfErr, IfOk, OnOk};
 ghost use Rattle.serde_json.specs.View.{view};
 ghost use Rattle.odb_doc.specs.Documents.{IsDocument};
 ghost use Rattle.odb_engine.specs.declared.stop.Stop.TheVariants as stops;
-ghost use Rattle.odb_engine.specs.Cascade.{Answers};
+ghost use Rattle.odb_engine.specs.Cascade.{Accepts, Answers};
 ghost use Rattle.odb_engine.specs.Engines.{Ends};
-ghost use Rattle.odb_engine.specs.Stops.{Found};
-ghost use Rattle.odb_engine.specs.Inputs.{IsFresh, ReadsFew, SomeDocument};
+ghost use Rattle.odb_engine.specs.Stops.{Found, FoundBy};
+ghost use Rattle.odb_engine.specs.Inputs.{AskedFor, IsFresh, ReadsBatch, ReadsFew, SomeDocument};
 ghost use Rattle.odb_engine.specs.Commands.{BySecond};
-ghost use Rattle.odb_engine.specs.Replays.{AskedFor};
 
 use crate::ending::{Ended, EngineFault, end};
 use crate::held::{Held, Remains};
+use crate::planning::plan_of;
 use crate::reading::value_of;
+use crate::setup::Setup;
 use crate::stop::Stop;
-use odb_check::{Plan, Seed, check_with};
+use odb_check::Plan;
 use odb_doc::{Batch, Input, Output, Place};
 use serde_json::Value;
 use std::alloc::Global;
@@ -50,71 +51,71 @@ pub trait PairCommand {
         ensures second { ReadsFew S.remaining second.old second.new };
 }
 
-/// Returns what the command prints of the batch in a value.
+/// Returns what the command prints of the batch in a value. Stops only if the check does not accept
+/// the batch; then the second document was not read.
 fn text_of<S: Read, C: PairCommand>(
     alloc: Global,
     value: &Value,
     second: &mut Input<S>,
     command: &C,
-    seed: Seed,
-    remains: Remains,
-) -> Result<String, Stop>
+    setup: Setup,
+) -> Result<Result<String, Stop>, Stop>
     requires { IsFresh second.old }
     ensures found { (bytes : List ℕ) → IsDocument bytes (view value.now)
-        → Found (Answers (BySecond (S.remaining second.old.reader) (C.writes command.now)) bytes)
+        → FoundBy (Answers (BySecond (S.remaining second.old.reader) (C.writes command.now)) bytes)
         result }
-    ensures asked { (bytes : List ℕ) → IsDocument bytes (view value.now)
-        → AskedFor bytes second.old second.new }
-    ensures read { (result ≡ Err stops.Read) ↔ IsTrue second.new.failed }
+    ensures accepted { (bytes : List ℕ) → IsDocument bytes (view value.now)
+        → OnOk result (Accepts bytes (λ _. Unit {0})) }
+    ensures unasked { IfErr result (λ _. second.new ≡ second.old) }
+    ensures failed { IfOk result (λ found. (found ≡ Err stops.Read) ↔ IsTrue second.new.failed) }
+    ensures read { result ≢ Err stops.Read }
     ensures second { ReadsFew S.remaining second.old second.new }
 {
     let batch = Held {
         value: Batch::read(alloc, value)?,
-        remains,
+        remains: setup.remains,
     };
-    let plan = Held {
-        value: check_with(alloc, seed, &batch.value)?,
-        remains,
-    };
-    command.text(alloc, &plan.value, second, remains)
+    let plan = plan_of(alloc, &batch.value, setup)?;
+    Ok(command.text(alloc, &plan.value, second, setup.remains))
 }
 
-/// Returns what the command prints of the batch in a document.
+/// Returns what the command prints of the batch in a document. Stops only if the check does not accept
+/// the batch; then the second document was not read.
 fn found_by<R: Read, S: Read, C: PairCommand>(
     alloc: Global,
     batch: &mut Input<R>,
     second: &mut Input<S>,
     command: &C,
-    seed: Seed,
-    remains: Remains,
-) -> Result<String, Stop>
+    setup: Setup,
+) -> Result<Result<String, Stop>, Stop>
     requires batch { IsFresh batch.old }
     requires second { IsFresh second.old }
     ensures found { SomeDocument (R.remaining batch.old.reader) (λ bytes.
-        Found (Answers (BySecond (S.remaining second.old.reader) (C.writes command.now)) bytes) result
-        × AskedFor bytes second.old second.new) }
-    ensures read { (result ≡ Err stops.Read)
-        ↔ (IsTrue batch.new.failed ⊎ IsTrue second.new.failed) }
+        FoundBy (Answers (BySecond (S.remaining second.old.reader) (C.writes command.now)) bytes)
+        result
+        × OnOk result (ReadsBatch R.remaining batch.old batch.new bytes)) }
+    ensures unasked { IfErr result (λ _. second.new ≡ second.old) }
+    ensures failed { IfOk result (λ found. (found ≡ Err stops.Read) ↔ IsTrue second.new.failed) }
+    ensures read { (result ≡ Err stops.Read) ↔ IsTrue batch.new.failed }
     ensures batch { ReadsFew R.remaining batch.old batch.new }
     ensures second { ReadsFew S.remaining second.old second.new }
 {
     let value = Held {
         value: value_of(alloc, batch, Place::Batch)?,
-        remains,
+        remains: setup.remains,
     };
-    text_of(alloc, &value.value, second, command, seed, remains)
+    text_of(alloc, &value.value, second, command, setup)
 }
 
 /// Runs a command over two documents: writes what it prints of the batch, or the line of the least
-/// fault. The second document is read only if the check accepts the batch.
+/// fault. The second document is read only if the check accepts the batch in the first.
 pub fn answer_pair<R: Read, S: Read, W: Write, C: PairCommand>(
     alloc: Global,
     batch: &mut Input<R>,
     second: &mut Input<S>,
     output: &mut Output<W>,
     command: &C,
-    seed: Seed,
-    remains: Remains,
+    setup: Setup,
 ) -> Result<Ended, EngineFault>
     requires batch { IsFresh batch.old }
     requires second { IsFresh second.old }
@@ -122,11 +123,13 @@ pub fn answer_pair<R: Read, S: Read, W: Write, C: PairCommand>(
     ensures ends { SomeDocument (R.remaining batch.old.reader) (λ bytes. Ends W.contents
         (Answers (BySecond (S.remaining second.old.reader) (C.writes command.now)) bytes)
         (IsTrue batch.new.failed ⊎ IsTrue second.new.failed) output.old output.new result
-        × AskedFor bytes second.old second.new) }
+        × AskedFor R.remaining batch.old batch.new bytes second.old second.new) }
     ensures memory { result ≡ Err EngineFault.OutOfMemory → output.new ≡ output.old }
     ensures batch { ReadsFew R.remaining batch.old batch.new }
     ensures second { ReadsFew S.remaining second.old second.new }
 {
-    let found = found_by(alloc, batch, second, command, seed, remains);
-    end(alloc, found, output)
+    match found_by(alloc, batch, second, command, setup) {
+        Ok(found) => end(alloc, found, output),
+        Err(stop) => end(alloc, Err(stop), output),
+    }
 }

@@ -3,7 +3,7 @@ ghost use Rattle.serde_json.specs.View.{view};
 ghost use Rattle.odb_doc.specs.Documents.{IsDocument};
 ghost use Rattle.odb_engine.specs.Cascade.{RefusesBytes};
 ghost use Rattle.odb_engine.specs.Stops.{Stopped};
-ghost use Rattle.odb_engine.specs.Inputs.{GivesDocument, GivesFew, IsFresh, ReadsFew, SomeDocument};
+ghost use Rattle.odb_engine.specs.Inputs.{GivesDocument, GivesFew, IsFresh, ReadsFew, SomeDocument, WasRead};
 ghost use Rattle.odb_engine.specs.declared.reading.ReadFault.TheVariants as faults;
 ghost use Rattle.odb_engine.specs.declared.stop.Stop.TheVariants as stops;
 
@@ -57,6 +57,7 @@ pub fn read_document<R: Read>(alloc: Global, input: &mut Input<R>) -> Result<Vec
     requires fresh { input.old.reads ≡ 0 }
     ensures document { IfOk result (λ bytes. GivesDocument (R.remaining input.old.reader)
         bytes.items) }
+    ensures whole { IfOk result (λ bytes. WasRead R.remaining input.old input.new bytes.items) }
     ensures fault { (result ≡ Err ReadFault.Read) ↔ IsTrue input.new.failed }
     ensures reads { input.new.reads ≤ 16777217 }
     ensures given { GivesFew (R.remaining input.old.reader) (R.remaining input.new.reader)
@@ -79,7 +80,8 @@ pub fn read_document<R: Read>(alloc: Global, input: &mut Input<R>) -> Result<Vec
 pub fn value_of<R: Read>(alloc: Global, input: &mut Input<R>, place: Place) -> Result<Value, Stop>
     requires { IsFresh input.old }
     ensures value { SomeDocument (R.remaining input.old.reader) (λ bytes.
-        IfOk result (λ value. IsDocument bytes (view value))
+        IfOk result (λ value. IsDocument bytes (view value)
+        × WasRead R.remaining input.old input.new bytes)
         × IfErr result (Stopped (RefusesBytes place bytes))) }
     ensures read { (result ≡ Err stops.Read) ↔ IsTrue input.new.failed }
     ensures input { ReadsFew R.remaining input.old input.new }

@@ -12,8 +12,9 @@ mod remains;
 use odb_check::Seed;
 use odb_doc::{Input, Output};
 use odb_engine::{
-    Ended, EngineFault, Remains, canon_batch, check_batch, match_batch, plan_batch, replay_batch,
-    run_batch,
+    Ended, EngineFault, Remains, Setup, canon_batch, canon_batch_with, check_batch,
+    check_batch_with, match_batch, match_batch_with, plan_batch, plan_batch_with, replay_batch,
+    replay_batch_with, run_batch, run_batch_with,
 };
 use odb_sched::{Mode, Order, Policy};
 use std::alloc::Global;
@@ -70,6 +71,61 @@ const EXAMPLES: [Example; 6] = [
 ];
 
 /// Calls the engine of a command; the second input is read by some.
+fn called_plainly<R: Read, S: Read, W: Write>(
+    alloc: Global,
+    command: Command,
+    batch: &mut Input<R>,
+    second: &mut Input<S>,
+    output: &mut Output<W>,
+) -> Result<Ended, EngineFault>
+    requires batch { IsFresh batch.old }
+    requires second { IsFresh second.old }
+    requires output { output.old.failed ≡ false }
+{
+    let policy = Policy::free(Mode::Continue);
+    match command {
+        Command::Check => check_batch(alloc, batch, output),
+        Command::Plan => plan_batch(alloc, batch, output),
+        Command::Canon => canon_batch(alloc, batch, output),
+        Command::Match => match_batch(alloc, batch, second, output),
+        Command::Run => run_batch(alloc, batch, second, output, policy),
+        Command::Replay => {
+            let mut order = Order::Wide;
+            replay_batch(alloc, batch, second, output, policy, &mut order, true)
+        }
+    }
+}
+
+/// Calls the engine of a command with a setup; the second input is read by some.
+fn called_with<R: Read, S: Read, W: Write>(
+    alloc: Global,
+    how: (Command, Setup),
+    batch: &mut Input<R>,
+    second: &mut Input<S>,
+    output: &mut Output<W>,
+) -> Result<Ended, EngineFault>
+    requires batch { IsFresh batch.old }
+    requires second { IsFresh second.old }
+    requires output { output.old.failed ≡ false }
+{
+    let (command, setup) = how;
+    let policy = Policy::free(Mode::Continue);
+    match command {
+        Command::Check => check_batch_with(alloc, batch, output, setup),
+        Command::Plan => plan_batch_with(alloc, batch, output, setup),
+        Command::Canon => canon_batch_with(alloc, batch, output, setup),
+        Command::Match => match_batch_with(alloc, batch, second, output, setup),
+        Command::Run => run_batch_with(alloc, batch, second, output, policy, setup),
+        Command::Replay => {
+            let mut order = Order::Wide;
+            replay_batch_with(
+                alloc, batch, second, output, policy, &mut order, true, setup,
+            )
+        }
+    }
+}
+
+/// Calls the engine of a command: without a setup if what it reads is dropped, else with a seed.
 fn called<R: Read, S: Read, W: Write>(
     alloc: Global,
     how: (Command, Remains),
@@ -82,23 +138,12 @@ fn called<R: Read, S: Read, W: Write>(
     requires output { output.old.failed ≡ false }
 {
     let (command, remains) = how;
-    let (seed, policy) = (Seed::new(7), Policy::free(Mode::Continue));
-    match command {
-        Command::Check => check_batch(alloc, batch, output, seed, remains),
-        Command::Plan => plan_batch(alloc, batch, output, seed, remains),
-        Command::Canon => canon_batch(alloc, batch, output, seed, remains),
-        Command::Match => match_batch(alloc, batch, second, output, seed, remains),
-        Command::Run => run_batch(alloc, batch, second, output, policy, seed, remains),
-        Command::Replay => replay_batch(
-            alloc,
-            batch,
-            second,
-            output,
-            policy,
-            &mut Order::Wide,
-            true,
-            seed,
-            remains,
-        ),
+    match remains {
+        Remains::Dropped => called_plainly(alloc, command, batch, second, output),
+        Remains::Left => {
+            let seed = Seed::new(7);
+            let setup = Setup { seed, remains };
+            called_with(alloc, (command, setup), batch, second, output)
+        }
     }
 }

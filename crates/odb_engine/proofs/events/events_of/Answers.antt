@@ -8,7 +8,7 @@ use Rattle.odb_engine.proofs.events.events_of.Goals as goal
 
 pub returns-in_err-events-clause-events : goal.returns-in_err-events-clause-events
 returns-in_err-events-clause-events g c =
-    let (bytes, gives, (is, _)) = c.in_ok-value.ensures.value in
+    let (bytes, gives, ((is, _), _)) = c.in_ok-value.ensures.value in
     let fault = c.in_err-events.field-0.0 in (
       bytes,
       gives,

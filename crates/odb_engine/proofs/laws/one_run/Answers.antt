@@ -14,6 +14,6 @@ returns c =
       one_name = c.one_fault-2.ensures.one;
       no_name = c.one_fault-2.ensures.none;
     } in
-    let causes : HaveOneCause = record { one_start = c.every_cause.ensures.one_start; one_report = c.every_cause.ensures.one_report } in
+    let causes : HaveOneCause = record { one_refusal = c.every_cause.ensures.one_refusal; one_unknown = c.every_cause.ensures.one_unknown } in
     let history : AreOneHistory = record { one_fault = c.one_history.ensures.one; no_fault = c.one_history.ensures.none; one_reading = c.one_history.ensures.events } in
     λ policy bytes events. answers_one law (Runs policy (Some events)) bytes (runs_one causes history policy events)

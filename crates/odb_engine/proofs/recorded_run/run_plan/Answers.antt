@@ -17,7 +17,7 @@ returns-in_err-done_of-clause-sent g c =
     let stop = c.in_err-done_of.field-0.0 in (
       bytes,
       gives,
-      exit-stop (Sent g.W.Write.contents writes c.args.output.now c.args.output.now) stop _ c.from_residual-in_err-done_of.ensures.1
+      exit-stop (Sent g.W.Write.contents writes ⊥ c.args.output.now c.args.output.now) stop _ c.from_residual-in_err-done_of.ensures.1
           (refl, Stopped-weaker least (λ refusal. writes Refused (line_of refusal)) (λ refusal is. inr (named, are, inl (reports least refusal is))) stop c.in_err-done_of.ensures.least),
     )
 

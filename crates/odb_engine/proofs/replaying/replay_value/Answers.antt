@@ -1,30 +1,41 @@
 -- The cascade of a replay: the faults of the batch, and then what the outcomes give.
-use Rattle.std.proofs.Common.{refl, inr}
+use Rattle.std.proofs.Common.{IsTrue, refl, inr}
 use Rattle.odb_engine.specs.Cascade.{Answers}
 use Rattle.odb_engine.specs.Stops.{Sent}
 use Rattle.odb_engine.specs.Replays.{Replays, ReplaysBy}
-use Rattle.odb_engine.proofs.EngineLemmas.{at-exit, stop-shape, stop-names, Sent-weaker}
+use Rattle.odb_engine.proofs.EngineLemmas.{at-exit, exit-stop, stop-shape, stop-names, Ends-weaker}
+use Rattle.odb_engine.proofs.PhaseLemmas.{Ends-concluded, Sent-works, read-by-stop}
 use Rattle.odb_engine.proofs.replaying.replay_value.Goals as goal
 
 pub returns-in_err-read-clause-sent : goal.returns-in_err-read-clause-sent
 returns-in_err-read-clause-sent g c =
     let allows = (goal.Chooser-dyn g c.args.chooser.now).allows c.args.chooser.now.1 in
     let writes = Replays allows c.args.policy c.args.traced (g.S.Read.remaining c.args.outcomes.now.reader) in
-    λ bytes is. at-exit (Sent g.W.Write.contents (Answers writes bytes) c.args.output.now c.args.output.now) _ _ c.from_residual.ensures.1
+    λ bytes is. at-exit (Sent g.W.Write.contents (Answers writes bytes) (IsTrue c.args.outcomes.now.failed) c.args.output.now c.args.output.now) _ _ c.from_residual.ensures.1
     (λ stop by. (refl, stop-shape writes bytes _ _ is c.in_err-read.ensures.least stop by))
 
-pub returns-in_err-check_with-clause-sent : goal.returns-in_err-check_with-clause-sent
-returns-in_err-check_with-clause-sent g c =
+pub returns-in_err-plan-clause-sent : goal.returns-in_err-plan-clause-sent
+returns-in_err-plan-clause-sent g c =
     let allows = (goal.Chooser-dyn g c.args.chooser.now).allows c.args.chooser.now.1 in
     let writes = Replays allows c.args.policy c.args.traced (g.S.Read.remaining c.args.outcomes.now.reader) in
-    λ bytes is. at-exit (Sent g.W.Write.contents (Answers writes bytes) c.args.output.now c.args.output.now) _ _ c.from_residual-in_err-check_with.ensures.1
-    (λ stop by. (refl, stop-names writes bytes _ _ _ is c.in_ok-read.ensures.good c.in_ok-read.ensures.records c.in_err-check_with.ensures.least stop by))
+    λ bytes is. exit-stop (Sent g.W.Write.contents (Answers writes bytes) (IsTrue c.args.outcomes.now.failed) c.args.output.now c.args.output.now) _ _ c.from_residual-in_err-plan.ensures.1 (refl, stop-names writes bytes _ _ is c.in_ok-read.ensures.good c.in_ok-read.ensures.records _ c.in_err-plan.ensures.least)
 
 pub returns-clause-sent : goal.returns-clause-sent
 returns-clause-sent g c =
     let allows = (goal.Chooser-dyn g c.args.chooser.now).allows c.args.chooser.now.1 in
     let writes = Replays allows c.args.policy c.args.traced (g.S.Read.remaining c.args.outcomes.now.reader) in
-    let plan = c.in_ok-check_with.field-0 in
-    let (recorded, given, sent) = c.replay_plan.ensures.sent in
-    λ bytes is. Sent-weaker g.W.Write.contents (ReplaysBy allows c.args.policy c.args.traced plan recorded) (Answers writes bytes) c.args.output.now c.replay_plan.new.output c.replay_plan.result
-    (λ ended text so. inr (record { value = _; document = is; shape = c.in_ok-read.ensures.good; batch = _; is_batch = c.in_ok-read.ensures.records; names = c.in_ok-check_with.ensures.good; holds = (plan, c.in_ok-check_with.ensures.plan, (recorded, given, so)) })) sent
+    let plan = c.in_ok-plan.plan.value in
+    let (recorded, given, sent) = c.replay_plan-sent.ensures.sent in
+    let failed = IsTrue c.replay_plan-sent.new.outcomes.failed in
+    let phase = c.replay_plan-sent.result in
+    let (by_ok, by_stop) = read-by-stop phase failed c.replay_plan-sent.ensures.read in
+    let concluded = Ends-concluded g.W.Write.contents (ReplaysBy allows c.args.policy c.args.traced plan recorded) ⊥ failed c.args.output.now c.replay_plan-sent.new.output c.conclude.new.output phase c.conclude.result sent c.conclude.ensures.ended c.conclude.ensures.stopped by_ok by_stop in
+    λ bytes is. Ends-weaker g.W.Write.contents (ReplaysBy allows c.args.policy c.args.traced plan recorded) (Answers writes bytes) failed failed c.args.output.now c.conclude.new.output c.conclude.result
+    (λ ended text so. inr (record { value = _; document = is; shape = c.in_ok-read.ensures.good; batch = _; is_batch = c.in_ok-read.ensures.records; names = c.in_ok-plan.ensures.good; holds = (plan, c.in_ok-plan.ensures.plan, (recorded, given, so)) }))
+    (λ f. f, λ f. f) concluded
+
+pub conclude-requires : goal.conclude-requires
+conclude-requires g c =
+    let (recorded, given, sent) = c.replay_plan-sent.ensures.sent in
+    let allows = (goal.Chooser-dyn g c.args.chooser.now).allows c.args.chooser.now.1 in
+    Sent-works g.W.Write.contents (ReplaysBy allows c.args.policy c.args.traced c.in_ok-plan.plan.value recorded) ⊥ c.args.output.now c.replay_plan-sent.new.output c.replay_plan-sent.result c.requires.output sent

@@ -8,7 +8,7 @@ use Rattle.odb_engine.proofs.running.outcomes_of.Goals as goal
 
 pub returns-in_err-outcomes-clause-outcomes : goal.returns-in_err-outcomes-clause-outcomes
 returns-in_err-outcomes-clause-outcomes g c =
-    let (bytes, gives, (is, _)) = c.in_ok-value.ensures.value in
+    let (bytes, gives, ((is, _), _)) = c.in_ok-value.ensures.value in
     let fault = c.in_err-outcomes.field-0.0 in (
       bytes,
       gives,
