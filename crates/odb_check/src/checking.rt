@@ -53,7 +53,7 @@ pub fn check_with<'a: 'b, 'b>(
 ) -> Result<Plan<'b>, CheckFault>
     ensures good { OnOk result (HasGoodNames (records batch.now)) }
     ensures plan { IfOk result (λ plan. plan_records plan ≡ records batch.now) }
-    ensures seed { IfOk result (λ plan. IsSeeded seed plan) }
+    ensures seed { IfOk result (λ plan. IsSeeded seed.number plan) }
     ensures least { IfErr result (λ fault. RefusesNames fault (records batch.now)) }
 {
     let tables = tables_of(alloc, seed, batch)?;

@@ -3,7 +3,6 @@ ghost use Rattle.odb_check.specs.Starts.{start_of};
 
 use std::hash::{BuildHasher, FoldHasher, Hasher};
 use std::io;
-use std::marker::Model;
 use std::random::RandomSource;
 
 /// Where the hashes of the tables of a check begin: a number, or none.
@@ -16,22 +15,12 @@ pub struct Seed {
     number: Option<u64>,
 }
 
-impl Model for Seed {
-    ghost use Rattle.std.specs.Prelude.{ℕ, Option};
-
-    ghost Value = { Option ℕ };
-
-    ghost view = { λ s. s.number };
-
-    ghost inverse = { λ number. record { number = number } };
-}
-
 impl Seed {
     /// A seed made from a number.
     ///
     /// A fixed number makes runs repeatable; it is safe only for names that can be trusted.
     pub fn new(number: u64) -> Seed
-        ensures { result ≡ Some number }
+        ensures { result.number ≡ Some number }
     {
         Seed {
             number: Some(number),
@@ -44,7 +33,7 @@ impl Seed {
     ///
     /// That of the system, if it gives no random bytes. [`Seed::none`] is then safe too.
     pub fn random(rt: &impl RandomSource) -> io::Result<Seed>
-        ensures { IfOk result (λ seed. IsSome seed) }
+        ensures { IfOk result (λ seed. IsSome seed.number) }
     {
         let mut bytes = [0; 8];
         rt.fill_bytes(&mut bytes)?;
@@ -54,14 +43,14 @@ impl Seed {
     /// No seed: the tables hash nothing, and a look-up among n names takes O(log n) comparisons,
     /// whatever the names.
     pub fn none() -> Seed
-        ensures { result ≡ None }
+        ensures { result.number ≡ None }
     {
         Seed { number: None }
     }
 
     /// The start of each hash, if there is a seed.
     pub(crate) fn start(self) -> Option<Start>
-        ensures { result ≡ option_map start_of self }
+        ensures { result ≡ option_map start_of self.number }
     {
         let number = self.number?;
         let mut hasher = FoldHasher::default();

@@ -128,8 +128,10 @@ pub(crate) fn tables_of<'b>(
     batch: &'b Batch<'b>,
 ) -> Result<Tables<'b>, AllocError>
     ensures batch { IfOk result (λ tables. tables.batch.now ≡ batch.now) }
-    ensures ids { IfOk result (λ tables. table_start tables.ids ≡ option_map start_of seed) }
-    ensures groups { IfOk result (λ tables. table_start tables.groups ≡ option_map start_of seed) }
+    ensures ids { IfOk result (λ tables. table_start tables.ids
+        ≡ option_map start_of seed.number) }
+    ensures groups { IfOk result (λ tables. table_start tables.groups
+        ≡ option_map start_of seed.number) }
 {
     let start = seed.start();
     let mut ids = Table::new(alloc, start);
