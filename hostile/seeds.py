@@ -3,7 +3,7 @@
 
 All names of such a batch share bits of their hashes in tables that start from the seed, so that a
 look-up compares a name with every other one. A command whose tables have the seed then takes some
-forty times as long as on random names, and any other about as long. Each command is run
+thirty times as long as on random names, and any other about as long. Each command is run
 
 - on names for no seed, for the seeds 0, 1 and 7, and for one drawn here, while the system gives it
   random bytes, and while the system gives none: it must not be slow;
@@ -36,11 +36,11 @@ from program import read_arguments
 IDS = 2_304
 GROUPS = IDS // floods.MEMBERS
 LOW_BITS, TAG_BITS = 8, 7
-LOOKED_UP = 10
+LOOKED_UP = 20
 
 KNOWN_SEEDS = (None, 0, 1, 7)
-SLOW = 8
-TRIES = 3
+SLOW = 6
+TRIES = 2
 
 
 @dataclass(frozen=True)

@@ -9,5 +9,5 @@ abbrev pub invariant-loop-i : goal.invariant-loop-i
 invariant-loop-i l = record {
   tables : AreTablesOf (records l.batch) l.i l.ids l.groups l.units.items l.starts.items;
   ids : table_start l.ids ≡ table_start l.initial.ids;
-  groups : table_start l.groups ≡ table_start l.initial.groups
+  groups : table_start l.groups ≡ table_start l.initial.groups;
 }
