@@ -4,8 +4,8 @@ The parts are `rt ci` (the proofs, the tests, the must-fail edits), the question
 they ask, the commands of README.md against the output that it shows, the faults of docs/faults.md
 against the program, the worked cases, the manual page and the completions against the help,
 documents that are cut and documents as long as the program takes, random documents against plain
-rules, allocations that fail, and the short form of the benchmark, which compares answers and judges
-no time. The exit status is 0 where all of them pass.
+rules, allocations that fail, names that crowd the tables of one seed, and the short form of the
+benchmark, which compares answers and judges no time. The exit status is 0 where all of them pass.
 """
 
 import os
@@ -128,6 +128,7 @@ def main():
         ("random documents", False, ["cases/fuzz.py", "--mistakes"]),
         ("commands against each other", False, ["cases/agree.py"]),
         ("allocations that fail", False, ["hostile/memory.py"]),
+        ("names made for a seed", False, ["hostile/seeds.py"]),
         ("bench/bench.py --short", True, ["bench/bench.py", "--short"]),
     ]:
         print(f"{title}:", flush=True)

@@ -40,13 +40,14 @@ class Flood:
     status: int
 
 
-def colliding_names(folder, count):
-    """Names whose hashes share bits, made by collide.c."""
+def colliding_names(folder, count, low, high, *seed):
+    """Names whose hashes in a table of this seed, or of none, share these bits, made by collide.c."""
     source = os.path.join(os.path.dirname(os.path.realpath(__file__)), "collide.c")
     program = os.path.join(folder, "collide")
     try:
         subprocess.run(["cc", "-O3", "-o", program, source], check=True)
-        made = subprocess.run([program, str(count), str(SHARED_BITS)], check=True, stdout=subprocess.PIPE, text=True)
+        words = [program, *map(str, (count, low, high, *seed))]
+        made = subprocess.run(words, check=True, stdout=subprocess.PIPE, text=True)
     except (OSError, subprocess.CalledProcessError) as error:
         raise BenchFault(f"collide.c: {error}") from None
     return made.stdout.split()
@@ -64,15 +65,15 @@ def get(name):
     return {"id": name, "method": "get", "url": "X"}
 
 
-def lookup_requests(names, count):
-    """Requests in groups of two, most of which name groups and members before them."""
+def lookup_requests(names, count, looked_up=LOOKED_UP):
+    """Requests in groups of two, most of which name so many groups before them, and as many members."""
     ids, groups = names[:count], names[count : count + count // MEMBERS]
     requests = []
     for position, name in enumerate(ids):
         own = position // MEMBERS
         request = {**get(name), "atomicityGroup": groups[own]}
-        if own >= 2 * LOOKED_UP:
-            named = [(own * 7919 + k * 104_729) % own for k in range(LOOKED_UP)]
+        if own >= 2 * looked_up:
+            named = [(own * 7919 + k * 104_729) % own for k in range(looked_up)]
             request["dependsOn"] = [it for unit in dict.fromkeys(named) for it in (ids[MEMBERS * unit], groups[unit])]
         requests.append(request)
     return requests
@@ -157,7 +158,7 @@ def paired(firsts, seconds):
 def floods(folder, short):
     """Makes the documents; gives the commands on them."""
     count = SHORT_NAMES if short else NAMES
-    lists = {"random": random_names(count), "flooded": colliding_names(folder, count)}
+    lists = {"random": random_names(count), "flooded": colliding_names(folder, count, SHARED_BITS, 0)}
     return [name_flood(folder, lists), outcome_flood(folder, lists), *lookup_floods(folder, lists)]
 
 

@@ -74,13 +74,14 @@ def is_right(job, content, text):
 
 
 def try_job(job, content, folder):
-    """Runs a job once, and fails where it does not print what it has to."""
+    """Runs a job once and measures it; fails where it does not print what it has to."""
     output = os.path.join(folder, "printed")
-    run_job(job, output)
+    measured = run_job(job, output)
     with open(output, encoding="utf-8", errors="replace", newline="") as file:
         text = file.read()
     if not is_right(job, content, text):
         raise BenchFault(f"{label(job)} gave a wrong answer")
+    return measured
 
 
 @dataclass(frozen=True)

@@ -12,6 +12,8 @@ pub mod Texts
 pub mod Requests
 pub mod Plans
 pub mod Shape
+pub mod Starts
+pub mod Seeds
 pub mod Laws
 -- What serves invariants and private clauses: no public clause cites it.
 pub mod Tables

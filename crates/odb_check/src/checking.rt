@@ -1,9 +1,10 @@
-ghost use Rattle.std.specs.Prelude.{◌≡◌, length, OnOk, IfOk, IfErr};
+ghost use Rattle.std.specs.Prelude.{◌≡◌, length, None, OnOk, IfOk, IfErr};
 ghost use Rattle.odb_doc.specs.Batches.{records};
 ghost use Rattle.odb_check.specs.LeastNameFault.{HasGoodNames, RefusesNames};
 ghost use Rattle.odb_check.specs.Levels.{levels_below};
 ghost use Rattle.odb_check.specs.Plans.{plan_records};
 ghost use Rattle.odb_check.specs.Requests.{requests};
+ghost use Rattle.odb_check.specs.Seeds.{IsSeeded};
 ghost use Rattle.odb_check.specs.Walks.{AreNeeds};
 
 use crate::fault::CheckFault;
@@ -52,6 +53,7 @@ pub fn check_with<'a: 'b, 'b>(
 ) -> Result<Plan<'b>, CheckFault>
     ensures good { OnOk result (HasGoodNames (records batch.now)) }
     ensures plan { IfOk result (λ plan. plan_records plan ≡ records batch.now) }
+    ensures seed { IfOk result (λ plan. IsSeeded seed.number plan) }
     ensures least { IfErr result (λ fault. RefusesNames fault (records batch.now)) }
 {
     let tables = tables_of(alloc, seed, batch)?;
@@ -74,6 +76,7 @@ pub fn check_with<'a: 'b, 'b>(
 pub fn check<'a: 'b, 'b>(alloc: Global, batch: &'b Batch<'a>) -> Result<Plan<'b>, CheckFault>
     ensures good { OnOk result (HasGoodNames (records batch.now)) }
     ensures plan { IfOk result (λ plan. plan_records plan ≡ records batch.now) }
+    ensures seed { IfOk result (λ plan. IsSeeded None plan) }
     ensures least { IfErr result (λ fault. RefusesNames fault (records batch.now)) }
 {
     check_with(alloc, Seed::none(), batch)

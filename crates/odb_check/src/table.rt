@@ -1,8 +1,9 @@
 ghost use Rattle.std.specs.Prelude.{◌≡◌, ◌+◌, ℕ, List, Some, None, cond, bytes_eq, OnOk};
 ghost use Rattle.odb_check.specs.Firsts.{or_else};
+ghost use Rattle.odb_check.specs.Starts.{table_start};
 ghost use Rattle.odb_check.specs.Tables.{at_text, more_with, table_len};
 
-use crate::seed::{Seed, Start};
+use crate::seed::Start;
 use indexmap::IndexMap;
 use std::alloc::{AllocError, Global};
 use std::collections::BTreeMap;
@@ -17,11 +18,13 @@ pub(crate) enum Table<'b> {
 }
 
 impl<'b> Table<'b> {
-    pub(crate) fn new(alloc: Global, seed: Seed) -> Table<'b>
+    /// An empty table: hashed from the start, if there is one.
+    pub(crate) fn new(alloc: Global, start: Option<Start>) -> Table<'b>
         ensures empty { (q : List ℕ) → at_text result q ≡ None }
         ensures len { table_len result ≡ 0 }
+        ensures start { table_start result ≡ start }
     {
-        match seed.start() {
+        match start {
             Some(start) => Table::Hashed(IndexMap::with_hasher(alloc, start)),
             None => Table::Sorted(BTreeMap::new(alloc)),
         }
@@ -31,6 +34,7 @@ impl<'b> Table<'b> {
     pub(crate) fn reserve(&mut self, count: usize) -> Result<(), AllocError>
         ensures texts { OnOk result ((q : List ℕ) → at_text self.new q ≡ at_text self.old q) }
         ensures len { OnOk result (table_len self.new ≡ table_len self.old) }
+        ensures start { table_start self.new ≡ table_start self.old }
     {
         match self {
             Table::Hashed(map) => map.reserve(count),
@@ -70,6 +74,7 @@ impl<'b> Table<'b> {
             ≡ table_len self.old + more_with self.old (Some text.now)) }
         ensures texts { OnOk result ((q : List ℕ) → at_text self.new q
             ≡ or_else (at_text self.old q) (cond (bytes_eq q text.now) (Some number) None)) }
+        ensures start { table_start self.new ≡ table_start self.old }
     {
         if self.get(text).is_some() {
             return Ok(());

@@ -1,9 +1,10 @@
-ghost use Rattle.std.specs.Prelude.{◌≡◌, ◌≤◌, ◌<◌, ◌==◌, ◌+◌, ◌∷◌, ◌++◌, [], ℕ, List, length, cond, Some, None, option_copied, OnOk, IfOk, slice_get};
+ghost use Rattle.std.specs.Prelude.{◌≡◌, ◌≤◌, ◌<◌, ◌==◌, ◌+◌, ◌∷◌, ◌++◌, [], ℕ, List, length, cond, Some, None, option_copied, option_map, OnOk, IfOk, slice_get};
 ghost use Rattle.std.proofs.Props.{props};
 ghost use Rattle.odb_doc.specs.Batches.{records};
 ghost use Rattle.odb_doc.specs.Names.{texts_in};
 ghost use Rattle.odb_doc.specs.Records.{IsSoundRecord, record_of};
 ghost use Rattle.odb_check.specs.Firsts.{or_else, is_text};
+ghost use Rattle.odb_check.specs.Starts.{start_of, table_start};
 ghost use Rattle.odb_check.specs.Tables.{AreTablesOf, IsStartOf, at_text, more_with, table_len, unit_among};
 
 use crate::need::Need;
@@ -34,6 +35,7 @@ fn note_group<'b>(
     ensures texts { OnOk result ((q : List ℕ) → at_text groups.new q
         ≡ or_else (at_text groups.old q)
         (cond (is_text q (option_copied group.entry)) (Some unit) None)) }
+    ensures start { table_start groups.new ≡ table_start groups.old }
 {
     match group {
         Some(name) => groups.note(alloc, name, unit),
@@ -81,8 +83,10 @@ fn add<'b>(
     requires within { i < length (records batch.now) }
     requires before { AreTablesOf (records batch.now) i ids.old groups.old units.old.items
         starts.old.items }
-    ensures { OnOk result (AreTablesOf (records batch.now) (i + 1) ids.new groups.new
+    ensures tables { OnOk result (AreTablesOf (records batch.now) (i + 1) ids.new groups.new
         units.new.items starts.new.items) }
+    ensures ids { table_start ids.new ≡ table_start ids.old }
+    ensures groups { table_start groups.new ≡ table_start groups.old }
 {
     let request = batch.request(i);
     let unit = unit_in(groups, request.group, starts.len() as u32);
@@ -103,8 +107,10 @@ fn fill<'b>(
 ) -> Result<(), AllocError>
     requires { AreTablesOf (records batch.now) 0 ids.old groups.old units.old.items
         starts.old.items }
-    ensures { OnOk result (AreTablesOf (records batch.now) (length (records batch.now)) ids.new
-        groups.new units.new.items starts.new.items) }
+    ensures tables { OnOk result (AreTablesOf (records batch.now) (length (records batch.now))
+        ids.new groups.new units.new.items starts.new.items) }
+    ensures ids { table_start ids.new ≡ table_start ids.old }
+    ensures groups { table_start groups.new ≡ table_start groups.old }
 {
     let count = batch.len();
     ids.reserve(count as usize)?;
@@ -121,10 +127,15 @@ pub(crate) fn tables_of<'b>(
     seed: Seed,
     batch: &'b Batch<'b>,
 ) -> Result<Tables<'b>, AllocError>
-    ensures { IfOk result (λ tables. tables.batch.now ≡ batch.now) }
+    ensures batch { IfOk result (λ tables. tables.batch.now ≡ batch.now) }
+    ensures ids { IfOk result (λ tables. table_start tables.ids
+        ≡ option_map start_of seed.number) }
+    ensures groups { IfOk result (λ tables. table_start tables.groups
+        ≡ option_map start_of seed.number) }
 {
-    let mut ids = Table::new(alloc, seed);
-    let mut groups = Table::new(alloc, seed);
+    let start = seed.start();
+    let mut ids = Table::new(alloc, start);
+    let mut groups = Table::new(alloc, start);
     let mut units = Vec::new(alloc);
     let mut starts = Vec::new(alloc);
     fill(alloc, batch, &mut ids, &mut groups, &mut units, &mut starts)?;

@@ -1,5 +1,7 @@
 //! What a library is given of the check of a batch: the parts of its plan, or its least fault.
 
+mod seeds;
+
 use odb_check::{CheckFault, Need, Plan, Seed, check, check_with};
 use odb_doc::{Batch, parse};
 use std::alloc::{AllocError, Global};
@@ -115,11 +117,5 @@ fn plans_or_refuses_alike_with_and_without_a_seed(rt: HostRuntime) -> Result<(),
     for (document, want) in BATCHES {
         assert!(rt; is_document_found(rt.alloc(), document, want)?, "{want}");
     }
-    Ok(())
-}
-
-#[test]
-fn makes_a_seed_of_random_bytes(rt: HostRuntime) -> Result<(), Fail> {
-    let _seed = Seed::random(&rt)?;
     Ok(())
 }

@@ -5,8 +5,8 @@ use Rattle.odb_check.specs.Tables.{unit_among}
 use Rattle.odb_check.proofs.TableLemmas.{tables_more}
 use Rattle.odb_check.proofs.tables.add.Goals as goal
 
-pub returns : goal.returns
-returns c =
+pub returns-clause-tables : goal.returns-clause-tables
+returns-clause-tables c =
     let next : c.len.result ≡ length c.args.starts.now.items = search rules in
     let among : c.unit_in-unit.result ≡ unit_among c.args.groups.now (record_of c.request-request.result.now).group (length c.args.starts.now.items) =
     c.unit_in-unit.ensures ∙ ap (unit_among c.args.groups.now (record_of c.request-request.result.now).group) next in
