@@ -20,17 +20,9 @@ use Rattle.odb_doc.specs.Records.{Record, Says, IsBatchOf}
 use Rattle.odb_doc.specs.Shapes.{elements}
 use Rattle.odb_doc.specs.WholeNumbers.{IsWhole}
 use Rattle.odb_doc.proofs.ReadBackLemmas.{by_order}
-use Rattle.odb_doc.proofs.SafeLemmas.{IsSafe, AreSafe, safe-put, safe-string, safe-none}
+use Rattle.odb_doc.proofs.SafeLemmas.{IsSafe, AreSafe, safe-put, safe-string, safe-none, safe-with_some, safe-group, safe-headers, safe-body, AreItemsSafe}
 
 -- ---- the value of a request
-
-safe-with_some : (n : ℕ) (k : List ℕ) (o : Option Data) (ms : Members) → IfSome o (IsSafe n) → AreSafe n ms → AreSafe n (with_some k o ms)
-safe-with_some n k None ms new rest = rest
-safe-with_some n k (Some d) ms new rest = safe-put n k d ms new rest
-
-safe-group : (n : ℕ) (group : Option (List ℕ)) → IfSome (option_map string group) (IsSafe n)
-safe-group n None = tt
-safe-group n (Some group) = safe-string n group
 
 names-held : (names : List (List ℕ)) → AreItemsHeld (items_of (map string names))
 names-held [] = tt
@@ -50,35 +42,6 @@ safe-names n (name ∷ names) some = record {
   held = names-held (name ∷ names);
   whole = names-whole (name ∷ names);
   shallow = omega (arith, some, names-shallow (name ∷ names));
-}
-
-headers-below : (name : List ℕ) (headers : List Header) → AllByRecursion (λ other. slice_cmp nat_cmp name other ≡ Less) (keys_of headers) → IsBelow name (header_members headers)
-headers-below name [] below = tt
-headers-below name (header ∷ headers) below = (below.0, headers-below name headers below.1)
-
-headers-ordered : (headers : List Header) → IsStrictlySortedBy (slice_cmp nat_cmp) (keys_of headers) → AreOrdered (header_members headers)
-unfolding IsStrictlySortedBy
-headers-ordered [] ordered = tt
-headers-ordered (header ∷ headers) ordered = (headers-below header.0 headers ordered.0, headers-ordered headers ordered.1)
-
-headers-held : (headers : List Header) → AreMembersHeld (header_members headers)
-headers-held [] = tt
-headers-held (header ∷ headers) = (tt, headers-held headers)
-
-headers-whole : (headers : List Header) → members_have_float (header_members headers) ≡ false
-headers-whole [] = refl
-headers-whole (header ∷ headers) = headers-whole headers
-
-headers-shallow : (headers : List Header) → members_depth (header_members headers) ≤ 0
-headers-shallow [] = omega arith
-headers-shallow (header ∷ headers) = omega (arith, headers-shallow headers)
-
-safe-headers : (n : ℕ) (headers : List Header) → 1 ≤ n → IsStrictlySortedBy (slice_cmp nat_cmp) (keys_of headers) → IfSome (headers_value headers) (IsSafe n)
-safe-headers n [] some ordered = tt
-safe-headers n (header ∷ headers) some ordered = record {
-  held = (headers-ordered (header ∷ headers) ordered, headers-held (header ∷ headers));
-  whole = headers-whole (header ∷ headers);
-  shallow = omega (arith, some, headers-shallow (header ∷ headers));
 }
 
 safe-request : (n : ℕ) (r : Record) → 1 ≤ n → IfSome r.body (IsSafe n) → IsStrictlySortedBy (slice_cmp nat_cmp) (keys_of r.headers) → AreSafe n (request_members r)
@@ -176,15 +139,6 @@ pub held-bodies : (value : Data) (rs : List Record) → IsHeld value → IsBatch
 held-bodies = at-batch Holds (λ n k ms held. held-member k ms held.1) (λ n ds held. held-list ds held) 0
 
 -- ---- the whole
-
-safe-body : (n : ℕ) (o : Option Data) → IfSome o IsHeld → IfSome o IsWhole → IfSome o (Nests n) → IfSome o (IsSafe n)
-safe-body n None held whole shallow = tt
-safe-body n (Some d) held whole shallow = record { held = held; whole = whole; shallow = shallow }
-
-record AreItemsSafe (n : ℕ) (ds : Items) : Type 0 where
-  held : AreItemsHeld ds
-  whole : items_have_float ds ≡ false
-  shallow : items_depth ds ≤ n
 
 safe-requests : (n : ℕ) (ds : List Data) (rs : List Record) → 1 ≤ n → AllZip Says ds rs → ((i : ℕ) → i < length rs → IfSome (body_at rs i) (IsSafe n)) → AreItemsSafe (suc n) (items_of (map request_value rs))
 safe-requests n [] [] some says bodies = record { held = tt; whole = refl; shallow = omega arith }

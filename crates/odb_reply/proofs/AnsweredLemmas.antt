@@ -16,11 +16,10 @@ use Rattle.odb_check.specs.Plans.{plan_records}
 use Rattle.odb_check.specs.Positions.{id_at, group_at}
 use Rattle.odb_check.specs.Shape.{IsShapeOf, needs_of, unit_of}
 use Rattle.odb_check.specs.Units.{unit_at}
-use Rattle.odb_sched.specs.Answers.{answer, status_of, is_answered_2xx, HasStatuses}
+use Rattle.odb_sched.specs.Answers.{answer, status_of, is_answered_2xx}
 use Rattle.odb_sched.specs.Laws.{IsSound}
 use Rattle.odb_sched.specs.State.{State, size}
 use Rattle.odb_sched.specs.Statuses.{is_success, is_status}
-use Rattle.odb_sched.proofs.StatusLemmas.{status-answer}
 use Rattle.odb_reply.specs.Fits.{id_in, Responds, Succeeds, IsSatisfied, Fits, ListsFit}
 use Rattle.odb_reply.specs.ResponseDocuments.{Entry, IsResponse, IsResponseDocument, IsStatus, Says, group_in}
 use Rattle.odb_doc.specs.Canonical.{with_some}
@@ -212,8 +211,8 @@ in_range n e =
     let below : n < 600 = ltb-true n 600 high in
     (omega arith, omega arith)
 
-pub IsResponseDocument-answered : (state : State) → HasStatuses state → IsResponseDocument (response_value state)
+pub IsResponseDocument-answered : (state : State) → ((i : ℕ) → is_status (status_of (answer state i)) ≡ true) → IsResponseDocument (response_value state)
 IsResponseDocument-answered state statuses = record {
   array = refl;
-  each = rw (responses_in-value state) (all_responses state 0 (plan_records state.plan) (λ k within. in_range (status_of (answer state (0 + k))) (status-answer state (0 + k) statuses)));
+  each = rw (responses_in-value state) (all_responses state 0 (plan_records state.plan) (λ k within. in_range (status_of (answer state (0 + k))) (statuses (0 + k))));
 }

@@ -5,6 +5,7 @@ pub mod HeaderLemmas
 pub mod RestLemmas
 pub mod DocumentLemmas
 pub mod OneLemmas
+mod ReadableLemmas
 pub mod SliceLemmas
 pub mod IdLemmas
 pub mod PlaceLemmas

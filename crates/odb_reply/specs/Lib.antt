@@ -1,5 +1,6 @@
 -- What public clauses cite: it has to be believed.
 pub mod Outputs
+pub mod Readable
 pub mod Responses
 pub mod OnePerId
 pub mod NotWhole

@@ -3,9 +3,10 @@
 //!
 //! The laws are clauses of functions that change nothing.
 
-ghost use Rattle.std.specs.Prelude.{◌≡◌, ◌↔◌, ℕ, List};
+ghost use Rattle.std.specs.Prelude.{◌≡◌, ◌↔◌, ◌++◌, ℕ, List, Some, codes};
 ghost use Rattle.std.specs.List.{AllZip};
 ghost use Rattle.serde_json.specs.Data.{Data};
+ghost use Rattle.serde_json.specs.Read.{read};
 ghost use Rattle.odb_doc.specs.Records.{Record};
 ghost use Rattle.odb_check.specs.Plans.{plan_records};
 ghost use Rattle.odb_reply.specs.declared.match_fault.MatchFault.{MatchFault};
@@ -16,7 +17,8 @@ ghost use Rattle.odb_reply.specs.MatchFaults as matches;
 ghost use Rattle.odb_reply.specs.ResponseDocuments.{Entry, IsResponseDocument, RefusesResponses, Says};
 ghost use Rattle.odb_reply.specs.ResponseFaults as documents;
 ghost use Rattle.odb_reply.specs.OnePerId.{HasOnePerId};
-ghost use Rattle.odb_reply.specs.Responses.{response_value};
+ghost use Rattle.odb_reply.specs.Readable.{AnswersBy, IsReadable};
+ghost use Rattle.odb_reply.specs.Responses.{response_text, response_value};
 
 use odb_sched::Done;
 
@@ -58,7 +60,12 @@ pub fn every_response(done: &Done<'_>)
     ensures one_per_id { HasOnePerId (plan_records done.now.plan) (response_value done.now) }
     ensures fits { ListsFit (plan_records done.now.plan) (response_value done.now) }
     ensures document { IsResponseDocument (response_value done.now) }
+    ensures reads_back { AnswersBy IsReadable done.now
+        → read (response_text done.now) ≡ Some (response_value done.now) }
+    ensures line { AnswersBy IsReadable done.now
+        → read (response_text done.now ++ codes "\n") ≡ Some (response_value done.now) }
 {
     done.laws();
+    odb_doc::laws::every_value();
     odb_check::laws::every_plan(done.plan());
 }

@@ -1,5 +1,6 @@
-ghost use Rattle.std.specs.Prelude.{◌≡◌, ◌≢◌, ◌↔◌, ◌++◌, ℕ, false, string_bytes, IsErr, IsTrue, OnOk, OnErr};
+ghost use Rattle.std.specs.Prelude.{◌≡◌, ◌≢◌, ◌↔◌, ◌++◌, ℕ, false, Some, string_bytes, IsErr, IsTrue, OnOk, OnErr};
 ghost use Rattle.std.specs.Io.KnownBytes.{Appends};
+ghost use Rattle.serde_json.specs.Read.{read};
 ghost use Rattle.odb_check.specs.Plans.{plan_records};
 ghost use Rattle.odb_reply.specs.declared.reply.ReplyFault.TheVariants as faults;
 ghost use Rattle.odb_reply.specs.Fits.{ListsFit};
@@ -7,6 +8,8 @@ ghost use Rattle.odb_reply.specs.NotWhole.{HasWholeBodies, IsFirstNotWhole};
 ghost use Rattle.odb_reply.specs.OnePerId.{HasOnePerId};
 ghost use Rattle.odb_reply.specs.Outputs.{HasWritten, AppendsPrefix};
 ghost use Rattle.odb_reply.specs.Parts.{rest_text};
+ghost use Rattle.odb_reply.specs.Readable.{HasShallowBodies};
+ghost use Rattle.odb_reply.specs.ResponseDocuments.{IsResponseDocument};
 ghost use Rattle.odb_reply.specs.Responses.{response_text, response_value};
 
 use crate::laws::every_response;
@@ -158,6 +161,9 @@ pub fn write_responses<W: Write>(
     ensures unwritten { (at : ℕ) → result ≡ Err (faults.NotWhole at) → output.new ≡ output.old }
     ensures one_per_id { HasOnePerId (plan_records done.now.plan) (response_value done.now) }
     ensures fits { ListsFit (plan_records done.now.plan) (response_value done.now) }
+    ensures document { IsResponseDocument (response_value done.now) }
+    ensures reads_back { OnOk result (HasShallowBodies done.now
+        → read (response_text done.now) ≡ Some (response_value done.now)) }
 {
     every_response(done);
     if let Some(at) = first_not_whole(done) {

@@ -1,9 +1,12 @@
-ghost use Rattle.std.specs.Prelude.{◌≡◌, ◌↔◌, ℕ, string_bytes, IfOk};
+ghost use Rattle.std.specs.Prelude.{◌≡◌, ◌↔◌, ℕ, Some, string_bytes, IfOk};
+ghost use Rattle.serde_json.specs.Read.{read};
 ghost use Rattle.odb_doc.specs.declared.fault.TextFault.TheVariants as faults;
 ghost use Rattle.odb_check.specs.Plans.{plan_records};
 ghost use Rattle.odb_reply.specs.Fits.{ListsFit};
 ghost use Rattle.odb_reply.specs.NotWhole.{HasWholeBodies, IsFirstNotWhole};
 ghost use Rattle.odb_reply.specs.OnePerId.{HasOnePerId};
+ghost use Rattle.odb_reply.specs.Readable.{HasShallowBodies};
+ghost use Rattle.odb_reply.specs.ResponseDocuments.{IsResponseDocument};
 ghost use Rattle.odb_reply.specs.Responses as responses;
 
 use crate::laws::every_response;
@@ -36,6 +39,9 @@ fn whole_text(alloc: Global, done: &Done<'_>) -> Result<String, AllocError>
 ///
 /// Allocates the text, and the text of one body or header at a time.
 ///
+/// If no body of the response nests more than 124 deep, `serde_json` reads the text as the response,
+/// which [`crate::Responses::read`] accepts and whose responses fit the batch.
+///
 /// # Errors
 ///
 /// `NotWhole` if and only if a body of the response holds a number that is not whole, with the first
@@ -46,6 +52,9 @@ pub fn response_text(alloc: Global, done: &Done<'_>) -> Result<String, TextFault
     ensures one_per_id { HasOnePerId (plan_records done.now.plan)
         (responses.response_value done.now) }
     ensures fits { ListsFit (plan_records done.now.plan) (responses.response_value done.now) }
+    ensures document { IsResponseDocument (responses.response_value done.now) }
+    ensures reads_back { IfOk result (λ text. HasShallowBodies done.now
+        → read (string_bytes text) ≡ Some (responses.response_value done.now)) }
 {
     every_response(done);
     if let Some(at) = first_not_whole(done) {

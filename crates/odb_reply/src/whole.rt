@@ -1,18 +1,34 @@
-ghost use Rattle.std.specs.Prelude.{◌≡◌, ◌↔◌, None, IsTrue, IfSome};
+ghost use Rattle.std.specs.Prelude.{◌≡◌, ◌↔◌, None, Some, IsTrue, IfSome};
+ghost use Rattle.odb_doc.specs.declared.outcome.Outcome as values;
 ghost use Rattle.odb_sched.specs.Answers.{shown};
 ghost use Rattle.odb_reply.specs.NotWhole.{HasWholeBody, HasWholeBodies, IsFirstNotWhole};
+ghost use Rattle.odb_reply.specs.Readable.{AnswersBy, IsHeldOutcome};
 
-use crate::parts::body_of;
-use odb_doc::is_whole;
+use odb_doc::laws::every_outcome;
+use odb_doc::{Outcome, is_whole};
 use odb_sched::{Answer, Done};
+
+/// Returns whether each number in the body of an outcome is whole.
+fn is_whole_outcome(outcome: &Outcome) -> bool
+    ensures value { IsTrue result ↔ HasWholeBody (Some outcome.now) }
+    ensures held { IsTrue result → IsHeldOutcome outcome.now }
+{
+    every_outcome(outcome);
+    match &outcome.body {
+        Some(body) => is_whole(body),
+        None => true,
+    }
+}
 
 /// Returns whether each number in the body of an answer is whole.
 fn has_whole_body(answer: &Answer<'_>) -> bool
-    ensures { IsTrue result ↔ HasWholeBody (shown answer.now) }
+    ensures value { IsTrue result ↔ HasWholeBody (shown answer.now) }
+    ensures held { IsTrue result → (outcome : values.Outcome)
+        → shown answer.now ≡ Some outcome → IsHeldOutcome outcome }
 {
-    match body_of(answer) {
-        Some(body) => is_whole(body),
-        None => true,
+    match answer {
+        Answer::Reported(outcome) => is_whole_outcome(outcome),
+        Answer::FailedDependency => true,
     }
 }
 
@@ -20,6 +36,7 @@ fn has_whole_body(answer: &Answer<'_>) -> bool
 pub(crate) fn first_not_whole(done: &Done<'_>) -> Option<u32>
     ensures first { IfSome result (IsFirstNotWhole done.now) }
     ensures none { result ≡ None → HasWholeBodies done.now }
+    ensures held { result ≡ None → AnswersBy IsHeldOutcome done.now }
 {
     let count = done.plan().len();
     for i in 0..count {

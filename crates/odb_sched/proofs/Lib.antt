@@ -7,7 +7,7 @@ pub mod StartLemmas
 pub mod CauseLemmas
 pub mod OneFaultLemmas
 pub mod StuckLemmas
-pub mod StatusLemmas
+mod StatusLemmas
 pub mod ReachedLemmas
 pub mod RunLemmas
 pub mod EventLemmas

@@ -1,4 +1,4 @@
-ghost use Rattle.std.specs.Prelude.{All, option_map, ◌≡◌, ◌<◌, true, length, IfOk};
+ghost use Rattle.std.specs.Prelude.{All, option_map, ℕ, ◌≡◌, ◌<◌, true, length, IfOk};
 ghost use Rattle.odb_check.specs.Shape as shapes;
 ghost use Rattle.odb_check.specs.Plans.{plan_records};
 ghost use Rattle.odb_sched.specs.declared.policy.Mode.TheVariants.{Continue};
@@ -124,6 +124,7 @@ impl<'p> Done<'p> {
         ensures all_or_none { laws.IsAllOrNone self.now }
         ensures sound { laws.IsSound self.now }
         ensures statuses { answers.HasStatuses self.now }
+        ensures answered { (i : ℕ) → is_status (answers.status_of (answers.answer self.now i)) ≡ true }
     {
         let _ = &self.plan;
     }

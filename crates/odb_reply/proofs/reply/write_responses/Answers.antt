@@ -1,6 +1,7 @@
-use Rattle.std.proofs.Common.{rules, string_bytes, subst}
+use Rattle.std.proofs.Common.{refl, rules, string_bytes, subst}
 use Rattle.odb_reply.specs.Outputs.{HasWritten, AppendsPrefix}
 use Rattle.odb_reply.specs.Responses.{response_text}
+use Rattle.odb_reply.proofs.ReadableLemmas.{readable-from}
 use Rattle.odb_reply.proofs.RestLemmas.{response_text-begun}
 use Rattle.odb_reply.proofs.WriteLemmas.{AppendsPrefix-none, AppendsPrefix-after, Appends-rest}
 use Rattle.odb_reply.proofs.reply.write_responses.Goals as goal
@@ -40,3 +41,7 @@ returns-clause-ok g c =
     let last = string_bytes c.buffer_responses.new.buffer in
     let written = subst (λ text. HasWritten old mid text last) (response_text-begun state (string_bytes c.in_ok-buffer.buffer) c.in_ok-buffer.ensures.ok) c.in_ok-buffer_responses.ensures.ok in
     Appends-rest old mid (contents c.write_text.new.output.writer) (response_text state) last written (rw c.as_str.ensures.value at c.in_ok-write_text.ensures.ok)
+
+pub returns-clause-reads_back : goal.returns-clause-reads_back
+returns-clause-reads_back g c = λ shallow.
+    c.every_response.ensures.reads_back (readable-from c.args.done.now (c.in_default.ensures.held refl) (c.in_default.ensures.none refl) shallow)

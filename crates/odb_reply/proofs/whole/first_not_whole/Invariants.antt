@@ -1,7 +1,12 @@
-use Rattle.std.proofs.Common.{ℕ, ◌<◌}
+use Rattle.std.proofs.Common.{◌≡◌, ℕ, ◌<◌, Some}
+use Rattle.odb_doc.specs.declared.outcome.Outcome.{Outcome}
 use Rattle.odb_sched.specs.Answers.{answer}
 use Rattle.odb_reply.specs.NotWhole.{HasWholeBody}
+use Rattle.odb_reply.specs.Readable.{IsHeldOutcome}
 use Rattle.odb_reply.proofs.whole.first_not_whole.Given as goal
 
 abbrev pub invariant-loop-i : goal.invariant-loop-i
-invariant-loop-i l = (k : ℕ) → k < l.i → HasWholeBody (answer l.done k)
+invariant-loop-i l = record {
+  whole : (k : ℕ) → k < l.i → HasWholeBody (answer l.done k);
+  held : (k : ℕ) → k < l.i → (outcome : Outcome) → answer l.done k ≡ Some outcome → IsHeldOutcome outcome;
+}

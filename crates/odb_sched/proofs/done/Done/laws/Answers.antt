@@ -5,6 +5,7 @@ use Rattle.odb_sched.specs.Laws.{HasOneResult, HasResultByStatuses, HasSoundResu
 use Rattle.odb_sched.specs.State.{State}
 use Rattle.odb_sched.specs.Answers.{HasStatuses}
 use Rattle.odb_sched.proofs.ResultLemmas.{one_result, result_by_statuses, sound_result, all_or_none, sound_answers}
+use Rattle.odb_sched.proofs.StatusLemmas.{status-answer}
 use Rattle.odb_sched.proofs.done.Done.laws.Goals as goal
 
 pub returns-clause-one_result : goal.returns-clause-one_result
@@ -24,3 +25,6 @@ returns-clause-sound c = subst IsSound c.self.view_is (sound_answers _ c.self.in
 
 pub returns-clause-statuses : goal.returns-clause-statuses
 returns-clause-statuses c = subst HasStatuses c.self.view_is c.self.invariant.reached.statuses
+
+pub returns-clause-answered : goal.returns-clause-answered
+returns-clause-answered c = λ i. status-answer c.args.self.now i (subst HasStatuses c.self.view_is c.self.invariant.reached.statuses)
