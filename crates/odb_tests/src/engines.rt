@@ -5,6 +5,7 @@ ghost use Rattle.std.specs.Prelude.{◌≡◌, false};
 ghost use Rattle.odb_engine.specs.Inputs.{IsFresh};
 
 mod devices;
+mod embedding;
 mod failures;
 mod reads;
 mod remains;
