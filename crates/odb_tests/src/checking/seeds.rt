@@ -38,7 +38,10 @@ fn reads_every_bit_of_eight_bytes(rt: HostRuntime) -> Result<(), Fail> {
     for bit in 0_u32..64 {
         let number = 1_u64 << bit;
         assert!(rt; Seed::random(&Bytes(number))? == Seed::new(number), "{bit}");
-        assert!(rt; Seed::random(&Bytes(u64::MAX - number))? == Seed::new(u64::MAX - number), "{bit}");
+        assert!(rt;
+            Seed::random(&Bytes(u64::MAX - number))? == Seed::new(u64::MAX - number),
+            "{bit}"
+        );
     }
     Ok(())
 }
