@@ -30,8 +30,12 @@ impl Chooser for Picks {
 
     ghost chooses = { λ _ _ _ _ _. Unit {0} };
 
-    ghost names = { λ picked. elim picked [ picks.Named order ↦ Some order
-        | picks.Asked order ↦ None | picks.WideLast ↦ None | picks.Listed list next ↦ None ] };
+    ghost names = { λ picked. elim picked [
+      | picks.Named order ↦ Some order
+      | picks.Asked order ↦ None
+      | picks.WideLast ↦ None
+      | picks.Listed list next ↦ None
+    ] };
 
     fn choose(&mut self, ready: &[u32], running: &[u32]) -> Choice {
         match *self {
