@@ -15,7 +15,8 @@ use Rattle.odb_names.specs.Methods.{method_name}
 use Rattle.odb_doc.specs.Canonical.{HasWholeBodies, HasHeldBodies, body_at, names_value, header_members, headers_value, with_some, request_members, request_value, canonical_value}
 use Rattle.odb_doc.specs.Headers.{Header}
 use Rattle.odb_doc.specs.HeldValues.{IsBelow, AreOrdered, IsHeld, AreItemsHeld, AreMembersHeld}
-use Rattle.odb_doc.specs.Members.{list_of, given}
+use Rattle.odb_doc.specs.Bodies.{body_of}
+use Rattle.odb_doc.specs.Members.{elements_at, list_of, given}
 use Rattle.odb_doc.specs.Records.{Record, Says, IsBatchOf}
 use Rattle.odb_doc.specs.Shapes.{elements}
 use Rattle.odb_doc.specs.WholeNumbers.{IsWhole}
@@ -106,7 +107,13 @@ module _ (P : ℕ → Data → Type 0)
   at-batch : (n : ℕ) (value : Data) (rs : List Record) → P (suc (suc (suc n))) value → IsBatchOf value rs → (i : ℕ) → i < length rs → IfSome (body_at rs i) (P n)
   at-batch n value rs holds says = at-bodies n (elements value) rs says (at-elements (suc n) value holds)
 
-abbrev Nests : ℕ → Data → Type 0
+  pub at-list : (n : ℕ) (name : List ℕ) (d : Data) → P (suc (suc n)) d → AllByRecursion (P n) (elements_at name d)
+  at-list n name d holds = at-elements_of n (get name d) (at-get (suc n) name d holds)
+
+  pub at-body : (n : ℕ) (d : Data) → P (suc n) d → IfSome (body_of d) (P n)
+  at-body n d holds = at-given n (get (codes "body") d) (at-get n (codes "body") d holds)
+
+abbrev pub Nests : ℕ → Data → Type 0
 Nests n d = depth d ≤ n
 
 nests-member : (n : ℕ) (k : List ℕ) (ms : Members) → members_depth ms ≤ n → IfSome (get_member k ms) (Nests n)
@@ -118,6 +125,12 @@ nests-member n k (member l e ms) shallow =
 nests-list : (n : ℕ) (ds : Items) → items_depth ds ≤ n → AllByRecursion (Nests n) (list_of ds)
 nests-list n no_items shallow = tt
 nests-list n (item d ds) shallow = (omega arith, nests-list n ds (omega arith))
+
+pub nests-list_at : (n : ℕ) (name : List ℕ) (d : Data) → depth d ≤ suc (suc n) → AllByRecursion (Nests n) (elements_at name d)
+nests-list_at = at-list Nests (λ n k ms shallow. nests-member n k ms (omega (arith, shallow))) (λ n ds shallow. nests-list n ds (omega (arith, shallow)))
+
+pub nests-body : (n : ℕ) (d : Data) → depth d ≤ suc n → IfSome (body_of d) (Nests n)
+nests-body = at-body Nests (λ n k ms shallow. nests-member n k ms (omega (arith, shallow))) (λ n ds shallow. nests-list n ds (omega (arith, shallow)))
 
 nests-bodies : (value : Data) (rs : List Record) → depth value ≤ 127 → IsBatchOf value rs → (i : ℕ) → i < length rs → IfSome (body_at rs i) (Nests 124)
 nests-bodies = at-batch Nests (λ n k ms shallow. nests-member n k ms (omega (arith, shallow))) (λ n ds shallow. nests-list n ds (omega (arith, shallow))) 124
@@ -137,6 +150,12 @@ held-list (item d ds) held = (held.0, held-list ds held.1)
 
 pub held-bodies : (value : Data) (rs : List Record) → IsHeld value → IsBatchOf value rs → HasHeldBodies rs
 held-bodies = at-batch Holds (λ n k ms held. held-member k ms held.1) (λ n ds held. held-list ds held) 0
+
+pub held-list_at : (name : List ℕ) (d : Data) → IsHeld d → AllByRecursion IsHeld (elements_at name d)
+held-list_at = at-list Holds (λ n k ms held. held-member k ms held.1) (λ n ds held. held-list ds held) 0
+
+pub held-body : (d : Data) → IsHeld d → IfSome (body_of d) IsHeld
+held-body = at-body Holds (λ n k ms held. held-member k ms held.1) (λ n ds held. held-list ds held) 0
 
 -- ---- the whole
 

@@ -1,6 +1,8 @@
 -- A document of outcomes, or of events, has one least fault, or else one list of what it records.
-use Rattle.std.proofs.Common.{◌≡◌, ◌∙◌, ℕ, List, Option, None, Some, option_and_then, codes, refl, ap, sym, arith}
-use Rattle.serde_json.specs.Data.{Data}
+use Rattle.std.proofs.Common.{◌≡◌, ◌∙◌, ℕ, ◌≤◌, List, [], ◌∷◌, All, Option, None, Some, IfSome, option_and_then, codes, refl, ap, sym, subst, arith}
+use Rattle.std.specs.List.{AllZip, AllByRecursion}
+use Rattle.std.proofs.lemmas.List.Elements.{All-nil, All-cons}
+use Rattle.serde_json.specs.Data.{Data, depth}
 use Rattle.serde_json.specs.Find.{get, as_str}
 use Rattle.odb_doc.specs.Bodies.{body_of}
 use Rattle.odb_doc.specs.declared.event_fault.EventRule.{EventRule}
@@ -13,7 +15,9 @@ use Rattle.odb_doc.specs.declared.outcome_fault.OutcomeRule.TheVariants as outco
 use Rattle.odb_doc.specs.declared.outcome_fault.OutcomeFault.{OutcomeFault}
 use Rattle.odb_doc.specs.declared.outcome_fault.OutcomeFault.TheVariants as outcomes
 use Rattle.odb_doc.specs.EventFaults as event_faults
-use Rattle.odb_doc.specs.Events.{EventValue, Start, Report, AreEventsOf}
+use Rattle.odb_doc.specs.Events.{EventValue, Start, Report, AreEventsOf, IsRecordableEvent}
+use Rattle.odb_doc.specs.HeldValues.{IsHeld}
+use Rattle.odb_doc.specs.OutcomeValues.{IsRecordable, IsShallow}
 use Rattle.odb_doc.specs.Events as recorded_events
 use Rattle.odb_doc.specs.Headers.{Header, HasHeaders}
 use Rattle.odb_doc.specs.LeastEventFault.{BreaksEventAt, IsEventsDocument, RefusesEvents}
@@ -23,6 +27,7 @@ use Rattle.odb_doc.specs.OneLeast.{one_first, one_list}
 use Rattle.odb_doc.specs.OutcomeFaults as outcome_faults
 use Rattle.odb_doc.specs.Outcomes.{Recorded, AreOutcomesOf, Says}
 use Rattle.odb_doc.specs.Outcomes as recorded_outcomes
+use Rattle.odb_doc.proofs.CanonicalReads.{Nests, held-body, held-list_at, nests-body, nests-list_at}
 use Rattle.odb_doc.proofs.OneHeaders.{one_headers}
 
 -- ---- the least fault of outcomes
@@ -109,3 +114,37 @@ one_event d (Report id outcome) (Report other outcome') one two =
 
 pub one_events : (d : Data) (events others : List EventValue) → AreEventsOf d events → AreEventsOf d others → events ≡ others
 one_events d events others one two = one_list recorded_events.Says one_event (recorded_events.elements d) events others one two
+
+-- ---- what is recorded was in the document
+
+recordable : (d : Data) (outcome : Outcome) → HasHeaders d outcome.headers → body_of d ≡ outcome.body → IsHeld d → depth d ≤ 125 → IsRecordable outcome
+recordable d outcome headers body held shallow = (
+  record { headers = headers.ordered; body = subst (λ (o : Option Data). IfSome o IsHeld) body (held-body d held) },
+  subst (λ (o : Option Data). IsShallow o) body (nests-body 124 d shallow),
+)
+
+recordable-each : (ds : List Data) (entries : List Recorded) → AllZip Says ds entries → AllByRecursion IsHeld ds → AllByRecursion (Nests 125) ds → All (λ (entry : Recorded). IsRecordable entry.1) entries
+recordable-each [] [] says held shallow = All-nil (λ (entry : Recorded). IsRecordable entry.1)
+recordable-each [] (entry ∷ entries) says held shallow = absurd says
+recordable-each (d ∷ ds) [] says held shallow = absurd says
+recordable-each (d ∷ ds) (entry ∷ entries) says held shallow =
+    All-cons (λ (e : Recorded). IsRecordable e.1) entry entries (recordable d entry.1 says.0.headers says.0.body held.0 shallow.0) (recordable-each ds entries says.1 held.1 shallow.1)
+
+pub recordable-outcomes : (value : Data) (entries : List Recorded) → IsHeld value → depth value ≤ 127 → AreOutcomesOf value entries → All (λ (entry : Recorded). IsRecordable entry.1) entries
+recordable-outcomes value entries held shallow says =
+    recordable-each (recorded_outcomes.elements value) entries says (held-list_at (codes "outcomes") value held) (nests-list_at 125 (codes "outcomes") value shallow)
+
+recordable-event : (d : Data) (event : EventValue) → recorded_events.Says d event → IsHeld d → depth d ≤ 125 → IsRecordableEvent event
+recordable-event d (Start id) says held shallow = tt
+recordable-event d (Report id outcome) says held shallow = recordable d outcome says.headers says.body held shallow
+
+recordable-list : (ds : List Data) (events : List EventValue) → AllZip recorded_events.Says ds events → AllByRecursion IsHeld ds → AllByRecursion (Nests 125) ds → All IsRecordableEvent events
+recordable-list [] [] says held shallow = All-nil IsRecordableEvent
+recordable-list [] (event ∷ events) says held shallow = absurd says
+recordable-list (d ∷ ds) [] says held shallow = absurd says
+recordable-list (d ∷ ds) (event ∷ events) says held shallow =
+    All-cons IsRecordableEvent event events (recordable-event d event says.0 held.0 shallow.0) (recordable-list ds events says.1 held.1 shallow.1)
+
+pub recordable-events : (value : Data) (events : List EventValue) → IsHeld value → depth value ≤ 127 → AreEventsOf value events → All IsRecordableEvent events
+recordable-events value events held shallow says =
+    recordable-list (recorded_events.elements value) events says (held-list_at (codes "events") value held) (nests-list_at 125 (codes "events") value shallow)

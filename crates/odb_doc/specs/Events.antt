@@ -10,6 +10,7 @@ use Rattle.odb_doc.specs.declared.outcome.Outcome.{Outcome}
 use Rattle.odb_doc.specs.declared.member.Object.TheVariants as objects
 use Rattle.odb_doc.specs.Bodies.{body_of}
 use Rattle.odb_doc.specs.Headers.{HasHeaders}
+use Rattle.odb_doc.specs.OutcomeValues.{IsRecordable}
 use Rattle.odb_doc.specs.Members.{elements_at, text_at, HasOther, IsListObject}
 use Rattle.odb_doc.specs.Outcomes.{HasOutcome, status_of}
 use Rattle.odb_doc.specs.WholeNumbers.{IsWhole}
@@ -76,6 +77,11 @@ AreEventsOf d events = AllZip Says (elements d) events
 abbrev pub event_body : EventValue → Option Data
 event_body (Start id) = None
 event_body (Report id outcome) = outcome.body
+
+-- what a document can record of an event
+abbrev pub IsRecordableEvent : EventValue → Type 0
+IsRecordableEvent (Start id) = Unit {0}
+IsRecordableEvent (Report id outcome) = IsRecordable outcome
 
 -- what holds of each event that was read: the body of a report holds whole numbers alone
 pub record IsSoundEvent (event : EventValue) : Type 0 where

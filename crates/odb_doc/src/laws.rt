@@ -5,7 +5,7 @@
 //! [`crate::Batch::read`], [`crate::Outcomes::read`] and [`crate::Events::read`] use, for callers that
 //! compare two readings of one value.
 
-ghost use Rattle.std.specs.Prelude.{◌≡◌, ◌≤◌, ◌↔◌, ◌++◌, ℕ, List, [], Some, codes, fold};
+ghost use Rattle.std.specs.Prelude.{◌≡◌, ◌≤◌, ◌↔◌, ◌++◌, ℕ, List, [], Some, All, codes, fold};
 ghost use Rattle.serde_json.specs.Data.{Data, depth};
 ghost use Rattle.serde_json.specs.Read.{read};
 ghost use Rattle.serde_json.specs.Written.{compact_text};
@@ -17,7 +17,7 @@ ghost use Rattle.odb_doc.specs.declared.outcome_fault.OutcomeFault.{OutcomeFault
 ghost use Rattle.odb_doc.specs.Canonical.{HasWholeBodies, canonical_text, canonical_value};
 ghost use Rattle.odb_doc.specs.CanonicalLaws.{HasCanonicalText, IsDocumentOf};
 ghost use Rattle.odb_doc.specs.EventFaults as event_faults;
-ghost use Rattle.odb_doc.specs.Events.{EventValue, AreEventsOf};
+ghost use Rattle.odb_doc.specs.Events.{EventValue, AreEventsOf, IsRecordableEvent};
 ghost use Rattle.odb_doc.specs.FaultTable.{IsNumbered};
 ghost use Rattle.odb_doc.specs.Headers.{IsInOrder};
 ghost use Rattle.odb_doc.specs.HeldValues.{IsHeld};
@@ -26,6 +26,7 @@ ghost use Rattle.odb_doc.specs.LeastFault.{IsLeastFault, IsWellShaped};
 ghost use Rattle.odb_doc.specs.LeastOutcomeFault.{IsOutcomesDocument, RefusesOutcomes};
 ghost use Rattle.odb_doc.specs.Names.{distinct, with_name};
 ghost use Rattle.odb_doc.specs.OutcomeFaults as outcome_faults;
+ghost use Rattle.odb_doc.specs.OutcomeValues.{IsRecordable};
 ghost use Rattle.odb_doc.specs.Outcomes.{Recorded, AreOutcomesOf};
 ghost use Rattle.odb_doc.specs.Records.{Record, IsBatchOf};
 ghost use Rattle.odb_doc.specs.WholeNumbers.{IsWhole};
@@ -62,7 +63,8 @@ pub fn one_batch()
 }
 
 /// A value has one least fault as a document of outcomes at most, and none if it is a good one; and it
-/// is one list of outcomes at most: their ids, and their statuses, headers and bodies by value.
+/// is one list of outcomes at most: their ids, and their statuses, headers and bodies by value. Its
+/// bodies nest at most 124 deep if it nests at most 127 deep, as [`every_value`] says of what is read.
 pub fn one_record()
     ensures one { (value : Data) (fault other : OutcomeFault) → outcome_faults.IsNumbered fault
         → outcome_faults.IsNumbered other → RefusesOutcomes fault value
@@ -71,10 +73,13 @@ pub fn one_record()
         → RefusesOutcomes fault value → ¬ IsOutcomesDocument value }
     ensures outcomes { (value : Data) (entries others : List Recorded)
         → AreOutcomesOf value entries → AreOutcomesOf value others → entries ≡ others }
+    ensures recordable { (value : Data) (entries : List Recorded) → IsHeld value
+        → depth value ≤ 127 → AreOutcomesOf value entries
+        → All (λ entry. IsRecordable entry.1) entries }
 {}
 
 /// A value has one least fault as a document of events at most, and none if it is a good one; and it
-/// is one list of events at most, by their ids and outcomes.
+/// is one list of events at most, by their ids and outcomes. The bodies nest as in [`one_record`].
 pub fn one_history()
     ensures one { (value : Data) (fault other : EventFault) → event_faults.IsNumbered fault
         → event_faults.IsNumbered other → RefusesEvents fault value
@@ -83,6 +88,8 @@ pub fn one_history()
         → RefusesEvents fault value → ¬ IsEventsDocument value }
     ensures events { (value : Data) (events others : List EventValue)
         → AreEventsOf value events → AreEventsOf value others → events ≡ others }
+    ensures recordable { (value : Data) (events : List EventValue) → IsHeld value
+        → depth value ≤ 127 → AreEventsOf value events → All IsRecordableEvent events }
 {}
 
 /// The headers of every outcome are in byte order of their names, each name once (RFC 9110, section 5).

@@ -14,7 +14,8 @@ use Rattle.odb_sched.specs.Answers.{answer, status_of}
 use Rattle.odb_sched.specs.State.{State, size}
 use Rattle.odb_sched.specs.Statuses.{is_status}
 use Rattle.odb_reply.specs.NotWhole.{HasWholeBodies}
-use Rattle.odb_reply.specs.Readable.{AnswersBy, HasShallowBodies, IsHeldOutcome, IsReadable, IsShallow}
+use Rattle.odb_doc.specs.OutcomeValues.{IsHeldOutcome, IsShallow}
+use Rattle.odb_reply.specs.Readable.{AnswersBy, HasShallowBodies, IsReadable}
 use Rattle.odb_reply.specs.Responses.{answer_body, answer_headers, response, response_members, responses_from, response_value}
 
 safe-status : (n status : ℕ) → is_status status ≡ true → IsSafe n (number (unsigned status))

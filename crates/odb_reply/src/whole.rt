@@ -2,7 +2,8 @@ ghost use Rattle.std.specs.Prelude.{◌≡◌, ◌↔◌, None, Some, IsTrue, If
 ghost use Rattle.odb_doc.specs.declared.outcome.Outcome as values;
 ghost use Rattle.odb_sched.specs.Answers.{shown};
 ghost use Rattle.odb_reply.specs.NotWhole.{HasWholeBody, HasWholeBodies, IsFirstNotWhole};
-ghost use Rattle.odb_reply.specs.Readable.{AnswersBy, IsHeldOutcome};
+ghost use Rattle.odb_doc.specs.OutcomeValues.{IsHeldOutcome};
+ghost use Rattle.odb_reply.specs.Readable.{AnswersBy};
 
 use odb_doc::laws::every_outcome;
 use odb_doc::{Outcome, is_whole};
