@@ -28,6 +28,7 @@ use Rattle.odb_reply.specs.OnePerId.{HasOnePerId}
 use Rattle.odb_reply.specs.Responses.{response, responses_from, response_value, response_text}
 use Rattle.odb_engine.specs.declared.ending.Ended.{Ended}
 use Rattle.odb_check.specs.Texts.{newline}
+use Rattle.odb_engine.specs.ReadAgain.{IsReadAgain}
 use Rattle.odb_engine.specs.Replays.{ReplaysPlan, IsResult, LacksOutcome, response_line, trace_part, result_text}
 use Rattle.odb_engine.specs.Traces.{report_line, step_line, undo_line}
 
@@ -119,6 +120,10 @@ module _ (plan : Plan) (state : State) (same : plan_records plan ≡ plan_record
   result_text-plan traced steps =
       ap (λ text. text ++ response_line (with_plan plan state)) (trace_part-plan traced steps) ∙ ap (λ text. trace_part traced state steps ++ (text ++ newline ∷ [])) response_text-plan
 
+-- the same of equal requests and texts
+pub read_again-plan : (batch other : List Record) (text written : List ℕ) → batch ≡ other → text ≡ written → IsReadAgain batch text → IsReadAgain other written
+read_again-plan batch other text written same is again = subst (λ rs. IsReadAgain rs written) same (subst (IsReadAgain batch) is again)
+
 -- ---- replays
 
 module _ (allows : Allowance) (policy : Policy) (traced : Bool) (plan other : Plan) (same : plan_records plan ≡ plan_records other) (entries : List Recorded) where
@@ -148,6 +153,7 @@ module _ (allows : Allowance) (policy : Policy) (traced : Bool) (plan other : Pl
         result = is.result ∙ sym (result_text-plan plan is.last kept traced is.steps);
         dependencies_first = subst (λ (rs : List Record). StartsLast rs events) (sym same) is.dependencies_first;
         one_per_id = subst (λ (rs : List Record). HasOnePerId rs (response_value (with_plan plan is.last))) (sym same) one;
+        read_again = λ recordable. read_again-plan (plan_records other) (plan_records plan) (response_line is.last) (response_line (with_plan plan is.last)) (sym same) (sym (result_text-plan plan is.last kept false [])) (is.read_again recordable);
       }
 
   lacks-plan : (ended : Ended) (text : List ℕ) → LacksOutcome allows policy other entries ended text → LacksOutcome allows policy plan entries ended text

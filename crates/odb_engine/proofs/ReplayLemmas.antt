@@ -3,8 +3,8 @@ use Rattle.std.proofs.Common.{◌≡◌, ℕ, zero, suc, ◌≤◌, ◌∙◌, a
 use Rattle.std.proofs.lemmas.Bool.{true≢false, both_ways}
 use Rattle.std.proofs.lemmas.Bool.Decides.{nat_tests}
 use Rattle.std.proofs.lemmas.List.Elements.{All-contains, Contains-append_right}
-use Rattle.serde_json.specs.View.{view}
 use Rattle.odb_doc.specs.declared.outcome.Outcome.{Outcome}
+use Rattle.odb_doc.specs.OutcomeValues.{IsRecordable}
 use Rattle.odb_doc.specs.Outcomes.{Recorded, IsSoundOutcome}
 use Rattle.odb_doc.specs.Records.{Record}
 use Rattle.odb_doc.specs.WholeNumbers.{IsWhole}
@@ -26,6 +26,7 @@ use Rattle.odb_sched.specs.State.{State, phase_at, at_first}
 use Rattle.odb_sched.specs.Statuses.{is_status, is_success}
 use Rattle.odb_sched.specs.Steps.{unit_succeeded}
 use Rattle.odb_reply.specs.NotWhole.{HasWholeBody, HasWholeBodies}
+use Rattle.odb_reply.specs.Readable.{AnswersBy, IsReadable}
 use Rattle.odb_engine.specs.declared.ending.Ended.TheVariants.{Refused}
 use Rattle.odb_engine.specs.Cascade.{line_of}
 use Rattle.odb_engine.specs.Replays.{LacksOutcome, offers_of, execution_refusal}
@@ -55,13 +56,13 @@ offered-outcome : (slot : Option Outcome) (outcome : Outcome) → Ok outcome ≡
 offered-outcome None outcome e = absurd (true≢false (ap (λ answer. is_some (outcome_in answer)) e))
 offered-outcome (Some other) outcome e = sym (ap outcome_in e)
 
--- an outcome that is offered is sound
-sound-offered : (batch : List Record) (entries : List Recorded) (i : ℕ) (outcome : Outcome) → All IsSoundOutcome entries → OffersRecorded (recorded_for batch entries) i (Ok outcome)
-    → (entry : Recorded) × IsSoundOutcome entry × (entry.1 ≡ outcome)
-sound-offered batch entries i outcome sound offer =
+-- an outcome that is offered is in an entry, so what holds of all entries holds of it
+offered-entry : (Q : Recorded → Type 0) (batch : List Record) (entries : List Recorded) (i : ℕ) (outcome : Outcome) → All Q entries → OffersRecorded (recorded_for batch entries) i (Ok outcome)
+    → (entry : Recorded) × Q entry × (entry.1 ≡ outcome)
+offered-entry Q batch entries i outcome each offer =
     let (id, recorded) = id-at batch entries i outcome (offered-outcome (get_or (recorded_for batch entries) i None) outcome offer) in
     let (entry, has, is) = entry-for entries id outcome recorded in
-    (entry, All-contains IsSoundOutcome entries entry sound has, is)
+    (entry, All-contains Q entries entry each has, is)
 
 answer-reported : (phase : Phase) (b : Bool) (outcome : Outcome) → answer_of phase b ≡ Some outcome → outcome_of phase ≡ Some outcome
 answer-reported Unstarted b outcome e = e
@@ -76,12 +77,32 @@ whole-body : (found : Option Outcome) → ((outcome : Outcome) → found ≡ Som
 whole-body None each = tt
 whole-body (Some outcome) each = each outcome refl
 
+-- the outcomes of the state are those that are offered for their requests
+abbrev OffersReported : List Record → List Recorded → State → Type 0
+OffersReported batch entries state = (i : ℕ) (outcome : Outcome) → reported state i ≡ Some outcome → OffersRecorded (recorded_for batch entries) i (Ok outcome)
+
+-- what holds of all entries holds of what is answered
+answered-entry : (Q : Recorded → Type 0) (batch : List Record) (entries : List Recorded) (state : State) → All Q entries → OffersReported batch entries state → (i : ℕ) (outcome : Outcome) → answer state i ≡ Some outcome
+    → (entry : Recorded) × Q entry × (entry.1 ≡ outcome)
+answered-entry Q batch entries state each offers i outcome is =
+    offered-entry Q batch entries i outcome each (offers i outcome (answer-reported (phase_at state i) (unit_succeeded state (unit_of state.shape i)) outcome is))
+
 -- a run by recorded outcomes answers whole bodies alone
-pub whole-bodies : (batch : List Record) (entries : List Recorded) (state : State) → All IsSoundOutcome entries
-    → ((i : ℕ) (outcome : Outcome) → reported state i ≡ Some outcome → OffersRecorded (recorded_for batch entries) i (Ok outcome)) → HasWholeBodies state
+pub whole-bodies : (batch : List Record) (entries : List Recorded) (state : State) → All IsSoundOutcome entries → OffersReported batch entries state → HasWholeBodies state
 whole-bodies batch entries state sound offers i within = whole-body (answer state i) (λ outcome is.
-    let (entry, fit, same) = sound-offered batch entries i outcome sound (offers i outcome (answer-reported (phase_at state i) (unit_succeeded state (unit_of state.shape i)) outcome is)) in
+    let (entry, fit, same) = answered-entry IsSoundOutcome batch entries state sound offers i outcome is in
     subst (λ o. IfSome o.body IsWhole) same fit.whole)
+
+abbrev IsGoodEntry : Recorded → Type 0
+IsGoodEntry entry = IsSoundOutcome entry × IsRecordable entry.1
+
+-- what a document can record is read again from a response
+pub readable-answers : (batch : List Record) (entries : List Recorded) (state : State) → All IsSoundOutcome entries → OffersReported batch entries state
+    → All (λ (entry : Recorded). IsRecordable entry.1) entries → AnswersBy IsReadable state
+readable-answers batch entries state sound offers recordable i outcome within is =
+    let both : All IsGoodEntry entries = λ k d less. (sound k d less, recordable k d less) in
+    let (entry, (fit, can), same) = answered-entry IsGoodEntry batch entries state both offers i outcome is in
+    subst IsReadable same (record { held = can.0; whole = fit.whole; shallow = can.1 })
 
 abbrev is_failed : Result Outcome ServiceFault → Bool
 is_failed (Ok outcome) = false
@@ -103,6 +124,6 @@ pub lacks-outcome : (allows : Allowance) (policy : Policy) (plan : Plan) (entrie
 lacks-outcome allows policy plan entries (fault.NoOutcome i) sound numbered (due, none) = record { at = i; due = due; none = none; ends = refl; line = refl }
 lacks-outcome allows policy plan entries (fault.Service i) sound numbered (due, failed) = absurd (not_failed (get_or (recorded_for (plan_records plan) entries) i None) failed)
 lacks-outcome allows policy plan entries (fault.BadStatus i) sound numbered (due, (outcome, offer, bad)) =
-    let (entry, fit, same) = sound-offered (plan_records plan) entries i outcome sound offer in
+    let (entry, fit, same) = offered-entry IsSoundOutcome (plan_records plan) entries i outcome sound offer in
     absurd (both_ways _ bad (ap (λ o. is_status o.status) (sym same) ∙ in_range entry.1.status fit.low fit.high))
 lacks-outcome allows policy plan entries fault.OutOfMemory sound numbered none = absurd (numbered refl)

@@ -1,10 +1,12 @@
--- Runs by recorded events: what is reported was recorded, so its body holds whole numbers alone.
-use Rattle.std.proofs.Common.{ℕ, zero, suc, Bool, true, false, not, ◌&&◌, get_or, List, [], ◌∷◌, All, Some, None, if◌then◌else◌, refl, sym, subst}
+-- Runs by recorded events: what is reported was recorded.
+use Rattle.std.proofs.Common.{ℕ, zero, suc, Bool, true, false, not, ◌&&◌, get_or, List, [], ◌∷◌, All, Option, Some, None, IfSome, if◌then◌else◌, refl, sym, subst}
 use Rattle.std.specs.List.{AllZip}
 use Rattle.std.proofs.lemmas.List.Elements.{All-nil, All-cons, All-head, All-tail, All-set, All-replicate}
-use Rattle.odb_doc.specs.Events.{EventValue, IsSoundEvent}
+use Rattle.odb_doc.specs.declared.outcome.Outcome.{Outcome}
+use Rattle.odb_doc.specs.Events.{EventValue, IsRecordableEvent, IsSoundEvent}
 use Rattle.odb_doc.specs.Events as named
 use Rattle.odb_doc.specs.Records.{Record}
+use Rattle.odb_doc.specs.WholeNumbers.{IsWhole}
 use Rattle.odb_check.specs.declared.plan.Plan.{Plan}
 use Rattle.odb_check.specs.Plans.{plan_records}
 use Rattle.odb_check.specs.Shape.{unit_of}
@@ -17,7 +19,7 @@ use Rattle.odb_sched.specs.declared.refusal.RunRefusal.{RunRefusal}
 use Rattle.odb_sched.specs.declared.refusal.RunRefusal.TheVariants as refusal
 use Rattle.odb_sched.specs.declared.resolving.ResolveFault.{ResolveFault}
 use Rattle.odb_sched.specs.declared.resolving.ResolveFault.TheVariants as fault
-use Rattle.odb_sched.specs.Answers.{answer_of, outcome_of}
+use Rattle.odb_sched.specs.Answers.{answer, answer_of, outcome_of}
 use Rattle.odb_sched.specs.Refusals as refusals
 use Rattle.odb_sched.specs.ResolveFaults as ids
 use Rattle.odb_sched.specs.Resolving.{IsResolved, RefusesNamed}
@@ -26,61 +28,93 @@ use Rattle.odb_sched.specs.State.{State, phase_at, at_first}
 use Rattle.odb_sched.specs.Statuses.{is_success}
 use Rattle.odb_sched.specs.Steps.{unit_succeeded}
 use Rattle.odb_reply.specs.NotWhole.{HasWholeBody, HasWholeBodies}
+use Rattle.odb_reply.specs.Readable.{AnswersBy, IsReadable}
 use Rattle.odb_engine.specs.Runs.{AreResolved, IsLeastOfRun, end_of, resolve_refusal, run_refusal}
 use Rattle.odb_engine.specs.Runs.IsLeastOfRun.{OfIds, OfEvent}
-
--- the body that a request has reported, if any
-abbrev IsWholePhase : Phase → Type 0
-IsWholePhase phase = HasWholeBody (outcome_of phase)
-
--- the body that an event reports, if any
-abbrev IsWholeEvent : Event → Type 0
-IsWholeEvent (event.Start i) = Unit {0}
-IsWholeEvent (event.Report i outcome) = HasWholeBody (Some outcome)
-
-whole-resolved : (batch : List Record) (recorded : EventValue) (e : Event) → IsResolved batch recorded e → IsSoundEvent recorded → IsWholeEvent e
-whole-resolved batch (named.Start id) (event.Start i) is sound = tt
-whole-resolved batch (named.Start id) (event.Report i outcome) is sound = absurd is
-whole-resolved batch (named.Report id outcome) (event.Start i) is sound = absurd is
-whole-resolved batch (named.Report id outcome) (event.Report i reported) (at, same) sound = subst (λ o. HasWholeBody (Some o)) (sym same) sound.whole
-
--- after an event of whole bodies all bodies are whole
-whole-after : (state : State) (events : List Event) → All IsWholeEvent events → All IsWholePhase state.phases → All IsWholePhase (after_all state events).phases
-whole-after state [] each whole = whole
-whole-after state (event.Start i ∷ events) each whole =
-    whole-after _ events (All-tail IsWholeEvent _ events each) (All-set IsWholePhase state.phases i Running tt whole)
-whole-after state (event.Report i outcome ∷ events) each whole =
-    whole-after _ events (All-tail IsWholeEvent _ events each) (All-set IsWholePhase state.phases i (Reported outcome) (All-head IsWholeEvent _ events each) whole)
-
--- an answer shows what was reported, or nothing
-whole-answer : (phase : Phase) (b : Bool) → IsWholePhase phase → HasWholeBody (answer_of phase b)
-whole-answer Unstarted b whole = tt
-whole-answer Running b whole = tt
-whole-answer (Reported outcome) b whole = at (is_success outcome.status && not b)
-  where
-    at : (undone : Bool) → HasWholeBody (if undone then None else Some outcome)
-    at true = tt
-    at false = whole
 
 at-or : {X : Type 0} (P : X → Type 0) (xs : List X) (i : ℕ) (d : X) → P d → All P xs → P (get_or xs i d)
 at-or P [] i d other each = other
 at-or P (x ∷ xs) zero d other each = All-head P x xs each
 at-or P (x ∷ xs) (suc i) d other each = at-or P xs i d other (All-tail P x xs each)
 
-all-resolved : (batch : List Record) (recorded : List EventValue) (events : List Event) → AllZip (IsResolved batch) recorded events → All IsSoundEvent recorded → All IsWholeEvent events
-all-resolved batch [] [] is sound = All-nil IsWholeEvent
-all-resolved batch [] (e ∷ events) is sound = absurd is
-all-resolved batch (n ∷ recorded) [] is sound = absurd is
-all-resolved batch (n ∷ recorded) (e ∷ events) (is, rest) sound =
-    All-cons IsWholeEvent e events (whole-resolved batch n e is (All-head IsSoundEvent n recorded sound)) (all-resolved batch recorded events rest (All-tail IsSoundEvent n recorded sound))
+-- what holds of each recorded outcome holds of each answer
+module _ (holds : Outcome → Type 0) where
+  -- of the outcome that a request has reported, if any
+  abbrev OnPhase : Phase → Type 0
+  OnPhase phase = IfSome (outcome_of phase) holds
+
+  abbrev OnEvent : Event → Type 0
+  OnEvent (event.Start i) = Unit {0}
+  OnEvent (event.Report i outcome) = holds outcome
+
+  abbrev pub OnNamed : EventValue → Type 0
+  OnNamed (named.Start id) = Unit {0}
+  OnNamed (named.Report id outcome) = holds outcome
+
+  on-resolved : (batch : List Record) (recorded : EventValue) (e : Event) → IsResolved batch recorded e → OnNamed recorded → OnEvent e
+  on-resolved batch (named.Start id) (event.Start i) is so = tt
+  on-resolved batch (named.Start id) (event.Report i outcome) is so = absurd is
+  on-resolved batch (named.Report id outcome) (event.Start i) is so = absurd is
+  on-resolved batch (named.Report id outcome) (event.Report i reported) (at, same) so = subst holds (sym same) so
+
+  all-resolved : (batch : List Record) (recorded : List EventValue) (events : List Event) → AllZip (IsResolved batch) recorded events → All OnNamed recorded → All OnEvent events
+  all-resolved batch [] [] is so = All-nil OnEvent
+  all-resolved batch [] (e ∷ events) is so = absurd is
+  all-resolved batch (n ∷ recorded) [] is so = absurd is
+  all-resolved batch (n ∷ recorded) (e ∷ events) (is, rest) so =
+      All-cons OnEvent e events (on-resolved batch n e is (All-head OnNamed n recorded so)) (all-resolved batch recorded events rest (All-tail OnNamed n recorded so))
+
+  on-after : (state : State) (events : List Event) → All OnEvent events → All OnPhase state.phases → All OnPhase (after_all state events).phases
+  on-after state [] each so = so
+  on-after state (event.Start i ∷ events) each so =
+      on-after _ events (All-tail OnEvent _ events each) (All-set OnPhase state.phases i Running tt so)
+  on-after state (event.Report i outcome ∷ events) each so =
+      on-after _ events (All-tail OnEvent _ events each) (All-set OnPhase state.phases i (Reported outcome) (All-head OnEvent _ events each) so)
+
+  -- an answer shows what was reported, or nothing
+  on-answer : (phase : Phase) (b : Bool) → OnPhase phase → IfSome (answer_of phase b) holds
+  on-answer Unstarted b so = tt
+  on-answer Running b so = tt
+  on-answer (Reported outcome) b so = at (is_success outcome.status && not b)
+    where
+      at : (undone : Bool) → IfSome (if undone then None else Some outcome) holds
+      at true = tt
+      at false = so
+
+  on-answers : (policy : Policy) (plan : Plan) (recorded : List EventValue) (events : List Event) → AreResolved plan recorded events → All OnNamed recorded
+      → (i : ℕ) → IfSome (answer (end_of policy plan events) i) holds
+  on-answers policy plan recorded events is so i =
+      let first = at_first plan policy in
+      let state = end_of policy plan events in
+      let each = on-after first events (all-resolved (plan_records plan) recorded events is so) (All-replicate OnPhase _ Unstarted tt) in
+      on-answer (phase_at state i) (unit_succeeded state (unit_of state.shape i)) (at-or OnPhase state.phases i Unstarted tt each)
+
+abbrev IsWholeOutcome : Outcome → Type 0
+IsWholeOutcome outcome = IfSome outcome.body IsWhole
+
+whole-named : (recorded : EventValue) → IsSoundEvent recorded → OnNamed IsWholeOutcome recorded
+whole-named (named.Start id) sound = tt
+whole-named (named.Report id outcome) sound = sound.whole
+
+readable-named : (recorded : EventValue) → IsSoundEvent recorded → IsRecordableEvent recorded → OnNamed IsReadable recorded
+readable-named (named.Start id) sound can = tt
+readable-named (named.Report id outcome) sound can = record { held = can.0; whole = sound.whole; shallow = can.1 }
+
+whole-body : (found : Option Outcome) → IfSome found IsWholeOutcome → HasWholeBody found
+whole-body None so = tt
+whole-body (Some outcome) so = so
 
 -- a run by recorded events answers whole bodies alone
 pub whole-bodies : (policy : Policy) (plan : Plan) (recorded : List EventValue) (events : List Event) → AreResolved plan recorded events → All IsSoundEvent recorded → HasWholeBodies (end_of policy plan events)
 whole-bodies policy plan recorded events is sound i within =
-    let first = at_first plan policy in
-    let state = end_of policy plan events in
-    let each = whole-after first events (all-resolved (plan_records plan) recorded events is sound) (All-replicate IsWholePhase _ Unstarted tt) in
-    whole-answer (phase_at state i) (unit_succeeded state (unit_of state.shape i)) (at-or IsWholePhase state.phases i Unstarted tt each)
+    whole-body (answer (end_of policy plan events) i) (on-answers IsWholeOutcome policy plan recorded events is (λ k d less. whole-named (get_or recorded k d) (sound k d less)) i)
+
+-- what a document can record is read again from a response
+pub readable-answers : (policy : Policy) (plan : Plan) (recorded : List EventValue) (events : List Event) → AreResolved plan recorded events → All IsSoundEvent recorded → All IsRecordableEvent recorded
+    → AnswersBy IsReadable (end_of policy plan events)
+readable-answers policy plan recorded events is sound can i outcome within answered =
+    subst (λ (found : Option Outcome). IfSome found IsReadable) answered
+    (on-answers IsReadable policy plan recorded events is (λ k d less. readable-named (get_or recorded k d) (sound k d less) (can k d less)) i)
 
 -- an event that names no request
 pub unknown-event : (policy : Policy) (plan : Plan) (recorded : List EventValue) (cause : ResolveFault) → RefusesNamed cause (plan_records plan) recorded → ids.IsNumbered cause

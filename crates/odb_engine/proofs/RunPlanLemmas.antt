@@ -33,7 +33,7 @@ use Rattle.odb_engine.specs.Laws.{IsOne}
 use Rattle.odb_engine.specs.Replays.{response_line}
 use Rattle.odb_engine.specs.Runs.{AreResolved, IsLeastOfRun, IsResult, Runs, RunsBy, RunsPlan, end_of, events_refusal}
 use Rattle.odb_engine.specs.Runs.IsLeastOfRun.{OfIds, OfEvent, OfEnd}
-use Rattle.odb_engine.proofs.PlanLemmas.{with_plan, IsRunFrom-plan, after_all-plan, at_first-plan, plan-kept, response_value-plan, result_text-plan}
+use Rattle.odb_engine.proofs.PlanLemmas.{read_again-plan, with_plan, IsRunFrom-plan, after_all-plan, at_first-plan, plan-kept, response_value-plan, result_text-plan}
 use Rattle.odb_engine.specs.Inputs.{SomeDocument}
 use Rattle.odb_engine.proofs.RunLawLemmas.{HaveOneCause, one-run}
 use Rattle.odb_engine.proofs.SecondLemmas.{IsOneKind, second_one, some_document_one}
@@ -110,6 +110,8 @@ module _ (policy : Policy) (plan other : Plan) (same : plan_records plan ≡ pla
         dependencies_first = subst (λ (rs : List Record). StartsLast rs x.events) (sym same) x.dependencies_first;
         one_per_id = subst (λ (s : State). HasOnePerId (plan_records plan) (response_value s)) (end-plan x.events)
             (subst (λ (rs : List Record). HasOnePerId rs (response_value (with_plan plan last))) (sym same) one);
+        read_again = λ recordable. read_again-plan (plan_records other) (plan_records plan) (response_line last) (response_line (end_of policy plan x.events)) (sym same)
+            (sym (result_text-plan plan last kept false []) ∙ ap (λ (s : State). response_line s) (end-plan x.events)) (x.read_again recordable);
       }
 
   runs-plan : (ended : Ended) (text : List ℕ) → RunsPlan policy other ns ended text → RunsPlan policy plan ns ended text

@@ -5,6 +5,7 @@ pub mod Traces
 pub mod Cascade
 pub mod Engines
 pub mod Commands
+pub mod ReadAgain
 pub mod Replays
 pub mod Runs
 pub mod Matches

@@ -1,9 +1,10 @@
 -- What a run by recorded outcomes writes of a batch.
-use Rattle.std.specs.Prelude.{◌≡◌, ◌⊎◌, ℕ, Bool, List, [], ◌∷◌, ◌++◌, Option, Err, codes, if◌then◌else◌}
+use Rattle.std.specs.Prelude.{◌≡◌, ◌⊎◌, ℕ, Bool, List, [], ◌∷◌, ◌++◌, Option, All, Err, codes, if◌then◌else◌}
 use Rattle.odb_doc.specs.declared.fault.Place.TheVariants as places
 use Rattle.odb_doc.specs.declared.outcome_fault.OutcomeFault.{OutcomeFault}
 use Rattle.odb_doc.specs.LeastOutcomeFault.{IsOutcomesDocument, RefusesOutcomes}
 use Rattle.odb_doc.specs.OutcomeFaults as outcomes
+use Rattle.odb_doc.specs.OutcomeValues.{IsRecordable}
 use Rattle.odb_doc.specs.Outcomes.{Recorded, AreOutcomesOf}
 use Rattle.odb_doc.specs.Records.{Record}
 use Rattle.odb_check.specs.declared.plan.Plan.{Plan}
@@ -25,6 +26,7 @@ use Rattle.odb_engine.specs.Cascade.{Writes, Refusal, line_of, Reports, HasValue
 use Rattle.odb_sched.specs.declared.fault.ExecFault.{ExecFault}
 use Rattle.odb_sched.specs.ExecFaults.{exec_code, exec_name, exec_place}
 use Rattle.odb_engine.specs.Inputs.{SomeDocument}
+use Rattle.odb_engine.specs.ReadAgain.{IsReadAgain}
 
 -- the trace, if one is wanted
 abbrev pub trace_part : Bool → State → List Step → List ℕ
@@ -43,7 +45,8 @@ abbrev pub offers_of : Plan → List Recorded → Offer
 offers_of plan entries = OffersRecorded (recorded_for (plan_records plan) entries)
 
 -- The result of a finished course of the plan, under the policy, by the chooser and by the recorded outcomes. In it no
--- request starts before all that it names has ended with 2xx, and the response has exactly one element per id.
+-- request starts before all that it names has ended with 2xx, and the response has exactly one element per id. It is read
+-- again as such, if a document can record the outcomes.
 pub record IsResult (allows : Allowance) (policy : Policy) (traced : Bool) (plan : Plan) (entries : List Recorded) (ended : Ended) (text : List ℕ) : Type 0 where
   pub ends : ended ≡ Done
   pub steps : List Step
@@ -52,6 +55,7 @@ pub record IsResult (allows : Allowance) (policy : Policy) (traced : Bool) (plan
   pub result : text ≡ result_text traced last steps
   pub dependencies_first : StartsLast (plan_records plan) course.events
   pub one_per_id : HasOnePerId (plan_records plan) (response_value last)
+  pub read_again : All (λ (entry : Recorded). IsRecordable entry.1) entries → IsReadAgain (plan_records plan) (response_line last)
 
 -- a request whose report is due after some course has no outcome
 pub record LacksOutcome (allows : Allowance) (policy : Policy) (plan : Plan) (entries : List Recorded) (ended : Ended) (text : List ℕ) : Type 0 where

@@ -1,10 +1,10 @@
 -- What recorded events write of a batch: the response if every event may come and the run is finished.
-use Rattle.std.specs.Prelude.{◌≡◌, ◌⊎◌, ℕ, List, Option, true, false, codes}
+use Rattle.std.specs.Prelude.{◌≡◌, ◌⊎◌, ℕ, List, Option, All, true, false, codes}
 use Rattle.std.specs.List.{AllZip}
 use Rattle.odb_doc.specs.declared.fault.Place.TheVariants as places
 use Rattle.odb_doc.specs.declared.event_fault.EventFault.{EventFault}
 use Rattle.odb_doc.specs.EventFaults as documents
-use Rattle.odb_doc.specs.Events.{EventValue, AreEventsOf}
+use Rattle.odb_doc.specs.Events.{EventValue, AreEventsOf, IsRecordableEvent}
 use Rattle.odb_doc.specs.LeastEventFault.{IsEventsDocument, RefusesEvents}
 use Rattle.odb_doc.specs.Records.{Record}
 use Rattle.odb_check.specs.declared.plan.Plan.{Plan}
@@ -27,6 +27,7 @@ use Rattle.odb_engine.specs.declared.ending.Ended.{Ended}
 use Rattle.odb_engine.specs.declared.ending.Ended.TheVariants.{Done}
 use Rattle.odb_engine.specs.Cascade.{Writes, Refusal, Reports, HasValue, IsLeastOf}
 use Rattle.odb_engine.specs.Inputs.{SomeDocument}
+use Rattle.odb_engine.specs.ReadAgain.{IsReadAgain}
 use Rattle.odb_engine.specs.Replays.{response_line}
 
 abbrev pub events_refusal : EventFault → Refusal
@@ -66,7 +67,8 @@ pub data IsLeastOfRun (policy : Policy) (plan : Plan) (named : List EventValue) 
   OfEnd : (events : List Event) → AreResolved plan named events → IsRun plan policy events → is_finished (end_of policy plan events) ≡ false → refusal ≡ unfinished → IsLeastOfRun policy plan named refusal
 
 -- The response to a finished run of the plan, under the policy, by just these events. In it no request starts before all
--- that it names has ended with 2xx, and the response has exactly one element per id.
+-- that it names has ended with 2xx, and the response has exactly one element per id. It is read again as such, if a document
+-- can record the events.
 pub record IsResult (policy : Policy) (plan : Plan) (named : List EventValue) (ended : Ended) (text : List ℕ) : Type 0 where
   pub ends : ended ≡ Done
   pub events : List Event
@@ -76,6 +78,7 @@ pub record IsResult (policy : Policy) (plan : Plan) (named : List EventValue) (e
   pub result : text ≡ response_line (end_of policy plan events)
   pub dependencies_first : StartsLast (plan_records plan) events
   pub one_per_id : HasOnePerId (plan_records plan) (response_value (end_of policy plan events))
+  pub read_again : All IsRecordableEvent named → IsReadAgain (plan_records plan) (response_line (end_of policy plan events))
 
 -- what is written of a plan by recorded events
 abbrev pub RunsPlan : Policy → Plan → List EventValue → Writes

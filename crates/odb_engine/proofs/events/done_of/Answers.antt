@@ -1,11 +1,15 @@
 -- A run by recorded events.
-use Rattle.std.proofs.Common.{◌≡◌, ◌∙◌, subst, refl, sym, ap, IfErr}
+use Rattle.std.proofs.Common.{◌≡◌, ◌∙◌, Some, subst, refl, sym, ap, IfErr}
+use Rattle.serde_json.specs.Read.{read}
 use Rattle.odb_doc.specs.EventLists.{entries}
 use Rattle.odb_check.specs.Plans.{plan_records}
 use Rattle.odb_sched.specs.State.{State, at_first}
 use Rattle.odb_sched.specs.Steps.{is_finished}
 use Rattle.odb_reply.specs.NotWhole.{HasWholeBodies}
+use Rattle.odb_reply.specs.Fits.{ListsFit}
 use Rattle.odb_reply.specs.OnePerId.{HasOnePerId}
+use Rattle.odb_reply.specs.Readable.{AnswersBy, IsReadable}
+use Rattle.odb_reply.specs.ResponseDocuments.{IsResponseDocument}
 use Rattle.odb_reply.specs.Responses.{response_value}
 use Rattle.odb_engine.specs.Stops.{Stopped}
 use Rattle.odb_engine.specs.Replays.{response_line}
@@ -13,7 +17,7 @@ use Rattle.odb_engine.specs.Runs.{IsLeastOfRun, end_of, resolve_refusal, run_ref
 use Rattle.odb_engine.specs.Runs.IsLeastOfRun.{OfEnd}
 use Rattle.odb_engine.proofs.EngineLemmas.{at-exit, stopped-by}
 use Rattle.odb_engine.proofs.PlanLemmas.{plan-kept}
-use Rattle.odb_engine.proofs.RunLemmas.{unknown-event, barred-event, whole-bodies}
+use Rattle.odb_engine.proofs.RunLemmas.{unknown-event, barred-event, readable-answers, whole-bodies}
 use Rattle.odb_engine.proofs.events.done_of.Goals as goal
 
 pub returns-in_err-resolved-clause-least : goal.returns-in_err-resolved-clause-least
@@ -59,6 +63,15 @@ returns-clause-result c =
       dependencies_first = c.in_ok-scheduler.ensures.dependencies_first;
       one_per_id = subst (λ p. HasOnePerId (plan_records p) (response_value (end_of policy plan events))) (plan-kept first events)
           (subst (λ (s : State). HasOnePerId (plan_records s.plan) (response_value s)) same c.every_response.ensures.one_per_id);
+      read_again = λ recordable.
+          let readable = readable-answers policy plan (entries c.args.events) events c.in_ok-resolved.ensures.events c.len-count.ensures.sound recordable in
+          let fits = subst (λ (s : State). ListsFit (plan_records s.plan) (response_value s)) same c.every_response.ensures.fits in
+          record {
+            value = response_value (end_of policy plan events);
+            reads = subst (λ (s : State). AnswersBy IsReadable s → read (response_line s) ≡ Some (response_value s)) same c.every_response.ensures.line readable;
+            document = subst (λ (s : State). IsResponseDocument (response_value s)) same c.every_response.ensures.document;
+            fits = subst (λ p. ListsFit (plan_records p) (response_value (end_of policy plan events))) (plan-kept first events) fits;
+          };
     }
 
 pub returns-clause-whole : goal.returns-clause-whole

@@ -8,6 +8,7 @@ use Rattle.odb_sched.specs.Courses.{IsDue, IsCausedBy, IsFinishedBy}
 use Rattle.odb_sched.specs.Laws.{StartsLast}
 use Rattle.odb_sched.specs.Recordings.{OffersRecorded}
 use Rattle.odb_sched.specs.State.{at_first}
+use Rattle.odb_reply.specs.Fits.{ListsFit}
 use Rattle.odb_reply.specs.OnePerId.{HasOnePerId}
 use Rattle.odb_reply.specs.Responses.{response_value}
 use Rattle.odb_engine.specs.declared.ending.Ended.TheVariants.{Refused}
@@ -15,7 +16,7 @@ use Rattle.odb_engine.specs.Cascade.{line_of}
 use Rattle.odb_engine.specs.Stops.{Refuses}
 use Rattle.odb_engine.specs.Replays.{LacksOutcome, execution_refusal}
 use Rattle.odb_engine.proofs.EngineLemmas.{at-exit, stopped-by}
-use Rattle.odb_engine.proofs.ReplayLemmas.{whole-bodies, lacks-outcome}
+use Rattle.odb_engine.proofs.ReplayLemmas.{readable-answers, whole-bodies, lacks-outcome}
 use Rattle.odb_engine.proofs.running.run_of.Goals as goal
 
 pub returns-in_err-trace-clause-lacks : goal.returns-in_err-trace-clause-lacks
@@ -38,6 +39,7 @@ returns-clause-result g c =
     let execution = c.in_ok-trace.ensures.execution in
     let (course, ended) = subst (λ s. (course : IsFinishedBy allows (OffersRecorded s) first trace.steps.items trace.done) × StartsLast (plan_records plan) course.events) c.in_ok-new.ensures
     (execution.course, execution.dependencies_first) in
+    let offers = subst (λ s. (i : ℕ) (outcome : Outcome) → reported trace.done i ≡ Some outcome → OffersRecorded s i (Ok outcome)) c.in_ok-new.ensures c.in_ok-trace.ensures.offered in
     λ traced. record {
       ends = refl;
       steps = trace.steps.items;
@@ -46,6 +48,12 @@ returns-clause-result g c =
       result = refl;
       dependencies_first = ended;
       one_per_id = subst (λ p. HasOnePerId (plan_records p) (response_value trace.done)) c.in_ok-trace.ensures.plan c.every_response.ensures.one_per_id;
+      read_again = λ recordable. record {
+        value = response_value trace.done;
+        reads = c.every_response.ensures.line (readable-answers (plan_records plan) (entries c.args.outcomes) trace.done c.len-count.ensures.sound offers recordable);
+        document = c.every_response.ensures.document;
+        fits = subst (λ p. ListsFit (plan_records p) (response_value trace.done)) c.in_ok-trace.ensures.plan c.every_response.ensures.fits;
+      };
     }
 
 pub returns-clause-whole : goal.returns-clause-whole
