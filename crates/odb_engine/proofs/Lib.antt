@@ -8,6 +8,7 @@ mod RunLemmas
 mod RunLawLemmas
 mod RunPlanLemmas
 mod LawLemmas
+mod ReadAgainLemmas
 mod SecondLemmas
 mod PlanLemmas
 mod CourseLemmas

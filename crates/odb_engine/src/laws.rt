@@ -1,16 +1,19 @@
-//! What the contracts of the engines determine: for the same bytes of the documents, one text.
+//! What the contracts of the engines determine: for the same bytes of the documents, one text; and that
+//! a response is read again.
 //!
 //! The laws are clauses of functions that change nothing. They speak of the very relations that the
 //! clauses `ends` of the engines cite.
 
-ghost use Rattle.std.specs.Prelude.{ℕ, Bool, List, Some};
+ghost use Rattle.std.specs.Prelude.{ℕ, Bool, false, List, Some};
 ghost use Rattle.odb_sched.specs.Choosing.{AllowsOrder};
 ghost use Rattle.odb_sched.specs.declared.order.Order.{Order};
 ghost use Rattle.odb_sched.specs.declared.policy.Policy.{Policy};
-ghost use Rattle.odb_engine.specs.Cascade.{Answers};
+ghost use Rattle.odb_engine.specs.Cascade.{Accepts, Answers};
 ghost use Rattle.odb_engine.specs.Commands.{BySecond, Canonical, Counts, Plans};
 ghost use Rattle.odb_engine.specs.Laws.{IsOne};
 ghost use Rattle.odb_engine.specs.Matches.{Matches};
+ghost use Rattle.odb_engine.specs.declared.ending.Ended.TheVariants.{Done};
+ghost use Rattle.odb_engine.specs.ReadAgain.{IsReadAgain};
 ghost use Rattle.odb_engine.specs.Replays.{Replays};
 ghost use Rattle.odb_engine.specs.Runs.{Runs};
 
@@ -60,4 +63,21 @@ pub fn one_run()
     odb_check::laws::one_fault();
     odb_doc::laws::one_history();
     odb_sched::laws::every_cause();
+}
+
+/// What a replay without a trace, or a run by recorded events, writes as its result is accepted by a
+/// match: the text, with its newline, is read as a response document, and its responses fit the batch.
+///
+/// A body that was read from a document nests at most 124 deep, so a response of it at most 127.
+pub fn read_again()
+    ensures replay { (order : Order) (policy : Policy) (bytes outcomes text : List ℕ)
+        → Answers (Replays (AllowsOrder order) policy false (Some outcomes)) bytes Done text
+        → Accepts bytes (λ batch. IsReadAgain batch text) }
+    ensures run { (policy : Policy) (bytes events text : List ℕ)
+        → Answers (Runs policy (Some events)) bytes Done text
+        → Accepts bytes (λ batch. IsReadAgain batch text) }
+{
+    odb_doc::laws::every_value();
+    odb_doc::laws::one_record();
+    odb_doc::laws::one_history();
 }
