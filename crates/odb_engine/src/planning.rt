@@ -2,6 +2,7 @@ ghost use Rattle.std.specs.Prelude.{◌≡◌, ◌≢◌, Err, IfErr, IfOk, OnOk
 ghost use Rattle.odb_doc.specs.Batches.{records};
 ghost use Rattle.odb_check.specs.LeastNameFault.{HasGoodNames};
 ghost use Rattle.odb_check.specs.Plans.{plan_records};
+ghost use Rattle.odb_check.specs.Seeds.{IsSeeded};
 ghost use Rattle.odb_engine.specs.declared.stop.Stop.TheVariants as stops;
 ghost use Rattle.odb_engine.specs.Stops.{RefusesNamesOf, Stopped};
 
@@ -20,6 +21,7 @@ pub fn plan_of<'a: 'b, 'b>(
 ) -> Result<Held<Plan<'b>>, Stop>
     ensures good { OnOk result (HasGoodNames (records batch.now)) }
     ensures plan { IfOk result (λ plan. plan_records plan.value ≡ records batch.now) }
+    ensures seed { IfOk result (λ plan. IsSeeded setup.seed.number plan.value) }
     ensures least { IfErr result (Stopped (RefusesNamesOf (records batch.now))) }
     ensures read { result ≢ Err stops.Read }
 {

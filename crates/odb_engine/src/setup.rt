@@ -1,4 +1,4 @@
-ghost use Rattle.std.specs.Prelude.{◌≡◌};
+ghost use Rattle.std.specs.Prelude.{◌≡◌, None};
 ghost use Rattle.odb_engine.specs.declared.held.Remains.TheVariants.{Dropped};
 
 use crate::held::Remains;
@@ -19,7 +19,8 @@ pub struct Setup {
 impl Setup {
     /// Returns the setup of an engine that takes none: no seed, and the documents are dropped.
     pub fn plain() -> Setup
-        ensures { result.remains ≡ Dropped }
+        ensures seed { result.seed.number ≡ None }
+        ensures remains { result.remains ≡ Dropped }
     {
         Setup {
             seed: Seed::none(),
