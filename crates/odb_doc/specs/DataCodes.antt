@@ -1,6 +1,6 @@
 -- How a proof distinguishes JSON values: for the model of an outcome, nothing to believe.
-use Rattle.std.proofs.Common.{◌≡◌, ℕ, List, refl, sym, ap, arith}
-use Rattle.std.specs.Coded.{Coded, code_by, coded×, coded⊎, coded_list, coded_ℕ, coded_ℤ, coded_bool}
+use Rattle.std.proofs.Common.{◌≡◌, ℕ, List, refl, ap, arith}
+use Rattle.std.specs.Coded.{Coded, coded_list, coded_ℕ, coded_ℤ, coded_bool}
 use base.Stored.{Gv, gnil, gnum, gcons, coded_float}
 use Rattle.serde_json.specs.Data.{Num, unsigned, negative, float, Data, null, boolean, number, string, array, object, Items, no_items, item, Members, no_members, member}
 

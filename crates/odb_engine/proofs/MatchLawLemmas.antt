@@ -1,5 +1,5 @@
 -- What a match writes of a batch and the bytes of a response document is one text.
-use Rattle.std.proofs.Common.{◌≡◌, ◌∙◌, ℕ, List, Some, inl, inr, sym, ap, subst}
+use Rattle.std.proofs.Common.{◌≡◌, ◌∙◌, ℕ, List, Some, inl, inr, sym, ap}
 use Rattle.std.specs.List.{AllZip}
 use Rattle.serde_json.specs.Data.{Data}
 use Rattle.odb_doc.specs.declared.fault.Place.TheVariants as places
@@ -13,7 +13,7 @@ use Rattle.odb_reply.specs.ResponseDocuments.{Entry, IsResponseDocument, Refuses
 use Rattle.odb_reply.specs.ResponseFaults as documents
 use Rattle.odb_engine.specs.Cascade.{Refusal, line_of}
 use Rattle.odb_engine.specs.Laws.{IsOne}
-use Rattle.odb_engine.specs.Matches.{IsLeastOfResponses, Lists, Matches, MatchesEntries, Misfits, match_refusal, match_text, responses_refusal}
+use Rattle.odb_engine.specs.Matches.{Matches, MatchesEntries, Misfits, match_refusal, match_text, responses_refusal}
 use Rattle.odb_engine.specs.Commands.{BySecond}
 use Rattle.odb_engine.proofs.SecondLemmas.{second_one, some_document_one}
 

@@ -1,5 +1,5 @@
 -- What is written of a run by a document is read again: what the document records nests no deeper than a response may.
-use Rattle.std.proofs.Common.{◌≡◌, ◌≤◌, ℕ, false, List, All, Some, inl, inr, sym, subst}
+use Rattle.std.proofs.Common.{◌≡◌, ◌≤◌, ℕ, false, List, All, Some, inl, inr, sym}
 use Rattle.serde_json.specs.Data.{Data, depth}
 use Rattle.serde_json.specs.Read.{read}
 use Rattle.odb_doc.specs.Events.{EventValue, AreEventsOf, IsRecordableEvent}
@@ -11,7 +11,7 @@ use Rattle.odb_check.specs.Plans.{plan_records}
 use Rattle.odb_sched.specs.declared.order.Order.{Order}
 use Rattle.odb_sched.specs.declared.policy.Policy.{Policy}
 use Rattle.odb_sched.specs.Choosing.{AllowsOrder}
-use Rattle.odb_engine.specs.declared.ending.Ended.TheVariants.{Done, Refused}
+use Rattle.odb_engine.specs.declared.ending.Ended.TheVariants.{Done}
 use Rattle.odb_engine.specs.Cascade.{Writes, Accepts, Answers}
 use Rattle.odb_engine.specs.ReadAgain.{IsReadAgain}
 use Rattle.odb_engine.specs.Replays.{Replays}

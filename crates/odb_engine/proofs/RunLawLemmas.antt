@@ -1,8 +1,7 @@
 -- What recorded events may write of the same requests: one text.
-use Rattle.std.proofs.Common.{◌≡◌, ◌⊎◌, ◌∙◌, ℕ, zero, suc, ◌<◌, true, false, List, [], ◌∷◌, ◌++◌, take, length, slice_get, All, IsSomeAnd, Some, inl, inr, refl, sym, ap, subst, string_bytes, arith}
+use Rattle.std.proofs.Common.{◌≡◌, ◌⊎◌, ◌∙◌, ℕ, zero, suc, ◌<◌, true, List, [], ◌∷◌, ◌++◌, length, slice_get, IsSomeAnd, Some, inl, inr, refl, sym, ap, subst}
 use Rattle.std.specs.List.{AllZip}
 use Rattle.std.proofs.lemmas.Bool.{cases_order, both_ways}
-use Rattle.std.proofs.lemmas.List.Elements.{All-head, All-tail}
 use Rattle.odb_doc.specs.Events.{EventValue}
 use Rattle.odb_doc.specs.Events as named
 use Rattle.odb_doc.specs.Records.{Record}

@@ -1,9 +1,9 @@
 -- The text of a response is read again as the response.
-use Rattle.std.proofs.Common.{◌≡◌, ℕ, zero, suc, ◌+◌, ◌<◌, ◌≤◌, false, List, [], ◌∷◌, length, Option, Some, None, option_map, IfSome, nat_le, nat_lt, ltb-true, true, codes, refl, ap, subst, arith}
+use Rattle.std.proofs.Common.{◌≡◌, ℕ, suc, ◌+◌, ◌<◌, List, [], ◌∷◌, length, Option, Some, None, option_map, IfSome, nat_le, nat_lt, ltb-true, true, codes, refl, subst, arith}
 use Rattle.std.proofs.lemmas.Bool.{and_parts, or_from}
-use Rattle.serde_json.specs.Data.{Data, unsigned, number, string, array, object, no_members, depth}
+use Rattle.serde_json.specs.Data.{Data, unsigned, number, string, array, no_members}
 use Rattle.serde_json.specs.View.{items_of}
-use Rattle.serde_json.specs.Written.{has_float, members_have_float}
+use Rattle.serde_json.specs.Written.{members_have_float}
 use Rattle.odb_doc.specs.declared.outcome.Outcome.{Outcome}
 use Rattle.odb_doc.specs.Canonical.{headers_value}
 use Rattle.odb_doc.specs.Records.{Record}
@@ -16,7 +16,7 @@ use Rattle.odb_sched.specs.Statuses.{is_status}
 use Rattle.odb_reply.specs.NotWhole.{HasWholeBodies}
 use Rattle.odb_doc.specs.OutcomeValues.{IsHeldOutcome, IsShallow}
 use Rattle.odb_reply.specs.Readable.{AnswersBy, HasShallowBodies, IsReadable}
-use Rattle.odb_reply.specs.Responses.{answer_body, answer_headers, response, response_members, responses_from, response_value}
+use Rattle.odb_reply.specs.Responses.{answer_body, answer_headers, response_members, responses_from, response_value}
 
 safe-status : (n status : ℕ) → is_status status ≡ true → IsSafe n (number (unsigned status))
 safe-status n status good =

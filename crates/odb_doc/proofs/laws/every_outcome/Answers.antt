@@ -1,5 +1,5 @@
 -- The headers are the entries of a map, which are in order.
-use Rattle.std.proofs.Common.{ap, subst}
+use Rattle.std.proofs.Common.{subst}
 use Rattle.odb_doc.specs.Headers.{IsInOrder}
 use Rattle.odb_doc.specs.declared.outcome.Outcome.{Outcome}
 use Rattle.odb_doc.proofs.HeaderLemmas.{ordered_entries}
