@@ -65,8 +65,9 @@ pub fn one_run()
     odb_sched::laws::every_cause();
 }
 
-/// What a replay without a trace, or a run by recorded events, writes as its result is accepted by a
-/// match: the text, with its newline, is read as a response document, and its responses fit the batch.
+/// What a replay without a trace, or a run by recorded events, writes as its result is read again:
+/// `serde_json` reads the text, with its newline, as a response document, and its responses fit the
+/// batch. So a match accepts it, unless it is longer than a document may be (F01).
 ///
 /// A body that was read from a document nests at most 124 deep, so a response of it at most 127.
 pub fn read_again()

@@ -55,7 +55,8 @@ pub fn one_match()
 /// Each id of the batch is the id of exactly one response, and no response has another id. The
 /// responses fit the batch, as [`crate::match_responses`] checks those of a service: each has the
 /// group of its request, and none is a success if a dependency of its request is not. The response is
-/// a response document, as [`crate::Responses::read`] accepts it.
+/// a response document, as [`crate::Responses::read`] accepts it. If each answer can be read again,
+/// `serde_json` reads the text of the response as the response, also with a newline at its end.
 pub fn every_response(done: &Done<'_>)
     ensures one_per_id { HasOnePerId (plan_records done.now.plan) (response_value done.now) }
     ensures fits { ListsFit (plan_records done.now.plan) (response_value done.now) }

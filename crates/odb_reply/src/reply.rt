@@ -138,7 +138,8 @@ fn buffer_responses<W: Write>(
 /// text that [`crate::response_text`] returns. The writer is not flushed.
 ///
 /// Allocates the text of one body or header at a time, and a buffer: it is written out once it holds
-/// 64 KiB, so it holds less than that and one response.
+/// 64 KiB, so it holds less than that and one response. What was written is read again as
+/// [`crate::response_text`] says.
 ///
 /// # Errors
 ///

@@ -95,7 +95,7 @@ pub record IsCutShort {S C : Type 0} (allows : Allowance) (offers : Offer) (perf
   pub choices : PicksAll chooses names state events chooser chooser_between
   pub faulty : Faults performs requests (IsDueNow allows chooses names (after_all state events) chooser_between chooser_new) cause between new
 
--- An execution was not completed: it ran out of memory and had asked neither the chooser nor the service, or a call was faulty.
+-- An execution was not completed: it ran out of memory and left chooser and service as they were, or a call was faulty.
 abbrev pub IsBrokenOff : {S C : Type 0} → Allowance → Offer → Performing S → Picking C → (C → Option Order) → List Record → State → S → S → C → C → ExecFault → Type 0
 IsBrokenOff allows offers performs chooses names requests state old new chooser chooser_new cause =
     ((cause ≡ fault.OutOfMemory) × (new ≡ old) × (chooser_new ≡ chooser)) ⊎ IsCutShort allows offers performs chooses names requests state old new chooser chooser_new cause

@@ -207,15 +207,16 @@ fn prepared<'a: 'p, 'p>(
 ///
 /// A run has at most two steps per request, and memory for all of them is reserved before the first. A
 /// run cannot deadlock, so there is no fault for that. The service is asked once for each report, and
-/// for nothing else ([`crate::laws::every_call`]). The chooser is asked once for each step before which
-/// it names no order, and for nothing else.
+/// for nothing else, as far as its relation `performs` distinguishes calls
+/// ([`crate::laws::every_call`]). The chooser is asked once for each step before which it names no
+/// order, and for nothing else, as far as its relation `chooses` does.
 ///
 /// # Errors
 ///
 /// F80, F81 or F82 for the request whose report was chosen, if the service has no outcome for it,
-/// failed, or returned a status that is not from 200 to 599. `OutOfMemory` if allocation failed:
-/// before the first step and any call of chooser or service, or in the service. Chooser and service
-/// keep the effects of the calls so far.
+/// failed, or returned a status that is not from 200 to 599. `OutOfMemory` if allocation failed: here,
+/// and then chooser and service are as they were; or in the service. After another fault chooser and
+/// service keep the effects of the calls so far.
 pub fn execute<'a: 'p, 'p, S: Service>(
     alloc: Global,
     plan: &'p Plan<'a>,

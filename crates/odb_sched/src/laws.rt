@@ -102,10 +102,10 @@ pub fn every_call<S: Service, X>()
         → map (λ call. call.0) (calls_of requests events) ≡ reported_by (map step_of events) }
 {}
 
-/// The answers of a finished run are those of each table of outcomes that its reports agree with, and
-/// which of them are successes depends on the statuses alone.
-/// The answers of a group are all successes or none is, and a success depends on successes alone.
-/// Each status that a request reported is from 200 to 599.
+/// In the mode `Continue`, the successes of a finished run are those of each table of outcomes that its
+/// reports agree with, and which requests they answer depends on the statuses alone. Under each policy
+/// the answers of a group are all successes or none is, a success depends on successes alone, and each
+/// status that a request reported is from 200 to 599.
 pub fn every_result(plan: &Plan<'_>)
     ensures one_result { (policy : Policy) (events : List Event)
         → policy.mode ≡ Continue → IsRun plan.now policy events
@@ -148,8 +148,9 @@ pub fn every_word(plan: &Plan<'_>)
 }
 
 /// In an order, as that of `First`, `Last` or `Wide`, and with recorded outcomes, an execution has one
-/// course from each state, so from the first of a plan and a policy: any two that finish have the same steps and the same answers, any two that do not have the
-/// same fault, and none has a fault where another finishes.
+/// course from each state, so from the first of a plan and a policy: any two that finish have the same
+/// steps and the same answers, any two that do not have the same fault, and none has a fault where
+/// another finishes.
 pub fn every_order()
     ensures one_course { (order : Order) (outcomes : List (Option Outcome)) (first : State)
         → HasOneCourse order outcomes first }
