@@ -1,6 +1,6 @@
 //! Responses: what two readings of them find, and what a finished run answers.
 
-ghost use Rattle.std.specs.Prelude.{IfSome};
+ghost use Rattle.std.specs.Prelude.{ℕ, List, IfSome};
 ghost use Rattle.std.specs.List.{AllZip};
 ghost use Rattle.serde_json.specs.View.{view};
 ghost use Rattle.odb_check.specs.Plans.{plan_records};
@@ -76,8 +76,8 @@ type TwoTables = (
 
 /// Matches responses with a batch twice.
 fn matched_twice(alloc: Global, plan: &Plan<'_>, responses: &Responses<'_>) -> TwoTables
-    ensures { IfSome result.0 (λ one. IfSome result.1
-        (IsSame (λ table. (places table, statuses table)) one)) }
+    ensures { IfSome result.0 (λ one. IfSome result.1 (IsSame {Y = List ℕ × List ℕ}
+        (λ table. (places table, statuses table)) one)) }
 {
     one_match();
     (
