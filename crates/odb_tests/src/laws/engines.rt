@@ -1,11 +1,11 @@
 //! The engines over bytes in memory: two calls for the same bytes end alike, and write one text.
 
-ghost use Rattle.std.specs.Prelude.{◌≡◌, true, false, Some, IfSome, IfOk};
+ghost use Rattle.std.specs.Prelude.{◌≡◌, true, Some, IfSome};
 ghost use Rattle.odb_sched.specs.Choosing.{AllowsOrder};
+ghost use Rattle.odb_sched.specs.declared.order.Order.TheVariants as orders;
 ghost use Rattle.odb_engine.specs.Cascade.{Answers};
 ghost use Rattle.odb_engine.specs.Commands.{BySecond, Canonical, Counts, Plans};
-ghost use Rattle.odb_engine.specs.Engines.{WritesText};
-ghost use Rattle.odb_engine.specs.Inputs.{IsFresh, SomeDocument};
+ghost use Rattle.odb_engine.specs.Inputs.{SomeDocument};
 ghost use Rattle.odb_engine.specs.Matches.{Matches};
 ghost use Rattle.odb_engine.specs.Replays.{Replays};
 ghost use Rattle.odb_engine.specs.Runs.{Runs};
@@ -13,9 +13,9 @@ ghost use Rattle.odb_engine.specs.Runs.{Runs};
 use odb_doc::{Input, Output};
 use odb_engine::laws::{one_replay, one_run, one_text};
 use odb_engine::{
-    Ended, EngineFault, canon_batch, check_batch, match_batch, plan_batch, replay_batch, run_batch,
+    Ended, canon_batch, check_batch, match_batch, plan_batch, replay_batch, run_batch,
 };
-use odb_sched::{Mode, Order, Policy};
+use odb_sched::{Last, Mode, Policy};
 use std::alloc::Global;
 
 /// How a command ended, and what it wrote.
@@ -136,65 +136,34 @@ fn ran_twice(alloc: Global, batch: &[u8], events: &[u8], policy: Policy) -> Both
     )
 }
 
-/// Replays a batch in an order, with the trace.
-fn replay_in(
-    alloc: Global,
-    batch: &mut Input<&[u8]>,
-    outcomes: &mut Input<&[u8]>,
-    output: &mut Output<Vec<u8>>,
-    policy: Policy,
-    mut order: Order,
-) -> Result<Ended, EngineFault>
-    requires batch { IsFresh batch.old }
-    requires outcomes { IsFresh outcomes.old }
-    requires output { output.old.failed ≡ false }
-    ensures { SomeDocument (Some batch.old.reader.now) (λ bytes. IfOk result (λ ended.
-        WritesText (Some output.old.writer.items) (Some output.new.writer.items)
-        (Answers (Replays (AllowsOrder order) policy true (Some outcomes.old.reader.now))
-        bytes ended))) }
-{
-    replay_batch(alloc, batch, outcomes, output, policy, &mut order, true)
-}
-
-fn replayed(
-    alloc: Global,
-    batch: &[u8],
-    outcomes: &[u8],
-    policy: Policy,
-    order: Order,
-) -> Option<Written>
+fn replayed(alloc: Global, batch: &[u8], outcomes: &[u8], policy: Policy) -> Option<Written>
     ensures { IfSome result (λ it. SomeDocument (Some batch.now) (λ bytes.
-        Answers (Replays (AllowsOrder order) policy true (Some outcomes.now)) bytes
+        Answers (Replays (AllowsOrder orders.Last) policy true (Some outcomes.now)) bytes
         it.0 it.1.items)) }
 {
     let mut output = Output::new(Vec::new(alloc));
-    match replay_in(
+    match replay_batch(
         alloc,
         &mut Input::new(batch),
         &mut Input::new(outcomes),
         &mut output,
         policy,
-        order,
+        &mut Last,
+        true,
     ) {
         Ok(ended) => Some((ended, output.into_inner())),
         Err(_) => None,
     }
 }
 
-fn replayed_twice(
-    alloc: Global,
-    batch: &[u8],
-    outcomes: &[u8],
-    policy: Policy,
-    order: Order,
-) -> Both
+fn replayed_twice(alloc: Global, batch: &[u8], outcomes: &[u8], policy: Policy) -> Both
     ensures { IfSome result.0 (λ one. IfSome result.1 (λ other.
         (one.0 ≡ other.0) × (one.1.items ≡ other.1.items))) }
 {
     one_replay();
     (
-        replayed(alloc, batch, outcomes, policy, order),
-        replayed(alloc, batch, outcomes, policy, order),
+        replayed(alloc, batch, outcomes, policy),
+        replayed(alloc, batch, outcomes, policy),
     )
 }
 
@@ -233,6 +202,6 @@ fn engines_write_one_text_of_the_same_bytes(rt: HostRuntime) {
             "{\"responses\":"
         )
     );
-    let both = replayed_twice(alloc, BATCH, OUTCOMES, policy, Order::Last);
+    let both = replayed_twice(alloc, BATCH, OUTCOMES, policy);
     assert!(rt; is_one(&both, done, "start a\n"));
 }
