@@ -3,5 +3,6 @@
 mod checking;
 mod documents;
 mod engines;
+mod orders;
 mod replying;
 mod running;

@@ -212,3 +212,62 @@ fn is_same(alloc: Global, bytes: &[u8], other_bytes: &[u8]) -> Option<bool>
         _ => None,
     }
 }
+
+/// A batch, and the same batch in other words.
+const BATCH: &[u8] = br#"{"requests":[{"id":"a","method":"get","url":"$b"}]}"#;
+
+const SAME: &[u8] = br#"{"requests":[{"url":"$b","method":"GET","id":"a"}]}"#;
+
+/// Whether two readings of outcomes found the same, a value or a fault.
+fn are_same_outcomes(alloc: Global, bytes: &[u8], is_good: bool) -> bool {
+    match &outcomes_twice(alloc, bytes) {
+        (Some(Ok(one)), Some(Ok(other))) => is_good && one.len() == other.len(),
+        (Some(Err(one)), Some(Err(other))) => !is_good && one == other,
+        _ => false,
+    }
+}
+
+/// Whether two readings of events found the same, a value or a fault.
+fn are_same_events(alloc: Global, bytes: &[u8], is_good: bool) -> bool {
+    match &events_twice(alloc, bytes) {
+        (Some(Ok(one)), Some(Ok(other))) => is_good && one.len() == other.len(),
+        (Some(Err(one)), Some(Err(other))) => !is_good && one == other,
+        _ => false,
+    }
+}
+
+/// Whether two readings of a batch refuse it alike.
+fn is_refused_alike(alloc: Global, bytes: &[u8]) -> bool {
+    match parse(alloc, bytes) {
+        Ok(value) => match batch_twice(alloc, &value) {
+            (Some(Err(one)), Some(Err(other))) => one == other,
+            _ => false,
+        },
+        Err(_) => false,
+    }
+}
+
+#[test]
+fn two_readings_of_one_document_are_one(rt: HostRuntime) {
+    let alloc = rt.alloc();
+    assert!(rt; method_twice("gEt") == (Some(Method::Get), Some(Method::Get)));
+    assert!(rt;
+        matches!(
+            front_twice(alloc, "a/b"),
+            (Some(Front::Plain), Some(Front::Plain))
+        )
+    );
+    assert!(rt; is_refused_alike(alloc, b"{}"));
+    assert!(rt; are_same_outcomes(alloc, br#"{"outcomes":[{"id":"a","status":200}]}"#, true));
+    assert!(rt; are_same_outcomes(alloc, b"{}", false));
+    assert!(rt; are_same_events(alloc, br#"{"events":[{"start":"a"}]}"#, true));
+    assert!(rt; are_same_events(alloc, b"{}", false));
+}
+
+#[test]
+fn a_written_text_is_read_back(rt: HostRuntime) {
+    let alloc = rt.alloc();
+    assert!(rt; is_same(alloc, BATCH, SAME) == Some(true));
+    assert!(rt; written(alloc, b"[1, 2]").is_some_and(|text| text.as_str() == "[1,2]"));
+    assert!(rt; canonical_of(alloc, BATCH).is_some());
+}
