@@ -1,6 +1,6 @@
 //! Executions in one order, by one record: two of them take the same steps and answer the same.
 
-ghost use Rattle.std.specs.Prelude.{◌≡◌, IfSome};
+ghost use Rattle.std.specs.Prelude.{◌≡◌, IfOk, IfSome};
 ghost use Rattle.odb_doc.specs.OutcomeLists.{entries};
 ghost use Rattle.odb_check.specs.Plans.{plan_records};
 ghost use Rattle.odb_sched.specs.Orders.{Faults, Finishes};
@@ -36,4 +36,29 @@ fn executed<'a: 'p, 'p>(
         Err(ExecFault::OutOfMemory) => None,
         Err(cause) => Some(Err(cause)),
     }
+}
+
+/// What two executions found.
+type TwoTraces<'p> = (
+    Option<Result<Trace<'p>, ExecFault>>,
+    Option<Result<Trace<'p>, ExecFault>>,
+);
+
+/// Executes a plan by two equal records. If both executions finish, they took the same steps.
+fn executed_twice<'a: 'p, 'p>(
+    alloc: Global,
+    plan: &'p Plan<'a>,
+    policy: Policy,
+    one: Outcomes,
+    other: Outcomes,
+) -> TwoTraces<'p>
+    requires { entries one ≡ entries other }
+    ensures { IfSome result.0 (λ a. IfSome result.1 (λ b. IfOk a (λ x. IfOk b (λ y.
+        x.steps.items ≡ y.steps.items)))) }
+{
+    every_order();
+    (
+        executed(alloc, plan, policy, one),
+        executed(alloc, plan, policy, other),
+    )
 }
