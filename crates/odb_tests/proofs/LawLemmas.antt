@@ -1,5 +1,5 @@
 -- What a law says of two calls: two texts of one document, and two readings of one thing.
-use Rattle.std.proofs.Common.{◌≡◌, ◌∙◌, ℕ, ◌<◌, List, [], length, take, Option, Some, None, Result, Ok, Err, IfSome, unwrap_or, inl, inr, sym, ap, subst, arith, length-append}
+use Rattle.std.proofs.Common.{◌≡◌, ◌∙◌, ℕ, ◌<◌, List, length, take, Option, Some, None, Result, Ok, Err, IfSome, unwrap_or, inl, inr, sym, ap, subst, arith, length-append}
 use Rattle.std.proofs.lemmas.Bool.{cases_order}
 use Rattle.std.proofs.Math.Seq.{take-append_seam}
 use Rattle.odb_engine.specs.declared.ending.Ended.{Ended}

@@ -2,7 +2,7 @@ use Rattle.std.proofs.Common.{◌≡◌, ◌↔◌, ◌∙◌, IsTrue, string_by
 use Rattle.serde_json.specs.View.{view}
 use Rattle.odb_doc.specs.Batches.{records}
 use Rattle.odb_doc.specs.Canonical.{canonical_text}
-use Rattle.odb_doc.specs.CanonicalLaws.{HasCanonicalText, IsDocumentOf}
+use Rattle.odb_doc.specs.CanonicalLaws.{IsDocumentOf}
 use Rattle.odb_tests.proofs.laws.documents.is_same.Goals as goal
 
 pub returns-in-Ok-Ok : goal.returns-in-Ok-Ok

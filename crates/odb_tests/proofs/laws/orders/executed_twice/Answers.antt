@@ -1,4 +1,4 @@
-use Rattle.std.proofs.Common.{◌≡◌, List, Option, Some, None, Result, Ok, Err, IfSome, IfOk, subst, sym}
+use Rattle.std.proofs.Common.{◌≡◌, List, Option, Some, None, Result, Ok, Err, IfSome, IfOk, subst}
 use Rattle.odb_doc.specs.OutcomeLists.{entries}
 use Rattle.odb_doc.specs.declared.outcome.Outcome.{Outcome}
 use Rattle.odb_check.specs.Plans.{plan_records}

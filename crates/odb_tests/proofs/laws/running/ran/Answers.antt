@@ -1,4 +1,4 @@
-use Rattle.std.proofs.Common.{◌≡◌, ◌∙◌, ap, sym, subst}
+use Rattle.std.proofs.Common.{◌∙◌, ap, sym, subst}
 use Rattle.odb_sched.specs.Answers.{HasStatuses}
 use Rattle.odb_sched.specs.Laws.{HasOneResult, HasResultByStatuses, HasSoundResult, IsAllOrNone, IsNeverStuck, IsSound}
 use Rattle.odb_sched.specs.State.{phase_at}
