@@ -12,6 +12,8 @@ mod documents;
 #[cfg(test)]
 mod engines;
 #[cfg(test)]
+mod laws;
+#[cfg(test)]
 mod messages;
 #[cfg(test)]
 mod replying;

@@ -1,0 +1,81 @@
+-- What a law says of two calls: two texts of one document, and two readings of one thing.
+use Rattle.std.proofs.Common.{◌≡◌, ◌∙◌, ℕ, ◌<◌, List, length, take, Option, Some, None, Result, Ok, Err, IfSome, unwrap_or, inl, inr, sym, ap, subst, arith, length-append}
+use Rattle.std.proofs.lemmas.Bool.{cases_order}
+use Rattle.std.proofs.Math.Seq.{take-append_seam}
+use Rattle.odb_engine.specs.declared.ending.Ended.{Ended}
+use Rattle.serde_json.specs.Data.{Data}
+use Rattle.odb_doc.specs.Documents.{IsDocument}
+use Rattle.odb_engine.specs.Cascade.{Writes, HasValue}
+use Rattle.odb_engine.specs.Inputs.{IsDocumentOf, SomeDocument}
+use Rattle.odb_engine.specs.Laws.{IsOne}
+use Rattle.odb_tests.specs.Readings.{IsReading, IsSame}
+
+-- ---- one text
+
+shorter : (left a b : List ℕ) → IsDocumentOf left a → IsDocumentOf left b → length a < length b → ⊥
+shorter left a b x y less =
+    let none = ap length (x.ends (omega (arith, y.within))) in
+    omega (arith, none, simp length-append at (ap length x.whole), simp length-append at (ap length y.whole))
+
+one_document : (left a b : List ℕ) → IsDocumentOf left a → IsDocumentOf left b → a ≡ b
+one_document left a b x y = elim (cases_order (length a) (length b)) [
+  | inl same ↦ sym (take-append_seam a x.rest) ∙ ap (take (length a)) (sym x.whole) ∙ ap (λ n. take n left) same ∙ ap (take (length b)) y.whole ∙ take-append_seam b y.rest
+  | inr (inl less) ↦ absurd (shorter left a b x y less)
+  | inr (inr less) ↦ absurd (shorter left b a y x less)
+]
+
+-- two calls that may each write such a text of the reader's document have written one, and ended alike
+pub one_written : {X : Type 0} (ended : X → Ended) (text : X → List ℕ) (left : List ℕ) (W : List ℕ → Writes) → ((bytes : List ℕ) → IsOne (W bytes)) → (a b : Option X)
+    → IfSome a (λ x. SomeDocument (Some left) (λ bytes. W bytes (ended x) (text x))) → IfSome b (λ y. SomeDocument (Some left) (λ bytes. W bytes (ended y) (text y)))
+    → IfSome a (λ x. IfSome b (λ y. (ended x ≡ ended y) × (text x ≡ text y)))
+one_written ended text left W one None b _ _ = tt
+one_written ended text left W one (Some x) None _ _ = tt
+one_written ended text left W one (Some x) (Some y) (bytes, gives, is) (others, give, too) =
+    one others (ended x) (ended y) (text x) (text y) (subst (λ document. W document (ended x) (text x)) (one_document left bytes others gives give) is) too
+
+-- ---- one reading
+
+module _ {X F Y D : Type 0} (shown : X → Y) (Good : D → Type 0) (Says : D → Y → Type 0) (Num : F → Type 0) (Refuses : F → D → Type 0) where
+  -- how a call reads the thing
+  abbrev pub Reads : D → Result X F → Type 0
+  Reads d = IsReading (λ x. Good d × Says d (shown x)) (λ f. Num f × Refuses f d)
+
+  pub one_reading : ((d : D) (x y : Y) → Says d x → Says d y → x ≡ y) → ((d : D) (f g : F) → Num f → Num g → Refuses f d → Refuses g d → f ≡ g)
+      → ((d : D) (f : F) → Num f → Refuses f d → ¬ Good d) → (d : D) (a b : Option (Result X F))
+      → IfSome a (Reads d) → IfSome b (Reads d) → IfSome a (λ one. IfSome b (IsSame shown one))
+  one_reading same one none d None b _ _ = tt
+  one_reading same one none d (Some a) None _ _ = tt
+  one_reading same one none d (Some (Ok x)) (Some (Ok y)) p q = record { values = same d (shown x) (shown y) p.0.1 q.0.1; faults = tt; alike = λ is. is }
+  one_reading same one none d (Some (Ok x)) (Some (Err g)) p q = absurd (none d g q.1.0 q.1.1 p.0.0)
+  one_reading same one none d (Some (Err f)) (Some (Ok y)) p q = absurd (none d f p.1.0 p.1.1 q.0.0)
+  one_reading same one none d (Some (Err f)) (Some (Err g)) p q = record { values = tt; faults = one d f g p.1.0 q.1.0 p.1.1 q.1.1; alike = λ no. no }
+
+-- bytes have one value
+one_value : (bytes : List ℕ) (d e : Data) → IsDocument bytes d → IsDocument bytes e → d ≡ e
+one_value bytes d e first second = ap (λ o. unwrap_or o d) (sym first.1.1 ∙ second.1.1)
+
+module _ {X F Y : Type 0} (shown : X → Y) (Good : Data → Type 0) (Says : Data → Y → Type 0) (Num : F → Type 0) (Refuses : F → Data → Type 0) where
+  -- how a call reads the bytes of a document
+  abbrev ReadsBytes : List ℕ → Result X F → Type 0
+  ReadsBytes bytes read = HasValue bytes (λ d. Reads shown Good Says Num Refuses d read)
+
+  pub one_reading_of_bytes : ((d : Data) (x y : Y) → Says d x → Says d y → x ≡ y) → ((d : Data) (f g : F) → Num f → Num g → Refuses f d → Refuses g d → f ≡ g)
+      → ((d : Data) (f : F) → Num f → Refuses f d → ¬ Good d) → (bytes : List ℕ) (a b : Option (Result X F))
+      → IfSome a (ReadsBytes bytes) → IfSome b (ReadsBytes bytes) → IfSome a (λ one. IfSome b (IsSame shown one))
+  one_reading_of_bytes same one none bytes None b _ _ = tt
+  one_reading_of_bytes same one none bytes (Some a) None _ _ = tt
+  one_reading_of_bytes same one none bytes (Some a) (Some b) p q =
+      one_reading shown Good Says Num Refuses same one none q.value (Some a) (Some b) (subst (λ d. Reads shown Good Says Num Refuses d a) (one_value bytes p.value q.value p.document q.document) p.holds) q.holds
+
+-- two calls that find such a thing, of which there is one
+pub one_found : {X Y : Type 0} (shown : X → Y) (P : Y → Type 0) → ((x y : Y) → P x → P y → x ≡ y) → (a b : Option X) → IfSome a (λ x. P (shown x)) → IfSome b (λ x. P (shown x))
+    → IfSome a (λ x. IfSome b (λ y. shown x ≡ shown y))
+one_found shown P one None b _ _ = tt
+one_found shown P one (Some x) None _ _ = tt
+one_found shown P one (Some x) (Some y) p q = one (shown x) (shown y) p q
+
+-- the property that does not depend on the value, said twice
+pub with_good : {X F : Type 0} (A : Type 0) (B : X → Type 0) (Q : F → Type 0) (a : Option (Result X F)) → IfSome a (IsReading (λ x. A × B x) Q) → IfSome a (IsReading (λ x. A × (A × B x)) Q)
+with_good A B Q None _ = tt
+with_good A B Q (Some (Ok x)) p = ((p.0.0, (p.0.0, p.0.1)), tt)
+with_good A B Q (Some (Err f)) p = (tt, p.1)

@@ -1,0 +1,10 @@
+use Rattle.serde_json.specs.View.{view}
+use Rattle.odb_doc.specs.Batches.{records}
+use Rattle.odb_doc.specs.FaultTable.{IsNumbered}
+use Rattle.odb_doc.specs.LeastFault.{IsLeastFault, IsWellShaped}
+use Rattle.odb_doc.specs.Records.{IsBatchOf}
+use Rattle.odb_tests.proofs.LawLemmas.{one_reading}
+use Rattle.odb_tests.proofs.laws.documents.batch_twice.Goals as goal
+
+pub returns : goal.returns
+returns c = one_reading records IsWellShaped IsBatchOf IsNumbered IsLeastFault c.one_batch.ensures c.one_fault.ensures.one c.one_fault.ensures.none (view c.args.value.now) c.batch_of.result c.batch_of-2.result c.batch_of.ensures c.batch_of-2.ensures

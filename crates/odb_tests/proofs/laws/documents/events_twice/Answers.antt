@@ -1,0 +1,9 @@
+use Rattle.odb_doc.specs.EventFaults.{IsNumbered}
+use Rattle.odb_doc.specs.EventLists.{entries}
+use Rattle.odb_doc.specs.LeastEventFault.{IsEventsDocument, RefusesEvents}
+use Rattle.odb_doc.specs.Events.{AreEventsOf}
+use Rattle.odb_tests.proofs.LawLemmas.{one_reading_of_bytes}
+use Rattle.odb_tests.proofs.laws.documents.events_twice.Goals as goal
+
+pub returns : goal.returns
+returns c = one_reading_of_bytes entries IsEventsDocument AreEventsOf IsNumbered RefusesEvents c.one_history.ensures.events c.one_history.ensures.one c.one_history.ensures.none c.args.bytes.now c.events_of.result c.events_of-2.result c.events_of.ensures c.events_of-2.ensures

@@ -1,0 +1,9 @@
+use Rattle.odb_doc.specs.OutcomeFaults.{IsNumbered}
+use Rattle.odb_doc.specs.OutcomeLists.{entries}
+use Rattle.odb_doc.specs.LeastOutcomeFault.{IsOutcomesDocument, RefusesOutcomes}
+use Rattle.odb_doc.specs.Outcomes.{AreOutcomesOf}
+use Rattle.odb_tests.proofs.LawLemmas.{one_reading_of_bytes}
+use Rattle.odb_tests.proofs.laws.documents.outcomes_twice.Goals as goal
+
+pub returns : goal.returns
+returns c = one_reading_of_bytes entries IsOutcomesDocument AreOutcomesOf IsNumbered RefusesOutcomes c.one_record.ensures.outcomes c.one_record.ensures.one c.one_record.ensures.none c.args.bytes.now c.outcomes_of.result c.outcomes_of-2.result c.outcomes_of.ensures c.outcomes_of-2.ensures

@@ -1,0 +1,98 @@
+//! Checks of batches: two checks of one batch find the same, and what holds of every plan.
+
+ghost use Rattle.std.specs.Prelude.{◌≡◌, IfSome, IsTrue};
+ghost use Rattle.odb_doc.specs.Batches.{records};
+ghost use Rattle.odb_check.specs.FaultTable.{IsNumbered};
+ghost use Rattle.odb_check.specs.Laws.{HasPositions, HasUnits, NeedsGroups};
+ghost use Rattle.odb_check.specs.LeastNameFault.{HasGoodNames, RefusesNames};
+ghost use Rattle.odb_check.specs.Levels.{HasLevels};
+ghost use Rattle.odb_check.specs.Plans.{plan_records};
+ghost use Rattle.odb_tests.specs.Readings.{IsReading, IsSame};
+
+use odb_check::laws::{every_plan, one_fault};
+use odb_check::{CheckFault, Plan, check};
+use odb_doc::{Batch, parse};
+use std::alloc::Global;
+use std::test::Fail;
+
+/// Plans a batch, unless memory runs out.
+fn plan_of<'a: 'b, 'b>(alloc: Global, batch: &'b Batch<'a>) -> Option<Result<Plan<'b>, CheckFault>>
+    ensures { IfSome result (IsReading
+        (λ plan. HasGoodNames (records batch.now) × (plan_records plan ≡ records batch.now))
+        (λ fault. IsNumbered fault × RefusesNames fault (records batch.now))) }
+{
+    match check(alloc, batch) {
+        Ok(plan) => Some(Ok(plan)),
+        Err(CheckFault::OutOfMemory) => None,
+        Err(fault) => Some(Err(fault)),
+    }
+}
+
+/// What two checks of a batch found.
+type TwoPlans<'b> = (
+    Option<Result<Plan<'b>, CheckFault>>,
+    Option<Result<Plan<'b>, CheckFault>>,
+);
+
+/// Plans a batch twice.
+fn plan_twice<'a: 'b, 'b>(alloc: Global, batch: &'b Batch<'a>) -> TwoPlans<'b>
+    ensures { IfSome result.0 (λ one. IfSome result.1 (IsSame plan_records one)) }
+{
+    one_fault();
+    (plan_of(alloc, batch), plan_of(alloc, batch))
+}
+
+/// Returns whether a batch has a plan. If it has, it has what each plan has.
+fn is_planned(alloc: Global, batch: &Batch<'_>) -> bool
+    ensures units { IsTrue result → HasUnits (records batch.now) }
+    ensures positions { IsTrue result → HasPositions (records batch.now) }
+    ensures groups { IsTrue result → NeedsGroups (records batch.now) }
+    ensures levels { IsTrue result → HasLevels (records batch.now) }
+{
+    match check(alloc, batch) {
+        Ok(plan) => {
+            every_plan(&plan);
+            true
+        }
+        Err(_) => false,
+    }
+}
+
+/// Whether two checks of a batch found the same, which is this fault, or a plan if it has no code.
+fn is_one(alloc: Global, batch: &Batch<'_>, code: &str) -> bool {
+    match plan_twice(alloc, batch) {
+        (Some(Ok(_)), Some(Ok(_))) => code.is_empty() && is_planned(alloc, batch),
+        (Some(Err(one)), Some(Err(other))) => {
+            one == other && one != CheckFault::OutOfMemory && one.code() == code
+        }
+        _ => false,
+    }
+}
+
+/// Documents, and the code of the fault of their names if they have one.
+const DOCUMENTS: &[(&str, &str)] = &[
+    (
+        r#"{"requests":[{"id":"a","method":"get","url":"X"},
+            {"id":"b","method":"get","url":"X","dependsOn":["a"]}]}"#,
+        "",
+    ),
+    (
+        r#"{"requests":[{"id":"a","method":"get","url":"X"},
+            {"id":"a","method":"get","url":"X"}]}"#,
+        "F30",
+    ),
+];
+
+fn is_found(alloc: Global, document: &str, code: &str) -> Result<bool, Fail> {
+    let value = parse(alloc, document.as_bytes())?;
+    let batch = Batch::read(alloc, &value)?;
+    Ok(is_one(alloc, &batch, code))
+}
+
+#[test]
+fn two_checks_find_the_same(rt: HostRuntime) -> Result<(), Fail> {
+    for (document, code) in DOCUMENTS {
+        assert!(rt; is_found(rt.alloc(), document, code)?);
+    }
+    Ok(())
+}

@@ -1,0 +1,273 @@
+//! Readings of documents: two readings of one value, or of the same bytes, are one; and what is
+//! written is read back.
+
+ghost use Rattle.std.specs.Prelude.{◌≡◌, ◌↔◌, List, Some, IfSome, IsTrue, string_bytes};
+ghost use Rattle.serde_json.specs.Data.{Data};
+ghost use Rattle.serde_json.specs.Read.{read};
+ghost use Rattle.serde_json.specs.View.{view};
+ghost use Rattle.odb_names.specs.Fronts.{HasFront, form};
+ghost use Rattle.odb_names.specs.Methods.{Names};
+ghost use Rattle.odb_doc.specs.Batches.{records};
+ghost use Rattle.odb_doc.specs.CanonicalLaws.{IsDocumentOf};
+ghost use Rattle.odb_doc.specs.Documents.{IsDocument};
+ghost use Rattle.odb_doc.specs.FaultTable as faults;
+ghost use Rattle.odb_doc.specs.EventFaults as event_faults;
+ghost use Rattle.odb_doc.specs.Events.{AreEventsOf};
+ghost use Rattle.odb_doc.specs.EventLists as events;
+ghost use Rattle.odb_doc.specs.LeastEventFault.{IsEventsDocument, RefusesEvents};
+ghost use Rattle.odb_doc.specs.LeastFault.{IsLeastFault, IsWellShaped};
+ghost use Rattle.odb_doc.specs.LeastOutcomeFault.{IsOutcomesDocument, RefusesOutcomes};
+ghost use Rattle.odb_doc.specs.OutcomeFaults as outcome_faults;
+ghost use Rattle.odb_doc.specs.OutcomeLists as outcomes;
+ghost use Rattle.odb_doc.specs.Outcomes.{AreOutcomesOf};
+ghost use Rattle.odb_doc.specs.Records.{Record, IsBatchOf};
+ghost use Rattle.odb_engine.specs.Cascade.{HasValue};
+ghost use Rattle.odb_tests.specs.Readings.{IsReading, IsSame};
+
+use odb_doc::laws::{every_value, one_batch, one_fault, one_history, one_record, one_text};
+use odb_doc::{Batch, DocFault, EventFault, Events, OutcomeFault, Outcomes, is_whole, parse};
+use odb_names::laws::one_reading;
+use odb_names::{Front, Method, front};
+use serde_json::Value;
+use std::alloc::Global;
+
+/// Returns the method that a text names.
+fn method_of(text: &str) -> Option<Method>
+    ensures { IfSome result (Names text.now) }
+{
+    Method::read(text)
+}
+
+/// Returns what two readings of a text find: they name one method.
+fn method_twice(text: &str) -> (Option<Method>, Option<Method>)
+    ensures { IfSome result.0 (λ one. IfSome result.1 (λ other. one ≡ other)) }
+{
+    one_reading();
+    (method_of(text), method_of(text))
+}
+
+/// Returns the front of a URL, unless memory runs out.
+fn front_of(alloc: Global, url: &str) -> Option<Front>
+    ensures { IfSome result (λ found. HasFront url.now (form found)) }
+{
+    match front(alloc, url) {
+        Ok(found) => Some(found),
+        Err(_) => None,
+    }
+}
+
+/// Returns what two readings of a URL find: it has one front.
+fn front_twice(alloc: Global, url: &str) -> (Option<Front>, Option<Front>)
+    ensures { IfSome result.0 (λ one. IfSome result.1 (λ other. form one ≡ form other)) }
+{
+    one_reading();
+    (front_of(alloc, url), front_of(alloc, url))
+}
+
+/// Reads a batch, unless memory runs out.
+fn batch_of<'a>(alloc: Global, value: &'a Value) -> Option<Result<Batch<'a>, DocFault>>
+    ensures { IfSome result (IsReading
+        (λ batch. IsWellShaped (view value.now) × IsBatchOf (view value.now) (records batch))
+        (λ fault. faults.IsNumbered fault × IsLeastFault fault (view value.now))) }
+{
+    match Batch::read(alloc, value) {
+        Ok(batch) => Some(Ok(batch)),
+        Err(DocFault::OutOfMemory) => None,
+        Err(fault) => Some(Err(fault)),
+    }
+}
+
+/// What two readings of a batch found.
+type TwoBatches<'a> = (
+    Option<Result<Batch<'a>, DocFault>>,
+    Option<Result<Batch<'a>, DocFault>>,
+);
+
+/// Reads a batch twice.
+fn batch_twice<'a>(alloc: Global, value: &'a Value) -> TwoBatches<'a>
+    ensures { IfSome result.0 (λ one. IfSome result.1 (IsSame records one)) }
+{
+    one_batch();
+    one_fault();
+    (batch_of(alloc, value), batch_of(alloc, value))
+}
+
+/// Reads a document of outcomes, unless it is not JSON or memory runs out.
+fn outcomes_of(alloc: Global, bytes: &[u8]) -> Option<Result<Outcomes, OutcomeFault>>
+    ensures { IfSome result (λ read. HasValue bytes.now (λ value. IsReading
+        (λ found. IsOutcomesDocument value × AreOutcomesOf value (outcomes.entries found))
+        (λ fault. outcome_faults.IsNumbered fault × RefusesOutcomes fault value) read)) }
+{
+    let Ok(value) = parse(alloc, bytes) else {
+        return None;
+    };
+    match Outcomes::read(alloc, value) {
+        Ok(outcomes) => Some(Ok(outcomes)),
+        Err(OutcomeFault::OutOfMemory) => None,
+        Err(fault) => Some(Err(fault)),
+    }
+}
+
+/// What two readings of outcomes found.
+type TwoRecords = (
+    Option<Result<Outcomes, OutcomeFault>>,
+    Option<Result<Outcomes, OutcomeFault>>,
+);
+
+/// Reads a document of outcomes twice.
+fn outcomes_twice(alloc: Global, bytes: &[u8]) -> TwoRecords
+    ensures { IfSome result.0 (λ one. IfSome result.1 (IsSame outcomes.entries one)) }
+{
+    one_record();
+    (outcomes_of(alloc, bytes), outcomes_of(alloc, bytes))
+}
+
+/// Reads a document of events, unless it is not JSON or memory runs out.
+fn events_of(alloc: Global, bytes: &[u8]) -> Option<Result<Events, EventFault>>
+    ensures { IfSome result (λ read. HasValue bytes.now (λ value. IsReading
+        (λ found. IsEventsDocument value × AreEventsOf value (events.entries found))
+        (λ fault. event_faults.IsNumbered fault × RefusesEvents fault value) read)) }
+{
+    let Ok(value) = parse(alloc, bytes) else {
+        return None;
+    };
+    match Events::read(alloc, value) {
+        Ok(events) => Some(Ok(events)),
+        Err(EventFault::OutOfMemory) => None,
+        Err(fault) => Some(Err(fault)),
+    }
+}
+
+/// What two readings of events found.
+type TwoHistories = (
+    Option<Result<Events, EventFault>>,
+    Option<Result<Events, EventFault>>,
+);
+
+/// Reads a document of events twice.
+fn events_twice(alloc: Global, bytes: &[u8]) -> TwoHistories
+    ensures { IfSome result.0 (λ one. IfSome result.1 (IsSame events.entries one)) }
+{
+    one_history();
+    (events_of(alloc, bytes), events_of(alloc, bytes))
+}
+
+/// Returns the text of a document whose numbers are whole: it is read as the same value.
+fn written(alloc: Global, bytes: &[u8]) -> Option<String>
+    ensures { IfSome result (λ text. HasValue bytes.now (λ value.
+        read (string_bytes text) ≡ Some value)) }
+{
+    every_value();
+    let Ok(value) = parse(alloc, bytes) else {
+        return None;
+    };
+    if !is_whole(&value) {
+        return None;
+    }
+    match value.to_string(alloc) {
+        Ok(text) => Some(text),
+        Err(_) => None,
+    }
+}
+
+/// Returns the canonical text of a document: both are documents of one batch.
+fn canonical_of(alloc: Global, bytes: &[u8]) -> Option<String>
+    ensures { IfSome result (λ text. (batch : List Record)
+        × IsDocumentOf bytes.now batch × IsDocumentOf (string_bytes text) batch) }
+{
+    one_text();
+    let Ok(document) = parse(alloc, bytes) else {
+        return None;
+    };
+    let Ok(batch) = Batch::read(alloc, &document) else {
+        return None;
+    };
+    match batch.canonical(alloc) {
+        Ok(text) => Some(text),
+        Err(_) => None,
+    }
+}
+
+/// Returns whether the bytes of two documents are one batch, by their canonical texts.
+fn is_same(alloc: Global, bytes: &[u8], other_bytes: &[u8]) -> Option<bool>
+    ensures { IfSome result (λ is_same. (batch other : List Record)
+        × IsDocumentOf bytes.now batch × IsDocumentOf other_bytes.now other
+        × (IsTrue is_same ↔ (batch ≡ other))) }
+{
+    one_text();
+    let Ok(document) = parse(alloc, bytes) else {
+        return None;
+    };
+    let Ok(batch) = Batch::read(alloc, &document) else {
+        return None;
+    };
+    let Ok(other_document) = parse(alloc, other_bytes) else {
+        return None;
+    };
+    let Ok(other) = Batch::read(alloc, &other_document) else {
+        return None;
+    };
+    match (batch.canonical(alloc), other.canonical(alloc)) {
+        (Ok(text), Ok(other_text)) => Some(text == other_text),
+        _ => None,
+    }
+}
+
+/// A batch, and the same batch in other words.
+const BATCH: &[u8] = br#"{"requests":[{"id":"a","method":"get","url":"$b"}]}"#;
+
+const SAME: &[u8] = br#"{"requests":[{"url":"$b","method":"GET","id":"a"}]}"#;
+
+/// Whether two readings of outcomes found the same, a value or a fault.
+fn are_same_outcomes(alloc: Global, bytes: &[u8], is_good: bool) -> bool {
+    match &outcomes_twice(alloc, bytes) {
+        (Some(Ok(one)), Some(Ok(other))) => is_good && one.len() == other.len(),
+        (Some(Err(one)), Some(Err(other))) => !is_good && one == other,
+        _ => false,
+    }
+}
+
+/// Whether two readings of events found the same, a value or a fault.
+fn are_same_events(alloc: Global, bytes: &[u8], is_good: bool) -> bool {
+    match &events_twice(alloc, bytes) {
+        (Some(Ok(one)), Some(Ok(other))) => is_good && one.len() == other.len(),
+        (Some(Err(one)), Some(Err(other))) => !is_good && one == other,
+        _ => false,
+    }
+}
+
+/// Whether two readings of a batch refuse it alike.
+fn is_refused_alike(alloc: Global, bytes: &[u8]) -> bool {
+    match parse(alloc, bytes) {
+        Ok(value) => match batch_twice(alloc, &value) {
+            (Some(Err(one)), Some(Err(other))) => one == other,
+            _ => false,
+        },
+        Err(_) => false,
+    }
+}
+
+#[test]
+fn two_readings_of_one_document_are_one(rt: HostRuntime) {
+    let alloc = rt.alloc();
+    assert!(rt; method_twice("gEt") == (Some(Method::Get), Some(Method::Get)));
+    assert!(rt;
+        matches!(
+            front_twice(alloc, "a/b"),
+            (Some(Front::Plain), Some(Front::Plain))
+        )
+    );
+    assert!(rt; is_refused_alike(alloc, b"{}"));
+    assert!(rt; are_same_outcomes(alloc, br#"{"outcomes":[{"id":"a","status":200}]}"#, true));
+    assert!(rt; are_same_outcomes(alloc, b"{}", false));
+    assert!(rt; are_same_events(alloc, br#"{"events":[{"start":"a"}]}"#, true));
+    assert!(rt; are_same_events(alloc, b"{}", false));
+}
+
+#[test]
+fn a_written_text_is_read_back(rt: HostRuntime) {
+    let alloc = rt.alloc();
+    assert!(rt; is_same(alloc, BATCH, SAME) == Some(true));
+    assert!(rt; written(alloc, b"[1, 2]").is_some_and(|text| text.as_str() == "[1,2]"));
+    assert!(rt; canonical_of(alloc, BATCH).is_some());
+}

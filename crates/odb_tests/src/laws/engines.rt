@@ -1,0 +1,207 @@
+//! The engines over bytes in memory: two calls for the same bytes end alike, and write one text.
+
+ghost use Rattle.std.specs.Prelude.{◌≡◌, true, Some, IfSome};
+ghost use Rattle.odb_sched.specs.Choosing.{AllowsOrder};
+ghost use Rattle.odb_sched.specs.declared.order.Order.TheVariants as orders;
+ghost use Rattle.odb_engine.specs.Cascade.{Answers};
+ghost use Rattle.odb_engine.specs.Commands.{BySecond, Canonical, Counts, Plans};
+ghost use Rattle.odb_engine.specs.Inputs.{SomeDocument};
+ghost use Rattle.odb_engine.specs.Matches.{Matches};
+ghost use Rattle.odb_engine.specs.Replays.{Replays};
+ghost use Rattle.odb_engine.specs.Runs.{Runs};
+
+use odb_doc::{Input, Output};
+use odb_engine::laws::{one_replay, one_run, one_text};
+use odb_engine::{
+    Ended, canon_batch, check_batch, match_batch, plan_batch, replay_batch, run_batch,
+};
+use odb_sched::{Last, Mode, Policy};
+use std::alloc::Global;
+
+/// How a command ended, and what it wrote.
+type Written = (Ended, Vec<u8>);
+
+/// What two calls wrote.
+type Both = (Option<Written>, Option<Written>);
+
+fn checked(alloc: Global, batch: &[u8]) -> Option<Written>
+    ensures { IfSome result (λ it. SomeDocument (Some batch.now) (λ bytes.
+        Answers Counts bytes it.0 it.1.items)) }
+{
+    let mut output = Output::new(Vec::new(alloc));
+    match check_batch(alloc, &mut Input::new(batch), &mut output) {
+        Ok(ended) => Some((ended, output.into_inner())),
+        Err(_) => None,
+    }
+}
+
+fn checked_twice(alloc: Global, batch: &[u8]) -> Both
+    ensures { IfSome result.0 (λ one. IfSome result.1 (λ other.
+        (one.0 ≡ other.0) × (one.1.items ≡ other.1.items))) }
+{
+    one_text();
+    (checked(alloc, batch), checked(alloc, batch))
+}
+
+fn planned(alloc: Global, batch: &[u8]) -> Option<Written>
+    ensures { IfSome result (λ it. SomeDocument (Some batch.now) (λ bytes.
+        Answers Plans bytes it.0 it.1.items)) }
+{
+    let mut output = Output::new(Vec::new(alloc));
+    match plan_batch(alloc, &mut Input::new(batch), &mut output) {
+        Ok(ended) => Some((ended, output.into_inner())),
+        Err(_) => None,
+    }
+}
+
+fn planned_twice(alloc: Global, batch: &[u8]) -> Both
+    ensures { IfSome result.0 (λ one. IfSome result.1 (λ other.
+        (one.0 ≡ other.0) × (one.1.items ≡ other.1.items))) }
+{
+    one_text();
+    (planned(alloc, batch), planned(alloc, batch))
+}
+
+fn made_canonical(alloc: Global, batch: &[u8]) -> Option<Written>
+    ensures { IfSome result (λ it. SomeDocument (Some batch.now) (λ bytes.
+        Answers Canonical bytes it.0 it.1.items)) }
+{
+    let mut output = Output::new(Vec::new(alloc));
+    match canon_batch(alloc, &mut Input::new(batch), &mut output) {
+        Ok(ended) => Some((ended, output.into_inner())),
+        Err(_) => None,
+    }
+}
+
+fn made_canonical_twice(alloc: Global, batch: &[u8]) -> Both
+    ensures { IfSome result.0 (λ one. IfSome result.1 (λ other.
+        (one.0 ≡ other.0) × (one.1.items ≡ other.1.items))) }
+{
+    one_text();
+    (made_canonical(alloc, batch), made_canonical(alloc, batch))
+}
+
+fn matched(alloc: Global, batch: &[u8], responses: &[u8]) -> Option<Written>
+    ensures { IfSome result (λ it. SomeDocument (Some batch.now) (λ bytes.
+        Answers (BySecond (Some responses.now) Matches) bytes it.0 it.1.items)) }
+{
+    let mut output = Output::new(Vec::new(alloc));
+    match match_batch(
+        alloc,
+        &mut Input::new(batch),
+        &mut Input::new(responses),
+        &mut output,
+    ) {
+        Ok(ended) => Some((ended, output.into_inner())),
+        Err(_) => None,
+    }
+}
+
+fn matched_twice(alloc: Global, batch: &[u8], responses: &[u8]) -> Both
+    ensures { IfSome result.0 (λ one. IfSome result.1 (λ other.
+        (one.0 ≡ other.0) × (one.1.items ≡ other.1.items))) }
+{
+    one_text();
+    (
+        matched(alloc, batch, responses),
+        matched(alloc, batch, responses),
+    )
+}
+
+fn ran(alloc: Global, batch: &[u8], events: &[u8], policy: Policy) -> Option<Written>
+    ensures { IfSome result (λ it. SomeDocument (Some batch.now) (λ bytes.
+        Answers (Runs policy (Some events.now)) bytes it.0 it.1.items)) }
+{
+    let mut output = Output::new(Vec::new(alloc));
+    match run_batch(
+        alloc,
+        &mut Input::new(batch),
+        &mut Input::new(events),
+        &mut output,
+        policy,
+    ) {
+        Ok(ended) => Some((ended, output.into_inner())),
+        Err(_) => None,
+    }
+}
+
+fn ran_twice(alloc: Global, batch: &[u8], events: &[u8], policy: Policy) -> Both
+    ensures { IfSome result.0 (λ one. IfSome result.1 (λ other.
+        (one.0 ≡ other.0) × (one.1.items ≡ other.1.items))) }
+{
+    one_run();
+    (
+        ran(alloc, batch, events, policy),
+        ran(alloc, batch, events, policy),
+    )
+}
+
+fn replayed(alloc: Global, batch: &[u8], outcomes: &[u8], policy: Policy) -> Option<Written>
+    ensures { IfSome result (λ it. SomeDocument (Some batch.now) (λ bytes.
+        Answers (Replays (AllowsOrder orders.Last) policy true (Some outcomes.now)) bytes
+        it.0 it.1.items)) }
+{
+    let mut output = Output::new(Vec::new(alloc));
+    match replay_batch(
+        alloc,
+        &mut Input::new(batch),
+        &mut Input::new(outcomes),
+        &mut output,
+        policy,
+        &mut Last,
+        true,
+    ) {
+        Ok(ended) => Some((ended, output.into_inner())),
+        Err(_) => None,
+    }
+}
+
+fn replayed_twice(alloc: Global, batch: &[u8], outcomes: &[u8], policy: Policy) -> Both
+    ensures { IfSome result.0 (λ one. IfSome result.1 (λ other.
+        (one.0 ≡ other.0) × (one.1.items ≡ other.1.items))) }
+{
+    one_replay();
+    (
+        replayed(alloc, batch, outcomes, policy),
+        replayed(alloc, batch, outcomes, policy),
+    )
+}
+
+/// Two requests, of which the second needs the first.
+const BATCH: &[u8] = br#"{"requests":[{"id":"a","method":"get","url":"X"},
+    {"id":"b","method":"get","url":"X","dependsOn":["a"]}]}"#;
+
+const OUTCOMES: &[u8] = br#"{"outcomes":[{"id":"a","status":200},{"id":"b","status":201}]}"#;
+
+const EVENTS: &[u8] = br#"{"events":[{"start":"a"},{"report":"a","status":404}]}"#;
+
+const RESPONSES: &[u8] = br#"{"responses":[{"id":"b","status":201},{"id":"a","status":200}]}"#;
+
+/// Whether both calls ended in the same way, with one text that begins so.
+fn is_one(both: &Both, ended: Ended, text: &str) -> bool {
+    match both {
+        (Some(one), Some(other)) => {
+            one.0 == ended && one == other && one.1.as_slice().starts_with(text.as_bytes())
+        }
+        _ => false,
+    }
+}
+
+#[test]
+fn engines_write_one_text_of_the_same_bytes(rt: HostRuntime) {
+    let alloc = rt.alloc();
+    let (done, policy) = (Ended::Done, Policy::free(Mode::Continue));
+    assert!(rt; is_one(&checked_twice(alloc, BATCH), done, "ok 2"));
+    assert!(rt; is_one(&planned_twice(alloc, BATCH), done, "0 a level 0"));
+    assert!(rt; is_one(&made_canonical_twice(alloc, BATCH), done, "{\"requests\":"));
+    assert!(rt; is_one(&matched_twice(alloc, BATCH, RESPONSES), done, "ok 2"));
+    assert!(rt;
+        is_one(
+            &ran_twice(alloc, BATCH, EVENTS, policy),
+            done,
+            "{\"responses\":"
+        )
+    );
+    let both = replayed_twice(alloc, BATCH, OUTCOMES, policy);
+    assert!(rt; is_one(&both, done, "start a\n"));
+}

@@ -1,0 +1,64 @@
+//! Executions in one order, by one record: two of them take the same steps and answer the same.
+
+ghost use Rattle.std.specs.Prelude.{◌≡◌, IfOk, IfSome};
+ghost use Rattle.odb_doc.specs.OutcomeLists.{entries};
+ghost use Rattle.odb_check.specs.Plans.{plan_records};
+ghost use Rattle.odb_sched.specs.Orders.{Faults, Finishes};
+ghost use Rattle.odb_sched.specs.Recordings.{recorded_for};
+ghost use Rattle.odb_sched.specs.State.{at_first};
+ghost use Rattle.odb_sched.specs.declared.order.Order.TheVariants as orders;
+ghost use Rattle.odb_tests.specs.Readings.{IsReading};
+
+use odb_check::Plan;
+use odb_doc::Outcomes;
+use odb_sched::laws::every_order;
+use odb_sched::{ExecFault, Last, Policy, Recorded, Trace, execute};
+use std::alloc::Global;
+
+/// Executes a plan by recorded outcomes, unless memory runs out.
+fn executed<'a: 'p, 'p>(
+    alloc: Global,
+    plan: &'p Plan<'a>,
+    policy: Policy,
+    outcomes: Outcomes,
+) -> Option<Result<Trace<'p>, ExecFault>>
+    ensures { IfSome result (IsReading
+        (λ trace. Finishes orders.Last (recorded_for (plan_records plan.now) (entries outcomes))
+        (at_first plan.now policy) trace.steps.items trace.done)
+        (λ cause. Faults orders.Last (recorded_for (plan_records plan.now) (entries outcomes))
+        (at_first plan.now policy) cause)) }
+{
+    let Ok(mut service) = Recorded::new(alloc, plan, outcomes) else {
+        return None;
+    };
+    match execute(alloc, plan, policy, &mut Last, &mut service) {
+        Ok(trace) => Some(Ok(trace)),
+        Err(ExecFault::OutOfMemory) => None,
+        Err(cause) => Some(Err(cause)),
+    }
+}
+
+/// What two executions found.
+type TwoTraces<'p> = (
+    Option<Result<Trace<'p>, ExecFault>>,
+    Option<Result<Trace<'p>, ExecFault>>,
+);
+
+/// Executes a plan by two equal records. If both executions finish, they took the same steps.
+fn executed_twice<'a: 'p, 'p>(
+    alloc: Global,
+    plan: &'p Plan<'a>,
+    policy: Policy,
+    one: Outcomes,
+    other: Outcomes,
+) -> TwoTraces<'p>
+    requires { entries one ≡ entries other }
+    ensures { IfSome result.0 (λ a. IfSome result.1 (λ b. IfOk a (λ x. IfOk b (λ y.
+        x.steps.items ≡ y.steps.items)))) }
+{
+    every_order();
+    (
+        executed(alloc, plan, policy, one),
+        executed(alloc, plan, policy, other),
+    )
+}
