@@ -3,6 +3,7 @@ use Rattle.std.proofs.Common.{◌≡◌, ◌∙◌, ℕ, ◌<◌, List, length, 
 use Rattle.std.proofs.lemmas.Bool.{cases_order}
 use Rattle.std.proofs.Math.Seq.{take-append_seam}
 use Rattle.odb_engine.specs.declared.ending.Ended.{Ended}
+use Rattle.odb_engine.specs.declared.ending.Ended.TheVariants.{Done}
 use Rattle.serde_json.specs.Data.{Data}
 use Rattle.odb_doc.specs.Documents.{IsDocument}
 use Rattle.odb_engine.specs.Cascade.{Writes, HasValue}
@@ -32,6 +33,12 @@ one_written ended text left W one None b _ _ = tt
 one_written ended text left W one (Some x) None _ _ = tt
 one_written ended text left W one (Some x) (Some y) (bytes, gives, is) (others, give, too) =
     one others (ended x) (ended y) (text x) (text y) (subst (λ document. W document (ended x) (text x)) (one_document left bytes others gives give) is) too
+
+-- what holds of each result that may be written of a document holds of what a call wrote
+pub done_written : {X : Type 0} (ended : X → Ended) (text : X → List ℕ) (left : List ℕ) (W : List ℕ → Writes) (Q : List ℕ → List ℕ → Type 0) → ((bytes written : List ℕ) → W bytes Done written → Q bytes written) → (a : Option X)
+    → IfSome a (λ x. SomeDocument (Some left) (λ bytes. W bytes (ended x) (text x))) → IfSome a (λ x. ended x ≡ Done → SomeDocument (Some left) (λ bytes. Q bytes (text x)))
+done_written ended text left W Q so None _ = tt
+done_written ended text left W Q so (Some x) (bytes, gives, is) = λ done. (bytes, gives, so bytes (text x) (subst (λ e. W bytes e (text x)) done is))
 
 -- ---- one reading
 

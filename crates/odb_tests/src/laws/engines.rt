@@ -1,17 +1,20 @@
-//! The engines over bytes in memory: two calls for the same bytes end alike, and write one text.
+//! The engines over bytes in memory: two calls for the same bytes end alike, and write one text; and a
+//! response that they write is read again.
 
-ghost use Rattle.std.specs.Prelude.{◌≡◌, true, Some, IfSome};
+ghost use Rattle.std.specs.Prelude.{◌≡◌, true, false, Some, IfSome};
 ghost use Rattle.odb_sched.specs.Choosing.{AllowsOrder};
 ghost use Rattle.odb_sched.specs.declared.order.Order.TheVariants as orders;
-ghost use Rattle.odb_engine.specs.Cascade.{Answers};
+ghost use Rattle.odb_engine.specs.declared.ending.Ended.TheVariants.{Done};
+ghost use Rattle.odb_engine.specs.Cascade.{Accepts, Answers};
 ghost use Rattle.odb_engine.specs.Commands.{BySecond, Canonical, Counts, Plans};
 ghost use Rattle.odb_engine.specs.Inputs.{SomeDocument};
 ghost use Rattle.odb_engine.specs.Matches.{Matches};
+ghost use Rattle.odb_engine.specs.ReadAgain.{IsReadAgain};
 ghost use Rattle.odb_engine.specs.Replays.{Replays};
 ghost use Rattle.odb_engine.specs.Runs.{Runs};
 
 use odb_doc::{Input, Output};
-use odb_engine::laws::{one_replay, one_run, one_text};
+use odb_engine::laws::{one_replay, one_run, one_text, read_again};
 use odb_engine::{
     Ended, canon_batch, check_batch, match_batch, plan_batch, replay_batch, run_batch,
 };
@@ -136,9 +139,15 @@ fn ran_twice(alloc: Global, batch: &[u8], events: &[u8], policy: Policy) -> Both
     )
 }
 
-fn replayed(alloc: Global, batch: &[u8], outcomes: &[u8], policy: Policy) -> Option<Written>
+fn replayed(
+    alloc: Global,
+    batch: &[u8],
+    outcomes: &[u8],
+    policy: Policy,
+    traced: bool,
+) -> Option<Written>
     ensures { IfSome result (λ it. SomeDocument (Some batch.now) (λ bytes.
-        Answers (Replays (AllowsOrder orders.Last) policy true (Some outcomes.now)) bytes
+        Answers (Replays (AllowsOrder orders.Last) policy traced (Some outcomes.now)) bytes
         it.0 it.1.items)) }
 {
     let mut output = Output::new(Vec::new(alloc));
@@ -149,7 +158,7 @@ fn replayed(alloc: Global, batch: &[u8], outcomes: &[u8], policy: Policy) -> Opt
         &mut output,
         policy,
         &mut Last,
-        true,
+        traced,
     ) {
         Ok(ended) => Some((ended, output.into_inner())),
         Err(_) => None,
@@ -162,9 +171,32 @@ fn replayed_twice(alloc: Global, batch: &[u8], outcomes: &[u8], policy: Policy) 
 {
     one_replay();
     (
-        replayed(alloc, batch, outcomes, policy),
-        replayed(alloc, batch, outcomes, policy),
+        replayed(alloc, batch, outcomes, policy, true),
+        replayed(alloc, batch, outcomes, policy, true),
     )
+}
+
+/// Runs a batch. A response that it writes is read again, and its responses fit the batch.
+fn ran_and_read(alloc: Global, batch: &[u8], events: &[u8], policy: Policy) -> Option<Written>
+    ensures { IfSome result (λ it. it.0 ≡ Done → SomeDocument (Some batch.now) (λ bytes.
+        Accepts bytes (λ requests. IsReadAgain requests it.1.items))) }
+{
+    read_again();
+    ran(alloc, batch, events, policy)
+}
+
+/// Replays a batch. A response that it writes is read again, and its responses fit the batch.
+fn replayed_and_read(
+    alloc: Global,
+    batch: &[u8],
+    outcomes: &[u8],
+    policy: Policy,
+) -> Option<Written>
+    ensures { IfSome result (λ it. it.0 ≡ Done → SomeDocument (Some batch.now) (λ bytes.
+        Accepts bytes (λ requests. IsReadAgain requests it.1.items))) }
+{
+    read_again();
+    replayed(alloc, batch, outcomes, policy, false)
 }
 
 /// Two requests, of which the second needs the first.
@@ -204,4 +236,20 @@ fn engines_write_one_text_of_the_same_bytes(rt: HostRuntime) {
     );
     let both = replayed_twice(alloc, BATCH, OUTCOMES, policy);
     assert!(rt; is_one(&both, done, "start a\n"));
+}
+
+/// Whether the response fits the batch.
+fn fits(alloc: Global, response: Option<Written>) -> bool {
+    let Some((Ended::Done, text)) = response else {
+        return false;
+    };
+    let found = matched(alloc, BATCH, text.as_slice());
+    found.is_some_and(|it| it.0 == Ended::Done)
+}
+
+#[test]
+fn a_match_accepts_what_a_run_and_a_replay_write(rt: HostRuntime) {
+    let (alloc, policy) = (rt.alloc(), Policy::free(Mode::Continue));
+    assert!(rt; fits(alloc, ran_and_read(alloc, BATCH, EVENTS, policy)));
+    assert!(rt; fits(alloc, replayed_and_read(alloc, BATCH, OUTCOMES, policy)));
 }
