@@ -112,7 +112,8 @@ def runs():
 def crowded():
     """The batch of the benchmark whose ids and groups would crowd a table without a seed, to each command."""
     with tempfile.TemporaryDirectory(prefix="crowded-") as folder:
-        names = floods.colliding_names(folder, MOST_REQUESTS + MOST_REQUESTS // floods.MEMBERS)
+        count = MOST_REQUESTS + MOST_REQUESTS // floods.MEMBERS
+        names = floods.colliding_names(folder, count, floods.SHARED_BITS, 0)
     requests = floods.lookup_requests(names, MOST_REQUESTS)
     outcomes = [{"id": it["id"], "status": 200} for it in requests]
     events = workloads.events_of(workloads.Content(requests, outcomes))
