@@ -8,7 +8,7 @@ use Rattle.odb_doc.specs.declared.fault.RequestRule.TheVariants as request
 use Rattle.odb_doc.specs.declared.fault.DocFault.{DocFault}
 use Rattle.odb_doc.specs.declared.fault.DocFault.TheVariants as faults
 use Rattle.odb_doc.specs.Faults.{document_number, request_number}
-use Rattle.odb_doc.specs.FaultTable.{IsNumbered}
+use Rattle.odb_doc.specs.Faults.{IsNumbered}
 use Rattle.odb_doc.specs.LeastFault.{BreaksRequestAt, IsWellShaped, IsLeastFault}
 use Rattle.odb_doc.specs.OneLeast.{one_least, one_first}
 use Rattle.odb_doc.specs.Shapes.{BreaksDocument, elements}

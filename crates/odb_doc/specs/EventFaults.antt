@@ -1,20 +1,16 @@
--- The rules of an event and the faults of a document of events: their numbers, codes, names and places.
-use Rattle.std.specs.Prelude.{◌≢◌, ℕ, List, [], codes}
-use Rattle.odb_doc.specs.declared.fault.Place.{Place}
+-- The rules of an event and the faults of a document of events: their numbers and names, and what is printed of them.
+use Rattle.std.specs.Prelude.{◌≢◌, ℕ, List, Option, Some, None, codes}
 use Rattle.odb_doc.specs.declared.fault.Place.TheVariants as places
 use Rattle.odb_doc.specs.declared.event_fault.EventRule.{EventRule}
 use Rattle.odb_doc.specs.declared.event_fault.EventRule.TheVariants.{NotWhole, BadEvents}
 use Rattle.odb_doc.specs.declared.event_fault.EventFault.{EventFault}
 use Rattle.odb_doc.specs.declared.event_fault.EventFault.TheVariants as faults
-use Rattle.odb_doc.specs.Faults.{code_of}
+use Rattle.odb_doc.specs.Refusals.{Printed, fault_at}
 
 -- the number in the code
 abbrev pub rule_number : EventRule → ℕ
 rule_number NotWhole = 63
 rule_number BadEvents = 64
-
-abbrev pub rule_code : EventRule → List ℕ
-rule_code rule = code_of (rule_number rule)
 
 abbrev pub rule_name : EventRule → List ℕ
 rule_name NotWhole = codes "NotWhole"
@@ -25,17 +21,7 @@ abbrev pub IsNumbered : EventFault → Type 0
 IsNumbered fault = fault ≢ faults.OutOfMemory
 
 -- the document as a whole and an event of a bad shape have one code
-abbrev pub fault_code : EventFault → List ℕ
-fault_code faults.Document = rule_code BadEvents
-fault_code (faults.Event at rule) = rule_code rule
-fault_code faults.OutOfMemory = []
-
-abbrev pub fault_name : EventFault → List ℕ
-fault_name faults.Document = rule_name BadEvents
-fault_name (faults.Event at rule) = rule_name rule
-fault_name faults.OutOfMemory = []
-
-abbrev pub fault_place : EventFault → Place
-fault_place faults.Document = places.Events
-fault_place (faults.Event at rule) = places.Event at
-fault_place faults.OutOfMemory = places.Events
+abbrev pub event_row : EventFault → Option Printed
+event_row faults.Document = Some (fault_at (rule_number BadEvents) (rule_name BadEvents) places.Events)
+event_row (faults.Event at rule) = Some (fault_at (rule_number rule) (rule_name rule) (places.Event at))
+event_row faults.OutOfMemory = None

@@ -1,13 +1,15 @@
--- The rules of a document and of a request: their numbers, codes and names.
-use Rattle.std.specs.Prelude.{ℕ, ◌+◌, ◌/◌, ◌%◌, List, [], ◌∷◌, ◌++◌, codes}
+-- The rules of a document and of a request: their numbers and names; and what is printed of their faults.
+use Rattle.std.specs.Prelude.{ℕ, ◌≢◌, List, Option, Some, None, codes}
+use Rattle.odb_doc.specs.declared.fault.DocFault.{DocFault}
+use Rattle.odb_doc.specs.declared.fault.DocFault.TheVariants as faults
 use Rattle.odb_doc.specs.declared.fault.DocumentRule.{DocumentRule}
 use Rattle.odb_doc.specs.declared.fault.DocumentRule.TheVariants as document
+use Rattle.odb_doc.specs.declared.fault.Place.TheVariants as places
 use Rattle.odb_doc.specs.declared.fault.RequestRule.{RequestRule}
 use Rattle.odb_doc.specs.declared.fault.RequestRule.TheVariants as request
-
--- `F` and the number in two digits
-abbrev pub code_of : ℕ → List ℕ
-code_of number = codes "F" ++ (48 + number / 10) ∷ (48 + number % 10) ∷ []
+use Rattle.odb_doc.specs.declared.fault.TextFault.{TextFault}
+use Rattle.odb_doc.specs.declared.fault.TextFault.TheVariants as texts
+use Rattle.odb_doc.specs.Refusals.{Printed, fault_at}
 
 abbrev pub document_number : DocumentRule → ℕ
 document_number document.TooLong = 1
@@ -16,9 +18,6 @@ document_number document.NotObject = 3
 document_number document.NoRequests = 4
 document_number document.UnknownMember = 5
 document_number document.TooMany = 6
-
-abbrev pub document_code : DocumentRule → List ℕ
-document_code rule = code_of (document_number rule)
 
 abbrev pub document_name : DocumentRule → List ℕ
 document_name document.TooLong = codes "TooLong"
@@ -44,9 +43,6 @@ request_number request.BadBody = 21
 request_number request.NestedBatch = 22
 request_number request.BadReference = 23
 
-abbrev pub request_code : RequestRule → List ℕ
-request_code rule = code_of (request_number rule)
-
 abbrev pub request_name : RequestRule → List ℕ
 request_name request.NotRequestObject = codes "NotRequestObject"
 request_name request.IfMember = codes "IfMember"
@@ -62,3 +58,16 @@ request_name request.BodyNotAllowed = codes "BodyNotAllowed"
 request_name request.BadBody = codes "BadBody"
 request_name request.NestedBatch = codes "NestedBatch"
 request_name request.BadReference = codes "BadReference"
+
+-- any fault but out of memory
+abbrev pub IsNumbered : DocFault → Type 0
+IsNumbered fault = fault ≢ faults.OutOfMemory
+
+abbrev pub document_row : DocFault → Option Printed
+document_row (faults.Document rule) = Some (fault_at (document_number rule) (document_name rule) places.Batch)
+document_row (faults.Request at rule) = Some (fault_at (request_number rule) (request_name rule) (places.Request at))
+document_row faults.OutOfMemory = None
+
+abbrev pub text_row : TextFault → Option Printed
+text_row (texts.NotWhole at) = Some (fault_at 50 (codes "NotWhole") (places.Request at))
+text_row texts.OutOfMemory = None

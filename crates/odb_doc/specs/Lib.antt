@@ -8,7 +8,6 @@ pub mod Documents
 pub mod EventFaults
 pub mod EventLists
 pub mod Events
-pub mod FaultTable
 pub mod Faults
 pub mod Headers
 pub mod HeldValues
@@ -25,8 +24,8 @@ pub mod OutcomeValues
 pub mod Outcomes
 pub mod Records
 pub mod References
+pub mod Refusals
 pub mod Shapes
-pub mod TextFaults
 pub mod WholeNumbers
 -- What invariants, private clauses and proofs cite: nothing to believe.
 pub mod BodyKinds

@@ -1,12 +1,11 @@
--- The rules of an outcome and the faults of a document of outcomes: their numbers, codes, names and places.
-use Rattle.std.specs.Prelude.{◌≢◌, ℕ, List, [], codes}
-use Rattle.odb_doc.specs.declared.fault.Place.{Place}
+-- The rules of an outcome and the faults of a document of outcomes: their numbers and names, and what is printed of them.
+use Rattle.std.specs.Prelude.{◌≢◌, ℕ, List, Option, Some, None, codes}
 use Rattle.odb_doc.specs.declared.fault.Place.TheVariants as places
 use Rattle.odb_doc.specs.declared.outcome_fault.OutcomeRule.{OutcomeRule}
 use Rattle.odb_doc.specs.declared.outcome_fault.OutcomeRule.TheVariants.{BadOutcomes, OutcomeTwice, BadStatus, NotWhole}
 use Rattle.odb_doc.specs.declared.outcome_fault.OutcomeFault.{OutcomeFault}
 use Rattle.odb_doc.specs.declared.outcome_fault.OutcomeFault.TheVariants as faults
-use Rattle.odb_doc.specs.Faults.{code_of}
+use Rattle.odb_doc.specs.Refusals.{Printed, fault_at}
 
 -- the number in the code
 abbrev pub rule_number : OutcomeRule → ℕ
@@ -14,9 +13,6 @@ rule_number BadOutcomes = 60
 rule_number OutcomeTwice = 61
 rule_number BadStatus = 62
 rule_number NotWhole = 63
-
-abbrev pub rule_code : OutcomeRule → List ℕ
-rule_code rule = code_of (rule_number rule)
 
 abbrev pub rule_name : OutcomeRule → List ℕ
 rule_name BadOutcomes = codes "BadOutcomes"
@@ -29,17 +25,7 @@ abbrev pub IsNumbered : OutcomeFault → Type 0
 IsNumbered fault = fault ≢ faults.OutOfMemory
 
 -- the document as a whole and an outcome of a bad shape have one code
-abbrev pub fault_code : OutcomeFault → List ℕ
-fault_code faults.Document = rule_code BadOutcomes
-fault_code (faults.Outcome at rule) = rule_code rule
-fault_code faults.OutOfMemory = []
-
-abbrev pub fault_name : OutcomeFault → List ℕ
-fault_name faults.Document = rule_name BadOutcomes
-fault_name (faults.Outcome at rule) = rule_name rule
-fault_name faults.OutOfMemory = []
-
-abbrev pub fault_place : OutcomeFault → Place
-fault_place faults.Document = places.Outcomes
-fault_place (faults.Outcome at rule) = places.Outcome at
-fault_place faults.OutOfMemory = places.Outcomes
+abbrev pub outcome_row : OutcomeFault → Option Printed
+outcome_row faults.Document = Some (fault_at (rule_number BadOutcomes) (rule_name BadOutcomes) places.Outcomes)
+outcome_row (faults.Outcome at rule) = Some (fault_at (rule_number rule) (rule_name rule) (places.Outcome at))
+outcome_row faults.OutOfMemory = None

@@ -1,6 +1,8 @@
 ghost use Rattle.std.specs.Prelude.{◌≡◌};
+ghost use Rattle.odb_doc.specs.EventFaults.{event_row};
 
 use crate::fault::Place;
+use crate::refusal::{Fault, Refusal};
 use thiserror::Error;
 
 /// A rule that one recorded event breaks.
@@ -31,11 +33,12 @@ pub enum EventFault {
 }
 
 impl EventRule {
-    ghost use Rattle.odb_doc.specs.EventFaults.{rule_code, rule_name};
+    ghost use Rattle.odb_doc.specs.Refusals.{code_of};
+    ghost use Rattle.odb_doc.specs.EventFaults.{rule_number, rule_name};
 
-    /// The code and the name.
+    /// Returns the code and the name.
     fn row(self) -> (&'static str, &'static str)
-        ensures code { result.0.now ≡ rule_code self }
+        ensures code { result.0.now ≡ code_of (rule_number self) }
         ensures name { result.1.now ≡ rule_name self }
     {
         match self {
@@ -45,42 +48,14 @@ impl EventRule {
     }
 }
 
-impl EventFault {
-    ghost use Rattle.odb_doc.specs.EventFaults.{IsNumbered, fault_code, fault_name, fault_place};
+impl Fault for EventFault {
+    ghost row = { event_row };
 
-    /// Returns the code of a numbered fault, `F63` or `F64`.
-    pub fn code(&self) -> &'static str
-        requires { IsNumbered self.now }
-        ensures { result.now ≡ fault_code self.now }
-    {
+    fn refusal(&self) -> Option<Refusal> {
         match *self {
-            EventFault::Document => EventRule::BadEvents.row().0,
-            EventFault::Event { rule, .. } => rule.row().0,
-            EventFault::OutOfMemory => unreachable!(),
-        }
-    }
-
-    /// Returns the name of a numbered fault, as `BadEvents`.
-    pub fn name(&self) -> &'static str
-        requires { IsNumbered self.now }
-        ensures { result.now ≡ fault_name self.now }
-    {
-        match *self {
-            EventFault::Document => EventRule::BadEvents.row().1,
-            EventFault::Event { rule, .. } => rule.row().1,
-            EventFault::OutOfMemory => unreachable!(),
-        }
-    }
-
-    /// Returns where a numbered fault is.
-    pub fn place(&self) -> Place
-        requires { IsNumbered self.now }
-        ensures { result ≡ fault_place self.now }
-    {
-        match *self {
-            EventFault::Document => Place::Events,
-            EventFault::Event { at, .. } => Place::Event(at),
-            EventFault::OutOfMemory => unreachable!(),
+            EventFault::Document => Some(Refusal::new(EventRule::BadEvents.row(), Place::Events)),
+            EventFault::Event { at, rule } => Some(Refusal::new(rule.row(), Place::Event(at))),
+            EventFault::OutOfMemory => None,
         }
     }
 }

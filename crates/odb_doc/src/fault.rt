@@ -1,7 +1,9 @@
 ghost use Rattle.std.specs.Prelude.{◌≡◌};
 ghost use Rattle.odb_doc.specs.declared.fault.DocFault.TheVariants.{Document};
 ghost use Rattle.odb_doc.specs.declared.fault.TextFault.TheVariants as texts;
+ghost use Rattle.odb_doc.specs.Faults.{document_row, text_row};
 
+use crate::refusal::{Fault, Refusal};
 use std::alloc::{AllocError, AllocFailed};
 use thiserror::Error;
 
@@ -126,11 +128,12 @@ pub enum TextFault {
 }
 
 impl DocumentRule {
-    ghost use Rattle.odb_doc.specs.Faults.{document_code, document_name};
+    ghost use Rattle.odb_doc.specs.Faults.{document_number, document_name};
+    ghost use Rattle.odb_doc.specs.Refusals.{code_of};
 
-    /// The code and the name.
+    /// Returns the code and the name.
     fn row(self) -> (&'static str, &'static str)
-        ensures code { result.0.now ≡ document_code self }
+        ensures code { result.0.now ≡ code_of (document_number self) }
         ensures name { result.1.now ≡ document_name self }
     {
         match self {
@@ -145,11 +148,12 @@ impl DocumentRule {
 }
 
 impl RequestRule {
-    ghost use Rattle.odb_doc.specs.Faults.{request_code, request_name};
+    ghost use Rattle.odb_doc.specs.Faults.{request_number, request_name};
+    ghost use Rattle.odb_doc.specs.Refusals.{code_of};
 
-    /// The code and the name.
+    /// Returns the code and the name.
     fn row(self) -> (&'static str, &'static str)
-        ensures code { result.0.now ≡ request_code self }
+        ensures code { result.0.now ≡ code_of (request_number self) }
         ensures name { result.1.now ≡ request_name self }
     {
         match self {
@@ -171,42 +175,14 @@ impl RequestRule {
     }
 }
 
-impl DocFault {
-    ghost use Rattle.odb_doc.specs.FaultTable.{IsNumbered, fault_code, fault_name, fault_place};
+impl Fault for DocFault {
+    ghost row = { document_row };
 
-    /// The code of a numbered fault, as `F13`.
-    pub fn code(&self) -> &'static str
-        requires { IsNumbered self.now }
-        ensures { result.now ≡ fault_code self.now }
-    {
+    fn refusal(&self) -> Option<Refusal> {
         match *self {
-            DocFault::Document(rule) => rule.row().0,
-            DocFault::Request { rule, .. } => rule.row().0,
-            DocFault::OutOfMemory => unreachable!(),
-        }
-    }
-
-    /// The name of a numbered fault, as `BadId`.
-    pub fn name(&self) -> &'static str
-        requires { IsNumbered self.now }
-        ensures { result.now ≡ fault_name self.now }
-    {
-        match *self {
-            DocFault::Document(rule) => rule.row().1,
-            DocFault::Request { rule, .. } => rule.row().1,
-            DocFault::OutOfMemory => unreachable!(),
-        }
-    }
-
-    /// Where a numbered fault is.
-    pub fn place(&self) -> Place
-        requires { IsNumbered self.now }
-        ensures { result ≡ fault_place self.now }
-    {
-        match *self {
-            DocFault::Document(_) => Place::Batch,
-            DocFault::Request { at, .. } => Place::Request(at),
-            DocFault::OutOfMemory => unreachable!(),
+            DocFault::Document(rule) => Some(Refusal::new(rule.row(), Place::Batch)),
+            DocFault::Request { at, rule } => Some(Refusal::new(rule.row(), Place::Request(at))),
+            DocFault::OutOfMemory => None,
         }
     }
 }
@@ -219,39 +195,15 @@ impl From<DocumentRule> for DocFault {
     }
 }
 
-impl TextFault {
-    ghost use Rattle.odb_doc.specs.TextFaults.{IsNumbered, fault_code, fault_name, fault_place};
+impl Fault for TextFault {
+    ghost row = { text_row };
 
-    /// The code of a numbered fault: `F50`.
-    pub fn code(&self) -> &'static str
-        requires { IsNumbered self.now }
-        ensures { result.now ≡ fault_code self.now }
-    {
+    fn refusal(&self) -> Option<Refusal> {
         match *self {
-            TextFault::NotWhole { .. } => "F50",
-            TextFault::OutOfMemory => unreachable!(),
-        }
-    }
-
-    /// The name of a numbered fault: `NotWhole`.
-    pub fn name(&self) -> &'static str
-        requires { IsNumbered self.now }
-        ensures { result.now ≡ fault_name self.now }
-    {
-        match *self {
-            TextFault::NotWhole { .. } => "NotWhole",
-            TextFault::OutOfMemory => unreachable!(),
-        }
-    }
-
-    /// The request that a numbered fault is at.
-    pub fn place(&self) -> Place
-        requires { IsNumbered self.now }
-        ensures { result ≡ fault_place self.now }
-    {
-        match *self {
-            TextFault::NotWhole { at } => Place::Request(at),
-            TextFault::OutOfMemory => unreachable!(),
+            TextFault::NotWhole { at } => {
+                Some(Refusal::new(("F50", "NotWhole"), Place::Request(at)))
+            }
+            TextFault::OutOfMemory => None,
         }
     }
 }

@@ -18,7 +18,7 @@ ghost use Rattle.odb_doc.specs.Canonical.{HasWholeBodies, canonical_text, canoni
 ghost use Rattle.odb_doc.specs.CanonicalLaws.{HasCanonicalText, IsDocumentOf};
 ghost use Rattle.odb_doc.specs.EventFaults as event_faults;
 ghost use Rattle.odb_doc.specs.Events.{EventValue, AreEventsOf, IsRecordableEvent};
-ghost use Rattle.odb_doc.specs.FaultTable.{IsNumbered};
+ghost use Rattle.odb_doc.specs.Faults.{IsNumbered};
 ghost use Rattle.odb_doc.specs.Headers.{IsInOrder};
 ghost use Rattle.odb_doc.specs.HeldValues.{IsHeld};
 ghost use Rattle.odb_doc.specs.LeastEventFault.{IsEventsDocument, RefusesEvents};

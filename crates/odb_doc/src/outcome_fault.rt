@@ -1,6 +1,8 @@
 ghost use Rattle.std.specs.Prelude.{◌≡◌};
+ghost use Rattle.odb_doc.specs.OutcomeFaults.{outcome_row};
 
 use crate::fault::Place;
+use crate::refusal::{Fault, Refusal};
 use thiserror::Error;
 
 /// A rule that one recorded outcome breaks.
@@ -37,11 +39,12 @@ pub enum OutcomeFault {
 }
 
 impl OutcomeRule {
-    ghost use Rattle.odb_doc.specs.OutcomeFaults.{rule_code, rule_name};
+    ghost use Rattle.odb_doc.specs.Refusals.{code_of};
+    ghost use Rattle.odb_doc.specs.OutcomeFaults.{rule_number, rule_name};
 
-    /// The code and the name.
+    /// Returns the code and the name.
     fn row(self) -> (&'static str, &'static str)
-        ensures code { result.0.now ≡ rule_code self }
+        ensures code { result.0.now ≡ code_of (rule_number self) }
         ensures name { result.1.now ≡ rule_name self }
     {
         match self {
@@ -53,42 +56,20 @@ impl OutcomeRule {
     }
 }
 
-impl OutcomeFault {
-    ghost use Rattle.odb_doc.specs.OutcomeFaults.{IsNumbered, fault_code, fault_name, fault_place};
+impl Fault for OutcomeFault {
+    ghost row = { outcome_row };
 
-    /// The code of a numbered fault, as `F62`.
-    pub fn code(&self) -> &'static str
-        requires { IsNumbered self.now }
-        ensures { result.now ≡ fault_code self.now }
-    {
+    fn refusal(&self) -> Option<Refusal> {
         match *self {
-            OutcomeFault::Document => OutcomeRule::BadOutcomes.row().0,
-            OutcomeFault::Outcome { rule, .. } => rule.row().0,
-            OutcomeFault::OutOfMemory => unreachable!(),
-        }
-    }
-
-    /// The name of a numbered fault, as `BadStatus`.
-    pub fn name(&self) -> &'static str
-        requires { IsNumbered self.now }
-        ensures { result.now ≡ fault_name self.now }
-    {
-        match *self {
-            OutcomeFault::Document => OutcomeRule::BadOutcomes.row().1,
-            OutcomeFault::Outcome { rule, .. } => rule.row().1,
-            OutcomeFault::OutOfMemory => unreachable!(),
-        }
-    }
-
-    /// Where a numbered fault is.
-    pub fn place(&self) -> Place
-        requires { IsNumbered self.now }
-        ensures { result ≡ fault_place self.now }
-    {
-        match *self {
-            OutcomeFault::Document => Place::Outcomes,
-            OutcomeFault::Outcome { at, .. } => Place::Outcome(at),
-            OutcomeFault::OutOfMemory => unreachable!(),
+            OutcomeFault::Document => Some(Refusal::new(
+                OutcomeRule::BadOutcomes.row(),
+                Place::Outcomes,
+            )),
+            OutcomeFault::Outcome { at, rule } => Some(Refusal::new(
+                rule.row(),
+                Place::Outcome(at),
+            )),
+            OutcomeFault::OutOfMemory => None,
         }
     }
 }
