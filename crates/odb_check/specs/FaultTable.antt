@@ -1,7 +1,6 @@
--- The rules on the names of a batch and their faults: numbers, phases, codes and names.
-use Rattle.std.specs.Prelude.{◌≢◌, ◌/◌, ℕ, List, [], codes}
-use Rattle.odb_doc.specs.Faults.{code_of}
-use Rattle.odb_doc.specs.declared.fault.Place.{Place}
+-- The rules on the names of a batch and their faults: numbers, phases and names, and what is printed of them.
+use Rattle.std.specs.Prelude.{◌≢◌, ◌/◌, ℕ, List, Option, Some, None, codes}
+use Rattle.odb_doc.specs.Refusals.{Printed, fault_at}
 use Rattle.odb_doc.specs.declared.fault.Place.TheVariants as places
 use Rattle.odb_check.specs.declared.fault.CheckFault.{CheckFault}
 use Rattle.odb_check.specs.declared.fault.CheckFault.TheVariants as faults
@@ -25,9 +24,6 @@ number ReferenceNotListed = 46
 abbrev pub phase : NameRule → ℕ
 phase rule = number rule / 10
 
-abbrev pub rule_code : NameRule → List ℕ
-rule_code rule = code_of (number rule)
-
 abbrev pub rule_name : NameRule → List ℕ
 rule_name IdTwice = codes "IdTwice"
 rule_name IdIsGroup = codes "IdIsGroup"
@@ -44,14 +40,6 @@ rule_name ReferenceNotListed = codes "ReferenceNotListed"
 abbrev pub IsNumbered : CheckFault → Type 0
 IsNumbered fault = fault ≢ faults.OutOfMemory
 
-abbrev pub fault_code : CheckFault → List ℕ
-fault_code (faults.Request at rule) = rule_code rule
-fault_code faults.OutOfMemory = []
-
-abbrev pub fault_name : CheckFault → List ℕ
-fault_name (faults.Request at rule) = rule_name rule
-fault_name faults.OutOfMemory = []
-
-abbrev pub fault_place : CheckFault → Place
-fault_place (faults.Request at rule) = places.Request at
-fault_place faults.OutOfMemory = places.Batch
+abbrev pub check_row : CheckFault → Option Printed
+check_row (faults.Request at rule) = Some (fault_at (number rule) (rule_name rule) (places.Request at))
+check_row faults.OutOfMemory = None

@@ -1,7 +1,8 @@
 ghost use Rattle.std.specs.Prelude.{◌≡◌};
+ghost use Rattle.odb_check.specs.FaultTable.{check_row};
 ghost use Rattle.odb_check.specs.declared.fault.CheckFault.TheVariants.{OutOfMemory};
 
-use odb_doc::Place;
+use odb_doc::{Fault, Place, Refusal};
 use std::alloc::{AllocError, AllocFailed};
 use thiserror::Error;
 
@@ -59,11 +60,12 @@ pub enum CheckFault {
 }
 
 impl NameRule {
-    ghost use Rattle.odb_check.specs.FaultTable.{rule_code, rule_name};
+    ghost use Rattle.odb_check.specs.FaultTable.{number, rule_name};
+    ghost use Rattle.odb_doc.specs.Refusals.{code_of};
 
-    /// The code and the name.
+    /// Returns the code and the name.
     fn row(self) -> (&'static str, &'static str)
-        ensures code { result.0.now ≡ rule_code self }
+        ensures code { result.0.now ≡ code_of (number self) }
         ensures name { result.1.now ≡ rule_name self }
     {
         match self {
@@ -81,39 +83,13 @@ impl NameRule {
     }
 }
 
-impl CheckFault {
-    ghost use Rattle.odb_check.specs.FaultTable.{IsNumbered, fault_code, fault_name, fault_place};
+impl Fault for CheckFault {
+    ghost row = { check_row };
 
-    /// The code of a numbered fault, as `F41`.
-    pub fn code(&self) -> &'static str
-        requires { IsNumbered self.now }
-        ensures { result.now ≡ fault_code self.now }
-    {
+    fn refusal(&self) -> Option<Refusal> {
         match *self {
-            CheckFault::Request { rule, .. } => rule.row().0,
-            CheckFault::OutOfMemory => unreachable!(),
-        }
-    }
-
-    /// The name of a numbered fault, as `ForwardName`.
-    pub fn name(&self) -> &'static str
-        requires { IsNumbered self.now }
-        ensures { result.now ≡ fault_name self.now }
-    {
-        match *self {
-            CheckFault::Request { rule, .. } => rule.row().1,
-            CheckFault::OutOfMemory => unreachable!(),
-        }
-    }
-
-    /// Where a numbered fault is.
-    pub fn place(&self) -> Place
-        requires { IsNumbered self.now }
-        ensures { result ≡ fault_place self.now }
-    {
-        match *self {
-            CheckFault::Request { at, .. } => Place::Request(at),
-            CheckFault::OutOfMemory => unreachable!(),
+            CheckFault::Request { at, rule } => Some(Refusal::new(rule.row(), Place::Request(at))),
+            CheckFault::OutOfMemory => None,
         }
     }
 }
