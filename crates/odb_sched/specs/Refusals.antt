@@ -1,6 +1,6 @@
 -- What is printed of a refusal.
-use Rattle.std.specs.Prelude.{◌≢◌, ℕ, List, [], codes}
-use Rattle.odb_doc.specs.declared.fault.Place.{Place}
+use Rattle.std.specs.Prelude.{◌≢◌, ℕ, List, Option, Some, None, codes}
+use Rattle.odb_doc.specs.Refusals.{Printed}
 use Rattle.odb_doc.specs.declared.fault.Place.TheVariants as places
 use Rattle.odb_sched.specs.declared.refusal.StartRefusal.{StartRefusal}
 use Rattle.odb_sched.specs.declared.refusal.StartRefusal.TheVariants as start
@@ -35,17 +35,7 @@ report_name report.BadStatus = codes "BadStatus"
 abbrev pub IsNumbered : RunRefusal → Type 0
 IsNumbered cause = cause ≢ refusal.OutOfMemory
 
-abbrev pub run_code : RunRefusal → List ℕ
-run_code (refusal.Start at cause) = start_code cause
-run_code (refusal.Report at cause) = report_code cause
-run_code refusal.OutOfMemory = []
-
-abbrev pub run_name : RunRefusal → List ℕ
-run_name (refusal.Start at cause) = start_name cause
-run_name (refusal.Report at cause) = report_name cause
-run_name refusal.OutOfMemory = []
-
-abbrev pub run_place : RunRefusal → Place
-run_place (refusal.Start at cause) = places.Event at
-run_place (refusal.Report at cause) = places.Event at
-run_place refusal.OutOfMemory = places.Events
+abbrev pub run_row : RunRefusal → Option Printed
+run_row (refusal.Start at cause) = Some (record { code = start_code cause; name = start_name cause; place = places.Event at })
+run_row (refusal.Report at cause) = Some (record { code = report_code cause; name = report_name cause; place = places.Event at })
+run_row refusal.OutOfMemory = None

@@ -1,6 +1,6 @@
 -- What is printed of a fault of named events.
-use Rattle.std.specs.Prelude.{◌≢◌, ℕ, List, [], codes}
-use Rattle.odb_doc.specs.declared.fault.Place.{Place}
+use Rattle.std.specs.Prelude.{◌≢◌, Option, Some, None, codes}
+use Rattle.odb_doc.specs.Refusals.{Printed, fault_at}
 use Rattle.odb_doc.specs.declared.fault.Place.TheVariants as places
 use Rattle.odb_sched.specs.declared.resolving.ResolveFault.{ResolveFault}
 use Rattle.odb_sched.specs.declared.resolving.ResolveFault.TheVariants.{UnknownEvent, OutOfMemory}
@@ -9,14 +9,6 @@ use Rattle.odb_sched.specs.declared.resolving.ResolveFault.TheVariants.{UnknownE
 abbrev pub IsNumbered : ResolveFault → Type 0
 IsNumbered fault = fault ≢ OutOfMemory
 
-abbrev pub fault_code : ResolveFault → List ℕ
-fault_code (UnknownEvent place) = codes "F65"
-fault_code OutOfMemory = []
-
-abbrev pub fault_name : ResolveFault → List ℕ
-fault_name (UnknownEvent place) = codes "UnknownEvent"
-fault_name OutOfMemory = []
-
-abbrev pub fault_place : ResolveFault → Place
-fault_place (UnknownEvent place) = places.Event place
-fault_place OutOfMemory = places.Events
+abbrev pub resolve_row : ResolveFault → Option Printed
+resolve_row (UnknownEvent at) = Some (fault_at 65 (codes "UnknownEvent") (places.Event at))
+resolve_row OutOfMemory = None

@@ -1,7 +1,9 @@
 ghost use Rattle.std.specs.Prelude.{◌≡◌};
+ghost use Rattle.odb_doc.specs.declared.fault.Place.TheVariants.{Request};
+ghost use Rattle.odb_sched.specs.ExecFaults.{exec_row};
 ghost use Rattle.odb_sched.specs.declared.fault.ExecFault.TheVariants.{OutOfMemory};
 
-use odb_doc::Place;
+use odb_doc::{Fault, Place, Refusal};
 use std::alloc::AllocError;
 use thiserror::Error;
 
@@ -23,47 +25,24 @@ pub enum ExecFault {
     OutOfMemory,
 }
 
-impl ExecFault {
-    ghost use Rattle.odb_sched.specs.ExecFaults.{IsNumbered, exec_code, exec_name, exec_place};
+impl Fault for ExecFault {
+    ghost row = { exec_row };
 
-    /// Returns the code of a numbered fault, from `F80` to `F82`.
-    pub fn code(&self) -> &'static str
-        requires { IsNumbered self.now }
-        ensures { result.now ≡ exec_code self.now }
-    {
-        match self {
-            ExecFault::NoOutcome(_) => "F80",
-            ExecFault::Service(_) => "F81",
-            ExecFault::BadStatus(_) => "F82",
-            ExecFault::OutOfMemory => unreachable!(),
-        }
-    }
-
-    /// Returns the name of a numbered fault, such as `NoOutcome`.
-    pub fn name(&self) -> &'static str
-        requires { IsNumbered self.now }
-        ensures { result.now ≡ exec_name self.now }
-    {
-        match self {
-            ExecFault::NoOutcome(_) => "NoOutcome",
-            ExecFault::Service(_) => "Service",
-            ExecFault::BadStatus(_) => "BadStatus",
-            ExecFault::OutOfMemory => unreachable!(),
-        }
-    }
-
-    /// Returns the place of a numbered fault: the request in its batch.
-    pub fn place(&self) -> Place
-        requires { IsNumbered self.now }
-        ensures { result ≡ exec_place self.now }
-    {
+    fn refusal(&self) -> Option<Refusal> {
         match *self {
-            ExecFault::NoOutcome(i) | ExecFault::Service(i) | ExecFault::BadStatus(i) => {
-                Place::Request(i as usize)
-            }
-            ExecFault::OutOfMemory => unreachable!(),
+            ExecFault::NoOutcome(i) => Some(Refusal::new(("F80", "NoOutcome"), request_at(i))),
+            ExecFault::Service(i) => Some(Refusal::new(("F81", "Service"), request_at(i))),
+            ExecFault::BadStatus(i) => Some(Refusal::new(("F82", "BadStatus"), request_at(i))),
+            ExecFault::OutOfMemory => None,
         }
     }
+}
+
+/// Returns the place of the request at this position of its batch.
+fn request_at(i: u32) -> Place
+    ensures { result ≡ Request i }
+{
+    Place::Request(i as usize)
 }
 
 impl From<AllocError> for ExecFault {

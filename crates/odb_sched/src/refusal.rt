@@ -1,8 +1,9 @@
 ghost use Rattle.std.specs.Prelude.{◌≡◌};
+ghost use Rattle.odb_sched.specs.Refusals.{run_row};
 ghost use Rattle.odb_sched.specs.declared.refusal.RunRefusal.TheVariants.{OutOfMemory};
 
 use odb_check::Need;
-use odb_doc::Place;
+use odb_doc::{Fault, Place, Refusal};
 use std::alloc::AllocError;
 use thiserror::Error;
 
@@ -55,93 +56,74 @@ pub enum RunRefusal {
 impl StartRefusal {
     ghost use Rattle.odb_sched.specs.Refusals.{start_code, start_name};
 
+    /// Returns the code, from `S1` to `S5`, and the name, such as `Waiting`.
+    fn row(&self) -> (&'static str, &'static str)
+        ensures code { result.0.now ≡ start_code self.now }
+        ensures name { result.1.now ≡ start_name self.now }
+    {
+        match self {
+            StartRefusal::AlreadyStarted => ("S1", "AlreadyStarted"),
+            StartRefusal::Stopped => ("S2", "Stopped"),
+            StartRefusal::UnitFailed => ("S3", "UnitFailed"),
+            StartRefusal::Waiting(_) => ("S4", "Waiting"),
+            StartRefusal::WidthReached => ("S5", "WidthReached"),
+        }
+    }
+
     /// Returns the code, from `S1` to `S5`.
     pub fn code(&self) -> &'static str
         ensures { result.now ≡ start_code self.now }
     {
-        match self {
-            StartRefusal::AlreadyStarted => "S1",
-            StartRefusal::Stopped => "S2",
-            StartRefusal::UnitFailed => "S3",
-            StartRefusal::Waiting(_) => "S4",
-            StartRefusal::WidthReached => "S5",
-        }
+        self.row().0
     }
 
     /// Returns the name, such as `Waiting`.
     pub fn name(&self) -> &'static str
         ensures { result.now ≡ start_name self.now }
     {
-        match self {
-            StartRefusal::AlreadyStarted => "AlreadyStarted",
-            StartRefusal::Stopped => "Stopped",
-            StartRefusal::UnitFailed => "UnitFailed",
-            StartRefusal::Waiting(_) => "Waiting",
-            StartRefusal::WidthReached => "WidthReached",
-        }
+        self.row().1
     }
 }
 
 impl ReportRefusal {
     ghost use Rattle.odb_sched.specs.Refusals.{report_code, report_name};
 
+    /// Returns the code, `P1` or `P2`, and the name, such as `NotRunning`.
+    fn row(&self) -> (&'static str, &'static str)
+        ensures code { result.0.now ≡ report_code self.now }
+        ensures name { result.1.now ≡ report_name self.now }
+    {
+        match self {
+            ReportRefusal::NotRunning => ("P1", "NotRunning"),
+            ReportRefusal::BadStatus => ("P2", "BadStatus"),
+        }
+    }
+
     /// Returns the code, `P1` or `P2`.
     pub fn code(&self) -> &'static str
         ensures { result.now ≡ report_code self.now }
     {
-        match self {
-            ReportRefusal::NotRunning => "P1",
-            ReportRefusal::BadStatus => "P2",
-        }
+        self.row().0
     }
 
     /// Returns the name, such as `NotRunning`.
     pub fn name(&self) -> &'static str
         ensures { result.now ≡ report_name self.now }
     {
-        match self {
-            ReportRefusal::NotRunning => "NotRunning",
-            ReportRefusal::BadStatus => "BadStatus",
-        }
+        self.row().1
     }
 }
 
-impl RunRefusal {
-    ghost use Rattle.odb_sched.specs.Refusals.{IsNumbered, run_code, run_name, run_place};
+impl Fault for RunRefusal {
+    ghost row = { run_row };
 
-    /// Returns the code of a numbered refusal, such as `S4`.
-    pub fn code(&self) -> &'static str
-        requires { IsNumbered self.now }
-        ensures { result.now ≡ run_code self.now }
-    {
-        match self {
-            RunRefusal::Start { cause, .. } => cause.code(),
-            RunRefusal::Report { cause, .. } => cause.code(),
-            RunRefusal::OutOfMemory => unreachable!(),
-        }
-    }
-
-    /// Returns the name of a numbered refusal, such as `Waiting`.
-    pub fn name(&self) -> &'static str
-        requires { IsNumbered self.now }
-        ensures { result.now ≡ run_name self.now }
-    {
-        match self {
-            RunRefusal::Start { cause, .. } => cause.name(),
-            RunRefusal::Report { cause, .. } => cause.name(),
-            RunRefusal::OutOfMemory => unreachable!(),
-        }
-    }
-
-    /// Returns the place of the event that may not come.
-    pub fn place(&self) -> Place
-        requires { IsNumbered self.now }
-        ensures { result ≡ run_place self.now }
-    {
-        match *self {
-            RunRefusal::Start { at, .. } | RunRefusal::Report { at, .. } => Place::Event(at),
-            RunRefusal::OutOfMemory => unreachable!(),
-        }
+    fn refusal(&self) -> Option<Refusal> {
+        let (row, at) = match self {
+            RunRefusal::Start { at, cause } => (cause.row(), *at),
+            RunRefusal::Report { at, cause } => (cause.row(), *at),
+            RunRefusal::OutOfMemory => return None,
+        };
+        Some(Refusal::new(row, Place::Event(at)))
     }
 }
 

@@ -6,12 +6,13 @@ ghost use Rattle.odb_doc.specs.Records.{Record};
 ghost use Rattle.odb_check.specs.Plans.{plan_records};
 ghost use Rattle.odb_check.specs.Positions.{id_at};
 ghost use Rattle.odb_sched.specs.declared.resolving.ResolveFault.TheVariants.{OutOfMemory};
+ghost use Rattle.odb_sched.specs.ResolveFaults.{resolve_row};
 ghost use Rattle.odb_sched.specs.Resolving.{IsKnown, IsResolved, RefusesNamed, named_id};
 ghost use Rattle.odb_sched.specs.Runs.{event_position};
 
 use crate::event::Event;
 use odb_check::Plan;
-use odb_doc::{Events, NamedEvent, Place};
+use odb_doc::{Events, Fault, NamedEvent, Place, Refusal};
 use std::alloc::{AllocError, AllocFailed, Global};
 use thiserror::Error;
 
@@ -26,39 +27,15 @@ pub enum ResolveFault {
     OutOfMemory,
 }
 
-impl ResolveFault {
-    ghost use Rattle.odb_sched.specs.ResolveFaults.{IsNumbered, fault_code, fault_name, fault_place};
+impl Fault for ResolveFault {
+    ghost row = { resolve_row };
 
-    /// Returns the code of a numbered fault, which is `F65`.
-    pub fn code(&self) -> &'static str
-        requires { IsNumbered self.now }
-        ensures { result.now ≡ fault_code self.now }
-    {
-        match self {
-            ResolveFault::UnknownEvent { .. } => "F65",
-            ResolveFault::OutOfMemory => unreachable!(),
-        }
-    }
-
-    /// Returns the name of a numbered fault, which is `UnknownEvent`.
-    pub fn name(&self) -> &'static str
-        requires { IsNumbered self.now }
-        ensures { result.now ≡ fault_name self.now }
-    {
-        match self {
-            ResolveFault::UnknownEvent { .. } => "UnknownEvent",
-            ResolveFault::OutOfMemory => unreachable!(),
-        }
-    }
-
-    /// Returns the place of the event.
-    pub fn place(&self) -> Place
-        requires { IsNumbered self.now }
-        ensures { result ≡ fault_place self.now }
-    {
+    fn refusal(&self) -> Option<Refusal> {
         match *self {
-            ResolveFault::UnknownEvent { at } => Place::Event(at),
-            ResolveFault::OutOfMemory => unreachable!(),
+            ResolveFault::UnknownEvent { at } => {
+                Some(Refusal::new(("F65", "UnknownEvent"), Place::Event(at)))
+            }
+            ResolveFault::OutOfMemory => None,
         }
     }
 }
