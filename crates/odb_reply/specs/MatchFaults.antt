@@ -1,8 +1,8 @@
 -- How responses do not fit a batch, over all pairs of responses and requests (OData JSON Format 4.01, section 19.5), and
 -- what is printed of it.
-use Rattle.std.specs.Prelude.{◌≡◌, ◌≢◌, ◌<◌, ℕ, List, [], Some, Contains, IsSomeAnd, IsTrue, codes}
-use Rattle.odb_doc.specs.Faults.{code_of}
+use Rattle.std.specs.Prelude.{◌≡◌, ◌≢◌, ◌<◌, ℕ, List, Option, Some, None, Contains, IsSomeAnd, IsTrue, codes}
 use Rattle.odb_doc.specs.Records.{Record}
+use Rattle.odb_doc.specs.Refusals.{Printed, fault_at}
 use Rattle.odb_doc.specs.declared.fault.Place.{Place}
 use Rattle.odb_doc.specs.declared.fault.Place.TheVariants as places
 use Rattle.odb_check.specs.declared.need.Need.{Need}
@@ -58,9 +58,6 @@ number ResponseMissing = 73
 number GroupDiffers = 74
 number UnsoundSuccess = 75
 
-abbrev pub rule_code : MatchRule → List ℕ
-rule_code rule = code_of (number rule)
-
 abbrev pub rule_name : MatchRule → List ℕ
 rule_name UnknownResponse = codes "UnknownResponse"
 rule_name ResponseTwice = codes "ResponseTwice"
@@ -79,14 +76,6 @@ rule_place UnsoundSuccess at = places.Request at
 abbrev pub IsNumbered : MatchFault → Type 0
 IsNumbered fault = fault ≢ faults.OutOfMemory
 
-abbrev pub fault_code : MatchFault → List ℕ
-fault_code (faults.Misfit at rule) = rule_code rule
-fault_code faults.OutOfMemory = []
-
-abbrev pub fault_name : MatchFault → List ℕ
-fault_name (faults.Misfit at rule) = rule_name rule
-fault_name faults.OutOfMemory = []
-
-abbrev pub fault_place : MatchFault → Place
-fault_place (faults.Misfit at rule) = rule_place rule at
-fault_place faults.OutOfMemory = places.Responses
+abbrev pub match_row : MatchFault → Option Printed
+match_row (faults.Misfit at rule) = Some (fault_at (number rule) (rule_name rule) (rule_place rule at))
+match_row faults.OutOfMemory = None

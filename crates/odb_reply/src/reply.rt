@@ -9,6 +9,7 @@ ghost use Rattle.odb_reply.specs.OnePerId.{HasOnePerId};
 ghost use Rattle.odb_reply.specs.Outputs.{HasWritten, AppendsPrefix};
 ghost use Rattle.odb_reply.specs.Parts.{rest_text};
 ghost use Rattle.odb_reply.specs.Readable.{HasShallowBodies};
+ghost use Rattle.odb_reply.specs.ReplyFaults.{reply_row};
 ghost use Rattle.odb_reply.specs.ResponseDocuments.{IsResponseDocument};
 ghost use Rattle.odb_reply.specs.Responses.{response_text, response_value};
 
@@ -16,7 +17,7 @@ use crate::laws::every_response;
 use crate::parts::push_response;
 use crate::whole::first_not_whole;
 use crate::writing::{WriteFault, write_text};
-use odb_doc::{Output, Place, TextFault};
+use odb_doc::{Fault, Output, Refusal, TextFault};
 use odb_sched::Done;
 use std::alloc::{AllocError, Global};
 use std::io::Write;
@@ -37,39 +38,13 @@ pub enum ReplyFault {
     OutOfMemory,
 }
 
-impl ReplyFault {
-    ghost use Rattle.odb_reply.specs.ReplyFaults.{IsNumbered, fault_code, fault_name, fault_place};
+impl Fault for ReplyFault {
+    ghost row = { reply_row };
 
-    /// Returns the code of a numbered fault: `F50`.
-    pub fn code(&self) -> &'static str
-        requires { IsNumbered self.now }
-        ensures { result.now ≡ fault_code self.now }
-    {
+    fn refusal(&self) -> Option<Refusal> {
         match *self {
-            ReplyFault::NotWhole { at } => TextFault::NotWhole { at }.code(),
-            ReplyFault::Write | ReplyFault::OutOfMemory => unreachable!(),
-        }
-    }
-
-    /// Returns the name of a numbered fault: `NotWhole`.
-    pub fn name(&self) -> &'static str
-        requires { IsNumbered self.now }
-        ensures { result.now ≡ fault_name self.now }
-    {
-        match *self {
-            ReplyFault::NotWhole { at } => TextFault::NotWhole { at }.name(),
-            ReplyFault::Write | ReplyFault::OutOfMemory => unreachable!(),
-        }
-    }
-
-    /// Returns the place of a numbered fault: the request.
-    pub fn place(&self) -> Place
-        requires { IsNumbered self.now }
-        ensures { result ≡ fault_place self.now }
-    {
-        match *self {
-            ReplyFault::NotWhole { at } => TextFault::NotWhole { at }.place(),
-            ReplyFault::Write | ReplyFault::OutOfMemory => unreachable!(),
+            ReplyFault::NotWhole { at } => TextFault::NotWhole { at }.refusal(),
+            ReplyFault::Write | ReplyFault::OutOfMemory => None,
         }
     }
 }

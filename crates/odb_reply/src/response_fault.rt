@@ -1,7 +1,8 @@
 ghost use Rattle.std.specs.Prelude.{◌≡◌};
+ghost use Rattle.odb_reply.specs.ResponseFaults.{responses_row};
 ghost use Rattle.odb_reply.specs.declared.response_fault.ResponseFault.TheVariants.{OutOfMemory};
 
-use odb_doc::Place;
+use odb_doc::{Fault, Place, Refusal};
 use std::alloc::{AllocError, AllocFailed};
 use thiserror::Error;
 
@@ -21,41 +22,16 @@ pub enum ResponseFault {
     OutOfMemory,
 }
 
-impl ResponseFault {
-    ghost use Rattle.odb_reply.specs.ResponseFaults.{IsNumbered, fault_code, fault_name, fault_place};
+impl Fault for ResponseFault {
+    ghost row = { responses_row };
 
-    /// Returns the code of a numbered fault: `F70`.
-    pub fn code(&self) -> &'static str
-        requires { IsNumbered self.now }
-        ensures { result.now ≡ fault_code self.now }
-    {
-        match *self {
-            ResponseFault::Document | ResponseFault::Response { .. } => "F70",
-            ResponseFault::OutOfMemory => unreachable!(),
-        }
-    }
-
-    /// Returns the name of a numbered fault: `BadResponses`.
-    pub fn name(&self) -> &'static str
-        requires { IsNumbered self.now }
-        ensures { result.now ≡ fault_name self.now }
-    {
-        match *self {
-            ResponseFault::Document | ResponseFault::Response { .. } => "BadResponses",
-            ResponseFault::OutOfMemory => unreachable!(),
-        }
-    }
-
-    /// Returns the place of a numbered fault: the whole document, or the response.
-    pub fn place(&self) -> Place
-        requires { IsNumbered self.now }
-        ensures { result ≡ fault_place self.now }
-    {
-        match *self {
+    fn refusal(&self) -> Option<Refusal> {
+        let place = match *self {
             ResponseFault::Document => Place::Responses,
             ResponseFault::Response { at } => Place::Response(at),
-            ResponseFault::OutOfMemory => unreachable!(),
-        }
+            ResponseFault::OutOfMemory => return None,
+        };
+        Some(Refusal::new(("F70", "BadResponses"), place))
     }
 }
 
