@@ -10,7 +10,8 @@ use Rattle.odb_names.specs.Methods.{method_name}
 use Rattle.odb_names.specs.declared.method.Method.{Method}
 use Rattle.odb_names.specs.declared.method.Method.TheVariants.{Delete, Get, Patch, Post, Put}
 use Rattle.odb_doc.specs.Canonical.{with_some, names_value, headers_value, request_value, canonical_text}
-use Rattle.odb_doc.specs.CanonicalParts.{member_part, end_part, requests_left}
+use Rattle.odb_doc.specs.CanonicalParts.{end_part, requests_left}
+use Rattle.odb_doc.specs.Texts.{member_part}
 use Rattle.odb_doc.specs.Records.{Record}
 
 -- three pieces that were appended one by one, the last one if it was taken

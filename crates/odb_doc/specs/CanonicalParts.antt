@@ -1,6 +1,6 @@
 -- The canonical text in the parts of which it is made: for private clauses, nothing to believe.
-use Rattle.std.specs.Prelude.{ℕ, List, [], ◌++◌, map, Option, Some, None, nat_lt, drop, codes, Bool}
-use Rattle.serde_json.specs.Data.{Data, string}
+use Rattle.std.specs.Prelude.{ℕ, List, ◌++◌, map, nat_lt, drop, codes, Bool}
+use Rattle.serde_json.specs.Data.{string}
 use Rattle.serde_json.specs.View.{items_of}
 use Rattle.serde_json.specs.Written.{compact_text, items_text, members_text}
 use Rattle.odb_names.specs.Methods.{method_name}
@@ -8,11 +8,6 @@ use Rattle.odb_names.specs.declared.method.Method.{Method}
 use Rattle.odb_doc.specs.Canonical.{request_value, header_members}
 use Rattle.odb_doc.specs.Headers.{Header}
 use Rattle.odb_doc.specs.Records.{Record}
-
--- a member that may be absent: its name and colon, its value, and the comma after it
-abbrev pub member_part : List ℕ → Option Data → List ℕ
-member_part name None = []
-member_part name (Some d) = name ++ (compact_text d ++ codes ",")
 
 -- the last three members, and the end of the object
 abbrev pub end_part : List ℕ → Method → List ℕ → List ℕ

@@ -26,6 +26,7 @@ pub mod Records
 pub mod References
 pub mod Refusals
 pub mod Shapes
+pub mod Texts
 pub mod WholeNumbers
 -- What invariants, private clauses and proofs cite: nothing to believe.
 pub mod BodyKinds

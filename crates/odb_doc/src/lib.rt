@@ -31,12 +31,12 @@ mod outcome;
 mod outcome_fault;
 mod outcomes;
 mod parts;
-mod quoting;
 mod reference;
 mod refusal;
 mod repeats;
 mod request;
 mod seen;
+pub mod text;
 mod whole;
 
 pub use batch::Batch;

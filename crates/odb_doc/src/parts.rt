@@ -5,54 +5,15 @@ ghost use Rattle.serde_json.specs.Written.{compact_text, comma_if};
 ghost use Rattle.odb_doc.specs.Batches.{records};
 ghost use Rattle.odb_doc.specs.Canonical.{HasWholeBodies, headers_value, names_value};
 ghost use Rattle.odb_doc.specs.CanonicalParts as parts;
+ghost use Rattle.odb_doc.specs.Texts.{member_part};
 ghost use Rattle.odb_doc.specs.Headers.{headers_in};
 ghost use Rattle.odb_doc.specs.Names.{texts_in};
 ghost use Rattle.odb_doc.specs.WholeNumbers.{IsWhole};
 
 use crate::batch::Batch;
-use crate::quoting::{push_if, push_owned, push_quoted};
+use crate::text::{push_body, push_group, push_headers, push_if, push_quoted};
 use odb_names::Method;
-use serde_json::Value;
 use std::alloc::{AllocError, Global};
-use std::collections::BTreeMap;
-
-/// Appends the member `atomicityGroup`.
-fn push_group_name(alloc: Global, text: &mut String, group: &str) -> Result<(), AllocError>
-    ensures { OnOk result (string_bytes text.new ≡ string_bytes text.old
-        ++ parts.member_part (codes "\"atomicityGroup\":") (Some (string group.now))) }
-{
-    text.push_str("\"atomicityGroup\":")?;
-    push_quoted(alloc, text, group)?;
-    text.push_str(",")
-}
-
-/// Appends the member `atomicityGroup`, if there is a group.
-fn push_group(alloc: Global, text: &mut String, group: Option<&str>) -> Result<(), AllocError>
-    ensures { OnOk result (string_bytes text.new ≡ string_bytes text.old
-        ++ parts.member_part (codes "\"atomicityGroup\":")
-        (option_map string (option_map (λ group. group.now) group.entry))) }
-{
-    match group {
-        Some(group) => push_group_name(alloc, text, group),
-        None => Ok(()),
-    }
-}
-
-/// Appends the member `body`, if there is a body.
-fn push_body(alloc: Global, text: &mut String, body: Option<&Value>) -> Result<(), AllocError>
-    requires { IfSome (option_map (λ body. view body.now) body) IsWhole }
-    ensures { OnOk result (string_bytes text.new ≡ string_bytes text.old
-        ++ parts.member_part (codes "\"body\":") (option_map (λ body. view body.now) body.entry)) }
-{
-    match body {
-        Some(body) => {
-            text.push_str("\"body\":")?;
-            push_owned(text, body.to_string(alloc)?)?;
-            text.push_str(",")
-        }
-        None => Ok(()),
-    }
-}
 
 /// Appends the texts as the elements of an array, and the end of the array.
 fn push_elements(alloc: Global, text: &mut String, elements: &[&str]) -> Result<(), AllocError>
@@ -69,65 +30,13 @@ fn push_elements(alloc: Global, text: &mut String, elements: &[&str]) -> Result<
 /// Appends the member `dependsOn`, if there are names.
 fn push_names(alloc: Global, text: &mut String, names: &[&str]) -> Result<(), AllocError>
     ensures { OnOk result (string_bytes text.new ≡ string_bytes text.old
-        ++ parts.member_part (codes "\"dependsOn\":") (names_value (texts_in names.now))) }
+        ++ member_part (codes "\"dependsOn\":") (names_value (texts_in names.now))) }
 {
     if names.is_empty() {
         return Ok(());
     }
     text.push_str("\"dependsOn\":[")?;
     push_elements(alloc, text, names)?;
-    text.push_str(",")
-}
-
-/// Appends a header, with a comma first unless it is the first header.
-fn push_header(
-    alloc: Global,
-    text: &mut String,
-    later: bool,
-    name: &str,
-    value: &str,
-) -> Result<(), AllocError>
-    ensures { OnOk result (string_bytes text.new ≡ string_bytes text.old
-        ++ (comma_if later ++ (compact_text (string name.now)
-        ++ 58 ∷ compact_text (string value.now)))) }
-{
-    push_if(text, later, ",")?;
-    push_quoted(alloc, text, name)?;
-    text.push_str(":")?;
-    push_quoted(alloc, text, value)
-}
-
-/// Appends the headers as the members of an object, and the end of the object.
-fn push_members(
-    alloc: Global,
-    text: &mut String,
-    headers: &BTreeMap<String, String>,
-) -> Result<(), AllocError>
-    ensures { OnOk result (string_bytes text.new ≡ string_bytes text.old
-        ++ parts.headers_left false (headers_in headers.now)) }
-{
-    let mut later = false;
-    for (name, value) in headers.iter() {
-        push_header(alloc, text, later, name.as_str(), value.as_str())?;
-        later = true;
-    }
-    text.push_str("}")
-}
-
-/// Appends the member `headers`, if there are headers.
-fn push_headers(
-    alloc: Global,
-    text: &mut String,
-    headers: &BTreeMap<String, String>,
-) -> Result<(), AllocError>
-    ensures { OnOk result (string_bytes text.new ≡ string_bytes text.old
-        ++ parts.member_part (codes "\"headers\":") (headers_value (headers_in headers.now))) }
-{
-    if headers.is_empty() {
-        return Ok(());
-    }
-    text.push_str("\"headers\":{")?;
-    push_members(alloc, text, headers)?;
     text.push_str(",")
 }
 

@@ -1,17 +1,15 @@
 -- The text of a response is that of its parts.
 use Rattle.std.proofs.Common.{◌≡◌, ◌∙◌, ℕ, List, ◌++◌, Option, Some, None, option_map, Bool, decimal, refl, ap, codes, append_assoc}
-use Rattle.std.specs.Prelude.{IfSome}
 use Rattle.serde_json.specs.Data.{Data, unsigned, number, string, object, put, no_members}
 use Rattle.serde_json.specs.Written.{compact_text, comma_if}
 use Rattle.serde_json.proofs.OnLiterals.{serde_json_on_literals}
-use Rattle.odb_names.specs.Identifiers.{IsRequestId}
-use Rattle.odb_doc.specs.Records.{Record, IsSoundRecord}
+use Rattle.odb_doc.specs.Records.{Record}
 use Rattle.odb_doc.specs.declared.outcome.Outcome.{Outcome}
 use Rattle.odb_sched.specs.Answers.{status_of}
 use Rattle.odb_doc.specs.Canonical.{with_some, headers_value}
 use Rattle.odb_reply.specs.Responses.{response, answer_body, answer_headers}
-use Rattle.odb_reply.proofs.QuoteLemmas.{text-plain}
-use Rattle.odb_reply.specs.Parts.{group_part, member_part, end_part}
+use Rattle.odb_doc.specs.Texts.{member_part}
+use Rattle.odb_reply.specs.Parts.{end_part}
 
 members_text_of : (group : Option (List ℕ)) (body headers : Option Data) (id : List ℕ) (status : ℕ)
     → compact_text (object (with_some (codes "atomicityGroup") (option_map string group) (with_some (codes "body") body (with_some (codes "headers") headers (put (codes "id") (string id) (put (codes "status") (number (unsigned status)) no_members))))))
@@ -26,18 +24,9 @@ members_text_of (Some group) None (Some headers) id status = simp append_assoc
 members_text_of (Some group) (Some body) None id status = simp append_assoc
 members_text_of (Some group) (Some body) (Some headers) id status = simp append_assoc
 
-group_member : (group : Option (List ℕ)) → IfSome group IsRequestId → member_part (codes "\"atomicityGroup\":") (option_map string group) ≡ group_part group
-group_member None plain = refl
-group_member (Some group) plain = ap (λ text. codes "\"atomicityGroup\":" ++ (text ++ codes ",")) (text-plain group plain.1) ∙ simp append_assoc
-
-last_members : (id : List ℕ) (status : ℕ) → IsRequestId id
-    → codes "\"id\":" ++ (compact_text (string id) ++ (codes ",\"status\":" ++ (decimal status ++ codes "}"))) ≡ end_part id status
-last_members id status plain = ap (λ text. codes "\"id\":" ++ (text ++ (codes ",\"status\":" ++ (decimal status ++ codes "}")))) (text-plain id plain.1) ∙ simp append_assoc
-
 -- the text of a response, with the comma before it, is that of its parts
-pub response-parts : (later : Bool) (request : Record) (answer : Option Outcome) → IsSoundRecord request
+pub response-parts : (later : Bool) (request : Record) (answer : Option Outcome)
     → comma_if later ++ compact_text (response request answer)
-    ≡ comma_if later ++ (codes "{" ++ (group_part request.group ++ (member_part (codes "\"body\":") (answer_body answer) ++ (member_part (codes "\"headers\":") (headers_value (answer_headers answer)) ++ end_part request.id (status_of answer)))))
-response-parts later request answer sound =
-    let whole = members_text_of request.group (answer_body answer) (headers_value (answer_headers answer)) request.id (status_of answer) in
-    ap (λ text. comma_if later ++ text) (whole ∙ rw (group_member request.group sound.group, last_members request.id (status_of answer) sound.id) refl)
+    ≡ comma_if later ++ (codes "{" ++ (member_part (codes "\"atomicityGroup\":") (option_map string request.group) ++ (member_part (codes "\"body\":") (answer_body answer) ++ (member_part (codes "\"headers\":") (headers_value (answer_headers answer)) ++ end_part request.id (status_of answer)))))
+response-parts later request answer =
+    ap (λ text. comma_if later ++ text) (members_text_of request.group (answer_body answer) (headers_value (answer_headers answer)) request.id (status_of answer))

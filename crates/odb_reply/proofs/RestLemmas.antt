@@ -1,17 +1,19 @@
 -- The text of the responses, response by response.
-use Rattle.std.proofs.Common.{sym, ◌≡◌, ◌∙◌, ℕ, ◌+◌, ◌≤◌, List, ◌∷◌, ◌++◌, length, Some, nat_lt, true, drop, refl, ap, codes, arith, append_assoc, lt-ltb}
+use Rattle.std.proofs.Common.{sym, ◌≡◌, ◌∙◌, ℕ, ◌+◌, ◌≤◌, List, ◌∷◌, ◌++◌, length, Some, option_map, nat_lt, true, drop, refl, ap, codes, arith, append_assoc, lt-ltb}
 use Rattle.std.proofs.lemmas.List.{drop_more, drop_all}
 use Rattle.std.proofs.lemmas.Option.{slice_get_within, get_or_from_slice_get}
 use Rattle.std.specs.Prelude.{slice_get}
 use Rattle.serde_json.specs.Written.{compact_text, comma_if}
 use Rattle.serde_json.proofs.OnLiterals.{serde_json_on_literals}
-use Rattle.odb_doc.specs.Records.{Record, IsSoundRecord}
+use Rattle.odb_doc.specs.Records.{Record}
+use Rattle.odb_doc.specs.Texts.{member_part}
+use Rattle.serde_json.specs.Data.{string}
 use Rattle.odb_check.specs.Plans.{plan_records}
 use Rattle.odb_sched.specs.Answers.{answer, status_of}
 use Rattle.odb_sched.specs.State.{State}
 use Rattle.odb_doc.specs.Canonical.{headers_value}
 use Rattle.odb_reply.specs.Responses.{response, response_text, answer_body, answer_headers}
-use Rattle.odb_reply.specs.Parts.{rest_text, group_part, member_part, end_part}
+use Rattle.odb_reply.specs.Parts.{rest_text, end_part}
 use Rattle.odb_reply.proofs.PartLemmas.{response-parts}
 
 -- the whole text is its start, and then the responses
@@ -45,8 +47,8 @@ rest_text-more state i request is =
     rw (drop_at (plan_records state.plan) i request is, later) (simp append_assoc)
 
 -- the parts of a response, and then the rest
-pub rest_text-parts : (state : State) (i : ℕ) (request : Record) → slice_get (plan_records state.plan) i ≡ Some request → IsSoundRecord request
+pub rest_text-parts : (state : State) (i : ℕ) (request : Record) → slice_get (plan_records state.plan) i ≡ Some request
     → rest_text state i
-    ≡ (comma_if (nat_lt 0 i) ++ (codes "{" ++ (group_part request.group ++ (member_part (codes "\"body\":") (answer_body (answer state i)) ++ (member_part (codes "\"headers\":") (headers_value (answer_headers (answer state i))) ++ end_part request.id (status_of (answer state i))))))) ++ rest_text state (i + 1)
-rest_text-parts state i request is sound =
-    rest_text-more state i request is ∙ ap (λ text. text ++ rest_text state (i + 1)) (response-parts (nat_lt 0 i) request (answer state i) sound)
+    ≡ (comma_if (nat_lt 0 i) ++ (codes "{" ++ (member_part (codes "\"atomicityGroup\":") (option_map string request.group) ++ (member_part (codes "\"body\":") (answer_body (answer state i)) ++ (member_part (codes "\"headers\":") (headers_value (answer_headers (answer state i))) ++ end_part request.id (status_of (answer state i))))))) ++ rest_text state (i + 1)
+rest_text-parts state i request is =
+    rest_text-more state i request is ∙ ap (λ text. text ++ rest_text state (i + 1)) (response-parts (nat_lt 0 i) request (answer state i))

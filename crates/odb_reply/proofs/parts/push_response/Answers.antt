@@ -9,5 +9,5 @@ pub returns : goal.returns
 returns c =
     let state = c.args.done.now in
     let is : slice_get (plan_records state.plan) c.args.i ≡ Some (record_of c.request-request.result.now) = rw (← c.plan.ensures.plan) c.request-request.ensures.value in
-    let parts = rest_text-parts state c.args.i (record_of c.request-request.result.now) is c.request-request.ensures.sound in
+    let parts = rest_text-parts state c.args.i (record_of c.request-request.result.now) is in
     grind (arith, common_steps, parts)

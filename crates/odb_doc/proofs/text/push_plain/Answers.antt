@@ -1,7 +1,7 @@
 use Rattle.std.proofs.Common.{arith}
 use Rattle.std.proofs.lemmas.Grind.{common_steps}
 use Rattle.odb_doc.proofs.QuoteLemmas.{text-plain}
-use Rattle.odb_doc.proofs.quoting.push_plain.Goals as goal
+use Rattle.odb_doc.proofs.text.push_plain.Goals as goal
 
 pub returns : goal.returns
 returns c =

@@ -2,7 +2,7 @@ use Rattle.std.proofs.Common.{◌∙◌, ◌++◌, ap, codes, string_bytes}
 use Rattle.serde_json.specs.Data.{string}
 use Rattle.serde_json.specs.Written.{compact_text}
 use Rattle.odb_doc.proofs.CanonicalLemmas.{pushed}
-use Rattle.odb_doc.proofs.parts.push_group_name.Goals as goal
+use Rattle.odb_doc.proofs.text.push_group_name.Goals as goal
 
 pub returns : goal.returns
 returns c =

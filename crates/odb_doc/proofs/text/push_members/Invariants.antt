@@ -1,7 +1,7 @@
 use Rattle.std.proofs.Common.{◌≡◌, ◌++◌, false, map, string_bytes}
 use Rattle.odb_doc.specs.CanonicalParts.{headers_left}
 use Rattle.odb_doc.specs.Headers.{header_of, headers_in}
-use Rattle.odb_doc.proofs.parts.push_members.Given as goal
+use Rattle.odb_doc.proofs.text.push_members.Given as goal
 
 -- the text so far, and then the headers that are left, are the whole
 abbrev pub invariant-loop-name : goal.invariant-loop-name

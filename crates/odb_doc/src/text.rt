@@ -1,0 +1,175 @@
+//! Writers of JSON text: they append a piece to a text, as compact JSON has it.
+//!
+//! If an allocation fails, the text may have received a part of the piece.
+
+ghost use Rattle.std.specs.Prelude.{◌≡◌, ◌↔◌, ◌++◌, ◌∷◌, [], false, codes, option_map, Some, IsTrue, IfOk, IfSome, OnOk, string_bytes, if◌then◌else◌};
+ghost use Rattle.std.specs.List.{AllPass};
+ghost use Rattle.serde_json.specs.Data.{string};
+ghost use Rattle.serde_json.specs.View.{view};
+ghost use Rattle.serde_json.specs.Written.{compact_text, comma_if};
+ghost use Rattle.odb_doc.specs.Canonical.{headers_value};
+ghost use Rattle.odb_doc.specs.CanonicalParts.{headers_left};
+ghost use Rattle.odb_doc.specs.Headers.{headers_in};
+ghost use Rattle.odb_doc.specs.Quoting.{is_plain};
+ghost use Rattle.odb_doc.specs.Texts.{member_part};
+ghost use Rattle.odb_doc.specs.WholeNumbers.{IsWhole};
+
+use serde_json::Value;
+use std::alloc::{AllocError, Global};
+use std::collections::BTreeMap;
+
+/// Returns whether a JSON string contains the byte as it is: neither a control character, nor `"`,
+/// nor `\`.
+fn is_plain(byte: u8) -> bool
+    ensures { result ≡ is_plain byte }
+{
+    byte >= 0x20 && byte != b'"' && byte != b'\\'
+}
+
+/// Returns whether nothing in the text has to be escaped.
+fn are_plain(text: &str) -> bool
+    ensures { IsTrue result ↔ AllPass is_plain text.now }
+{
+    text.as_bytes().iter().all(|byte| is_plain(*byte))
+}
+
+/// Returns the JSON text of a string.
+fn quoted(alloc: Global, text: &str) -> Result<String, AllocError>
+    ensures { IfOk result (λ quoted. string_bytes quoted ≡ compact_text (string text.now)) }
+{
+    Value::try_from_str(alloc, text)?.to_string(alloc)
+}
+
+/// Appends a piece in quotes, if nothing in it has to be escaped.
+fn push_plain(text: &mut String, piece: &str) -> Result<(), AllocError>
+    requires { AllPass is_plain piece.now }
+    ensures { OnOk result (string_bytes text.new
+        ≡ string_bytes text.old ++ compact_text (string piece.now)) }
+{
+    text.push_str("\"")?;
+    text.push_str(piece)?;
+    text.push_str("\"")
+}
+
+/// Appends the JSON text of a string.
+pub fn push_quoted(alloc: Global, text: &mut String, piece: &str) -> Result<(), AllocError>
+    ensures { OnOk result (string_bytes text.new
+        ≡ string_bytes text.old ++ compact_text (string piece.now)) }
+{
+    if are_plain(piece) {
+        push_plain(text, piece)
+    } else {
+        text.push_str(quoted(alloc, piece)?.as_str())
+    }
+}
+
+/// Appends a piece if the condition holds.
+pub fn push_if(text: &mut String, holds: bool, piece: &str) -> Result<(), AllocError>
+    ensures { OnOk result (string_bytes text.new
+        ≡ string_bytes text.old ++ (if holds then piece.now else [])) }
+{
+    if holds { text.push_str(piece) } else { Ok(()) }
+}
+
+/// Appends `piece`, which is moved in. If it is longer than the capacity of `text`, it takes in what
+/// `text` has and replaces it, so that its bytes are not copied to a second buffer.
+fn push_owned(text: &mut String, mut piece: String) -> Result<(), AllocError>
+    ensures { OnOk result (string_bytes text.new ≡ string_bytes text.old ++ string_bytes piece) }
+{
+    if piece.len() <= text.capacity() {
+        return text.push_str(piece.as_str());
+    }
+    piece.insert_str(0, text.as_str())?;
+    *text = piece;
+    Ok(())
+}
+
+/// Appends the member `atomicityGroup`.
+fn push_group_name(alloc: Global, text: &mut String, group: &str) -> Result<(), AllocError>
+    ensures { OnOk result (string_bytes text.new ≡ string_bytes text.old
+        ++ member_part (codes "\"atomicityGroup\":") (Some (string group.now))) }
+{
+    text.push_str("\"atomicityGroup\":")?;
+    push_quoted(alloc, text, group)?;
+    text.push_str(",")
+}
+
+/// Appends the member `atomicityGroup`, if there is a group.
+pub fn push_group(alloc: Global, text: &mut String, group: Option<&str>) -> Result<(), AllocError>
+    ensures { OnOk result (string_bytes text.new ≡ string_bytes text.old
+        ++ member_part (codes "\"atomicityGroup\":")
+        (option_map string (option_map (λ group. group.now) group.entry))) }
+{
+    match group {
+        Some(group) => push_group_name(alloc, text, group),
+        None => Ok(()),
+    }
+}
+
+/// Appends the member `body`, if there is a body.
+pub fn push_body(alloc: Global, text: &mut String, body: Option<&Value>) -> Result<(), AllocError>
+    requires { IfSome (option_map (λ body. view body.now) body) IsWhole }
+    ensures { OnOk result (string_bytes text.new ≡ string_bytes text.old
+        ++ member_part (codes "\"body\":") (option_map (λ body. view body.now) body.entry)) }
+{
+    match body {
+        Some(body) => {
+            text.push_str("\"body\":")?;
+            push_owned(text, body.to_string(alloc)?)?;
+            text.push_str(",")
+        }
+        None => Ok(()),
+    }
+}
+
+/// Appends a header, with a comma first unless it is the first header.
+fn push_header(
+    alloc: Global,
+    text: &mut String,
+    later: bool,
+    name: &str,
+    value: &str,
+) -> Result<(), AllocError>
+    ensures { OnOk result (string_bytes text.new ≡ string_bytes text.old
+        ++ (comma_if later ++ (compact_text (string name.now)
+        ++ 58 ∷ compact_text (string value.now)))) }
+{
+    push_if(text, later, ",")?;
+    push_quoted(alloc, text, name)?;
+    text.push_str(":")?;
+    push_quoted(alloc, text, value)
+}
+
+/// Appends the headers as the members of an object, and the end of the object.
+fn push_members(
+    alloc: Global,
+    text: &mut String,
+    headers: &BTreeMap<String, String>,
+) -> Result<(), AllocError>
+    ensures { OnOk result (string_bytes text.new ≡ string_bytes text.old
+        ++ headers_left false (headers_in headers.now)) }
+{
+    let mut later = false;
+    for (name, value) in headers.iter() {
+        push_header(alloc, text, later, name.as_str(), value.as_str())?;
+        later = true;
+    }
+    text.push_str("}")
+}
+
+/// Appends the member `headers`, if there are headers.
+pub fn push_headers(
+    alloc: Global,
+    text: &mut String,
+    headers: &BTreeMap<String, String>,
+) -> Result<(), AllocError>
+    ensures { OnOk result (string_bytes text.new ≡ string_bytes text.old
+        ++ member_part (codes "\"headers\":") (headers_value (headers_in headers.now))) }
+{
+    if headers.is_empty() {
+        return Ok(());
+    }
+    text.push_str("\"headers\":{")?;
+    push_members(alloc, text, headers)?;
+    text.push_str(",")
+}
