@@ -28,3 +28,4 @@ mod TypeLemmas
 mod WatchLemmas
 mod RepeatLemmas
 mod EventLemmas
+pub mod WriteLemmas

@@ -1,5 +1,6 @@
-ghost use Rattle.std.specs.Prelude.{◌≡◌, ℕ, ◌+◌, ◌<◌, ◌≤◌, ◌↔◌, false, length, IsTrue, IsErr, IfOk};
-ghost use Rattle.std.specs.Io.KnownBytes.{ReadConsumes, WriteAppends};
+ghost use Rattle.std.specs.Prelude.{◌≡◌, ℕ, ◌+◌, ◌<◌, ◌≤◌, ◌↔◌, [], false, length, IsTrue, IsErr, IfOk, OnOk, OnErr};
+ghost use Rattle.std.specs.Io.KnownBytes.{Appends, ReadConsumes, WriteAppends};
+ghost use Rattle.odb_doc.specs.Devices.{AppendsPrefix};
 
 use std::io::{Read, Write};
 use std::marker::Model;
@@ -147,5 +148,28 @@ impl<W: Write> Output<W> {
                 Err(DeviceFault)
             }
         }
+    }
+
+    /// Writes a whole text, in as many writes as the writer takes, none for the empty text. The writer
+    /// is not flushed.
+    ///
+    /// # Errors
+    ///
+    /// `DeviceFault` if and only if a write failed. The writer has received a prefix of the text then.
+    pub fn put_text(&mut self, text: &str) -> Result<(), DeviceFault>
+        requires { self.old.failed ≡ false }
+        ensures fault { IsErr result ↔ IsTrue self.new.failed }
+        ensures ok { OnOk result (Appends (W.contents self.old.writer)
+            (W.contents self.new.writer) text.now) }
+        ensures empty { text.now ≡ [] → self.new ≡ self.old }
+        ensures err { OnErr result (AppendsPrefix (W.contents self.old.writer)
+            (W.contents self.new.writer) text.now) }
+    {
+        let mut rest = text.as_bytes();
+        while !rest.is_empty() {
+            let count = self.put(rest)?;
+            rest = &rest[count..];
+        }
+        Ok(())
     }
 }

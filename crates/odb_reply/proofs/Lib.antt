@@ -1,4 +1,3 @@
-pub mod WriteLemmas
 pub mod PartLemmas
 pub mod RestLemmas
 pub mod DocumentLemmas

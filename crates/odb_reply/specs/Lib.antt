@@ -1,5 +1,4 @@
 -- What public clauses cite: it has to be believed.
-pub mod Outputs
 pub mod Readable
 pub mod Responses
 pub mod OnePerId

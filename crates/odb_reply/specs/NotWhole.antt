@@ -1,21 +1,24 @@
 -- When a response has no text, since it holds a number that is not whole.
-use Rattle.std.specs.Prelude.{◌<◌, ℕ, Option, IfSome}
-use Rattle.odb_doc.specs.WholeNumbers.{IsWhole}
+use Rattle.std.specs.Prelude.{ℕ, Option}
+use Rattle.serde_json.specs.Data.{Data}
+use Rattle.odb_doc.specs.WholeNumbers as whole
 use Rattle.odb_doc.specs.declared.outcome.Outcome.{Outcome}
 use Rattle.odb_sched.specs.Answers.{answer}
 use Rattle.odb_sched.specs.State.{State, size}
 use Rattle.odb_reply.specs.Responses.{answer_body}
 
+-- the body that answers the request at a position, if any
+abbrev pub body_at : State → ℕ → Option Data
+body_at state i = answer_body (answer state i)
+
 -- each number in the body of an answer is whole
 abbrev pub HasWholeBody : Option Outcome → Type 0
-HasWholeBody answer = IfSome (answer_body answer) IsWhole
+HasWholeBody answer = whole.HasWholeBody (answer_body answer)
 
 -- each number in the bodies of a finished run is whole
 abbrev pub HasWholeBodies : State → Type 0
-HasWholeBodies state = (i : ℕ) → i < size state → HasWholeBody (answer state i)
+HasWholeBodies state = whole.HasWholeBodies (size state) (body_at state)
 
 -- the first request that is answered by a body with a number that is not whole
-pub record IsFirstNotWhole (state : State) (at : ℕ) : Type 0 where
-  pub within : at < size state
-  pub holds : ¬ HasWholeBody (answer state at)
-  pub first : (i : ℕ) → i < at → HasWholeBody (answer state i)
+abbrev pub IsFirstNotWhole : State → ℕ → Type 0
+IsFirstNotWhole state at = whole.IsFirstNotWhole (size state) (body_at state) at

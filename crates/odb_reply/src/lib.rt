@@ -3,7 +3,7 @@
 //! [`response_text`] returns the response of a finished run (OData JSON Format 4.01, section 19.5),
 //! and [`write_responses`] writes it to an output through a buffer. Both refuse a run that answers a
 //! body with a number that is not whole, since only whole numbers are kept exactly. [`laws`] states
-//! what is true of every response. [`write_text`] writes any text. What runs, and what each request
+//! what is true of every response. What runs, and what each request
 //! is answered, is decided by `odb_sched`.
 //!
 //! [`Responses::read`] reads the response document of a service, and [`match_responses`] checks that
@@ -21,7 +21,6 @@ mod responses;
 mod table;
 mod text;
 mod whole;
-mod writing;
 
 pub use match_fault::{MatchFault, MatchRule};
 pub use matching::match_responses;
@@ -30,4 +29,3 @@ pub use response_fault::ResponseFault;
 pub use responses::{Response, Responses};
 pub use table::Table;
 pub use text::response_text;
-pub use writing::{WriteFault, write_text};

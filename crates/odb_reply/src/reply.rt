@@ -6,7 +6,7 @@ ghost use Rattle.odb_reply.specs.declared.reply.ReplyFault.TheVariants as faults
 ghost use Rattle.odb_reply.specs.Fits.{ListsFit};
 ghost use Rattle.odb_reply.specs.NotWhole.{HasWholeBodies, IsFirstNotWhole};
 ghost use Rattle.odb_reply.specs.OnePerId.{HasOnePerId};
-ghost use Rattle.odb_reply.specs.Outputs.{HasWritten, AppendsPrefix};
+ghost use Rattle.odb_doc.specs.Devices.{HasWritten, AppendsPrefix};
 ghost use Rattle.odb_reply.specs.Parts.{rest_text};
 ghost use Rattle.odb_reply.specs.Readable.{HasShallowBodies};
 ghost use Rattle.odb_reply.specs.ReplyFaults.{reply_row};
@@ -16,8 +16,7 @@ ghost use Rattle.odb_reply.specs.Responses.{response_text, response_value};
 use crate::laws::every_response;
 use crate::parts::push_response;
 use crate::whole::first_not_whole;
-use crate::writing::{WriteFault, write_text};
-use odb_doc::{Fault, Output, Refusal, TextFault};
+use odb_doc::{DeviceFault, Fault, Output, Refusal, TextFault};
 use odb_sched::Done;
 use std::alloc::{AllocError, Global};
 use std::io::Write;
@@ -49,10 +48,10 @@ impl Fault for ReplyFault {
     }
 }
 
-impl From<WriteFault> for ReplyFault {
+impl From<DeviceFault> for ReplyFault {
     ghost from_gives = { λ _ fault. fault ≡ faults.Write };
 
-    fn from(_fault: WriteFault) -> Self {
+    fn from(_fault: DeviceFault) -> Self {
         ReplyFault::Write
     }
 }
@@ -69,7 +68,7 @@ impl From<AllocError> for ReplyFault {
 const BUFFER_BYTES: usize = 65_536;
 
 /// Writes the buffer out and clears it, if it is full.
-fn write_full<W: Write>(output: &mut Output<W>, buffer: &mut String) -> Result<(), WriteFault>
+fn write_full<W: Write>(output: &mut Output<W>, buffer: &mut String) -> Result<(), DeviceFault>
     requires { output.old.failed ≡ false }
     ensures fault { IsErr result ↔ IsTrue output.new.failed }
     ensures ok { OnOk result (HasWritten (W.contents output.old.writer)
@@ -78,7 +77,7 @@ fn write_full<W: Write>(output: &mut Output<W>, buffer: &mut String) -> Result<(
         (W.contents output.new.writer) (string_bytes buffer.old)) }
 {
     if buffer.len() >= BUFFER_BYTES {
-        write_text(output, buffer.as_str())?;
+        output.put_text(buffer.as_str())?;
         buffer.clear();
     }
     Ok(())
@@ -147,5 +146,5 @@ pub fn write_responses<W: Write>(
     }
     let mut buffer = String::from_str(alloc, "{\"responses\":[")?;
     buffer_responses(alloc, output, &mut buffer, done)?;
-    Ok(write_text(output, buffer.as_str())?)
+    Ok(output.put_text(buffer.as_str())?)
 }

@@ -1,9 +1,9 @@
 use Rattle.std.proofs.Common.{refl, rules, string_bytes, subst}
-use Rattle.odb_reply.specs.Outputs.{HasWritten, AppendsPrefix}
+use Rattle.odb_doc.specs.Devices.{HasWritten, AppendsPrefix}
 use Rattle.odb_reply.specs.Responses.{response_text}
 use Rattle.odb_reply.proofs.ReadableLemmas.{readable-from}
 use Rattle.odb_reply.proofs.RestLemmas.{response_text-begun}
-use Rattle.odb_reply.proofs.WriteLemmas.{AppendsPrefix-none, AppendsPrefix-after, Appends-rest}
+use Rattle.odb_doc.proofs.WriteLemmas.{AppendsPrefix-none, AppendsPrefix-after, Appends-rest}
 use Rattle.odb_reply.proofs.reply.write_responses.Goals as goal
 
 pub returns-in-Some-clause-err : goal.returns-in-Some-clause-err
@@ -21,15 +21,15 @@ returns-in_err-buffer_responses-clause-err g c =
     let part = subst (λ text. AppendsPrefix (contents c.args.output.now.writer) (contents c.buffer_responses.new.output.writer) text) begun c.in_err-buffer_responses.ensures.err in
     search (rules, part)
 
-pub returns-in_err-write_text-clause-err : goal.returns-in_err-write_text-clause-err
-returns-in_err-write_text-clause-err g c =
+pub returns-in_err-put_text-clause-err : goal.returns-in_err-put_text-clause-err
+returns-in_err-put_text-clause-err g c =
     let contents = g.W.Write.contents in
     let state = c.args.done.now in
     let old = contents c.args.output.now.writer in
     let mid = contents c.buffer_responses.new.output.writer in
     let last = string_bytes c.buffer_responses.new.buffer in
     let written = subst (λ text. HasWritten old mid text last) (response_text-begun state (string_bytes c.in_ok-buffer.buffer) c.in_ok-buffer.ensures.ok) c.in_ok-buffer_responses.ensures.ok in
-    let part = AppendsPrefix-after old mid (contents c.write_text.new.output.writer) (response_text state) last written (rw c.as_str.ensures.value at c.in_err-write_text.ensures.err) in
+    let part = AppendsPrefix-after old mid (contents c.put_text.new.self.writer) (response_text state) last written (rw c.as_str.ensures.value at c.in_err-put_text.ensures.err) in
     search (rules, part)
 
 pub returns-clause-ok : goal.returns-clause-ok
@@ -40,7 +40,7 @@ returns-clause-ok g c =
     let mid = contents c.buffer_responses.new.output.writer in
     let last = string_bytes c.buffer_responses.new.buffer in
     let written = subst (λ text. HasWritten old mid text last) (response_text-begun state (string_bytes c.in_ok-buffer.buffer) c.in_ok-buffer.ensures.ok) c.in_ok-buffer_responses.ensures.ok in
-    Appends-rest old mid (contents c.write_text.new.output.writer) (response_text state) last written (rw c.as_str.ensures.value at c.in_ok-write_text.ensures.ok)
+    Appends-rest old mid (contents c.put_text.new.self.writer) (response_text state) last written (rw c.as_str.ensures.value at c.in_ok-put_text.ensures.ok)
 
 pub returns-clause-reads_back : goal.returns-clause-reads_back
 returns-clause-reads_back g c = λ shallow.

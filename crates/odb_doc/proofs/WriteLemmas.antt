@@ -3,7 +3,7 @@ use Rattle.std.proofs.Common.{◌≡◌, ◌∙◌, ◌<◌, ℕ, ◌-◌, List,
 use Rattle.std.proofs.lemmas.List.{take_rest}
 use Rattle.std.specs.Io.KnownBytes.{Appends, Keeps}
 use Rattle.std.proofs.KnownBytes.{Appends-nil, Appends-trans, Appends-kept}
-use Rattle.odb_reply.specs.Outputs.{HasWritten, AppendsPrefix}
+use Rattle.odb_doc.specs.Devices.{HasWritten, AppendsPrefix}
 
 -- nothing is written yet
 pub HasWritten-none : (old : Option (List ℕ)) (text : List ℕ) → HasWritten old old text text
