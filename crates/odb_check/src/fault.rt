@@ -60,13 +60,13 @@ pub enum CheckFault {
 }
 
 impl NameRule {
-    ghost use Rattle.odb_check.specs.FaultTable.{number, rule_name};
+    ghost use Rattle.odb_check.specs.FaultTable.{rule_label};
     ghost use Rattle.odb_doc.specs.Refusals.{code_of};
 
     /// Returns the code and the name.
     fn row(self) -> (&'static str, &'static str)
-        ensures code { result.0.now ≡ code_of (number self) }
-        ensures name { result.1.now ≡ rule_name self }
+        ensures code { result.0.now ≡ code_of (rule_label self).0 }
+        ensures name { result.1.now ≡ (rule_label self).1 }
     {
         match self {
             NameRule::IdTwice => ("F30", "IdTwice"),

@@ -5,20 +5,17 @@ use Rattle.odb_doc.specs.declared.outcome_fault.OutcomeRule.{OutcomeRule}
 use Rattle.odb_doc.specs.declared.outcome_fault.OutcomeRule.TheVariants.{BadOutcomes, OutcomeTwice, BadStatus, NotWhole}
 use Rattle.odb_doc.specs.declared.outcome_fault.OutcomeFault.{OutcomeFault}
 use Rattle.odb_doc.specs.declared.outcome_fault.OutcomeFault.TheVariants as faults
-use Rattle.odb_doc.specs.Refusals.{Printed, fault_at}
+use Rattle.odb_doc.specs.Refusals.{Printed, fault_of}
 
--- the number in the code
+-- the number in the code, and the name
+abbrev pub rule_label : OutcomeRule → ℕ × List ℕ
+rule_label BadOutcomes = (60, codes "BadOutcomes")
+rule_label OutcomeTwice = (61, codes "OutcomeTwice")
+rule_label BadStatus = (62, codes "BadStatus")
+rule_label NotWhole = (63, codes "NotWhole")
+
 abbrev pub rule_number : OutcomeRule → ℕ
-rule_number BadOutcomes = 60
-rule_number OutcomeTwice = 61
-rule_number BadStatus = 62
-rule_number NotWhole = 63
-
-abbrev pub rule_name : OutcomeRule → List ℕ
-rule_name BadOutcomes = codes "BadOutcomes"
-rule_name OutcomeTwice = codes "OutcomeTwice"
-rule_name BadStatus = codes "BadStatus"
-rule_name NotWhole = codes "NotWhole"
+rule_number rule = (rule_label rule).0
 
 -- any fault but out of memory
 abbrev pub IsNumbered : OutcomeFault → Type 0
@@ -26,6 +23,6 @@ IsNumbered fault = fault ≢ faults.OutOfMemory
 
 -- the document as a whole and an outcome of a bad shape have one code
 abbrev pub outcome_row : OutcomeFault → Option Printed
-outcome_row faults.Document = Some (fault_at (rule_number BadOutcomes) (rule_name BadOutcomes) places.Outcomes)
-outcome_row (faults.Outcome at rule) = Some (fault_at (rule_number rule) (rule_name rule) (places.Outcome at))
+outcome_row faults.Document = Some (fault_of (rule_label BadOutcomes) places.Outcomes)
+outcome_row (faults.Outcome at rule) = Some (fault_of (rule_label rule) (places.Outcome at))
 outcome_row faults.OutOfMemory = None

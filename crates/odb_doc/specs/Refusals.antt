@@ -19,3 +19,7 @@ code_of number = codes "F" ++ (48 + number / 10) ∷ (48 + number % 10) ∷ []
 -- the fault of this number and this name
 abbrev pub fault_at : ℕ → List ℕ → Place → Printed
 fault_at number name place = record { code = code_of number; name = name; place = place }
+
+-- the same, of a number and a name from a table
+abbrev pub fault_of : ℕ × List ℕ → Place → Printed
+fault_of label place = fault_at label.0 label.1 place

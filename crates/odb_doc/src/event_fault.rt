@@ -34,12 +34,12 @@ pub enum EventFault {
 
 impl EventRule {
     ghost use Rattle.odb_doc.specs.Refusals.{code_of};
-    ghost use Rattle.odb_doc.specs.EventFaults.{rule_number, rule_name};
+    ghost use Rattle.odb_doc.specs.EventFaults.{rule_label};
 
     /// Returns the code and the name.
     fn row(self) -> (&'static str, &'static str)
-        ensures code { result.0.now ≡ code_of (rule_number self) }
-        ensures name { result.1.now ≡ rule_name self }
+        ensures code { result.0.now ≡ code_of (rule_label self).0 }
+        ensures name { result.1.now ≡ (rule_label self).1 }
     {
         match self {
             EventRule::NotWhole => ("F63", "NotWhole"),

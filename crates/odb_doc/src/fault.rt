@@ -128,13 +128,13 @@ pub enum TextFault {
 }
 
 impl DocumentRule {
-    ghost use Rattle.odb_doc.specs.Faults.{document_number, document_name};
+    ghost use Rattle.odb_doc.specs.Faults.{document_label};
     ghost use Rattle.odb_doc.specs.Refusals.{code_of};
 
     /// Returns the code and the name.
     fn row(self) -> (&'static str, &'static str)
-        ensures code { result.0.now ≡ code_of (document_number self) }
-        ensures name { result.1.now ≡ document_name self }
+        ensures code { result.0.now ≡ code_of (document_label self).0 }
+        ensures name { result.1.now ≡ (document_label self).1 }
     {
         match self {
             DocumentRule::TooLong => ("F01", "TooLong"),
@@ -148,13 +148,13 @@ impl DocumentRule {
 }
 
 impl RequestRule {
-    ghost use Rattle.odb_doc.specs.Faults.{request_number, request_name};
+    ghost use Rattle.odb_doc.specs.Faults.{request_label};
     ghost use Rattle.odb_doc.specs.Refusals.{code_of};
 
     /// Returns the code and the name.
     fn row(self) -> (&'static str, &'static str)
-        ensures code { result.0.now ≡ code_of (request_number self) }
-        ensures name { result.1.now ≡ request_name self }
+        ensures code { result.0.now ≡ code_of (request_label self).0 }
+        ensures name { result.1.now ≡ (request_label self).1 }
     {
         match self {
             RequestRule::NotRequestObject => ("F10", "NotRequestObject"),

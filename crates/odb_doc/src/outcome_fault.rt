@@ -40,12 +40,12 @@ pub enum OutcomeFault {
 
 impl OutcomeRule {
     ghost use Rattle.odb_doc.specs.Refusals.{code_of};
-    ghost use Rattle.odb_doc.specs.OutcomeFaults.{rule_number, rule_name};
+    ghost use Rattle.odb_doc.specs.OutcomeFaults.{rule_label};
 
     /// Returns the code and the name.
     fn row(self) -> (&'static str, &'static str)
-        ensures code { result.0.now ≡ code_of (rule_number self) }
-        ensures name { result.1.now ≡ rule_name self }
+        ensures code { result.0.now ≡ code_of (rule_label self).0 }
+        ensures name { result.1.now ≡ (rule_label self).1 }
     {
         match self {
             OutcomeRule::BadOutcomes => ("F60", "BadOutcomes"),

@@ -50,32 +50,25 @@ BreaksAt ResponseMissing rs es i = IsSomeAnd (id_at rs i) (λ id. (k : ℕ) → 
 BreaksAt GroupDiffers rs es i = DiffersInGroup rs es i
 BreaksAt UnsoundSuccess rs es i = RestsOnFailure rs es i
 
--- the number in the code
+-- the number in the code, the name, and what the position is one of
+abbrev pub rule_label : MatchRule → ℕ × List ℕ × (ℕ → Place)
+rule_label UnknownResponse = (71, codes "UnknownResponse", places.Response)
+rule_label ResponseTwice = (72, codes "ResponseTwice", places.Response)
+rule_label ResponseMissing = (73, codes "ResponseMissing", places.Request)
+rule_label GroupDiffers = (74, codes "GroupDiffers", places.Request)
+rule_label UnsoundSuccess = (75, codes "UnsoundSuccess", places.Request)
+
 abbrev pub number : MatchRule → ℕ
-number UnknownResponse = 71
-number ResponseTwice = 72
-number ResponseMissing = 73
-number GroupDiffers = 74
-number UnsoundSuccess = 75
+number rule = (rule_label rule).0
 
-abbrev pub rule_name : MatchRule → List ℕ
-rule_name UnknownResponse = codes "UnknownResponse"
-rule_name ResponseTwice = codes "ResponseTwice"
-rule_name ResponseMissing = codes "ResponseMissing"
-rule_name GroupDiffers = codes "GroupDiffers"
-rule_name UnsoundSuccess = codes "UnsoundSuccess"
-
-abbrev pub rule_place : MatchRule → ℕ → Place
-rule_place UnknownResponse at = places.Response at
-rule_place ResponseTwice at = places.Response at
-rule_place ResponseMissing at = places.Request at
-rule_place GroupDiffers at = places.Request at
-rule_place UnsoundSuccess at = places.Request at
+-- what is printed of the rule, broken at this position
+abbrev pub rule_row : MatchRule → ℕ → Printed
+rule_row rule at = fault_at (rule_label rule).0 (rule_label rule).1 ((rule_label rule).2 at)
 
 -- any fault but out of memory
 abbrev pub IsNumbered : MatchFault → Type 0
 IsNumbered fault = fault ≢ faults.OutOfMemory
 
 abbrev pub match_row : MatchFault → Option Printed
-match_row (faults.Misfit at rule) = Some (fault_at (number rule) (rule_name rule) (rule_place rule at))
+match_row (faults.Misfit at rule) = Some (rule_row rule at)
 match_row faults.OutOfMemory = None

@@ -40,33 +40,21 @@ pub enum MatchFault {
 }
 
 impl MatchRule {
-    ghost use Rattle.odb_doc.specs.Refusals.{code_of};
-    ghost use Rattle.odb_reply.specs.MatchFaults.{number, rule_name, rule_place};
+    ghost use Rattle.odb_doc.specs.Refusals.{printed};
+    ghost use Rattle.odb_reply.specs.MatchFaults.{rule_row};
 
-    /// Returns the code and the name.
-    fn row(self) -> (&'static str, &'static str)
-        ensures code { result.0.now ≡ code_of (number self) }
-        ensures name { result.1.now ≡ rule_name self }
+    /// Returns what is printed of the rule, broken at this position.
+    fn refusal(self, at: usize) -> Refusal
+        ensures { printed result ≡ rule_row self at }
     {
-        match self {
-            MatchRule::UnknownResponse => ("F71", "UnknownResponse"),
-            MatchRule::ResponseTwice => ("F72", "ResponseTwice"),
-            MatchRule::ResponseMissing => ("F73", "ResponseMissing"),
-            MatchRule::GroupDiffers => ("F74", "GroupDiffers"),
-            MatchRule::UnsoundSuccess => ("F75", "UnsoundSuccess"),
-        }
-    }
-
-    /// Returns the place of a fault at this position.
-    fn place(self, at: usize) -> Place
-        ensures { result ≡ rule_place self at }
-    {
-        match self {
-            MatchRule::UnknownResponse | MatchRule::ResponseTwice => Place::Response(at),
-            MatchRule::ResponseMissing | MatchRule::GroupDiffers | MatchRule::UnsoundSuccess => {
-                Place::Request(at)
-            }
-        }
+        let (code, name, place) = match self {
+            MatchRule::UnknownResponse => ("F71", "UnknownResponse", Place::Response(at)),
+            MatchRule::ResponseTwice => ("F72", "ResponseTwice", Place::Response(at)),
+            MatchRule::ResponseMissing => ("F73", "ResponseMissing", Place::Request(at)),
+            MatchRule::GroupDiffers => ("F74", "GroupDiffers", Place::Request(at)),
+            MatchRule::UnsoundSuccess => ("F75", "UnsoundSuccess", Place::Request(at)),
+        };
+        Refusal { code, name, place }
     }
 }
 
@@ -75,7 +63,7 @@ impl Fault for MatchFault {
 
     fn refusal(&self) -> Option<Refusal> {
         match *self {
-            MatchFault::Misfit { at, rule } => Some(Refusal::new(rule.row(), rule.place(at))),
+            MatchFault::Misfit { at, rule } => Some(rule.refusal(at)),
             MatchFault::OutOfMemory => None,
         }
     }
