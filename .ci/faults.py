@@ -31,39 +31,6 @@ FILES = {
     "runs": (r"F8\d|[SP]\d", "executions, and events that may not come"),
 }
 
-# How the program names a fault, by its code; NAME is the name on the page.
-FAULTS = [
-    (r"F0\d", "Fault::Document(DocumentRule::NAME)"),
-    (r"F[12]\d", "Fault::Request(RequestRule::NAME)"),
-    (r"F[34]\d", "Fault::Name(NameRule::NAME)"),
-    (r"F50", "Fault::Text"),
-    (r"F6[0-3]", "Fault::Outcome(OutcomeRule::NAME)"),
-    (r"F64", "Fault::Event(EventRule::NAME)"),
-    (r"F65", "Fault::UnknownEvent"),
-    (r"F66", "Fault::Unfinished"),
-    (r"F70", "Fault::Responses"),
-    (r"F7\d", "Fault::Match(MatchRule::NAME)"),
-    (r"F80", "Fault::NoOutcome"),
-    (r"F81", "Fault::Service"),
-    (r"F82", "Fault::ServedStatus"),
-    (r"S4", "Fault::Start(StartRefusal::Waiting(Need::One(0)))"),
-    (r"S\d", "Fault::Start(StartRefusal::NAME)"),
-    (r"P\d", "Fault::Report(ReportRefusal::NAME)"),
-]
-
-USES = {
-    "DocumentRule": "use odb_doc::DocumentRule;",
-    "EventRule": "use odb_doc::EventRule;",
-    "OutcomeRule": "use odb_doc::OutcomeRule;",
-    "RequestRule": "use odb_doc::RequestRule;",
-    "NameRule": "use odb_check::NameRule;",
-    "Need": "use odb_check::Need;",
-    "MatchRule": "use odb_reply::MatchRule;",
-    "StartRefusal": "use odb_sched::StartRefusal;",
-    "ReportRefusal": "use odb_sched::ReportRefusal;",
-}
-
-
 INDENT = " " * 12
 
 
@@ -120,25 +87,18 @@ def literal(text):
 
 
 def row(fault):
-    variant = next(form for code, form in FAULTS if re.fullmatch(code, fault.code)).replace("NAME", fault.name)
-    return (
-        f"Explanation {{ fault: {variant}, places: {literal(fault.places)},\n"
-        f"meaning: {literal(plain(fault.meaning))},\n"
-        f"refused: {literal(plain(fault.refused))},\n"
-        f"accepted: {literal(plain(fault.accepted))} }},\n"
-    )
+    texts = ("code", "name", "places", "meaning", "refused", "accepted")
+    return "Explanation { " + "".join(f"{it}: {literal(plain(getattr(fault, it)))},\n" for it in texts) + "},\n"
 
 
 def write(faults):
     """Makes the texts of the program."""
     for name, (codes, subject) in FILES.items():
         chosen = [it for it in faults if re.fullmatch(codes, it.code)]
-        rows = "".join(map(row, chosen))
-        uses = [use for word, use in USES.items() if word + "::" in rows]
         with open(os.path.join(TEXTS, name + ".rt"), "w", encoding="utf-8") as file:
-            file.write(f"//! The faults of {subject}. The texts are those of docs/faults.md.\n\n")
-            file.write("\n".join(["use super::fault::{Explanation, Fault};", *uses]) + "\n\n")
-            file.write(f"pub const FAULTS: [Explanation; {len(chosen)}] = [{rows}];\n")
+            file.write(f"// Generated from docs/faults.md by .ci/faults.py --write; do not edit.\n//! The faults of {subject}.\n\n")
+            file.write("use super::Explanation;\n\n")
+            file.write(f"pub const FAULTS: [Explanation; {len(chosen)}] = [{''.join(map(row, chosen))}];\n")
 
 
 def call(binary, folder, *words):

@@ -1,14 +1,28 @@
 //! The explanations of the faults, by code or name.
 
 mod documents;
-mod fault;
 mod names;
 mod records;
 mod responses;
 mod runs;
 
 use crate::page::Page;
-use fault::Explanation;
+
+/// What is printed of a fault. The texts are those of docs/faults.md, which is compared with what the
+/// program prints of each document there.
+#[derive(Clone, Copy)]
+pub struct Explanation {
+    code: &'static str,
+    name: &'static str,
+    /// Where it may be.
+    places: &'static str,
+    /// What it means, why it is asked, and how it is repaired.
+    meaning: &'static str,
+    /// A small document that has the fault.
+    refused: &'static str,
+    /// A document close to it that has not.
+    accepted: &'static str,
+}
 
 /// Returns the faults, in the order of their codes.
 fn families() -> [&'static [Explanation]; 5] {
@@ -23,14 +37,7 @@ fn families() -> [&'static [Explanation]; 5] {
 
 /// Adds the line of a fault: code, name and places.
 fn add_line(page: &mut Page, row: &Explanation) {
-    page.add_all(&[
-        row.fault.code(),
-        " ",
-        row.fault.name(),
-        " ",
-        row.places,
-        "\n",
-    ]);
+    page.add_all(&[row.code, " ", row.name, " ", row.places, "\n"]);
 }
 
 /// Adds the lines of these faults.
@@ -49,7 +56,7 @@ pub fn add_table(page: &mut Page) {
 
 /// Tests whether the word is the code or the name of the fault, in any ASCII case.
 fn is_named(row: &Explanation, word: &str) -> bool {
-    row.fault.code().eq_ignore_ascii_case(word) || row.fault.name().eq_ignore_ascii_case(word)
+    row.code.eq_ignore_ascii_case(word) || row.name.eq_ignore_ascii_case(word)
 }
 
 /// Adds the explanation of a fault, after an empty line if the page has another.

@@ -11,14 +11,13 @@ use clap::Command;
 use clap::error::ErrorKind;
 use odb_doc::Output;
 use odb_engine::{Ended, EngineFault};
-use odb_reply::write_text;
 use std::alloc::{AllocError, Global};
 use std::io;
 use std::rt::Runtime;
 
 /// Writes a text to standard output.
 fn written<R: Runtime>(rt: &R, text: Result<String, AllocError>) -> Result<Ended, EngineFault> {
-    write_text(&mut Output::new(io::writer(rt)), &text?)?;
+    Output::new(io::writer(rt)).put_text(&text?)?;
     Ok(Ended::Done)
 }
 

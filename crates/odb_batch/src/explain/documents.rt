@@ -1,11 +1,12 @@
-//! The faults of the document and the form of its requests. The texts are those of docs/faults.md.
+// Generated from docs/faults.md by .ci/faults.py --write; do not edit.
+//! The faults of the document and the form of its requests.
 
-use super::fault::{Explanation, Fault};
-use odb_doc::{DocumentRule, RequestRule};
+use super::Explanation;
 
 pub const FAULTS: [Explanation; 20] = [
     Explanation {
-        fault: Fault::Document(DocumentRule::TooLong),
+        code: "F01",
+        name: "TooLong",
         places: "batch outcomes responses events",
         meaning: "The document has more than 16,777,216 bytes. It is read into memory as a whole, so there is a limit;\n\
             the rest of the input is not read. Split the batch, or give large bodies a request outside of it.",
@@ -13,7 +14,8 @@ pub const FAULTS: [Explanation; 20] = [
         accepted: "a document of 16,777,216 bytes",
     },
     Explanation {
-        fault: Fault::Document(DocumentRule::NotJson),
+        code: "F02",
+        name: "NotJson",
         places: "batch outcomes responses events",
         meaning: "The document is not JSON: it is malformed, or not UTF-8, or nested more than 127 levels deep, or it\n\
             has a number beyond the range of a float. A byte order mark is not JSON either. Check where the text\n\
@@ -22,7 +24,8 @@ pub const FAULTS: [Explanation; 20] = [
         accepted: r#"{"requests":[]}"#,
     },
     Explanation {
-        fault: Fault::Document(DocumentRule::NotObject),
+        code: "F03",
+        name: "NotObject",
         places: "batch",
         meaning: "The document is JSON, but not an object. A batch is an object with the member requests (OData JSON\n\
             Format 4.01, section 19.1). Put the array of requests into such an object.",
@@ -30,7 +33,8 @@ pub const FAULTS: [Explanation; 20] = [
         accepted: r#"{"requests":[]}"#,
     },
     Explanation {
-        fault: Fault::Document(DocumentRule::NoRequests),
+        code: "F04",
+        name: "NoRequests",
         places: "batch",
         meaning: "The object has no member requests, or it is not an array. A batch lists its requests there, even if\n\
             there are none (OData JSON Format 4.01, section 19.1). Add the array.",
@@ -38,7 +42,8 @@ pub const FAULTS: [Explanation; 20] = [
         accepted: r#"{"requests":[]}"#,
     },
     Explanation {
-        fault: Fault::Document(DocumentRule::UnknownMember),
+        code: "F05",
+        name: "UnknownMember",
         places: "batch",
         meaning: "The object has another member beside requests. It may have only annotations, whose names have an @,\n\
             beside it; a member that nobody reads is more likely a mistake (a choice of this product). Drop it, or\n\
@@ -47,14 +52,16 @@ pub const FAULTS: [Explanation; 20] = [
         accepted: r#"{"requests":[],"@next":1}"#,
     },
     Explanation {
-        fault: Fault::Document(DocumentRule::TooMany),
+        code: "F06",
+        name: "TooMany",
         places: "batch",
         meaning: "The batch has more than 10,000 requests, which is the limit of this product. Split the batch.",
         refused: "a batch of 10,001 requests",
         accepted: "a batch of 10,000 requests",
     },
     Explanation {
-        fault: Fault::Request(RequestRule::NotRequestObject),
+        code: "F10",
+        name: "NotRequestObject",
         places: "/requests/N",
         meaning: "The element of requests is not an object. Each request is one (OData JSON Format 4.01, section\n\
             19.1). Write the request as an object with id, method and url. No other fault of its form is\n\
@@ -63,7 +70,8 @@ pub const FAULTS: [Explanation; 20] = [
         accepted: r#"{"requests":[{"id":"1","method":"get","url":"A"}]}"#,
     },
     Explanation {
-        fault: Fault::Request(RequestRule::IfMember),
+        code: "F11",
+        name: "IfMember",
         places: "/requests/N",
         meaning: "The request has the member if, with any value, null too. Its condition is an expression over earlier\n\
             responses, which this product does not evaluate; to ignore it would run what must not run. Send\n\
@@ -72,7 +80,8 @@ pub const FAULTS: [Explanation; 20] = [
         accepted: r#"{"requests":[{"id":"1","method":"get","url":"A","if@x":"true"}]}"#,
     },
     Explanation {
-        fault: Fault::Request(RequestRule::UnknownRequestMember),
+        code: "F12",
+        name: "UnknownRequestMember",
         places: "/requests/N",
         meaning: "The request has a member that the standard does not list and that is not an annotation. It may well\n\
             be a misspelled one, as dependson (a choice of this product). Correct the name, or put an @\n\
@@ -81,7 +90,8 @@ pub const FAULTS: [Explanation; 20] = [
         accepted: r#"{"requests":[{"id":"1","method":"get","url":"A","dependsOn":[]}]}"#,
     },
     Explanation {
-        fault: Fault::Request(RequestRule::BadId),
+        code: "F13",
+        name: "BadId",
         places: "/requests/N",
         meaning: "The request has no id, or it is not an identifier: a text of one or more ASCII letters, digits, -,\n\
             ., _ and ~ (OData ABNF 4.01, request-id). Its response is found by the id, and URLs refer to\n\
@@ -90,7 +100,8 @@ pub const FAULTS: [Explanation; 20] = [
         accepted: r#"{"requests":[{"id":"a_b","method":"get","url":"A"}]}"#,
     },
     Explanation {
-        fault: Fault::Request(RequestRule::BadMethod),
+        code: "F14",
+        name: "BadMethod",
         places: "/requests/N",
         meaning: "The request has no method, or it is not one of delete, get, patch, post and put, in upper or lower\n\
             case (OData JSON Format 4.01, section 19.1). Name one of these.",
@@ -98,7 +109,8 @@ pub const FAULTS: [Explanation; 20] = [
         accepted: r#"{"requests":[{"id":"1","method":"GET","url":"A"}]}"#,
     },
     Explanation {
-        fault: Fault::Request(RequestRule::BadUrl),
+        code: "F15",
+        name: "BadUrl",
         places: "/requests/N",
         meaning: "The request has no url, or it is not a string (OData JSON Format 4.01, section 19.1). Any string\n\
             will do, also a relative path and the empty text.",
@@ -106,7 +118,8 @@ pub const FAULTS: [Explanation; 20] = [
         accepted: r#"{"requests":[{"id":"1","method":"get","url":""}]}"#,
     },
     Explanation {
-        fault: Fault::Request(RequestRule::BadGroup),
+        code: "F16",
+        name: "BadGroup",
         places: "/requests/N",
         meaning: "atomicityGroup is neither null nor an identifier, which has the form of an id (F13). Other requests\n\
             refer to the group by this name. Give the group such a name.",
@@ -114,7 +127,8 @@ pub const FAULTS: [Explanation; 20] = [
         accepted: r#"{"requests":[{"id":"1","method":"get","url":"A","atomicityGroup":null}]}"#,
     },
     Explanation {
-        fault: Fault::Request(RequestRule::BadDependsOn),
+        code: "F17",
+        name: "BadDependsOn",
         places: "/requests/N",
         meaning: "dependsOn is neither null nor an array in which each element is a string (OData JSON Format 4.01,\n\
             section 19.1). Put the names into an array, also a single one.",
@@ -122,7 +136,8 @@ pub const FAULTS: [Explanation; 20] = [
         accepted: r#"{"requests":[{"id":"1","method":"get","url":"A","dependsOn":[]}]}"#,
     },
     Explanation {
-        fault: Fault::Request(RequestRule::BadHeaders),
+        code: "F18",
+        name: "BadHeaders",
         places: "/requests/N",
         meaning: "headers is neither null nor an object in which each value is a string (OData JSON Format 4.01,\n\
             section 19.1). Write numbers as strings, and repeated headers as one value with commas.",
@@ -130,7 +145,8 @@ pub const FAULTS: [Explanation; 20] = [
         accepted: r#"{"requests":[{"id":"1","method":"get","url":"A","headers":{"Age":"1"}}]}"#,
     },
     Explanation {
-        fault: Fault::Request(RequestRule::HeaderTwice),
+        code: "F19",
+        name: "HeaderTwice",
         places: "/requests/N",
         meaning: "Two names in headers differ only in the case of ASCII letters. Both name the same field of HTTP\n\
             (RFC 9110, section 5.1), and nothing says which value counts. Keep one of them.",
@@ -138,7 +154,8 @@ pub const FAULTS: [Explanation; 20] = [
         accepted: r#"{"requests":[{"id":"1","method":"get","url":"A","headers":{"Age":"1"}}]}"#,
     },
     Explanation {
-        fault: Fault::Request(RequestRule::BodyNotAllowed),
+        code: "F20",
+        name: "BodyNotAllowed",
         places: "/requests/N",
         meaning: "A delete or a get has a body. Only patch, post and put may have one (OData JSON Format 4.01, section\n\
             19.1). Drop the body, or use another method.",
@@ -146,7 +163,8 @@ pub const FAULTS: [Explanation; 20] = [
         accepted: r#"{"requests":[{"id":"1","method":"put","url":"A","body":1}]}"#,
     },
     Explanation {
-        fault: Fault::Request(RequestRule::BadBody),
+        code: "F21",
+        name: "BadBody",
         places: "/requests/N",
         meaning: "The body does not suit the header content-type. For a type that begins with text/ it has to be a\n\
             string, for any other that is not JSON a string in base64url (OData JSON Format 4.01, section\n\
@@ -155,7 +173,8 @@ pub const FAULTS: [Explanation; 20] = [
         accepted: r#"{"requests":[{"id":"1","method":"put","url":"A","headers":{"content-type":"text/plain"},"body":"1"}]}"#,
     },
     Explanation {
-        fault: Fault::Request(RequestRule::NestedBatch),
+        code: "F22",
+        name: "NestedBatch",
         places: "/requests/N",
         meaning: "The URL leads to another batch: the last segment of its path, percent-decoded, is $batch. A batch\n\
             may not contain a batch (OData Protocol 4.01, section 11.7). Move its requests into this one.",
@@ -163,7 +182,8 @@ pub const FAULTS: [Explanation; 20] = [
         accepted: r#"{"requests":[{"id":"1","method":"get","url":"A/batch"}]}"#,
     },
     Explanation {
-        fault: Fault::Request(RequestRule::BadReference),
+        code: "F23",
+        name: "BadReference",
         places: "/requests/N",
         meaning: "The URL begins with $, but its first segment is neither one of the reserved names, as $metadata,\n\
             nor $ and the id of a request (OData JSON Format 4.01, section 19.2). Write the id alone after\n\

@@ -1,11 +1,12 @@
-//! The faults of the responses of a service. The texts are those of docs/faults.md.
+// Generated from docs/faults.md by .ci/faults.py --write; do not edit.
+//! The faults of the responses of a service.
 
-use super::fault::{Explanation, Fault};
-use odb_reply::MatchRule;
+use super::Explanation;
 
 pub const FAULTS: [Explanation; 6] = [
     Explanation {
-        fault: Fault::Responses,
+        code: "F70",
+        name: "BadResponses",
         places: "responses /responses/N",
         meaning: "The document is not an object with an array responses; or an element is not an object, lacks a string\n\
             id or an integer status from 100 to 599, or has an atomicityGroup that is neither null nor a\n\
@@ -15,7 +16,8 @@ pub const FAULTS: [Explanation; 6] = [
         accepted: r#"{"responses":[{"id":"1","status":200},{"id":"2","status":200}]}"#,
     },
     Explanation {
-        fault: Fault::Match(MatchRule::UnknownResponse),
+        code: "F71",
+        name: "UnknownResponse",
         places: "/responses/N",
         meaning: "No request of the batch has the id of the response. Each response belongs to a request (OData JSON\n\
             Format 4.01, section 19.5). The service made it up, or the response is that of another batch.",
@@ -23,7 +25,8 @@ pub const FAULTS: [Explanation; 6] = [
         accepted: r#"{"responses":[{"id":"1","status":200},{"id":"2","status":200}]}"#,
     },
     Explanation {
-        fault: Fault::Match(MatchRule::ResponseTwice),
+        code: "F72",
+        name: "ResponseTwice",
         places: "/responses/N",
         meaning: "An earlier response has the same id. A request is answered once, and nothing says which of the two\n\
             counts. The service has to drop one.",
@@ -31,7 +34,8 @@ pub const FAULTS: [Explanation; 6] = [
         accepted: r#"{"responses":[{"id":"1","status":200},{"id":"2","status":200}]}"#,
     },
     Explanation {
-        fault: Fault::Match(MatchRule::ResponseMissing),
+        code: "F73",
+        name: "ResponseMissing",
         places: "/requests/N",
         meaning: "The request has no response. One that was never sent is answered too, with 424 (OData Protocol 4.01,\n\
             section 11.7). Services that stop after a first error and leave out the rest are refused by this.",
@@ -39,7 +43,8 @@ pub const FAULTS: [Explanation; 6] = [
         accepted: r#"{"responses":[{"id":"1","status":200},{"id":"2","status":200}]}"#,
     },
     Explanation {
-        fault: Fault::Match(MatchRule::GroupDiffers),
+        code: "F74",
+        name: "GroupDiffers",
         places: "/requests/N",
         meaning: "The response names another atomicity group than its request, or only one of the two names a group.\n\
             Without the right group a client does not know what was undone together (OData JSON Format 4.01,\n\
@@ -48,7 +53,8 @@ pub const FAULTS: [Explanation; 6] = [
         accepted: r#"{"responses":[{"id":"1","status":200,"atomicityGroup":null},{"id":"2","status":200}]}"#,
     },
     Explanation {
-        fault: Fault::Match(MatchRule::UnsoundSuccess),
+        code: "F75",
+        name: "UnsoundSuccess",
         places: "/requests/N",
         meaning: "The response is 2xx, but something that its request depends on has a response that is not. Such a\n\
             request must not be performed (OData Protocol 4.01, section 11.7). The service ignored dependsOn;\n\

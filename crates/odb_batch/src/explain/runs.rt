@@ -1,12 +1,12 @@
-//! The faults of executions, and events that may not come. The texts are those of docs/faults.md.
+// Generated from docs/faults.md by .ci/faults.py --write; do not edit.
+//! The faults of executions, and events that may not come.
 
-use super::fault::{Explanation, Fault};
-use odb_check::Need;
-use odb_sched::{ReportRefusal, StartRefusal};
+use super::Explanation;
 
 pub const FAULTS: [Explanation; 10] = [
     Explanation {
-        fault: Fault::NoOutcome,
+        code: "F80",
+        name: "NoOutcome",
         places: "/requests/N",
         meaning: "The request was started, and the service has no outcome for it; in replay, the record has none with\n\
             its id. Requests that are never started need none. Add the outcome to the record.",
@@ -14,7 +14,8 @@ pub const FAULTS: [Explanation; 10] = [
         accepted: r#"{"outcomes":[{"id":"1","status":404}]}"#,
     },
     Explanation {
-        fault: Fault::Service,
+        code: "F81",
+        name: "Service",
         places: "/requests/N",
         meaning: "The service that performs the requests failed at this one, as a connection that broke. Nothing is known\n\
             of the request then, so the execution ends there. Repeat it as a whole if that is safe.",
@@ -22,7 +23,8 @@ pub const FAULTS: [Explanation; 10] = [
         accepted: "a service that returns an outcome",
     },
     Explanation {
-        fault: Fault::ServedStatus,
+        code: "F82",
+        name: "BadStatus",
         places: "/requests/N",
         meaning: "The service returned a status below 200 or above 599, which is not the final status of a request.\n\
             Correct the service.",
@@ -30,14 +32,16 @@ pub const FAULTS: [Explanation; 10] = [
         accepted: "a service that returns the status 200",
     },
     Explanation {
-        fault: Fault::Start(StartRefusal::AlreadyStarted),
+        code: "S1",
+        name: "AlreadyStarted",
         places: "/events/N",
         meaning: "The request was started before, and a request is sent once. Look for the event that was recorded twice.",
         refused: r#"{"events":[{"start":"1"},{"start":"1"}]}"#,
         accepted: r#"{"events":[{"start":"1"},{"report":"1","status":404}]}"#,
     },
     Explanation {
-        fault: Fault::Start(StartRefusal::Stopped),
+        code: "S2",
+        name: "Stopped",
         places: "/events/N",
         meaning: "The run has stopped: with --stop, nothing starts after a request has reported 400 to 599 (OData\n\
             Protocol 4.01, section 8.2.8.3). What is running may still report.",
@@ -45,7 +49,8 @@ pub const FAULTS: [Explanation; 10] = [
         accepted: r#"{"events":[{"start":"1"},{"report":"1","status":404}]}"#,
     },
     Explanation {
-        fault: Fault::Start(StartRefusal::UnitFailed),
+        code: "S3",
+        name: "UnitFailed",
         places: "/events/N",
         meaning: "The request, a member of its group, or something that it depends on has failed, so it must not be sent;\n\
             it is answered 424 (OData Protocol 4.01, section 11.7).",
@@ -53,7 +58,8 @@ pub const FAULTS: [Explanation; 10] = [
         accepted: r#"{"events":[{"start":"1"},{"report":"1","status":404}]}"#,
     },
     Explanation {
-        fault: Fault::Start(StartRefusal::Waiting(Need::One(0))),
+        code: "S4",
+        name: "Waiting",
         places: "/events/N",
         meaning: "Something that the request depends on has not succeeded yet. Waiting names the first such dependency.\n\
             Start the request after the 2xx of all of them.",
@@ -61,7 +67,8 @@ pub const FAULTS: [Explanation; 10] = [
         accepted: r#"{"events":[{"start":"1"},{"report":"1","status":200},{"start":"2"},{"report":"2","status":200}]}"#,
     },
     Explanation {
-        fault: Fault::Start(StartRefusal::WidthReached),
+        code: "S5",
+        name: "WidthReached",
         places: "/events/N",
         meaning: "As many requests are running as the width allows (--width). Wait for a report before the start, or\n\
             allow more.",
@@ -69,7 +76,8 @@ pub const FAULTS: [Explanation; 10] = [
         accepted: "with --width 2 the same events",
     },
     Explanation {
-        fault: Fault::Report(ReportRefusal::NotRunning),
+        code: "P1",
+        name: "NotRunning",
         places: "/events/N",
         meaning: "The request is not running: it was not started, or it has reported before. A report follows its start,\n\
             once.",
@@ -77,7 +85,8 @@ pub const FAULTS: [Explanation; 10] = [
         accepted: r#"{"events":[{"start":"1"},{"report":"1","status":404}]}"#,
     },
     Explanation {
-        fault: Fault::Report(ReportRefusal::BadStatus),
+        code: "P2",
+        name: "BadStatus",
         places: "/events/N",
         meaning: "The status of the report is below 200 or above 599, which is not the final status of a request. The\n\
             request is still running. Record its final status.",
