@@ -1,17 +1,15 @@
 -- A document of outcomes, or of events, has one least fault, or else one list of what it records.
-use Rattle.std.proofs.Common.{◌≡◌, ◌∙◌, ℕ, ◌≤◌, List, [], ◌∷◌, All, Option, None, Some, IfSome, option_and_then, codes, refl, ap, sym, subst, arith}
+use Rattle.std.proofs.Common.{◌≡◌, ◌∙◌, ℕ, ◌≤◌, List, [], ◌∷◌, All, Option, None, Some, IfSome, option_and_then, codes, refl, ap, sym, subst, rules}
 use Rattle.std.specs.List.{AllZip, AllByRecursion}
 use Rattle.std.proofs.lemmas.List.Elements.{All-nil, All-cons}
 use Rattle.serde_json.specs.Data.{Data, depth}
 use Rattle.serde_json.specs.Find.{get, as_str}
 use Rattle.odb_doc.specs.Bodies.{body_of}
 use Rattle.odb_doc.specs.declared.event_fault.EventRule.{EventRule}
-use Rattle.odb_doc.specs.declared.event_fault.EventRule.TheVariants as event
 use Rattle.odb_doc.specs.declared.event_fault.EventFault.{EventFault}
 use Rattle.odb_doc.specs.declared.event_fault.EventFault.TheVariants as events
 use Rattle.odb_doc.specs.declared.outcome.Outcome.{Outcome}
 use Rattle.odb_doc.specs.declared.outcome_fault.OutcomeRule.{OutcomeRule}
-use Rattle.odb_doc.specs.declared.outcome_fault.OutcomeRule.TheVariants as outcome
 use Rattle.odb_doc.specs.declared.outcome_fault.OutcomeFault.{OutcomeFault}
 use Rattle.odb_doc.specs.declared.outcome_fault.OutcomeFault.TheVariants as outcomes
 use Rattle.odb_doc.specs.EventFaults as event_faults
@@ -33,11 +31,7 @@ use Rattle.odb_doc.proofs.OneHeaders.{one_headers}
 -- ---- the least fault of outcomes
 
 same_outcome_rule : (rule other : OutcomeRule) → outcome_faults.rule_number rule ≡ outcome_faults.rule_number other → rule ≡ other
-same_outcome_rule outcome.BadOutcomes outcome.BadOutcomes same = refl
-same_outcome_rule outcome.OutcomeTwice outcome.OutcomeTwice same = refl
-same_outcome_rule outcome.BadStatus outcome.BadStatus same = refl
-same_outcome_rule outcome.NotWhole outcome.NotWhole same = refl
-same_outcome_rule rule other same = absurd (omega arith)
+same_outcome_rule rule other same = search rules
 
 pub one_outcome_fault : (d : Data) (fault other : OutcomeFault) → outcome_faults.IsNumbered fault → outcome_faults.IsNumbered other → RefusesOutcomes fault d → RefusesOutcomes other d → fault ≡ other
 one_outcome_fault d outcomes.Document outcomes.Document numbered numbered' one two = refl
@@ -57,9 +51,7 @@ no_outcome_fault d outcomes.OutOfMemory numbered refuses good = numbered refl
 -- ---- the least fault of events
 
 same_event_rule : (rule other : EventRule) → event_faults.rule_number rule ≡ event_faults.rule_number other → rule ≡ other
-same_event_rule event.NotWhole event.NotWhole same = refl
-same_event_rule event.BadEvents event.BadEvents same = refl
-same_event_rule rule other same = absurd (omega arith)
+same_event_rule rule other same = search rules
 
 pub one_event_fault : (d : Data) (fault other : EventFault) → event_faults.IsNumbered fault → event_faults.IsNumbered other → RefusesEvents fault d → RefusesEvents other d → fault ≡ other
 one_event_fault d events.Document events.Document numbered numbered' one two = refl

@@ -1,5 +1,5 @@
 -- A response document has one first fault and one list of responses at most, and a match one first fault or one table.
-use Rattle.std.proofs.Common.{arith, length, ◌<◌, ◌≡◌, ◌∙◌, ◌⊎◌, ◌==◌, ℕ, cond, List, [], ◌∷◌, Option, Some, None, option_map, slice_get, IsSomeAnd, inl, inr, refl, ap, sym, subst, All, suc, get_or}
+use Rattle.std.proofs.Common.{arith, length, ◌<◌, ◌≡◌, ◌∙◌, ◌⊎◌, ℕ, List, [], ◌∷◌, Option, Some, None, option_map, slice_get, IsSomeAnd, inl, inr, refl, ap, sym, subst, All, suc, get_or, rules}
 use Rattle.std.specs.List.{AllZip}
 use Rattle.std.proofs.lemmas.Bool.{cases_order}
 use Rattle.std.proofs.lemmas.Option.{get_or_from_slice_get, slice_get_within, slice_get-get_or, same_Some}
@@ -8,7 +8,6 @@ use Rattle.odb_doc.specs.Records.{Record}
 use Rattle.odb_reply.specs.declared.match_fault.MatchFault.{MatchFault}
 use Rattle.odb_reply.specs.declared.match_fault.MatchFault.TheVariants as misfits
 use Rattle.odb_reply.specs.declared.match_fault.MatchRule.{MatchRule}
-use Rattle.odb_reply.specs.declared.match_fault.MatchRule.TheVariants.{UnknownResponse, ResponseTwice, ResponseMissing, GroupDiffers, UnsoundSuccess}
 use Rattle.odb_reply.specs.declared.response_fault.ResponseFault.{ResponseFault}
 use Rattle.odb_reply.specs.declared.response_fault.ResponseFault.TheVariants as faults
 use Rattle.odb_reply.specs.Fits.{Fits, IsRow, IsTableOf}
@@ -80,19 +79,8 @@ one_list (d ∷ ds) (e ∷ es) (f ∷ fs) one two = ap (λ x. x ∷ es) (one_ent
 
 -- ---- the fault of a match
 
-rule_of : ℕ → MatchRule
-rule_of n = cond (n == 71) UnknownResponse (cond (n == 72) ResponseTwice (cond (n == 73) ResponseMissing (cond (n == 74) GroupDiffers UnsoundSuccess)))
-
-rule_again : (rule : MatchRule) → rule_of (number rule) ≡ rule
-unfolding rule_of
-rule_again UnknownResponse = refl
-rule_again ResponseTwice = refl
-rule_again ResponseMissing = refl
-rule_again GroupDiffers = refl
-rule_again UnsoundSuccess = refl
-
 same_rule : (rule other : MatchRule) → number rule ≡ number other → rule ≡ other
-same_rule rule other same = sym (rule_again rule) ∙ ap rule_of same ∙ rule_again other
+same_rule rule other same = search rules
 
 -- of two misfits one comes before the other, or they are one
 order : (rule other : MatchRule) (i j : ℕ) → ((rule ≡ other) × (i ≡ j)) ⊎ (ComesBefore rule i other j ⊎ ComesBefore other j rule i)
