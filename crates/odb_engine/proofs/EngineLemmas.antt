@@ -16,10 +16,10 @@ use Rattle.odb_doc.specs.Records.{Record, IsBatchOf}
 use Rattle.odb_engine.specs.declared.ending.Ended.{Ended}
 use Rattle.odb_engine.specs.declared.ending.Ended.TheVariants.{Done, Refused}
 use Rattle.odb_engine.specs.declared.ending.EngineFault.{EngineFault}
-use Rattle.odb_engine.specs.declared.reading.ReadFault.{ReadFault}
-use Rattle.odb_engine.specs.declared.reading.ReadFault.TheVariants as reads
-use Rattle.odb_engine.specs.declared.stop.Stop.{Stop}
-use Rattle.odb_engine.specs.declared.stop.Stop.TheVariants as stops
+use Rattle.odb_engine.specs.declared.input.ReadFault.{ReadFault}
+use Rattle.odb_engine.specs.declared.input.ReadFault.TheVariants as reads
+use Rattle.odb_engine.specs.declared.halt.Stop.{Stop}
+use Rattle.odb_engine.specs.declared.halt.Stop.TheVariants as stops
 use Rattle.odb_engine.specs.Inputs.{most_read, GivesDocument, SomeDocument}
 use Rattle.odb_engine.specs.Cascade.{Writes, Prints, Refusal, line_of, Reports, RefusesBytes, IsLeast, Answers, document_refusal}
 use Rattle.odb_engine.specs.Cascade.IsLeast.{OfBytes, OfShape, OfNames}

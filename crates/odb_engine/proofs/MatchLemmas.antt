@@ -10,7 +10,7 @@ use Rattle.odb_reply.specs.MatchFaults as matches
 use Rattle.odb_reply.specs.ResponseDocuments.{Entry, RefusesResponses}
 use Rattle.odb_reply.specs.ResponseFaults as documents
 use Rattle.odb_engine.specs.declared.ending.Ended.TheVariants.{Refused}
-use Rattle.odb_engine.specs.declared.stop.Stop.{Stop}
+use Rattle.odb_engine.specs.declared.halt.Stop.{Stop}
 use Rattle.odb_engine.specs.Cascade.{line_of}
 use Rattle.odb_engine.specs.Stops.{Refuses, StopsBy}
 use Rattle.odb_engine.specs.Matches.{IsLeastOfResponses, Lists, Matches, Misfits, match_refusal, responses_refusal, status_line, status_lines}

@@ -3,8 +3,8 @@ use Rattle.std.proofs.Common.{◌≡◌, ◌⊎◌, ◌↔◌, Bool, false, List
 use Rattle.odb_doc.specs.Devices.{Reading, Writing}
 use Rattle.odb_engine.specs.declared.ending.Ended.{Ended}
 use Rattle.odb_engine.specs.declared.ending.EngineFault.{EngineFault}
-use Rattle.odb_engine.specs.declared.stop.Stop.{Stop}
-use Rattle.odb_engine.specs.declared.stop.Stop.TheVariants as stops
+use Rattle.odb_engine.specs.declared.halt.Stop.{Stop}
+use Rattle.odb_engine.specs.declared.halt.Stop.TheVariants as stops
 use Rattle.odb_engine.specs.Cascade.{Writes}
 use Rattle.odb_engine.specs.Engines.{Ends}
 use Rattle.odb_engine.specs.Inputs.{AskedFor, ReadsBatch}

@@ -6,7 +6,7 @@ use Rattle.odb_doc.specs.Canonical.{IsFirstNotWhole}
 use Rattle.odb_doc.specs.Records.{Record}
 use Rattle.odb_doc.specs.TextFaults as texts
 use Rattle.odb_engine.specs.declared.ending.Ended.TheVariants.{Refused}
-use Rattle.odb_engine.specs.declared.stop.Stop.{Stop}
+use Rattle.odb_engine.specs.declared.halt.Stop.{Stop}
 use Rattle.odb_engine.specs.Cascade.{line_of}
 use Rattle.odb_engine.specs.Commands.{Canonical, IsNotWhole, text_refusal}
 use Rattle.odb_engine.specs.Stops.{Refuses, StopsBy}

@@ -25,7 +25,7 @@ use Rattle.odb_engine.specs.Traces.{trace_text}
 use Rattle.odb_engine.specs.Cascade.{Writes, Refusal, line_of, Reports, HasValue, IsLeastOf}
 use Rattle.odb_sched.specs.declared.fault.ExecFault.{ExecFault}
 use Rattle.odb_sched.specs.ExecFaults.{exec_code, exec_name, exec_place}
-use Rattle.odb_engine.specs.Inputs.{SomeDocument}
+use Rattle.odb_engine.specs.Commands.{BySecond}
 use Rattle.odb_engine.specs.ReadAgain.{IsReadAgain}
 
 -- the trace, if one is wanted
@@ -87,6 +87,10 @@ IsRecordOf bytes entries = HasValue bytes (λ value. IsOutcomesDocument value ×
 abbrev pub ReplaysBy : Allowance → Policy → Bool → Plan → List ℕ → Writes
 ReplaysBy allows policy traced plan bytes ended text = Reports (IsLeastOfOutcomes bytes) ended text ⊎ ((entries : List Recorded) × IsRecordOf bytes entries × ReplaysPlan allows policy traced plan entries ended text)
 
--- what is written of the requests of a batch: what a plan of them and some outcomes document give
+-- what is written of the requests of a batch and the bytes of an outcomes document: what they give with a plan of the requests
+abbrev pub ReplaysBatch : Allowance → Policy → Bool → List Record → List ℕ → Writes
+ReplaysBatch allows policy traced batch bytes ended text = (plan : Plan) × (plan_records plan ≡ batch) × ReplaysBy allows policy traced plan bytes ended text
+
+-- what is written of the requests of a batch by the outcomes document of a reader
 abbrev pub Replays : Allowance → Policy → Bool → Option (List ℕ) → List Record → Writes
-Replays allows policy traced left batch ended text = (plan : Plan) × (plan_records plan ≡ batch) × SomeDocument left (λ bytes. ReplaysBy allows policy traced plan bytes ended text)
+Replays allows policy traced left = BySecond left (ReplaysBatch allows policy traced)

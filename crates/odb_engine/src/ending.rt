@@ -1,11 +1,11 @@
 ghost use Rattle.std.specs.Prelude.{◌≡◌, false, Err, IfErr, IfOk};
 ghost use Rattle.odb_engine.specs.declared.ending.EngineFault.TheVariants as faults;
-ghost use Rattle.odb_engine.specs.declared.stop.Stop.TheVariants as stops;
+ghost use Rattle.odb_engine.specs.declared.halt.Stop.TheVariants as stops;
 ghost use Rattle.odb_engine.specs.Engines.{Ends};
 ghost use Rattle.odb_engine.specs.Stops.{text_found};
 
+use crate::halt::Stop;
 use crate::lines::fault_line;
-use crate::stop::Stop;
 use odb_doc::Output;
 use odb_reply::{WriteFault, write_text};
 use std::alloc::{AllocError, Global};
@@ -52,6 +52,10 @@ impl From<AllocError> for EngineFault {
     }
 }
 
+/// What a phase of an engine returns that writes the result itself: how it ended, or why nothing was
+/// written.
+pub type Sent = Result<Result<Ended, EngineFault>, Stop>;
+
 /// Writes what was found, or the line of the fault, and returns how the engine ended.
 pub fn end<W: Write>(
     alloc: Global,
@@ -79,13 +83,15 @@ pub fn end<W: Write>(
 /// wrote anything.
 pub fn conclude<W: Write>(
     alloc: Global,
-    sent: Result<Result<Ended, EngineFault>, Stop>,
+    sent: Sent,
     output: &mut Output<W>,
 ) -> Result<Ended, EngineFault>
     requires { IfErr sent (λ _. output.old.failed ≡ false) }
     ensures ended { IfOk sent (λ ended. (result ≡ ended) × (output.new ≡ output.old)) }
     ensures stopped { IfErr sent (λ stop. Ends W.contents (text_found (Err stop))
         (stop ≡ stops.Read) output.old output.new result) }
+    ensures memory { IfErr sent (λ _. result ≡ Err EngineFault.OutOfMemory
+        → output.new ≡ output.old) }
 {
     match sent {
         Ok(result) => result,

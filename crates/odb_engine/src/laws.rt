@@ -22,8 +22,7 @@ ghost use Rattle.odb_engine.specs.Runs.{Runs};
 pub fn one_document()
     ensures { (left document other : List ℕ) → IsDocumentOf left document → IsDocumentOf left other
         → document ≡ other }
-{
-}
+{}
 
 /// Two texts that a check may write for the same bytes are equal, and so are the ends; likewise for a
 /// plan, a canonical text and a match. So what these commands write is a function of the bytes.

@@ -1,5 +1,5 @@
 use Rattle.std.proofs.Common.{◌≡◌, Err, IfErr, ap, sym, subst}
-use Rattle.odb_engine.specs.declared.stop.Stop.TheVariants as stops
+use Rattle.odb_engine.specs.declared.halt.Stop.TheVariants as stops
 use Rattle.odb_engine.specs.Engines.{Ends}
 use Rattle.odb_engine.specs.Stops.{text_found}
 use Rattle.odb_engine.proofs.EngineLemmas.{Ends-weaker, stop_in}
