@@ -30,7 +30,7 @@ use Rattle.odb_reply.specs.Responses.{response_value}
 use Rattle.odb_engine.specs.declared.ending.Ended.{Ended}
 use Rattle.odb_engine.specs.Cascade.{Refusal}
 use Rattle.odb_engine.specs.Laws.{IsOne}
-use Rattle.odb_engine.specs.Replays.{response_line}
+use Rattle.odb_engine.specs.Lines.{response_line}
 use Rattle.odb_engine.specs.Runs.{AreResolved, IsLeastOfRun, IsResult, Runs, RunsBatch, RunsBy, RunsPlan, end_of, events_refusal}
 use Rattle.odb_engine.specs.Runs.IsLeastOfRun.{OfIds, OfEvent, OfEnd}
 use Rattle.odb_engine.proofs.PlanLemmas.{read_again-plan, with_plan, IsRunFrom-plan, after_all-plan, at_first-plan, plan-kept, response_value-plan, result_text-plan}

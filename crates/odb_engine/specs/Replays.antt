@@ -15,12 +15,12 @@ use Rattle.odb_sched.specs.declared.step.Step.{Step}
 use Rattle.odb_sched.specs.State.{State, at_first}
 use Rattle.odb_sched.specs.Courses.{Allowance, Offer, IsDue, IsFinishedBy}
 use Rattle.odb_sched.specs.Recordings.{recorded_for, OffersRecorded}
-use Rattle.odb_reply.specs.Responses.{response_text, response_value}
+use Rattle.odb_reply.specs.Responses.{response_value}
 use Rattle.odb_reply.specs.OnePerId.{HasOnePerId}
 use Rattle.odb_sched.specs.Laws.{StartsLast}
 use Rattle.odb_engine.specs.declared.ending.Ended.{Ended}
 use Rattle.odb_engine.specs.declared.ending.Ended.TheVariants.{Done, Refused}
-use Rattle.odb_check.specs.Texts.{newline}
+use Rattle.odb_engine.specs.Lines.{response_line}
 use Rattle.odb_engine.specs.Traces.{trace_text}
 use Rattle.odb_engine.specs.Cascade.{Writes, Refusal, line_of, Reports, HasValue, IsLeastOf}
 use Rattle.odb_sched.specs.declared.fault.ExecFault.{ExecFault}
@@ -31,10 +31,6 @@ use Rattle.odb_engine.specs.ReadAgain.{IsReadAgain}
 -- the trace, if one is wanted
 abbrev pub trace_part : Bool → State → List Step → List ℕ
 trace_part traced state steps = if traced then trace_text state steps else []
-
--- the response as a line
-abbrev pub response_line : State → List ℕ
-response_line state = response_text state ++ newline ∷ []
 
 -- the response as a line, after the trace if one is wanted
 abbrev pub result_text : Bool → State → List Step → List ℕ

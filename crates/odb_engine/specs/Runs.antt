@@ -28,7 +28,7 @@ use Rattle.odb_engine.specs.declared.ending.Ended.TheVariants.{Done}
 use Rattle.odb_engine.specs.Cascade.{Writes, Refusal, Reports, HasValue, IsLeastOf}
 use Rattle.odb_engine.specs.Commands.{BySecond}
 use Rattle.odb_engine.specs.ReadAgain.{IsReadAgain}
-use Rattle.odb_engine.specs.Replays.{response_line}
+use Rattle.odb_engine.specs.Lines.{response_line}
 
 abbrev pub events_refusal : EventFault → Refusal
 events_refusal fault = record { code = documents.fault_code fault; name = documents.fault_name fault; place = documents.fault_place fault }

@@ -8,7 +8,7 @@ ghost use Rattle.odb_engine.specs.Commands as commands;
 
 use crate::command::{Command, answer};
 use crate::ending::{Ended, EngineFault};
-use crate::halt::Stop;
+use crate::halt::Halt;
 use crate::setup::Setup;
 use odb_check::Plan;
 use odb_doc::{Batch, Input, Output};
@@ -21,7 +21,7 @@ struct Canonical;
 impl Command for Canonical {
     ghost writes = { λ _. commands.Canonical };
 
-    fn text(&self, alloc: Global, batch: &Batch<'_>, _plan: &Plan<'_>) -> Result<String, Stop> {
+    fn text(&self, alloc: Global, batch: &Batch<'_>, _plan: &Plan<'_>) -> Result<String, Halt> {
         let mut text = batch.canonical(alloc)?;
         text.push_str("\n")?;
         Ok(text)

@@ -6,7 +6,7 @@ ghost use Rattle.odb_engine.specs.Commands as commands;
 
 use crate::command::{Command, answer};
 use crate::ending::{Ended, EngineFault};
-use crate::halt::Stop;
+use crate::halt::Halt;
 use crate::lines::accepted_line;
 use crate::setup::Setup;
 use odb_check::Plan;
@@ -20,7 +20,7 @@ struct Counts;
 impl Command for Counts {
     ghost writes = { λ _. commands.Counts };
 
-    fn text(&self, alloc: Global, _batch: &Batch<'_>, plan: &Plan<'_>) -> Result<String, Stop> {
+    fn text(&self, alloc: Global, _batch: &Batch<'_>, plan: &Plan<'_>) -> Result<String, Halt> {
         Ok(accepted_line(alloc, plan.len(), plan.group_count())?)
     }
 }

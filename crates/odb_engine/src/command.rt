@@ -3,14 +3,14 @@ ghost use Rattle.odb_doc.specs.Batches.{records};
 ghost use Rattle.odb_check.specs.LeastNameFault.{HasGoodNames};
 ghost use Rattle.odb_check.specs.Plans.{plan_records};
 ghost use Rattle.odb_check.specs.Seeds.{IsSeeded};
-ghost use Rattle.odb_engine.specs.declared.halt.Stop.TheVariants as stops;
+ghost use Rattle.odb_engine.specs.declared.halt.Halt.TheVariants as halts;
 ghost use Rattle.odb_engine.specs.Cascade.{Answers};
 ghost use Rattle.odb_engine.specs.Engines.{Ends};
-ghost use Rattle.odb_engine.specs.Stops.{Found, RefusesNamesOf, Stopped};
+ghost use Rattle.odb_engine.specs.Halts.{Found, RefusesNamesOf, Halted};
 ghost use Rattle.odb_engine.specs.Inputs.{IsFresh, ReadsFew, SomeDocument};
 
 use crate::ending::{Ended, EngineFault, end};
-use crate::halt::Stop;
+use crate::halt::Halt;
 use crate::held::Held;
 use crate::input::value_of;
 use crate::setup::Setup;
@@ -28,17 +28,17 @@ pub trait Command {
     ghost use Rattle.odb_doc.specs.Batches.{records};
     ghost use Rattle.odb_check.specs.Plans.{plan_records};
     ghost use Rattle.odb_engine.specs.declared.ending.Ended.{Ended};
-    ghost use Rattle.odb_engine.specs.declared.halt.Stop.TheVariants as stops;
-    ghost use Rattle.odb_engine.specs.Stops.{Found};
+    ghost use Rattle.odb_engine.specs.declared.halt.Halt.TheVariants as halts;
+    ghost use Rattle.odb_engine.specs.Halts.{Found};
 
     /// How it ends for the requests of a batch, and what it has written then.
     ghost writes: { Self → List Record → Ended → List ℕ → Type 0 };
 
     /// Returns what is printed of a batch and its plan.
-    fn text(&self, alloc: Global, batch: &Batch<'_>, plan: &Plan<'_>) -> Result<String, Stop>
+    fn text(&self, alloc: Global, batch: &Batch<'_>, plan: &Plan<'_>) -> Result<String, Halt>
         requires { records batch.now ≡ plan_records plan.now }
         ensures found { Found (writes self.now (plan_records plan.now)) result }
-        ensures read { result ≢ Err stops.Read };
+        ensures read { result ≢ Err halts.Read };
 }
 
 /// Returns the plan of a batch. Here, and nowhere else, an engine uses the seed of its setup.
@@ -46,12 +46,12 @@ pub fn plan_of<'a: 'b, 'b>(
     alloc: Global,
     batch: &'b Batch<'a>,
     setup: Setup,
-) -> Result<Held<Plan<'b>>, Stop>
+) -> Result<Held<Plan<'b>>, Halt>
     ensures good { OnOk result (HasGoodNames (records batch.now)) }
     ensures plan { IfOk result (λ plan. plan_records plan.value ≡ records batch.now) }
     ensures seed { IfOk result (λ plan. IsSeeded setup.seed.number plan.value) }
-    ensures least { IfErr result (Stopped (RefusesNamesOf (records batch.now))) }
-    ensures read { result ≢ Err stops.Read }
+    ensures least { IfErr result (Halted (RefusesNamesOf (records batch.now))) }
+    ensures read { result ≢ Err halts.Read }
 {
     Ok(Held {
         value: check_with(alloc, setup.seed, batch)?,
@@ -65,11 +65,11 @@ fn text_of<R: Read, C: Command>(
     input: &mut Input<R>,
     command: &C,
     setup: Setup,
-) -> Result<String, Stop>
+) -> Result<String, Halt>
     requires { IsFresh input.old }
     ensures found { SomeDocument (R.remaining input.old.reader)
         (λ bytes. Found (Answers (C.writes command.now) bytes) result) }
-    ensures read { (result ≡ Err stops.Read) ↔ IsTrue input.new.failed }
+    ensures read { (result ≡ Err halts.Read) ↔ IsTrue input.new.failed }
     ensures input { ReadsFew R.remaining input.old input.new }
 {
     let remains = setup.remains;

@@ -9,10 +9,10 @@ ghost use Rattle.odb_sched.specs.Refusals as refusals;
 ghost use Rattle.odb_sched.specs.ResolveFaults as ids;
 ghost use Rattle.odb_reply.specs.MatchFaults as matches;
 ghost use Rattle.odb_reply.specs.ResponseFaults as responses;
-ghost use Rattle.odb_engine.specs.declared.halt.Stop.TheVariants as stops;
+ghost use Rattle.odb_engine.specs.declared.halt.Halt.TheVariants as halts;
 ghost use Rattle.odb_engine.specs.Cascade.{document_refusal, names_refusal};
 ghost use Rattle.odb_engine.specs.Commands.{text_refusal};
-ghost use Rattle.odb_engine.specs.Stops.{StopsBy, stop_of};
+ghost use Rattle.odb_engine.specs.Halts.{HaltsBy, halt_of};
 ghost use Rattle.odb_engine.specs.Matches.{match_refusal, responses_refusal};
 ghost use Rattle.odb_engine.specs.Replays.{outcomes_refusal, execution_refusal};
 ghost use Rattle.odb_engine.specs.Runs as runs;
@@ -26,7 +26,7 @@ use std::alloc::AllocError;
 
 /// Why an engine has no result.
 #[derive(Clone, Copy, Debug, PartialEq, Eq)]
-pub enum Stop {
+pub enum Halt {
     /// A document is refused, by this fault.
     Refused {
         code: &'static str,
@@ -39,13 +39,13 @@ pub enum Stop {
     OutOfMemory,
 }
 
-impl From<DocFault> for Stop {
-    ghost from_gives = { λ fault stop. StopsBy (document.IsNumbered fault) (document_refusal fault) stop };
+impl From<DocFault> for Halt {
+    ghost from_gives = { λ fault halt. HaltsBy (document.IsNumbered fault) (document_refusal fault) halt };
 
     fn from(fault: DocFault) -> Self {
         match fault {
-            DocFault::OutOfMemory => Stop::OutOfMemory,
-            _ => Stop::Refused {
+            DocFault::OutOfMemory => Halt::OutOfMemory,
+            _ => Halt::Refused {
                 code: fault.code(),
                 name: fault.name(),
                 place: fault.place(),
@@ -54,13 +54,13 @@ impl From<DocFault> for Stop {
     }
 }
 
-impl From<CheckFault> for Stop {
-    ghost from_gives = { λ fault stop. StopsBy (names.IsNumbered fault) (names_refusal fault) stop };
+impl From<CheckFault> for Halt {
+    ghost from_gives = { λ fault halt. HaltsBy (names.IsNumbered fault) (names_refusal fault) halt };
 
     fn from(fault: CheckFault) -> Self {
         match fault {
-            CheckFault::OutOfMemory => Stop::OutOfMemory,
-            _ => Stop::Refused {
+            CheckFault::OutOfMemory => Halt::OutOfMemory,
+            _ => Halt::Refused {
                 code: fault.code(),
                 name: fault.name(),
                 place: fault.place(),
@@ -69,13 +69,13 @@ impl From<CheckFault> for Stop {
     }
 }
 
-impl From<TextFault> for Stop {
-    ghost from_gives = { λ fault stop. StopsBy (texts.IsNumbered fault) (text_refusal fault) stop };
+impl From<TextFault> for Halt {
+    ghost from_gives = { λ fault halt. HaltsBy (texts.IsNumbered fault) (text_refusal fault) halt };
 
     fn from(fault: TextFault) -> Self {
         match fault {
-            TextFault::OutOfMemory => Stop::OutOfMemory,
-            _ => Stop::Refused {
+            TextFault::OutOfMemory => Halt::OutOfMemory,
+            _ => Halt::Refused {
                 code: fault.code(),
                 name: fault.name(),
                 place: fault.place(),
@@ -84,13 +84,13 @@ impl From<TextFault> for Stop {
     }
 }
 
-impl From<OutcomeFault> for Stop {
-    ghost from_gives = { λ fault stop. StopsBy (outcomes.IsNumbered fault) (outcomes_refusal fault) stop };
+impl From<OutcomeFault> for Halt {
+    ghost from_gives = { λ fault halt. HaltsBy (outcomes.IsNumbered fault) (outcomes_refusal fault) halt };
 
     fn from(fault: OutcomeFault) -> Self {
         match fault {
-            OutcomeFault::OutOfMemory => Stop::OutOfMemory,
-            _ => Stop::Refused {
+            OutcomeFault::OutOfMemory => Halt::OutOfMemory,
+            _ => Halt::Refused {
                 code: fault.code(),
                 name: fault.name(),
                 place: fault.place(),
@@ -99,13 +99,13 @@ impl From<OutcomeFault> for Stop {
     }
 }
 
-impl From<ExecFault> for Stop {
-    ghost from_gives = { λ fault stop. StopsBy (execution.IsNumbered fault) (execution_refusal fault) stop };
+impl From<ExecFault> for Halt {
+    ghost from_gives = { λ fault halt. HaltsBy (execution.IsNumbered fault) (execution_refusal fault) halt };
 
     fn from(fault: ExecFault) -> Self {
         match fault {
-            ExecFault::OutOfMemory => Stop::OutOfMemory,
-            _ => Stop::Refused {
+            ExecFault::OutOfMemory => Halt::OutOfMemory,
+            _ => Halt::Refused {
                 code: fault.code(),
                 name: fault.name(),
                 place: fault.place(),
@@ -114,13 +114,13 @@ impl From<ExecFault> for Stop {
     }
 }
 
-impl From<EventFault> for Stop {
-    ghost from_gives = { λ fault stop. StopsBy (events.IsNumbered fault) (runs.events_refusal fault) stop };
+impl From<EventFault> for Halt {
+    ghost from_gives = { λ fault halt. HaltsBy (events.IsNumbered fault) (runs.events_refusal fault) halt };
 
     fn from(fault: EventFault) -> Self {
         match fault {
-            EventFault::OutOfMemory => Stop::OutOfMemory,
-            _ => Stop::Refused {
+            EventFault::OutOfMemory => Halt::OutOfMemory,
+            _ => Halt::Refused {
                 code: fault.code(),
                 name: fault.name(),
                 place: fault.place(),
@@ -129,13 +129,13 @@ impl From<EventFault> for Stop {
     }
 }
 
-impl From<ResolveFault> for Stop {
-    ghost from_gives = { λ fault stop. StopsBy (ids.IsNumbered fault) (runs.resolve_refusal fault) stop };
+impl From<ResolveFault> for Halt {
+    ghost from_gives = { λ fault halt. HaltsBy (ids.IsNumbered fault) (runs.resolve_refusal fault) halt };
 
     fn from(fault: ResolveFault) -> Self {
         match fault {
-            ResolveFault::OutOfMemory => Stop::OutOfMemory,
-            _ => Stop::Refused {
+            ResolveFault::OutOfMemory => Halt::OutOfMemory,
+            _ => Halt::Refused {
                 code: fault.code(),
                 name: fault.name(),
                 place: fault.place(),
@@ -144,13 +144,13 @@ impl From<ResolveFault> for Stop {
     }
 }
 
-impl From<RunRefusal> for Stop {
-    ghost from_gives = { λ refusal stop. StopsBy (refusals.IsNumbered refusal) (runs.run_refusal refusal) stop };
+impl From<RunRefusal> for Halt {
+    ghost from_gives = { λ refusal halt. HaltsBy (refusals.IsNumbered refusal) (runs.run_refusal refusal) halt };
 
     fn from(refusal: RunRefusal) -> Self {
         match refusal {
-            RunRefusal::OutOfMemory => Stop::OutOfMemory,
-            _ => Stop::Refused {
+            RunRefusal::OutOfMemory => Halt::OutOfMemory,
+            _ => Halt::Refused {
                 code: refusal.code(),
                 name: refusal.name(),
                 place: refusal.place(),
@@ -159,13 +159,13 @@ impl From<RunRefusal> for Stop {
     }
 }
 
-impl From<ResponseFault> for Stop {
-    ghost from_gives = { λ fault stop. StopsBy (responses.IsNumbered fault) (responses_refusal fault) stop };
+impl From<ResponseFault> for Halt {
+    ghost from_gives = { λ fault halt. HaltsBy (responses.IsNumbered fault) (responses_refusal fault) halt };
 
     fn from(fault: ResponseFault) -> Self {
         match fault {
-            ResponseFault::OutOfMemory => Stop::OutOfMemory,
-            _ => Stop::Refused {
+            ResponseFault::OutOfMemory => Halt::OutOfMemory,
+            _ => Halt::Refused {
                 code: fault.code(),
                 name: fault.name(),
                 place: fault.place(),
@@ -174,13 +174,13 @@ impl From<ResponseFault> for Stop {
     }
 }
 
-impl From<MatchFault> for Stop {
-    ghost from_gives = { λ fault stop. StopsBy (matches.IsNumbered fault) (match_refusal fault) stop };
+impl From<MatchFault> for Halt {
+    ghost from_gives = { λ fault halt. HaltsBy (matches.IsNumbered fault) (match_refusal fault) halt };
 
     fn from(fault: MatchFault) -> Self {
         match fault {
-            MatchFault::OutOfMemory => Stop::OutOfMemory,
-            _ => Stop::Refused {
+            MatchFault::OutOfMemory => Halt::OutOfMemory,
+            _ => Halt::Refused {
                 code: fault.code(),
                 name: fault.name(),
                 place: fault.place(),
@@ -189,21 +189,21 @@ impl From<MatchFault> for Stop {
     }
 }
 
-impl From<ReadFault> for Stop {
-    ghost from_gives = { λ read stop. stop ≡ stop_of read };
+impl From<ReadFault> for Halt {
+    ghost from_gives = { λ read halt. halt ≡ halt_of read };
 
     fn from(fault: ReadFault) -> Self {
         match fault {
-            ReadFault::Read => Stop::Read,
-            ReadFault::OutOfMemory => Stop::OutOfMemory,
+            ReadFault::Read => Halt::Read,
+            ReadFault::OutOfMemory => Halt::OutOfMemory,
         }
     }
 }
 
-impl From<AllocError> for Stop {
-    ghost from_gives = { λ _ stop. stop ≡ stops.OutOfMemory };
+impl From<AllocError> for Halt {
+    ghost from_gives = { λ _ halt. halt ≡ halts.OutOfMemory };
 
     fn from(_error: AllocError) -> Self {
-        Stop::OutOfMemory
+        Halt::OutOfMemory
     }
 }

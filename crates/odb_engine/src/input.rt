@@ -2,12 +2,12 @@ ghost use Rattle.std.specs.Prelude.{◌≡◌, ◌≤◌, ◌↔◌, false, IsTr
 ghost use Rattle.serde_json.specs.View.{view};
 ghost use Rattle.odb_doc.specs.Documents.{IsDocument};
 ghost use Rattle.odb_engine.specs.Cascade.{RefusesBytes};
-ghost use Rattle.odb_engine.specs.Stops.{Stopped};
+ghost use Rattle.odb_engine.specs.Halts.{Halted};
 ghost use Rattle.odb_engine.specs.Inputs.{GivesDocument, GivesFew, IsFresh, ReadsFew, SomeDocument, WasRead};
 ghost use Rattle.odb_engine.specs.declared.input.ReadFault.TheVariants as faults;
-ghost use Rattle.odb_engine.specs.declared.halt.Stop.TheVariants as stops;
+ghost use Rattle.odb_engine.specs.declared.halt.Halt.TheVariants as halts;
 
-use crate::halt::Stop;
+use crate::halt::Halt;
 use odb_doc::{DeviceFault, DocFault, Input, MAX_DOCUMENT_BYTES, Place, parse};
 use serde_json::Value;
 use std::alloc::{AllocError, Global};
@@ -77,20 +77,20 @@ pub fn read_document<R: Read>(alloc: Global, input: &mut Input<R>) -> Result<Vec
 }
 
 /// Returns the value of the document that an input gives; `place` is the place of its fault.
-pub fn value_of<R: Read>(alloc: Global, input: &mut Input<R>, place: Place) -> Result<Value, Stop>
+pub fn value_of<R: Read>(alloc: Global, input: &mut Input<R>, place: Place) -> Result<Value, Halt>
     requires { IsFresh input.old }
     ensures value { SomeDocument (R.remaining input.old.reader) (λ bytes.
         IfOk result (λ value. IsDocument bytes (view value)
         × WasRead R.remaining input.old input.new bytes)
-        × IfErr result (Stopped (RefusesBytes place bytes))) }
-    ensures read { (result ≡ Err stops.Read) ↔ IsTrue input.new.failed }
+        × IfErr result (Halted (RefusesBytes place bytes))) }
+    ensures read { (result ≡ Err halts.Read) ↔ IsTrue input.new.failed }
     ensures input { ReadsFew R.remaining input.old input.new }
 {
     let bytes = read_document(alloc, input)?;
     match parse(alloc, &bytes) {
         Ok(value) => Ok(value),
-        Err(DocFault::OutOfMemory) => Err(Stop::OutOfMemory),
-        Err(fault) => Err(Stop::Refused {
+        Err(DocFault::OutOfMemory) => Err(Halt::OutOfMemory),
+        Err(fault) => Err(Halt::Refused {
             code: fault.code(),
             name: fault.name(),
             place,

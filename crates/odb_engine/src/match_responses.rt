@@ -3,16 +3,16 @@ ghost use Rattle.serde_json.specs.View.{view};
 ghost use Rattle.odb_doc.specs.Documents.{IsDocument};
 ghost use Rattle.odb_check.specs.Plans.{plan_records};
 ghost use Rattle.odb_reply.specs.Tables.{statuses};
-ghost use Rattle.odb_engine.specs.declared.halt.Stop.TheVariants as stops;
+ghost use Rattle.odb_engine.specs.declared.halt.Halt.TheVariants as halts;
 ghost use Rattle.odb_engine.specs.Cascade.{Answers};
 ghost use Rattle.odb_engine.specs.Commands.{BySecond};
 ghost use Rattle.odb_engine.specs.Engines.{Ends};
-ghost use Rattle.odb_engine.specs.Stops.{Found};
+ghost use Rattle.odb_engine.specs.Halts.{Found};
 ghost use Rattle.odb_engine.specs.Inputs.{AskedFor, IsFresh, ReadsFew, SomeDocument};
 ghost use Rattle.odb_engine.specs.Matches.{Matches, match_text, status_line};
 
 use crate::ending::{Ended, EngineFault, Sent};
-use crate::halt::Stop;
+use crate::halt::Halt;
 use crate::held::{Held, Remains};
 use crate::input::value_of;
 use crate::lines::fit_line;
@@ -48,10 +48,10 @@ fn match_text(alloc: Global, plan: &Plan<'_>, table: &Table) -> Result<String, A
 }
 
 /// Returns what is printed of the responses in a value.
-fn matched(alloc: Global, plan: &Plan<'_>, value: &Value, remains: Remains) -> Result<String, Stop>
+fn matched(alloc: Global, plan: &Plan<'_>, value: &Value, remains: Remains) -> Result<String, Halt>
     ensures found { (bytes : List ℕ) → IsDocument bytes (view value.now)
         → Found (Matches (plan_records plan.now) bytes) result }
-    ensures read { result ≢ Err stops.Read }
+    ensures read { result ≢ Err halts.Read }
 {
     let responses = Held {
         value: Responses::read(alloc, value)?,

@@ -5,7 +5,8 @@ ghost use Rattle.odb_reply.specs.NotWhole.{HasWholeBodies};
 ghost use Rattle.odb_reply.specs.Responses as responses;
 ghost use Rattle.odb_engine.specs.Cascade.{Prints};
 ghost use Rattle.odb_engine.specs.Engines.{Ends};
-ghost use Rattle.odb_engine.specs.Stops.{Sends};
+ghost use Rattle.odb_engine.specs.Halts.{Sends};
+ghost use Rattle.odb_engine.specs.Lines.{response_line};
 ghost use Rattle.odb_engine.specs.Replays as replays;
 
 use crate::ending::{Ended, EngineFault};
@@ -79,7 +80,7 @@ fn send_line<W: Write>(
 ) -> Result<(), EngineFault>
     requires works { output.old.failed ≡ false }
     requires whole { HasWholeBodies done.now }
-    ensures { Sends W.contents (replays.response_line done.now) output.old output.new result }
+    ensures { Sends W.contents (response_line done.now) output.old output.new result }
 {
     send_response(alloc, output, done)?;
     send_text(output, "\n")
@@ -128,7 +129,7 @@ pub fn send_done<W: Write>(
 ) -> Result<Ended, EngineFault>
     requires works { output.old.failed ≡ false }
     requires whole { HasWholeBodies done.now }
-    ensures { Ends W.contents (Prints (replays.response_line done.now)) ⊥
+    ensures { Ends W.contents (Prints (response_line done.now)) ⊥
         output.old output.new result }
 {
     send_line(alloc, output, done).and(Ok(Ended::Done))

@@ -1,11 +1,11 @@
 ghost use Rattle.std.specs.Prelude.{◌≡◌, ◌↔◌, ◌⊎◌, ℕ, List, false, Ok, Err, IsTrue, IfErr, OnOk};
 ghost use Rattle.odb_engine.specs.declared.ending.EngineFault.TheVariants as faults;
-ghost use Rattle.odb_engine.specs.declared.halt.Stop.TheVariants as stops;
+ghost use Rattle.odb_engine.specs.declared.halt.Halt.TheVariants as halts;
 ghost use Rattle.odb_engine.specs.Cascade.{Answers};
 ghost use Rattle.odb_engine.specs.Commands.{BySecond};
 ghost use Rattle.odb_engine.specs.Engines.{Ends};
 ghost use Rattle.odb_engine.specs.Inputs.{AskedFor, IsFresh, ReadsBatch, ReadsFew, SomeDocument};
-ghost use Rattle.odb_engine.specs.Stops.{Sent};
+ghost use Rattle.odb_engine.specs.Halts.{Sent};
 
 use crate::command::plan_of;
 use crate::ending::{Ended, EngineFault, Sent, conclude};
@@ -26,8 +26,8 @@ pub trait PairCommand {
     ghost use Rattle.odb_check.specs.Plans.{plan_records};
     ghost use Rattle.odb_engine.specs.declared.ending.Ended.{Ended};
     ghost use Rattle.odb_engine.specs.declared.ending.EngineFault.TheVariants as faults;
-    ghost use Rattle.odb_engine.specs.declared.halt.Stop.TheVariants as stops;
-    ghost use Rattle.odb_engine.specs.Stops.{Sent};
+    ghost use Rattle.odb_engine.specs.declared.halt.Halt.TheVariants as halts;
+    ghost use Rattle.odb_engine.specs.Halts.{Sent};
     ghost use Rattle.odb_engine.specs.Inputs.{IsFresh, ReadsFew, SomeDocument};
 
     /// How it ends for the requests of a batch and the bytes of a second document, and what it has
@@ -53,7 +53,7 @@ pub trait PairCommand {
         ensures sent { SomeDocument (S.remaining second.old.reader) (λ bytes. Sent W.contents
             (writes self.old (plan_records plan.now) bytes) ⊥ output.old output.new result) }
         ensures memory { result ≡ Ok (Err faults.OutOfMemory) → streams self.old }
-        ensures read { (result ≡ Err stops.Read) ↔ IsTrue second.new.failed }
+        ensures read { (result ≡ Err halts.Read) ↔ IsTrue second.new.failed }
         ensures second { ReadsFew S.remaining second.old second.new };
 }
 
@@ -76,7 +76,7 @@ fn perform_on<R: Read, S: Read, W: Write, C: PairCommand>(
     ensures memory { result ≡ Ok (Err faults.OutOfMemory)
         → (output.new ≡ output.old) ⊎ C.streams command.old }
     ensures unasked { IfErr result (λ _. second.new ≡ second.old) }
-    ensures read { (result ≡ Err stops.Read) ↔ IsTrue batch.new.failed }
+    ensures read { (result ≡ Err halts.Read) ↔ IsTrue batch.new.failed }
     ensures batch { ReadsFew R.remaining batch.old batch.new }
     ensures second { ReadsFew S.remaining second.old second.new }
 {

@@ -6,7 +6,7 @@ ghost use Rattle.odb_engine.specs.Commands as commands;
 
 use crate::command::{Command, answer};
 use crate::ending::{Ended, EngineFault};
-use crate::halt::Stop;
+use crate::halt::Halt;
 use crate::setup::Setup;
 use odb_check::Plan;
 use odb_doc::{Batch, Input, Output};
@@ -19,7 +19,7 @@ struct Plans;
 impl Command for Plans {
     ghost writes = { λ _. commands.Plans };
 
-    fn text(&self, alloc: Global, _batch: &Batch<'_>, plan: &Plan<'_>) -> Result<String, Stop> {
+    fn text(&self, alloc: Global, _batch: &Batch<'_>, plan: &Plan<'_>) -> Result<String, Halt> {
         Ok(plan.text(alloc)?)
     }
 }

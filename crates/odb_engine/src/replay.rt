@@ -4,15 +4,15 @@ ghost use Rattle.odb_sched.specs.State.{size};
 ghost use Rattle.odb_sched.specs.Courses.{position_in};
 ghost use Rattle.odb_reply.specs.NotWhole.{HasWholeBodies};
 ghost use Rattle.odb_engine.specs.declared.ending.Ended.TheVariants.{Done};
-ghost use Rattle.odb_engine.specs.declared.halt.Stop.TheVariants as stops;
+ghost use Rattle.odb_engine.specs.declared.halt.Halt.TheVariants as halts;
 ghost use Rattle.odb_engine.specs.Cascade.{Answers};
 ghost use Rattle.odb_engine.specs.Engines.{Ends};
 ghost use Rattle.odb_engine.specs.Inputs.{AskedFor, IsFresh, ReadsFew, SomeDocument};
 ghost use Rattle.odb_engine.specs.Replays as replays;
-ghost use Rattle.odb_engine.specs.Stops.{Refuses, Stopped};
+ghost use Rattle.odb_engine.specs.Halts.{Refuses, Halted};
 
 use crate::ending::{Ended, EngineFault, Sent};
-use crate::halt::Stop;
+use crate::halt::Halt;
 use crate::held::{Held, Remains};
 use crate::input::value_of;
 use crate::output::send;
@@ -30,12 +30,12 @@ fn outcomes_of<R: Read>(
     alloc: Global,
     input: &mut Input<R>,
     remains: Remains,
-) -> Result<Outcomes, Stop>
+) -> Result<Outcomes, Halt>
     requires { IsFresh input.old }
     ensures outcomes { SomeDocument (R.remaining input.old.reader) (λ bytes.
         IfOk result (λ outcomes. replays.IsRecordOf bytes (entries outcomes))
-        × IfErr result (Stopped (replays.IsLeastOfOutcomes bytes))) }
-    ensures read { (result ≡ Err stops.Read) ↔ IsTrue input.new.failed }
+        × IfErr result (Halted (replays.IsLeastOfOutcomes bytes))) }
+    ensures read { (result ≡ Err halts.Read) ↔ IsTrue input.new.failed }
     ensures input { ReadsFew R.remaining input.old input.new }
 {
     let value = value_of(alloc, input, Place::Outcomes)?;
@@ -63,7 +63,7 @@ fn run_of<'a: 'p, 'p>(
     plan: &'p Plan<'a>,
     outcomes: Outcomes,
     replay: &mut Replay<&mut dyn Chooser>,
-) -> Result<Trace<'p>, Stop>
+) -> Result<Trace<'p>, Halt>
     ensures result { IfOk result (λ trace. (traced : Bool) → replays.IsResult
         ((Chooser-dyn replay.old.chooser.now).allows replay.old.chooser.now.1) replay.old.policy
         traced plan.now (entries outcomes) Done
@@ -74,7 +74,7 @@ fn run_of<'a: 'p, 'p>(
     ensures lacks { IfErr result (Refuses (replays.LacksOutcome
         ((Chooser-dyn replay.old.chooser.now).allows replay.old.chooser.now.1) replay.old.policy
         plan.now (entries outcomes))) }
-    ensures read { result ≢ Err stops.Read }
+    ensures read { result ≢ Err halts.Read }
 {
     // Only a call on the outcomes states that they are sound.
     let _count = outcomes.len();

@@ -2,16 +2,16 @@ ghost use Rattle.std.specs.Prelude.{◌≡◌, ◌≢◌, ◌↔◌, ◌⊎◌, 
 ghost use Rattle.odb_doc.specs.EventLists.{entries};
 ghost use Rattle.odb_reply.specs.NotWhole.{HasWholeBodies};
 ghost use Rattle.odb_engine.specs.declared.ending.Ended.TheVariants as ends;
-ghost use Rattle.odb_engine.specs.declared.halt.Stop.TheVariants as stops;
+ghost use Rattle.odb_engine.specs.declared.halt.Halt.TheVariants as halts;
 ghost use Rattle.odb_engine.specs.Cascade.{Answers};
 ghost use Rattle.odb_engine.specs.Engines.{Ends};
 ghost use Rattle.odb_engine.specs.Inputs.{AskedFor, IsFresh, ReadsFew, SomeDocument};
-ghost use Rattle.odb_engine.specs.Replays.{response_line};
+ghost use Rattle.odb_engine.specs.Lines.{response_line};
 ghost use Rattle.odb_engine.specs.Runs as runs;
-ghost use Rattle.odb_engine.specs.Stops.{Stopped};
+ghost use Rattle.odb_engine.specs.Halts.{Halted};
 
 use crate::ending::{Ended, EngineFault, Sent};
-use crate::halt::Stop;
+use crate::halt::Halt;
 use crate::held::{Held, Remains};
 use crate::input::value_of;
 use crate::output::send_done;
@@ -32,19 +32,19 @@ pub const UNFINISHED_CODE: &str = "F66";
 pub const UNFINISHED_NAME: &str = "Unfinished";
 
 /// F66: no event is refused, but the run is unfinished after the last.
-const UNFINISHED: Stop = Stop::Refused {
+const UNFINISHED: Halt = Halt::Refused {
     code: UNFINISHED_CODE,
     name: UNFINISHED_NAME,
     place: Place::Events,
 };
 
 /// Returns the events in a document.
-fn events_of<R: Read>(alloc: Global, input: &mut Input<R>, remains: Remains) -> Result<Events, Stop>
+fn events_of<R: Read>(alloc: Global, input: &mut Input<R>, remains: Remains) -> Result<Events, Halt>
     requires { IsFresh input.old }
     ensures events { SomeDocument (R.remaining input.old.reader) (λ bytes.
         IfOk result (λ events. runs.AreEventsIn bytes (entries events))
-        × IfErr result (Stopped (runs.IsLeastOfEvents bytes))) }
-    ensures read { (result ≡ Err stops.Read) ↔ IsTrue input.new.failed }
+        × IfErr result (Halted (runs.IsLeastOfEvents bytes))) }
+    ensures read { (result ≡ Err halts.Read) ↔ IsTrue input.new.failed }
     ensures input { ReadsFew R.remaining input.old input.new }
 {
     let value = value_of(alloc, input, Place::Events)?;
@@ -63,13 +63,13 @@ fn done_of<'a: 'p, 'p>(
     events: Events,
     policy: Policy,
     remains: Remains,
-) -> Result<Done<'p>, Stop>
+) -> Result<Done<'p>, Halt>
     ensures result { IfOk result (λ done. runs.IsResult policy plan.now (entries events) ends.Done
         (response_line done)) }
     ensures whole { IfOk result (λ done. HasWholeBodies done) }
     ensures least { IfErr result
-        (Stopped (runs.IsLeastOfRun policy plan.now (entries events))) }
-    ensures read { result ≢ Err stops.Read }
+        (Halted (runs.IsLeastOfRun policy plan.now (entries events))) }
+    ensures read { result ≢ Err halts.Read }
 {
     // Only a call on the events states that they are sound.
     let _count = events.len();

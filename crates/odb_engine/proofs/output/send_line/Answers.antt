@@ -1,11 +1,11 @@
 -- The response, and then the end of its line.
 use Rattle.std.proofs.Common.{[], ◌∷◌}
 use Rattle.odb_reply.specs.Responses.{response_text}
-use Rattle.odb_engine.specs.Stops.{Sends}
+use Rattle.odb_engine.specs.Halts.{Sends}
 use Rattle.odb_check.specs.Texts.{newline}
-use Rattle.odb_engine.specs.Replays.{response_line}
-use Rattle.odb_engine.proofs.EngineLemmas.{exit-stop}
-use Rattle.odb_engine.proofs.SendLemmas.{Sends-stopped, Sends-after}
+use Rattle.odb_engine.specs.Lines.{response_line}
+use Rattle.odb_engine.proofs.EngineLemmas.{exit-error}
+use Rattle.odb_engine.proofs.SendLemmas.{Sends-failed, Sends-after}
 use Rattle.odb_engine.proofs.output.send_line.Goals as goal
 
 pub returns-in_err-send_response : goal.returns-in_err-send_response
@@ -15,8 +15,8 @@ returns-in_err-send_response g c =
     let old = c.args.output.now in
     let new = c.send_response.new.output in
     let fault = c.in_err-send_response.field-0.0 in
-    exit-stop (Sends contents (response_line done) old new) fault _ c.from_residual.ensures.1
-    (Sends-stopped contents (response_text done) (newline ∷ []) old new fault c.in_err-send_response.ensures)
+    exit-error (Sends contents (response_line done) old new) fault _ c.from_residual.ensures.1
+    (Sends-failed contents (response_text done) (newline ∷ []) old new fault c.in_err-send_response.ensures)
 
 pub returns : goal.returns
 returns g c =

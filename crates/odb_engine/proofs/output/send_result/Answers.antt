@@ -1,9 +1,10 @@
 -- The parts of a result, one after another.
 use Rattle.std.proofs.Common.{◌++◌}
-use Rattle.odb_engine.specs.Stops.{Sends}
-use Rattle.odb_engine.specs.Replays.{response_line, trace_part}
-use Rattle.odb_engine.proofs.EngineLemmas.{exit-stop}
-use Rattle.odb_engine.proofs.SendLemmas.{Sends-stopped, Sends-after}
+use Rattle.odb_engine.specs.Halts.{Sends}
+use Rattle.odb_engine.specs.Lines.{response_line}
+use Rattle.odb_engine.specs.Replays.{trace_part}
+use Rattle.odb_engine.proofs.EngineLemmas.{exit-error}
+use Rattle.odb_engine.proofs.SendLemmas.{Sends-failed, Sends-after}
 use Rattle.odb_engine.proofs.output.send_result.Goals as goal
 
 pub returns-in_err-send_trace : goal.returns-in_err-send_trace
@@ -15,8 +16,8 @@ returns-in_err-send_trace g c =
     let old = c.args.output.now in
     let new = c.send_trace.new.output in
     let fault = c.in_err-send_trace.field-0.0 in
-    exit-stop (Sends contents (steps ++ line) old new) fault _ c.from_residual.ensures.1
-    (Sends-stopped contents steps line old new fault c.in_err-send_trace.ensures)
+    exit-error (Sends contents (steps ++ line) old new) fault _ c.from_residual.ensures.1
+    (Sends-failed contents steps line old new fault c.in_err-send_trace.ensures)
 
 pub returns : goal.returns
 returns g c =

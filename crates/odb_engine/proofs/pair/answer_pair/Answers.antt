@@ -11,7 +11,7 @@ returns-clause-ends g c =
       bytes,
       gives,
       Ends-of-two g.R.Read.remaining g.W.Write.contents (Answers writes bytes) c.args.batch.now c.perform_on-sent.new.batch bytes c.args.second.now c.perform_on-sent.new.second c.args.output.now c.perform_on-sent.new.output c.conclude.new.output c.perform_on-sent.result c.conclude.result
-          sent reads c.perform_on-sent.ensures.unasked c.requires.second.works c.perform_on-sent.ensures.read c.conclude.ensures.ended c.conclude.ensures.stopped,
+          sent reads c.perform_on-sent.ensures.unasked c.requires.second.works c.perform_on-sent.ensures.read c.conclude.ensures.ended c.conclude.ensures.halted,
     )
 
 pub conclude-requires : goal.conclude-requires

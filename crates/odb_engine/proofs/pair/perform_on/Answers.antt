@@ -4,9 +4,9 @@ use Rattle.odb_check.specs.Plans.{plan_records}
 use Rattle.odb_engine.specs.Cascade.{Answers}
 use Rattle.odb_engine.specs.Commands.{BySecond}
 use Rattle.odb_engine.specs.Inputs.{ReadsBatch}
-use Rattle.odb_engine.specs.Stops.{Sent}
-use Rattle.odb_engine.proofs.EngineLemmas.{at-exit, exit-stop, stop-shape, stop-names, Ends-weaker}
-use Rattle.odb_engine.proofs.PhaseLemmas.{Ends-concluded, read-by-stop}
+use Rattle.odb_engine.specs.Halts.{Sent}
+use Rattle.odb_engine.proofs.EngineLemmas.{at-exit, exit-error, halt-shape, halt-names, Ends-weaker}
+use Rattle.odb_engine.proofs.PhaseLemmas.{Ends-concluded, read-by-halt}
 use Rattle.odb_engine.proofs.pair.perform_on.Goals as goal
 
 pub returns-in_err-read-clause-sent : goal.returns-in_err-read-clause-sent
@@ -18,7 +18,7 @@ returns-in_err-read-clause-sent g c =
       gives,
       at-exit
           (λ r. Sent g.W.Write.contents (Answers writes bytes) (IsTrue c.args.second.now.failed) output output r × OnOk r (ReadsBatch g.R.Read.remaining c.args.batch.now c.value_of.new.input bytes)) _ _
-          c.from_residual-in_err-read.ensures.1 (λ stop by. ((refl, stop-shape writes bytes _ _ is c.in_err-read.ensures.least stop by), tt)),
+          c.from_residual-in_err-read.ensures.1 (λ halt by. ((refl, halt-shape writes bytes _ _ is c.in_err-read.ensures.least halt by), tt)),
     )
 
 pub returns-in_err-plan-clause-sent : goal.returns-in_err-plan-clause-sent
@@ -28,9 +28,9 @@ returns-in_err-plan-clause-sent g c =
     let (bytes, gives, ((is, _), _)) = c.in_ok-value_of.ensures.value in (
       bytes,
       gives,
-      exit-stop
+      exit-error
           (λ r. Sent g.W.Write.contents (Answers writes bytes) (IsTrue c.args.second.now.failed) output output r × OnOk r (ReadsBatch g.R.Read.remaining c.args.batch.now c.value_of.new.input bytes)) _ _
-          c.from_residual-in_err-plan.ensures.1 ((refl, stop-names writes bytes _ _ is c.in_ok-read.ensures.good c.in_ok-read.ensures.records _ c.in_err-plan.ensures.least), tt),
+          c.from_residual-in_err-plan.ensures.1 ((refl, halt-names writes bytes _ _ is c.in_ok-read.ensures.good c.in_ok-read.ensures.records _ c.in_err-plan.ensures.least), tt),
     )
 
 pub returns-clause-sent : goal.returns-clause-sent
@@ -43,9 +43,9 @@ returns-clause-sent g c =
     let (document, given, sent) = c.perform-sent.ensures.sent in
     let failed = IsTrue c.perform-sent.new.second.failed in
     let phase = c.perform-sent.result in
-    let (by_ok, by_stop) = read-by-stop phase failed c.perform-sent.ensures.read in
+    let (by_ok, by_halt) = read-by-halt phase failed c.perform-sent.ensures.read in
     let by_plan = prints (plan_records plan) document in
-    let concluded = Ends-concluded contents by_plan ⊥ failed c.args.output.now c.perform-sent.new.output c.conclude.new.output phase c.conclude.result sent c.conclude.ensures.ended c.conclude.ensures.stopped by_ok by_stop in (
+    let concluded = Ends-concluded contents by_plan ⊥ failed c.args.output.now c.perform-sent.new.output c.conclude.new.output phase c.conclude.result sent c.conclude.ensures.ended c.conclude.ensures.halted by_ok by_halt in (
       bytes,
       gives,
       (

@@ -11,11 +11,11 @@ use Rattle.odb_reply.specs.OnePerId.{HasOnePerId}
 use Rattle.odb_reply.specs.Readable.{AnswersBy, IsReadable}
 use Rattle.odb_reply.specs.ResponseDocuments.{IsResponseDocument}
 use Rattle.odb_reply.specs.Responses.{response_value}
-use Rattle.odb_engine.specs.Stops.{Stopped}
-use Rattle.odb_engine.specs.Replays.{response_line}
+use Rattle.odb_engine.specs.Halts.{Halted}
+use Rattle.odb_engine.specs.Lines.{response_line}
 use Rattle.odb_engine.specs.Runs.{IsLeastOfRun, end_of, resolve_refusal, run_refusal}
 use Rattle.odb_engine.specs.Runs.IsLeastOfRun.{OfEnd}
-use Rattle.odb_engine.proofs.EngineLemmas.{at-exit, stopped-by}
+use Rattle.odb_engine.proofs.EngineLemmas.{at-exit, halted-by}
 use Rattle.odb_engine.proofs.PlanLemmas.{plan-kept}
 use Rattle.odb_engine.proofs.RunLemmas.{unknown-event, barred-event, readable-answers, whole-bodies}
 use Rattle.odb_engine.proofs.run.done_of.Goals as goal
@@ -27,8 +27,8 @@ returns-in_err-resolved-clause-least c =
     let named = entries c.args.events in
     let fault = c.in_err-resolved.field-0.0 in
     let least = IsLeastOfRun policy plan named in
-    at-exit (λ r. IfErr r (Stopped least)) _ _ c.from_residual.ensures.1
-    (stopped-by least _ (resolve_refusal fault) (unknown-event policy plan named fault c.in_err-resolved.ensures.least))
+    at-exit (λ r. IfErr r (Halted least)) _ _ c.from_residual.ensures.1
+    (halted-by least _ (resolve_refusal fault) (unknown-event policy plan named fault c.in_err-resolved.ensures.least))
 
 pub returns-in_err-scheduler-clause-least : goal.returns-in_err-scheduler-clause-least
 returns-in_err-scheduler-clause-least c =
@@ -37,8 +37,8 @@ returns-in_err-scheduler-clause-least c =
     let named = entries c.args.events in
     let cause = c.in_err-scheduler.field-0.0 in
     let least = IsLeastOfRun policy plan named in
-    at-exit (λ r. IfErr r (Stopped least)) _ _ c.from_residual-in_err-scheduler.ensures.1
-    (stopped-by least _ (run_refusal cause) (barred-event policy plan named c.in_ok-resolved.resolved.items cause c.in_ok-resolved.ensures.events c.in_err-scheduler.ensures.refused))
+    at-exit (λ r. IfErr r (Halted least)) _ _ c.from_residual-in_err-scheduler.ensures.1
+    (halted-by least _ (run_refusal cause) (barred-event policy plan named c.in_ok-resolved.resolved.items cause c.in_ok-resolved.ensures.events c.in_err-scheduler.ensures.refused))
 
 pub returns-then-not-is_finished-clause-least : goal.returns-then-not-is_finished-clause-least
 returns-then-not-is_finished-clause-least c =

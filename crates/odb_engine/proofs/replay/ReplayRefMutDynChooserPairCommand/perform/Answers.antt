@@ -3,9 +3,9 @@ use Rattle.odb_doc.specs.OutcomeLists.{entries}
 use Rattle.odb_check.specs.Plans.{plan_records}
 use Rattle.odb_engine.specs.declared.ending.Ended.TheVariants.{Refused}
 use Rattle.odb_engine.specs.Cascade.{Prints, line_of}
-use Rattle.odb_engine.specs.Stops.{Sent}
+use Rattle.odb_engine.specs.Halts.{Sent}
 use Rattle.odb_engine.specs.Replays.{IsLeastOfOutcomes, LacksOutcome, ReplaysBatch, result_text}
-use Rattle.odb_engine.proofs.EngineLemmas.{exit-stop, Ends-weaker, Refuses-weaker, Stopped-weaker, printed, reports}
+use Rattle.odb_engine.proofs.EngineLemmas.{exit-error, Ends-weaker, Refuses-weaker, Halted-weaker, printed, reports}
 use Rattle.odb_engine.proofs.replay.ReplayRefMutDynChooserPairCommand.perform.Goals as goal
 
 pub returns-in_err-outcomes-clause-sent : goal.returns-in_err-outcomes-clause-sent
@@ -15,11 +15,11 @@ returns-in_err-outcomes-clause-sent g c =
     let allows = (goal.Chooser-dyn g replay.chooser.now).allows replay.chooser.now.1 in
     let (bytes, gives, (_, least)) = c.in_err-outcomes.ensures.outcomes in
     let writes = ReplaysBatch allows replay.policy replay.traced (plan_records plan) bytes in
-    let stop = c.in_err-outcomes.field-0.0 in (
+    let halt = c.in_err-outcomes.field-0.0 in (
       bytes,
       gives,
-      exit-stop (Sent g.W.Write.contents writes ⊥ c.args.output.now c.args.output.now) stop _ c.from_residual.ensures.1
-          (refl, Stopped-weaker (IsLeastOfOutcomes bytes) (λ refusal. writes Refused (line_of refusal)) (λ refusal is. (plan, refl, inl (reports (IsLeastOfOutcomes bytes) refusal is))) stop least),
+      exit-error (Sent g.W.Write.contents writes ⊥ c.args.output.now c.args.output.now) halt _ c.from_residual.ensures.1
+          (refl, Halted-weaker (IsLeastOfOutcomes bytes) (λ refusal. writes Refused (line_of refusal)) (λ refusal is. (plan, refl, inl (reports (IsLeastOfOutcomes bytes) refusal is))) halt least),
     )
 
 pub returns-in_err-run_of-clause-sent : goal.returns-in_err-run_of-clause-sent
@@ -30,11 +30,11 @@ returns-in_err-run_of-clause-sent g c =
     let (bytes, gives, (record_of, _)) = c.in_ok-outcomes.ensures.outcomes in
     let recorded = entries c.in_ok-outcomes.outcomes in
     let writes = ReplaysBatch allows replay.policy replay.traced (plan_records plan) bytes in
-    let stop = c.in_err-run_of.field-0.0 in (
+    let halt = c.in_err-run_of.field-0.0 in (
       bytes,
       gives,
-      exit-stop (Sent g.W.Write.contents writes ⊥ c.args.output.now c.args.output.now) stop _ c.from_residual-in_err-run_of.ensures.1
-          (refl, Refuses-weaker (LacksOutcome allows replay.policy plan recorded) writes stop (λ ended text lacks. (plan, refl, inr (recorded, record_of, inr lacks))) c.in_err-run_of.ensures.lacks),
+      exit-error (Sent g.W.Write.contents writes ⊥ c.args.output.now c.args.output.now) halt _ c.from_residual-in_err-run_of.ensures.1
+          (refl, Refuses-weaker (LacksOutcome allows replay.policy plan recorded) writes halt (λ ended text lacks. (plan, refl, inr (recorded, record_of, inr lacks))) c.in_err-run_of.ensures.lacks),
     )
 
 pub returns-clause-sent : goal.returns-clause-sent

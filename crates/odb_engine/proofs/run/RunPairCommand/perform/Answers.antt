@@ -3,10 +3,10 @@ use Rattle.odb_doc.specs.EventLists.{entries}
 use Rattle.odb_check.specs.Plans.{plan_records}
 use Rattle.odb_engine.specs.declared.ending.Ended.TheVariants.{Refused}
 use Rattle.odb_engine.specs.Cascade.{Prints, line_of}
-use Rattle.odb_engine.specs.Stops.{Sent}
-use Rattle.odb_engine.specs.Replays.{response_line}
+use Rattle.odb_engine.specs.Halts.{Sent}
+use Rattle.odb_engine.specs.Lines.{response_line}
 use Rattle.odb_engine.specs.Runs.{IsLeastOfEvents, IsLeastOfRun, RunsBatch}
-use Rattle.odb_engine.proofs.EngineLemmas.{exit-stop, Ends-weaker, Stopped-weaker, printed, reports}
+use Rattle.odb_engine.proofs.EngineLemmas.{exit-error, Ends-weaker, Halted-weaker, printed, reports}
 use Rattle.odb_engine.proofs.run.RunPairCommand.perform.Goals as goal
 
 pub returns-in_err-events-clause-sent : goal.returns-in_err-events-clause-sent
@@ -14,11 +14,11 @@ returns-in_err-events-clause-sent g c =
     let plan = c.args.plan.now in
     let (bytes, gives, (_, least)) = c.in_err-events.ensures.events in
     let writes = RunsBatch c.args.self.now.policy (plan_records plan) bytes in
-    let stop = c.in_err-events.field-0.0 in (
+    let halt = c.in_err-events.field-0.0 in (
       bytes,
       gives,
-      exit-stop (Sent g.W.Write.contents writes ⊥ c.args.output.now c.args.output.now) stop _ c.from_residual.ensures.1
-          (refl, Stopped-weaker (IsLeastOfEvents bytes) (λ refusal. writes Refused (line_of refusal)) (λ refusal is. (plan, refl, inl (reports (IsLeastOfEvents bytes) refusal is))) stop least),
+      exit-error (Sent g.W.Write.contents writes ⊥ c.args.output.now c.args.output.now) halt _ c.from_residual.ensures.1
+          (refl, Halted-weaker (IsLeastOfEvents bytes) (λ refusal. writes Refused (line_of refusal)) (λ refusal is. (plan, refl, inl (reports (IsLeastOfEvents bytes) refusal is))) halt least),
     )
 
 pub returns-in_err-done_of-clause-sent : goal.returns-in_err-done_of-clause-sent
@@ -29,11 +29,11 @@ returns-in_err-done_of-clause-sent g c =
     let named = entries c.in_ok-events.events in
     let writes = RunsBatch policy (plan_records plan) bytes in
     let least = IsLeastOfRun policy plan named in
-    let stop = c.in_err-done_of.field-0.0 in (
+    let halt = c.in_err-done_of.field-0.0 in (
       bytes,
       gives,
-      exit-stop (Sent g.W.Write.contents writes ⊥ c.args.output.now c.args.output.now) stop _ c.from_residual-in_err-done_of.ensures.1
-          (refl, Stopped-weaker least (λ refusal. writes Refused (line_of refusal)) (λ refusal is. (plan, refl, inr (named, are, inl (reports least refusal is)))) stop c.in_err-done_of.ensures.least),
+      exit-error (Sent g.W.Write.contents writes ⊥ c.args.output.now c.args.output.now) halt _ c.from_residual-in_err-done_of.ensures.1
+          (refl, Halted-weaker least (λ refusal. writes Refused (line_of refusal)) (λ refusal is. (plan, refl, inr (named, are, inl (reports least refusal is)))) halt c.in_err-done_of.ensures.least),
     )
 
 pub returns-clause-sent : goal.returns-clause-sent
