@@ -19,8 +19,7 @@ use Rattle.odb_sched.specs.State.{State, at_first}
 use Rattle.odb_engine.specs.declared.ending.Ended.{Ended}
 use Rattle.odb_engine.specs.Cascade.{line_of}
 use Rattle.odb_engine.specs.Laws.{IsOne}
-use Rattle.odb_engine.specs.Inputs.{SomeDocument}
-use Rattle.odb_engine.specs.Replays.{Replays, ReplaysBy, ReplaysPlan, LacksOutcome, execution_refusal, outcomes_refusal, result_text}
+use Rattle.odb_engine.specs.Replays.{Replays, ReplaysBatch, ReplaysBy, ReplaysPlan, LacksOutcome, execution_refusal, outcomes_refusal, result_text}
 use Rattle.odb_engine.proofs.PlanLemmas.{replays-plan}
 use Rattle.odb_engine.proofs.SecondLemmas.{IsOneKind, second_one, some_document_one}
 
@@ -45,12 +44,11 @@ module _ (order : Order) (policy : Policy) (traced : Bool) (plan : Plan) (entrie
       let same = law.fault (fault.NoOutcome x.at) (fault.NoOutcome y.at) (missing a s x) (missing b t y) in
       (x.ends ∙ sym y.ends, x.line ∙ ap (λ cause. line_of (execution_refusal cause)) same ∙ sym y.line)
 
--- what the reader of outcomes writes of one plan it writes of the other
-replays-by : (allows : Allowance) (policy : Policy) (traced : Bool) (plan other : Plan) → plan_records plan ≡ plan_records other → (outcomes : List ℕ) (ended : Ended) (text : List ℕ)
-    → SomeDocument (Some outcomes) (λ bytes. ReplaysBy allows policy traced other bytes ended text) → SomeDocument (Some outcomes) (λ bytes. ReplaysBy allows policy traced plan bytes ended text)
-replays-by allows policy traced plan other same outcomes ended text (bytes, gives, inl x) = (bytes, gives, inl x)
-replays-by allows policy traced plan other same outcomes ended text (bytes, gives, inr (entries, is, x)) =
-    (bytes, gives, inr (entries, is, replays-plan allows policy traced plan other same entries ended text x))
+-- what a document of outcomes gives with one plan it gives with the other
+replays-by : (allows : Allowance) (policy : Policy) (traced : Bool) (plan other : Plan) → plan_records plan ≡ plan_records other → (bytes : List ℕ) (ended : Ended) (text : List ℕ)
+    → ReplaysBy allows policy traced other bytes ended text → ReplaysBy allows policy traced plan bytes ended text
+replays-by allows policy traced plan other same bytes ended text (inl x) = inl x
+replays-by allows policy traced plan other same bytes ended text (inr (entries, is, x)) = inr (entries, is, replays-plan allows policy traced plan other same entries ended text x)
 
 -- the laws of odb_doc on documents of outcomes
 abbrev pub AreOneRecord : Type 0
@@ -59,8 +57,11 @@ AreOneRecord = IsOneKind documents.IsNumbered RefusesOutcomes IsOutcomesDocument
 -- the requests of a batch and the reader of outcomes have one text
 pub replays_one : (order : Order) → ((recorded : List (Option Outcome)) (first : State) → HasOrder order recorded first) → AreOneRecord
     → (policy : Policy) (traced : Bool) (outcomes : List ℕ) (batch : List Record) → IsOne (Replays (AllowsOrder order) policy traced (Some outcomes) batch)
-replays_one order courses law policy traced outcomes batch a b s t (one, same, x) (two, equal, y) =
-    some_document_one outcomes (ReplaysBy (AllowsOrder order) policy traced two)
-    (λ bytes. second_one places.Outcomes documents.IsNumbered RefusesOutcomes outcomes_refusal IsOutcomesDocument AreOutcomesOf law bytes (ReplaysPlan (AllowsOrder order) policy traced two)
-    (λ entries. one_plan order policy traced two entries (courses (recorded_for (plan_records two) entries) (at_first two policy)))) a b s t
-    (replays-by (AllowsOrder order) policy traced two one (equal ∙ sym same) outcomes a s x) y
+replays_one order courses law policy traced outcomes batch =
+    some_document_one outcomes (ReplaysBatch (AllowsOrder order) policy traced batch) one
+  where
+    one : (bytes : List ℕ) → IsOne (ReplaysBatch (AllowsOrder order) policy traced batch bytes)
+    one bytes a b s t (plan, same, x) (other, equal, y) =
+        second_one places.Outcomes documents.IsNumbered RefusesOutcomes outcomes_refusal IsOutcomesDocument AreOutcomesOf law bytes (ReplaysPlan (AllowsOrder order) policy traced other)
+        (λ entries. one_plan order policy traced other entries (courses (recorded_for (plan_records other) entries) (at_first other policy))) a b s t
+        (replays-by (AllowsOrder order) policy traced other plan (equal ∙ sym same) bytes a s x) y

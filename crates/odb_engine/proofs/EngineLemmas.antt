@@ -16,19 +16,19 @@ use Rattle.odb_doc.specs.Records.{Record, IsBatchOf}
 use Rattle.odb_engine.specs.declared.ending.Ended.{Ended}
 use Rattle.odb_engine.specs.declared.ending.Ended.TheVariants.{Done, Refused}
 use Rattle.odb_engine.specs.declared.ending.EngineFault.{EngineFault}
-use Rattle.odb_engine.specs.declared.reading.ReadFault.{ReadFault}
-use Rattle.odb_engine.specs.declared.reading.ReadFault.TheVariants as reads
-use Rattle.odb_engine.specs.declared.stop.Stop.{Stop}
-use Rattle.odb_engine.specs.declared.stop.Stop.TheVariants as stops
+use Rattle.odb_engine.specs.declared.input.ReadFault.{ReadFault}
+use Rattle.odb_engine.specs.declared.input.ReadFault.TheVariants as reads
+use Rattle.odb_engine.specs.declared.halt.Halt.{Halt}
+use Rattle.odb_engine.specs.declared.halt.Halt.TheVariants as halts
 use Rattle.odb_engine.specs.Inputs.{most_read, GivesDocument, SomeDocument}
 use Rattle.odb_engine.specs.Cascade.{Writes, Prints, Refusal, line_of, Reports, RefusesBytes, IsLeast, Answers, document_refusal}
 use Rattle.odb_engine.specs.Cascade.IsLeast.{OfBytes, OfShape, OfNames}
 use Rattle.odb_engine.specs.Engines.{Ends, WritesPrefix}
-use Rattle.odb_engine.specs.Stops.{Found, Refuses, RefusesNamesOf, Sent, Stopped, text_found, StopsBy, stop_of}
+use Rattle.odb_engine.specs.Halts.{Found, Refuses, RefusesNamesOf, Sent, Halted, text_found, HaltsBy, halt_of}
 
 -- a result of the search for a text
 abbrev pub FoundText : Type 0
-FoundText = Result (String Global) Stop
+FoundText = Result (String Global) Halt
 
 -- each reader has a document
 pub some-document : (left : Option (List ℕ)) → (bytes : List ℕ) × GivesDocument left bytes
@@ -54,58 +54,54 @@ pub at-exit : {T E : Type 0} (C : Result T E → Type 0) (Q : E → Type 0) (r :
 at-exit C Q r is to = let (error, same, holds) = err_from_is_err_and r is in subst C (sym same) (to error holds)
 
 -- the exit of a `?` that returns an error as it is
-pub exit-stop : {T E : Type 0} (C : Result T E → Type 0) (error : E) (r : Result T E) → IsErrAnd r (λ other. other ≡ error) → C (Err error) → C r
-exit-stop C error r is so = at-exit C (λ other. other ≡ error) r is (λ other same. subst (λ s. C (Err s)) (sym same) so)
+pub exit-error : {T E : Type 0} (C : Result T E → Type 0) (error : E) (r : Result T E) → IsErrAnd r (λ other. other ≡ error) → C (Err error) → C r
+exit-error C error r is so = at-exit C (λ other. other ≡ error) r is (λ other same. subst (λ s. C (Err s)) (sym same) so)
 
--- a stop by a fault, if it is numbered
-pub stopped-by : (Is : Refusal → Type 0) (Numbered : Type 0) (refusal : Refusal) → (Numbered → Is refusal) → (stop : Stop) → StopsBy Numbered refusal stop → Stopped Is stop
-stopped-by Is Numbered refusal may (stops.Refused code name place) (numbered, same) = subst Is same (may numbered)
-stopped-by Is Numbered refusal may stops.Read by = absurd by
-stopped-by Is Numbered refusal may stops.OutOfMemory by = tt
+-- a halt by a fault, if it is numbered
+pub halted-by : (Is : Refusal → Type 0) (Numbered : Type 0) (refusal : Refusal) → (Numbered → Is refusal) → (halt : Halt) → HaltsBy Numbered refusal halt → Halted Is halt
+halted-by Is Numbered refusal may (halts.Refused code name place) (numbered, same) = subst Is same (may numbered)
+halted-by Is Numbered refusal may halts.Read by = absurd by
+halted-by Is Numbered refusal may halts.OutOfMemory by = tt
 
-pub Stopped-weaker : (Is Js : Refusal → Type 0) → ((refusal : Refusal) → Is refusal → Js refusal) → (stop : Stop) → Stopped Is stop → Stopped Js stop
-Stopped-weaker Is Js to (stops.Refused code name place) so = to _ so
-Stopped-weaker Is Js to stops.Read so = tt
-Stopped-weaker Is Js to stops.OutOfMemory so = tt
+pub Halted-weaker : (Is Js : Refusal → Type 0) → ((refusal : Refusal) → Is refusal → Js refusal) → (halt : Halt) → Halted Is halt → Halted Js halt
+Halted-weaker Is Js to (halts.Refused code name place) so = to _ so
+Halted-weaker Is Js to halts.Read so = tt
+Halted-weaker Is Js to halts.OutOfMemory so = tt
 
 pub reports : (Is : Refusal → Type 0) (refusal : Refusal) → Is refusal → Reports Is Refused (line_of refusal)
 reports Is refusal is = record { refusal = refusal; is = is; ends = refl; line = refl }
 
 -- no document was read, so there is no value
-pub unread-value : {T : Type 0} (left : Option (List ℕ)) (Q : List ℕ → T → Type 0) (Is : List ℕ → Refusal → Type 0) (read : ReadFault) (r : Result T Stop) → IsErrAnd r (λ stop. stop ≡ stop_of read)
-    → SomeDocument left (λ bytes. IfOk r (Q bytes) × IfErr r (Stopped (Is bytes)))
+pub unread-value : {T : Type 0} (left : Option (List ℕ)) (Q : List ℕ → T → Type 0) (Is : List ℕ → Refusal → Type 0) (read : ReadFault) (r : Result T Halt) → IsErrAnd r (λ halt. halt ≡ halt_of read)
+    → SomeDocument left (λ bytes. IfOk r (Q bytes) × IfErr r (Halted (Is bytes)))
 unread-value left Q Is read r is =
     let (bytes, gives) = some-document left in
-    (bytes, gives, exit-stop (λ x. IfOk x (Q bytes) × IfErr x (Stopped (Is bytes))) (stop_of read) r is (tt, unrefused (Is bytes) read))
+    (bytes, gives, exit-error (λ x. IfOk x (Q bytes) × IfErr x (Halted (Is bytes))) (halt_of read) r is (tt, unrefused (Is bytes) read))
   where
-    unrefused : (Is : Refusal → Type 0) (read : ReadFault) → Stopped Is (stop_of read)
+    unrefused : (Is : Refusal → Type 0) (read : ReadFault) → Halted Is (halt_of read)
     unrefused Is reads.Read = tt
     unrefused Is reads.OutOfMemory = tt
 
 -- the bytes of the batch document are refused
-pub stop-bytes : (P : List Record → Writes) (bytes : List ℕ) (stop : Stop) → Stopped (RefusesBytes Batch bytes) stop → Refuses (Answers P bytes) stop
-stop-bytes P bytes = Stopped-weaker (RefusesBytes Batch bytes) (λ refusal. Answers P bytes Refused (line_of refusal))
+pub halt-bytes : (P : List Record → Writes) (bytes : List ℕ) (halt : Halt) → Halted (RefusesBytes Batch bytes) halt → Refuses (Answers P bytes) halt
+halt-bytes P bytes = Halted-weaker (RefusesBytes Batch bytes) (λ refusal. Answers P bytes Refused (line_of refusal))
     (λ refusal refused. inl (reports (IsLeast bytes) refusal (OfBytes refused)))
 
 -- its value has a fault of shape
-pub stop-shape : (P : List Record → Writes) (bytes : List ℕ) (fault : DocFault) (value : Data) → IsDocument bytes value → IsLeastFault fault value
-    → (stop : Stop) → StopsBy (document.IsNumbered fault) (document_refusal fault) stop → Refuses (Answers P bytes) stop
-stop-shape P bytes fault value is_document least = stopped-by (λ refusal. Answers P bytes Refused (line_of refusal)) _ _
+pub halt-shape : (P : List Record → Writes) (bytes : List ℕ) (fault : DocFault) (value : Data) → IsDocument bytes value → IsLeastFault fault value
+    → (halt : Halt) → HaltsBy (document.IsNumbered fault) (document_refusal fault) halt → Refuses (Answers P bytes) halt
+halt-shape P bytes fault value is_document least = halted-by (λ refusal. Answers P bytes Refused (line_of refusal)) _ _
     (λ numbered. inl (reports (IsLeast bytes) (document_refusal fault) (OfShape fault numbered (record { value = value; document = is_document; holds = least }) refl)))
 
 -- the names of its requests have a fault
-pub stop-names : (P : List Record → Writes) (bytes : List ℕ) (value : Data) (batch : List Record) → IsDocument bytes value → IsWellShaped value → IsBatchOf value batch
-    → (stop : Stop) → Stopped (RefusesNamesOf batch) stop → Refuses (Answers P bytes) stop
-stop-names P bytes value batch is_document shape is_batch = Stopped-weaker (RefusesNamesOf batch) (λ refusal. Answers P bytes Refused (line_of refusal))
+pub halt-names : (P : List Record → Writes) (bytes : List ℕ) (value : Data) (batch : List Record) → IsDocument bytes value → IsWellShaped value → IsBatchOf value batch
+    → (halt : Halt) → Halted (RefusesNamesOf batch) halt → Refuses (Answers P bytes) halt
+halt-names P bytes value batch is_document shape is_batch = Halted-weaker (RefusesNamesOf batch) (λ refusal. Answers P bytes Refused (line_of refusal))
     (λ refusal refuses. inl (reports (IsLeast bytes) refusal (OfNames refuses.fault refuses.numbered (record { value = value; document = is_document; holds = record { batch = batch; shape = shape; is_batch = is_batch; holds = refuses.refuses } }) refuses.is)))
 
 -- what may be written in less cases may be written
-pub Refuses-weaker : (P Q : Writes) (stop : Stop) → ((ended : Ended) (text : List ℕ) → P ended text → Q ended text) → Refuses P stop → Refuses Q stop
-Refuses-weaker P Q stop to = Stopped-weaker (λ refusal. P Refused (line_of refusal)) (λ refusal. Q Refused (line_of refusal)) (λ refusal. to Refused (line_of refusal)) stop
-
-pub Found-weaker : (P Q : Writes) (found : FoundText) → ((ended : Ended) (text : List ℕ) → P ended text → Q ended text) → Found P found → Found Q found
-Found-weaker P Q (Ok text) to so = to Done _ so
-Found-weaker P Q (Err stop) to so = Refuses-weaker P Q stop to so
+pub Refuses-weaker : (P Q : Writes) (halt : Halt) → ((ended : Ended) (text : List ℕ) → P ended text → Q ended text) → Refuses P halt → Refuses Q halt
+Refuses-weaker P Q halt to = Halted-weaker (λ refusal. P Refused (line_of refusal)) (λ refusal. Q Refused (line_of refusal)) (λ refusal. to Refused (line_of refusal)) halt
 
 prefix-weaker : (P Q : Writes) (old new : Option (List ℕ)) → ((ended : Ended) (text : List ℕ) → P ended text → Q ended text) → WritesPrefix old new P → WritesPrefix old new Q
 prefix-weaker P Q old new to part = record { ended = part.ended; text = part.text; so = to part.ended part.text part.so; written = part.written }
@@ -125,11 +121,6 @@ Ends-weaker contents P Q F G old new result to read is = record {
     at (inl same) = inl same
     at (inr part) = inr (prefix-weaker P Q _ _ to part)
 
-pub Sent-weaker : {W : Type 0} (contents : W → Option (List ℕ)) (P Q : Writes) (old new : Writing W) (sent : Result (Result Ended EngineFault) Stop) → ((ended : Ended) (text : List ℕ) → P ended text → Q ended text)
-    → Sent contents P ⊥ old new sent → Sent contents Q ⊥ old new sent
-Sent-weaker contents P Q old new (Ok result) to sent = Ends-weaker contents P Q ⊥ ⊥ old new result to (λ f. f, λ f. f) sent
-Sent-weaker contents P Q old new (Err stop) to (same, refuses) = (same, Refuses-weaker P Q stop to refuses)
-
 -- a text that may be written
 pub printed : (P : Writes) (line : List ℕ) → P Done line → (ended : Ended) (text : List ℕ) → Prints line ended text → P ended text
 printed P line so ended text (ends, same) = subst (λ e. P e text) (sym ends) (subst (P Done) (sym same) so)
@@ -137,19 +128,19 @@ printed P line so ended text (ends, same) = subst (λ e. P e text) (sym ends) (s
 -- what is written of what was found is what may be written
 pub answered : (P : Writes) (found : FoundText) → Found P found → (ended : Ended) (text : List ℕ) → text_found found ended text → P ended text
 answered P (Ok found) so ended text prints = printed P (string_bytes found) so ended text prints
-answered P (Err (stops.Refused code name place)) so ended text (ends, line) = subst (λ e. P e text) (sym ends) (subst (P Refused) (sym line) so)
-answered P (Err stops.Read) so ended text none = absurd none
-answered P (Err stops.OutOfMemory) so ended text none = absurd none
+answered P (Err (halts.Refused code name place)) so ended text (ends, line) = subst (λ e. P e text) (sym ends) (subst (P Refused) (sym line) so)
+answered P (Err halts.Read) so ended text none = absurd none
+answered P (Err halts.OutOfMemory) so ended text none = absurd none
 
 -- an engine that ends by what was found
 pub Ends-found : {W : Type 0} (contents : W → Option (List ℕ)) (P : Writes) (ReadFailed : Type 0) (old new : Writing W) (found : FoundText) (result : Result Ended EngineFault)
-    → Found P found → ((found ≡ Err stops.Read) ↔ ReadFailed) → Ends contents (text_found found) (found ≡ Err stops.Read) old new result → Ends contents P ReadFailed old new result
+    → Found P found → ((found ≡ Err halts.Read) ↔ ReadFailed) → Ends contents (text_found found) (found ≡ Err halts.Read) old new result → Ends contents P ReadFailed old new result
 Ends-found contents P ReadFailed old new found result so read is =
     Ends-weaker contents (text_found found) P _ ReadFailed old new result (answered P found so) read is
 
-abbrev pub stop_in : {T : Type 0} → Result T Stop → Stop
-stop_in (Ok value) = stops.Read
-stop_in (Err stop) = stop
+abbrev pub halt_in : {T : Type 0} → Result T Halt → Halt
+halt_in (Ok value) = halts.Read
+halt_in (Err halt) = halt
 
 abbrev pub the_refusal : List ℕ → List ℕ → Place → Refusal
 the_refusal code name place = record { code = code; name = name; place = place }

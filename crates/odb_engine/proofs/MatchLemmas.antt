@@ -10,12 +10,12 @@ use Rattle.odb_reply.specs.MatchFaults as matches
 use Rattle.odb_reply.specs.ResponseDocuments.{Entry, RefusesResponses}
 use Rattle.odb_reply.specs.ResponseFaults as documents
 use Rattle.odb_engine.specs.declared.ending.Ended.TheVariants.{Refused}
-use Rattle.odb_engine.specs.declared.stop.Stop.{Stop}
+use Rattle.odb_engine.specs.declared.halt.Halt.{Halt}
 use Rattle.odb_engine.specs.Cascade.{line_of}
-use Rattle.odb_engine.specs.Stops.{Refuses, StopsBy}
+use Rattle.odb_engine.specs.Halts.{Refuses, HaltsBy}
 use Rattle.odb_engine.specs.Matches.{IsLeastOfResponses, Lists, Matches, Misfits, match_refusal, responses_refusal, status_line, status_lines}
 use Rattle.odb_engine.specs.Cascade.IsLeastOf.{OfValue}
-use Rattle.odb_engine.proofs.EngineLemmas.{reports, stopped-by}
+use Rattle.odb_engine.proofs.EngineLemmas.{reports, halted-by}
 
 -- the lines from a position on
 pub lines_left : List Record → List ℕ → ℕ → List ℕ
@@ -56,13 +56,13 @@ lines_left-none rs ss i past = none rs ss i past
 -- ---- the exits of a match
 
 -- the response document has a fault
-pub stop-responses : (batch : List Record) (bytes : List ℕ) (fault : ResponseFault) (value : Data) → IsDocument bytes value → RefusesResponses fault value
-    → (stop : Stop) → StopsBy (documents.IsNumbered fault) (responses_refusal fault) stop → Refuses (Matches batch bytes) stop
-stop-responses batch bytes fault value is_document least = stopped-by (λ refusal. Matches batch bytes Refused (line_of refusal)) _ _
+pub halt-responses : (batch : List Record) (bytes : List ℕ) (fault : ResponseFault) (value : Data) → IsDocument bytes value → RefusesResponses fault value
+    → (halt : Halt) → HaltsBy (documents.IsNumbered fault) (responses_refusal fault) halt → Refuses (Matches batch bytes) halt
+halt-responses batch bytes fault value is_document least = halted-by (λ refusal. Matches batch bytes Refused (line_of refusal)) _ _
     (λ numbered. inl (reports (IsLeastOfResponses bytes) (responses_refusal fault) (OfValue fault numbered (record { value = value; document = is_document; holds = least }) refl)))
 
 -- the responses do not fit the batch
-pub stop-match : (batch : List Record) (bytes : List ℕ) (entries : List Entry) (fault : MatchFault) → Lists bytes entries → RefusesMatch fault batch entries
-    → (stop : Stop) → StopsBy (matches.IsNumbered fault) (match_refusal fault) stop → Refuses (Matches batch bytes) stop
-stop-match batch bytes entries fault lists least = stopped-by (λ refusal. Matches batch bytes Refused (line_of refusal)) _ _
+pub halt-match : (batch : List Record) (bytes : List ℕ) (entries : List Entry) (fault : MatchFault) → Lists bytes entries → RefusesMatch fault batch entries
+    → (halt : Halt) → HaltsBy (matches.IsNumbered fault) (match_refusal fault) halt → Refuses (Matches batch bytes) halt
+halt-match batch bytes entries fault lists least = halted-by (λ refusal. Matches batch bytes Refused (line_of refusal)) _ _
     (λ numbered. inr (entries, lists, inl (reports (Misfits batch entries) (match_refusal fault) (record { fault = fault; numbered = numbered; least = least; is = refl }))))

@@ -29,7 +29,8 @@ use Rattle.odb_reply.specs.Responses.{response, responses_from, response_value, 
 use Rattle.odb_engine.specs.declared.ending.Ended.{Ended}
 use Rattle.odb_check.specs.Texts.{newline}
 use Rattle.odb_engine.specs.ReadAgain.{IsReadAgain}
-use Rattle.odb_engine.specs.Replays.{ReplaysPlan, IsResult, LacksOutcome, response_line, trace_part, result_text}
+use Rattle.odb_engine.specs.Lines.{response_line}
+use Rattle.odb_engine.specs.Replays.{ReplaysPlan, IsResult, LacksOutcome, trace_part, result_text}
 use Rattle.odb_engine.specs.Traces.{report_line, step_line, undo_line}
 
 -- the state of a run of this plan

@@ -31,17 +31,17 @@ answers-done P Q bytes text so (inl x) = absurd (cc (x.ends))
 answers-done P Q bytes text so (inr x) = record { value = x.value; document = x.document; shape = x.shape; batch = x.batch; is_batch = x.is_batch; names = x.names; holds = so x.batch x.holds }
 
 replays-again : AreReadings → (order : Order) (policy : Policy) (outcomes text : List ℕ) (batch : List Record) → Replays (AllowsOrder order) policy false (Some outcomes) batch Done text → IsReadAgain batch text
-replays-again law order policy outcomes text batch (plan, same, (document, gives, inl x)) = absurd (cc (x.ends))
-replays-again law order policy outcomes text batch (plan, same, (document, gives, inr (entries, is, inl result))) =
+replays-again law order policy outcomes text batch (document, gives, (plan, same, inl x)) = absurd (cc (x.ends))
+replays-again law order policy outcomes text batch (document, gives, (plan, same, inr (entries, is, inl result))) =
     let reads = is.document.1.1 in
     let recordable = law.outcomes is.value entries (law.held document is.value reads) (law.nests document is.value reads) is.holds.1 in
     read_again-plan (plan_records plan) batch _ text same (sym result.result) (result.read_again recordable)
-replays-again law order policy outcomes text batch (plan, same, (document, gives, inr (entries, is, inr lacks))) = absurd (cc (lacks.ends))
+replays-again law order policy outcomes text batch (document, gives, (plan, same, inr (entries, is, inr lacks))) = absurd (cc (lacks.ends))
 
 runs-again : AreReadings → (policy : Policy) (events text : List ℕ) (batch : List Record) → Runs policy (Some events) batch Done text → IsReadAgain batch text
-runs-again law policy events text batch (plan, same, (document, gives, inl x)) = absurd (cc (x.ends))
-runs-again law policy events text batch (plan, same, (document, gives, inr (named, is, inl x))) = absurd (cc (x.ends))
-runs-again law policy events text batch (plan, same, (document, gives, inr (named, is, inr result))) =
+runs-again law policy events text batch (document, gives, (plan, same, inl x)) = absurd (cc (x.ends))
+runs-again law policy events text batch (document, gives, (plan, same, inr (named, is, inl x))) = absurd (cc (x.ends))
+runs-again law policy events text batch (document, gives, (plan, same, inr (named, is, inr result))) =
     let reads = is.document.1.1 in
     let recordable = law.events is.value named (law.held document is.value reads) (law.nests document is.value reads) is.holds.1 in
     read_again-plan (plan_records plan) batch _ text same (sym result.result) (result.read_again recordable)

@@ -26,7 +26,7 @@ use Rattle.odb_sched.specs.Steps.{is_finished, may_come}
 use Rattle.odb_engine.specs.declared.ending.Ended.{Ended}
 use Rattle.odb_engine.specs.Cascade.{Refusal, line_of}
 use Rattle.odb_engine.specs.Laws.{IsOne}
-use Rattle.odb_engine.specs.Replays.{response_line}
+use Rattle.odb_engine.specs.Lines.{response_line}
 use Rattle.odb_engine.specs.Runs.{AreResolved, IsLeastOfRun, IsResult, RunsPlan, end_of, resolve_refusal, run_refusal}
 use Rattle.odb_engine.specs.Runs.IsLeastOfRun.{OfIds, OfEvent, OfEnd}
 
@@ -97,8 +97,8 @@ refuses state events refusal.OutOfMemory stops = absurd (no-memory (after_all st
     no-memory s at (event.Start i) none = none
     no-memory s at (event.Report i outcome) none = none
 
-one-stop : HaveOneCause → (state : State) (events : List Event) (a b : RunRefusal) → StopsAt state events a → StopsAt state events b → a ≡ b
-one-stop law state events a b x y =
+one-halt : HaveOneCause → (state : State) (events : List Event) (a b : RunRefusal) → StopsAt state events a → StopsAt state events b → a ≡ b
+one-halt law state events a b x y =
     let (numbered, one) = refuses state events a x in
     let (numbered', two) = refuses state events b y in
     law.one_refusal state events a b numbered numbered' one two
@@ -126,7 +126,7 @@ module _ (causes : HaveOneCause) (policy : Policy) (plan : Plan) (good : HasGood
   one-least a b (OfIds i x same) (OfEnd fs r run barred equal) = absurd (not-unknown (plan_records plan) ns fs i r x.unknown)
   one-least a b (OfEvent es c q x same) (OfIds j y equal) = absurd (not-unknown (plan_records plan) ns es j q y.unknown)
   one-least a b (OfEvent es c q x same) (OfEvent fs d r y equal) =
-      same ∙ ap (λ k. run_refusal k) (one-stop causes first fs c d (subst (λ (l : List Event). StopsAt first l c) (same-events es fs q r) x) y) ∙ sym equal
+      same ∙ ap (λ k. run_refusal k) (one-halt causes first fs c d (subst (λ (l : List Event). StopsAt first l c) (same-events es fs q r) x) y) ∙ sym equal
   one-least a b (OfEvent es c q x same) (OfEnd fs r run barred equal) =
       absurd (not-stopped first fs c (subst (λ (l : List Event). StopsAt first l c) (same-events es fs q r) x) run)
   one-least a b (OfEnd es q run barred same) (OfIds j y equal) = absurd (not-unknown (plan_records plan) ns es j q y.unknown)

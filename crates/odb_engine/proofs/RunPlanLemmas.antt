@@ -30,11 +30,10 @@ use Rattle.odb_reply.specs.Responses.{response_value}
 use Rattle.odb_engine.specs.declared.ending.Ended.{Ended}
 use Rattle.odb_engine.specs.Cascade.{Refusal}
 use Rattle.odb_engine.specs.Laws.{IsOne}
-use Rattle.odb_engine.specs.Replays.{response_line}
-use Rattle.odb_engine.specs.Runs.{AreResolved, IsLeastOfRun, IsResult, Runs, RunsBy, RunsPlan, end_of, events_refusal}
+use Rattle.odb_engine.specs.Lines.{response_line}
+use Rattle.odb_engine.specs.Runs.{AreResolved, IsLeastOfRun, IsResult, Runs, RunsBatch, RunsBy, RunsPlan, end_of, events_refusal}
 use Rattle.odb_engine.specs.Runs.IsLeastOfRun.{OfIds, OfEvent, OfEnd}
 use Rattle.odb_engine.proofs.PlanLemmas.{read_again-plan, with_plan, IsRunFrom-plan, after_all-plan, at_first-plan, plan-kept, response_value-plan, result_text-plan}
-use Rattle.odb_engine.specs.Inputs.{SomeDocument}
 use Rattle.odb_engine.proofs.RunLawLemmas.{HaveOneCause, one-run}
 use Rattle.odb_engine.proofs.SecondLemmas.{IsOneKind, second_one, some_document_one}
 
@@ -118,11 +117,10 @@ module _ (policy : Policy) (plan other : Plan) (same : plan_records plan ≡ pla
   runs-plan ended text (inl x) = inl (record { refusal = x.refusal; is = least-plan x.refusal x.is; ends = x.ends; line = x.line })
   runs-plan ended text (inr x) = inr (result-plan ended text x)
 
--- what the reader of events writes of one plan it writes of the other
-runs-by : (policy : Policy) (plan other : Plan) → plan_records plan ≡ plan_records other → (events : List ℕ) (ended : Ended) (text : List ℕ)
-    → SomeDocument (Some events) (λ bytes. RunsBy policy other bytes ended text) → SomeDocument (Some events) (λ bytes. RunsBy policy plan bytes ended text)
-runs-by policy plan other same events ended text (bytes, gives, inl x) = (bytes, gives, inl x)
-runs-by policy plan other same events ended text (bytes, gives, inr (named, is, x)) = (bytes, gives, inr (named, is, runs-plan policy plan other same named ended text x))
+-- what a document of events gives with one plan it gives with the other
+runs-by : (policy : Policy) (plan other : Plan) → plan_records plan ≡ plan_records other → (bytes : List ℕ) (ended : Ended) (text : List ℕ) → RunsBy policy other bytes ended text → RunsBy policy plan bytes ended text
+runs-by policy plan other same bytes ended text (inl x) = inl x
+runs-by policy plan other same bytes ended text (inr (named, is, x)) = inr (named, is, runs-plan policy plan other same named ended text x)
 
 -- the laws of odb_doc on documents of events
 abbrev pub AreOneHistory : Type 0
@@ -130,8 +128,10 @@ AreOneHistory = IsOneKind documents.IsNumbered RefusesEvents IsEventsDocument Ar
 
 -- the requests of a batch and the reader of events have one text
 pub runs_one : HaveOneCause → AreOneHistory → (policy : Policy) (events : List ℕ) (batch : List Record) → HasGoodNames batch → IsOne (Runs policy (Some events) batch)
-runs_one causes law policy events batch good a b s t (one, same, x) (two, equal, y) =
-    let names = subst HasGoodNames (sym equal) good in
-    some_document_one events (RunsBy policy two)
-    (λ bytes. second_one places.Events documents.IsNumbered RefusesEvents events_refusal IsEventsDocument AreEventsOf law bytes (RunsPlan policy two) (one-run causes policy two names)) a b s t
-    (runs-by policy two one (equal ∙ sym same) events a s x) y
+runs_one causes law policy events batch good = some_document_one events (RunsBatch policy batch) one
+  where
+    one : (bytes : List ℕ) → IsOne (RunsBatch policy batch bytes)
+    one bytes a b s t (plan, same, x) (other, equal, y) =
+        let names = subst HasGoodNames (sym equal) good in
+        second_one places.Events documents.IsNumbered RefusesEvents events_refusal IsEventsDocument AreEventsOf law bytes (RunsPlan policy other) (one-run causes policy other names) a b s t
+        (runs-by policy other plan (equal ∙ sym same) bytes a s x) y

@@ -6,7 +6,7 @@ use Rattle.odb_doc.specs.Devices.{Writing}
 use Rattle.odb_doc.specs.Devices.{AppendsPrefix}
 use Rattle.odb_engine.specs.declared.ending.EngineFault.{EngineFault}
 use Rattle.odb_engine.specs.declared.ending.EngineFault.TheVariants as faults
-use Rattle.odb_engine.specs.Stops.{Sends}
+use Rattle.odb_engine.specs.Halts.{Sends}
 
 -- nothing is a prefix of each text
 pub AppendsPrefix-none : (old : Option (List ℕ)) (text : List ℕ) → AppendsPrefix old old text
@@ -32,8 +32,8 @@ AppendsPrefix-after old mid new text later written (rest, part) = (
 
 module _ {W : Type 0} (contents : W → Option (List ℕ)) where
   -- the first part failed
-  pub Sends-stopped : (text later : List ℕ) (old new : Writing W) (fault : EngineFault) → Sends contents text old new (Err fault) → Sends contents (text ++ later) old new (Err fault)
-  Sends-stopped text later old new fault first =
+  pub Sends-failed : (text later : List ℕ) (old new : Writing W) (fault : EngineFault) → Sends contents text old new (Err fault) → Sends contents (text ++ later) old new (Err fault)
+  Sends-failed text later old new fault first =
       record { whole = tt; part = AppendsPrefix-longer (contents old.writer) (contents new.writer) text later first.part; write = first.write; unread = first.unread }
 
   -- the first part was written

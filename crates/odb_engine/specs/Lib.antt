@@ -11,4 +11,4 @@ pub mod Runs
 pub mod Matches
 pub mod Laws
 -- What serves private clauses: no public clause cites it.
-pub mod Stops
+pub mod Halts

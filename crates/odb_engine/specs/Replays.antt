@@ -15,26 +15,22 @@ use Rattle.odb_sched.specs.declared.step.Step.{Step}
 use Rattle.odb_sched.specs.State.{State, at_first}
 use Rattle.odb_sched.specs.Courses.{Allowance, Offer, IsDue, IsFinishedBy}
 use Rattle.odb_sched.specs.Recordings.{recorded_for, OffersRecorded}
-use Rattle.odb_reply.specs.Responses.{response_text, response_value}
+use Rattle.odb_reply.specs.Responses.{response_value}
 use Rattle.odb_reply.specs.OnePerId.{HasOnePerId}
 use Rattle.odb_sched.specs.Laws.{StartsLast}
 use Rattle.odb_engine.specs.declared.ending.Ended.{Ended}
 use Rattle.odb_engine.specs.declared.ending.Ended.TheVariants.{Done, Refused}
-use Rattle.odb_check.specs.Texts.{newline}
+use Rattle.odb_engine.specs.Lines.{response_line}
 use Rattle.odb_engine.specs.Traces.{trace_text}
 use Rattle.odb_engine.specs.Cascade.{Writes, Refusal, line_of, Reports, HasValue, IsLeastOf}
 use Rattle.odb_sched.specs.declared.fault.ExecFault.{ExecFault}
 use Rattle.odb_sched.specs.ExecFaults.{exec_code, exec_name, exec_place}
-use Rattle.odb_engine.specs.Inputs.{SomeDocument}
+use Rattle.odb_engine.specs.Commands.{BySecond}
 use Rattle.odb_engine.specs.ReadAgain.{IsReadAgain}
 
 -- the trace, if one is wanted
 abbrev pub trace_part : Bool → State → List Step → List ℕ
 trace_part traced state steps = if traced then trace_text state steps else []
-
--- the response as a line
-abbrev pub response_line : State → List ℕ
-response_line state = response_text state ++ newline ∷ []
 
 -- the response as a line, after the trace if one is wanted
 abbrev pub result_text : Bool → State → List Step → List ℕ
@@ -87,6 +83,10 @@ IsRecordOf bytes entries = HasValue bytes (λ value. IsOutcomesDocument value ×
 abbrev pub ReplaysBy : Allowance → Policy → Bool → Plan → List ℕ → Writes
 ReplaysBy allows policy traced plan bytes ended text = Reports (IsLeastOfOutcomes bytes) ended text ⊎ ((entries : List Recorded) × IsRecordOf bytes entries × ReplaysPlan allows policy traced plan entries ended text)
 
--- what is written of the requests of a batch: what a plan of them and some outcomes document give
+-- what is written of the requests of a batch and the bytes of an outcomes document: what they give with a plan of the requests
+abbrev pub ReplaysBatch : Allowance → Policy → Bool → List Record → List ℕ → Writes
+ReplaysBatch allows policy traced batch bytes ended text = (plan : Plan) × (plan_records plan ≡ batch) × ReplaysBy allows policy traced plan bytes ended text
+
+-- what is written of the requests of a batch by the outcomes document of a reader
 abbrev pub Replays : Allowance → Policy → Bool → Option (List ℕ) → List Record → Writes
-Replays allows policy traced left batch ended text = (plan : Plan) × (plan_records plan ≡ batch) × SomeDocument left (λ bytes. ReplaysBy allows policy traced plan bytes ended text)
+Replays allows policy traced left = BySecond left (ReplaysBatch allows policy traced)

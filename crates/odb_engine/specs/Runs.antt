@@ -26,9 +26,9 @@ use Rattle.odb_reply.specs.Responses.{response_value}
 use Rattle.odb_engine.specs.declared.ending.Ended.{Ended}
 use Rattle.odb_engine.specs.declared.ending.Ended.TheVariants.{Done}
 use Rattle.odb_engine.specs.Cascade.{Writes, Refusal, Reports, HasValue, IsLeastOf}
-use Rattle.odb_engine.specs.Inputs.{SomeDocument}
+use Rattle.odb_engine.specs.Commands.{BySecond}
 use Rattle.odb_engine.specs.ReadAgain.{IsReadAgain}
-use Rattle.odb_engine.specs.Replays.{response_line}
+use Rattle.odb_engine.specs.Lines.{response_line}
 
 abbrev pub events_refusal : EventFault → Refusal
 events_refusal fault = record { code = documents.fault_code fault; name = documents.fault_name fault; place = documents.fault_place fault }
@@ -88,6 +88,10 @@ RunsPlan policy plan named ended text = Reports (IsLeastOfRun policy plan named)
 abbrev pub RunsBy : Policy → Plan → List ℕ → Writes
 RunsBy policy plan bytes ended text = Reports (IsLeastOfEvents bytes) ended text ⊎ ((named : List EventValue) × AreEventsIn bytes named × RunsPlan policy plan named ended text)
 
--- what is written of the requests of a batch: what a plan of them and some events document give
+-- what is written of the requests of a batch and the bytes of an events document: what they give with a plan of the requests
+abbrev pub RunsBatch : Policy → List Record → List ℕ → Writes
+RunsBatch policy batch bytes ended text = (plan : Plan) × (plan_records plan ≡ batch) × RunsBy policy plan bytes ended text
+
+-- what is written of the requests of a batch by the events document of a reader
 abbrev pub Runs : Policy → Option (List ℕ) → List Record → Writes
-Runs policy left batch ended text = (plan : Plan) × (plan_records plan ≡ batch) × SomeDocument left (λ bytes. RunsBy policy plan bytes ended text)
+Runs policy left = BySecond left (RunsBatch policy)

@@ -1,21 +1,21 @@
-ghost use Rattle.std.specs.Prelude.{◌≡◌, ◌≢◌, ◌↔◌, ℕ, List, false, Err, IsTrue};
-ghost use Rattle.serde_json.specs.View.{view};
-ghost use Rattle.odb_doc.specs.Documents.{IsDocument};
-ghost use Rattle.odb_engine.specs.declared.stop.Stop.TheVariants as stops;
+ghost use Rattle.std.specs.Prelude.{◌≡◌, ◌≢◌, ◌↔◌, ℕ, List, false, Err, IfErr, IfOk, IsTrue, OnOk};
+ghost use Rattle.odb_doc.specs.Batches.{records};
+ghost use Rattle.odb_check.specs.LeastNameFault.{HasGoodNames};
+ghost use Rattle.odb_check.specs.Plans.{plan_records};
+ghost use Rattle.odb_check.specs.Seeds.{IsSeeded};
+ghost use Rattle.odb_engine.specs.declared.halt.Halt.TheVariants as halts;
 ghost use Rattle.odb_engine.specs.Cascade.{Answers};
 ghost use Rattle.odb_engine.specs.Engines.{Ends};
-ghost use Rattle.odb_engine.specs.Stops.{Found};
+ghost use Rattle.odb_engine.specs.Halts.{Found, RefusesNamesOf, Halted};
 ghost use Rattle.odb_engine.specs.Inputs.{IsFresh, ReadsFew, SomeDocument};
 
 use crate::ending::{Ended, EngineFault, end};
+use crate::halt::Halt;
 use crate::held::Held;
-use crate::planning::plan_of;
-use crate::reading::value_of;
+use crate::input::value_of;
 use crate::setup::Setup;
-use crate::stop::Stop;
-use odb_check::Plan;
+use odb_check::{Plan, check_with};
 use odb_doc::{Batch, Input, Output, Place};
-use serde_json::Value;
 use std::alloc::Global;
 use std::io::{Read, Write};
 
@@ -28,56 +28,61 @@ pub trait Command {
     ghost use Rattle.odb_doc.specs.Batches.{records};
     ghost use Rattle.odb_check.specs.Plans.{plan_records};
     ghost use Rattle.odb_engine.specs.declared.ending.Ended.{Ended};
-    ghost use Rattle.odb_engine.specs.declared.stop.Stop.TheVariants as stops;
-    ghost use Rattle.odb_engine.specs.Stops.{Found};
+    ghost use Rattle.odb_engine.specs.declared.halt.Halt.TheVariants as halts;
+    ghost use Rattle.odb_engine.specs.Halts.{Found};
 
     /// How it ends for the requests of a batch, and what it has written then.
     ghost writes: { Self → List Record → Ended → List ℕ → Type 0 };
 
     /// Returns what is printed of a batch and its plan.
-    fn text(&self, alloc: Global, batch: &Batch<'_>, plan: &Plan<'_>) -> Result<String, Stop>
+    fn text(&self, alloc: Global, batch: &Batch<'_>, plan: &Plan<'_>) -> Result<String, Halt>
         requires { records batch.now ≡ plan_records plan.now }
         ensures found { Found (writes self.now (plan_records plan.now)) result }
-        ensures read { result ≢ Err stops.Read };
+        ensures read { result ≢ Err halts.Read };
 }
 
-/// Returns what the command prints of the batch in a value.
-fn text_of<C: Command>(
+/// Returns the plan of a batch. Here, and nowhere else, an engine uses the seed of its setup.
+pub fn plan_of<'a: 'b, 'b>(
     alloc: Global,
-    value: &Value,
-    command: &C,
+    batch: &'b Batch<'a>,
     setup: Setup,
-) -> Result<String, Stop>
-    ensures found { (bytes : List ℕ) → IsDocument bytes (view value.now)
-        → Found (Answers (C.writes command.now) bytes) result }
-    ensures read { result ≢ Err stops.Read }
+) -> Result<Held<Plan<'b>>, Halt>
+    ensures good { OnOk result (HasGoodNames (records batch.now)) }
+    ensures plan { IfOk result (λ plan. plan_records plan.value ≡ records batch.now) }
+    ensures seed { IfOk result (λ plan. IsSeeded setup.seed.number plan.value) }
+    ensures least { IfErr result (Halted (RefusesNamesOf (records batch.now))) }
+    ensures read { result ≢ Err halts.Read }
 {
-    let batch = Held {
-        value: Batch::read(alloc, value)?,
+    Ok(Held {
+        value: check_with(alloc, setup.seed, batch)?,
         remains: setup.remains,
-    };
-    let plan = plan_of(alloc, &batch.value, setup)?;
-    command.text(alloc, &batch.value, &plan.value)
+    })
 }
 
 /// Returns what the command prints of the batch in a document.
-fn found_by<R: Read, C: Command>(
+fn text_of<R: Read, C: Command>(
     alloc: Global,
     input: &mut Input<R>,
     command: &C,
     setup: Setup,
-) -> Result<String, Stop>
+) -> Result<String, Halt>
     requires { IsFresh input.old }
     ensures found { SomeDocument (R.remaining input.old.reader)
         (λ bytes. Found (Answers (C.writes command.now) bytes) result) }
-    ensures read { (result ≡ Err stops.Read) ↔ IsTrue input.new.failed }
+    ensures read { (result ≡ Err halts.Read) ↔ IsTrue input.new.failed }
     ensures input { ReadsFew R.remaining input.old input.new }
 {
+    let remains = setup.remains;
     let value = Held {
         value: value_of(alloc, input, Place::Batch)?,
-        remains: setup.remains,
+        remains,
     };
-    text_of(alloc, &value.value, command, setup)
+    let batch = Held {
+        value: Batch::read(alloc, &value.value)?,
+        remains,
+    };
+    let plan = plan_of(alloc, &batch.value, setup)?;
+    command.text(alloc, &batch.value, &plan.value)
 }
 
 /// Runs a command over one document: writes what it prints of the batch, or the line of the least
@@ -97,6 +102,6 @@ pub fn answer<R: Read, W: Write, C: Command>(
     ensures memory { result ≡ Err EngineFault.OutOfMemory → output.new ≡ output.old }
     ensures reads { ReadsFew R.remaining input.old input.new }
 {
-    let found = found_by(alloc, input, command, setup);
+    let found = text_of(alloc, input, command, setup);
     end(alloc, found, output)
 }

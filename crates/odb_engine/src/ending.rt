@@ -1,11 +1,11 @@
 ghost use Rattle.std.specs.Prelude.{◌≡◌, false, Err, IfErr, IfOk};
 ghost use Rattle.odb_engine.specs.declared.ending.EngineFault.TheVariants as faults;
-ghost use Rattle.odb_engine.specs.declared.stop.Stop.TheVariants as stops;
+ghost use Rattle.odb_engine.specs.declared.halt.Halt.TheVariants as halts;
 ghost use Rattle.odb_engine.specs.Engines.{Ends};
-ghost use Rattle.odb_engine.specs.Stops.{text_found};
+ghost use Rattle.odb_engine.specs.Halts.{text_found};
 
+use crate::halt::Halt;
 use crate::lines::fault_line;
-use crate::stop::Stop;
 use odb_doc::Output;
 use odb_reply::{WriteFault, write_text};
 use std::alloc::{AllocError, Global};
@@ -52,43 +52,49 @@ impl From<AllocError> for EngineFault {
     }
 }
 
+/// What a phase of an engine returns that writes the result itself: how it ended, or why nothing was
+/// written.
+pub type Sent = Result<Result<Ended, EngineFault>, Halt>;
+
 /// Writes what was found, or the line of the fault, and returns how the engine ended.
 pub fn end<W: Write>(
     alloc: Global,
-    found: Result<String, Stop>,
+    found: Result<String, Halt>,
     output: &mut Output<W>,
 ) -> Result<Ended, EngineFault>
     requires { output.old.failed ≡ false }
-    ensures ends { Ends W.contents (text_found found) (found ≡ Err stops.Read)
+    ensures ends { Ends W.contents (text_found found) (found ≡ Err halts.Read)
         output.old output.new result }
     ensures memory { result ≡ Err EngineFault.OutOfMemory → output.new ≡ output.old }
 {
     let (ended, text) = match found {
         Ok(text) => (Ended::Done, text),
-        Err(Stop::Refused { code, name, place }) => {
+        Err(Halt::Refused { code, name, place }) => {
             (Ended::Refused, fault_line(alloc, code, name, place)?)
         }
-        Err(Stop::Read) => return Err(EngineFault::Read),
-        Err(Stop::OutOfMemory) => return Err(EngineFault::OutOfMemory),
+        Err(Halt::Read) => return Err(EngineFault::Read),
+        Err(Halt::OutOfMemory) => return Err(EngineFault::OutOfMemory),
     };
     write_text(output, &text)?;
     Ok(ended)
 }
 
-/// Returns how an engine has ended; or writes the line of the fault by which it stopped before it
+/// Returns how an engine has ended; or writes the line of the fault by which it halted before it
 /// wrote anything.
 pub fn conclude<W: Write>(
     alloc: Global,
-    sent: Result<Result<Ended, EngineFault>, Stop>,
+    sent: Sent,
     output: &mut Output<W>,
 ) -> Result<Ended, EngineFault>
     requires { IfErr sent (λ _. output.old.failed ≡ false) }
     ensures ended { IfOk sent (λ ended. (result ≡ ended) × (output.new ≡ output.old)) }
-    ensures stopped { IfErr sent (λ stop. Ends W.contents (text_found (Err stop))
-        (stop ≡ stops.Read) output.old output.new result) }
+    ensures halted { IfErr sent (λ halt. Ends W.contents (text_found (Err halt))
+        (halt ≡ halts.Read) output.old output.new result) }
+    ensures memory { IfErr sent (λ _. result ≡ Err EngineFault.OutOfMemory
+        → output.new ≡ output.old) }
 {
     match sent {
         Ok(result) => result,
-        Err(stop) => end(alloc, Err(stop), output),
+        Err(halt) => end(alloc, Err(halt), output),
     }
 }

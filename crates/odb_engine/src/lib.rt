@@ -8,36 +8,34 @@
 //! it. [`laws`] states that a text is determined. Opening files, buffering small writes and turning
 //! an end into an exit status are left to the caller.
 //!
-//! Another command over one document is a relation in specs/Commands.antt, an `impl` of `Command`
-//! that prints a plan, and a public function that passes it to `answer`.
+//! Another command is a relation in specs/, an `impl` of `Command` (one document) or of `PairCommand`
+//! (two), and a public function that passes it to `answer` or `answer_pair`.
 #![tactic(auto)]
 
-mod canonical;
-mod checking;
+mod canon;
+mod check;
 mod command;
 mod ending;
-mod events;
+mod halt;
 mod held;
+mod input;
 pub mod laws;
 mod lines;
-mod matching;
+mod match_responses;
+mod output;
 mod pair;
-mod planning;
-mod reading;
-mod recorded_run;
-mod replaying;
-mod running;
-mod sending;
+mod plan;
+mod replay;
+mod run;
 mod setup;
-mod stop;
 mod trace;
 
-pub use canonical::{canon_batch, canon_batch_with};
-pub use checking::{check_batch, check_batch_with, plan_batch, plan_batch_with};
+pub use canon::{canon_batch, canon_batch_with};
+pub use check::{check_batch, check_batch_with};
 pub use ending::{Ended, EngineFault};
-pub use events::{UNFINISHED_CODE, UNFINISHED_NAME};
 pub use held::Remains;
-pub use matching::{match_batch, match_batch_with};
-pub use recorded_run::{run_batch, run_batch_with};
-pub use replaying::{replay_batch, replay_batch_with};
+pub use match_responses::{match_batch, match_batch_with};
+pub use plan::{plan_batch, plan_batch_with};
+pub use replay::{replay_batch, replay_batch_with};
+pub use run::{UNFINISHED_CODE, UNFINISHED_NAME, run_batch, run_batch_with};
 pub use setup::Setup;

@@ -1,0 +1,63 @@
+-- An execution by recorded outcomes.
+use Rattle.std.proofs.Common.{◌≡◌, subst, refl, Some, Ok, ℕ, IfErr}
+use Rattle.odb_doc.specs.declared.outcome.Outcome.{Outcome}
+use Rattle.odb_doc.specs.OutcomeLists.{entries}
+use Rattle.odb_check.specs.Plans.{plan_records}
+use Rattle.odb_sched.specs.Answers.{reported}
+use Rattle.odb_sched.specs.Courses.{IsDue, IsCausedBy, IsFinishedBy}
+use Rattle.odb_sched.specs.Laws.{StartsLast}
+use Rattle.odb_sched.specs.Recordings.{OffersRecorded}
+use Rattle.odb_sched.specs.State.{at_first}
+use Rattle.odb_reply.specs.Fits.{ListsFit}
+use Rattle.odb_reply.specs.OnePerId.{HasOnePerId}
+use Rattle.odb_reply.specs.Responses.{response_value}
+use Rattle.odb_engine.specs.declared.ending.Ended.TheVariants.{Refused}
+use Rattle.odb_engine.specs.Cascade.{line_of}
+use Rattle.odb_engine.specs.Halts.{Refuses}
+use Rattle.odb_engine.specs.Replays.{LacksOutcome, execution_refusal}
+use Rattle.odb_engine.proofs.EngineLemmas.{at-exit, halted-by}
+use Rattle.odb_engine.proofs.ReplayLemmas.{readable-answers, whole-bodies, lacks-outcome}
+use Rattle.odb_engine.proofs.replay.run_of.Goals as goal
+
+pub returns-in_err-trace-clause-lacks : goal.returns-in_err-trace-clause-lacks
+returns-in_err-trace-clause-lacks g c =
+    let allows = (goal.Chooser-dyn g c.args.replay.now.chooser.now).allows c.args.replay.now.chooser.now.1 in
+    let plan = c.args.plan.now in
+    let recorded = entries c.args.outcomes in
+    let cause = c.in_err-trace.field-0.0 in
+    let lacks = LacksOutcome allows c.args.replay.now.policy plan recorded in
+    let caused = subst (λ s. IsCausedBy (OffersRecorded s) (IsDue allows (OffersRecorded s) (at_first plan c.args.replay.now.policy)) cause) c.in_ok-new.ensures c.in_err-trace.ensures.fault in
+    at-exit (λ r. IfErr r (Refuses lacks)) _ _ c.from_residual-in_err-trace.ensures.1
+    (halted-by (λ refusal. lacks Refused (line_of refusal)) _ (execution_refusal cause) (λ numbered. lacks-outcome allows c.args.replay.now.policy plan recorded cause c.len-count.ensures.sound numbered caused))
+
+pub returns-clause-result : goal.returns-clause-result
+returns-clause-result g c =
+    let allows = (goal.Chooser-dyn g c.args.replay.now.chooser.now).allows c.args.replay.now.chooser.now.1 in
+    let plan = c.args.plan.now in
+    let first = at_first plan c.args.replay.now.policy in
+    let trace = c.in_ok-trace.trace in
+    let execution = c.in_ok-trace.ensures.execution in
+    let (course, ended) = subst (λ s. (course : IsFinishedBy allows (OffersRecorded s) first trace.steps.items trace.done) × StartsLast (plan_records plan) course.events) c.in_ok-new.ensures
+    (execution.course, execution.dependencies_first) in
+    let offers = subst (λ s. (i : ℕ) (outcome : Outcome) → reported trace.done i ≡ Some outcome → OffersRecorded s i (Ok outcome)) c.in_ok-new.ensures c.in_ok-trace.ensures.offered in
+    λ traced. record {
+      ends = refl;
+      steps = trace.steps.items;
+      last = trace.done;
+      course = course;
+      result = refl;
+      dependencies_first = ended;
+      one_per_id = subst (λ p. HasOnePerId (plan_records p) (response_value trace.done)) c.in_ok-trace.ensures.plan c.every_response.ensures.one_per_id;
+      read_again = λ recordable. record {
+        value = response_value trace.done;
+        reads = c.every_response.ensures.line (readable-answers (plan_records plan) (entries c.args.outcomes) trace.done c.len-count.ensures.sound offers recordable);
+        document = c.every_response.ensures.document;
+        fits = subst (λ p. ListsFit (plan_records p) (response_value trace.done)) c.in_ok-trace.ensures.plan c.every_response.ensures.fits;
+      };
+    }
+
+pub returns-clause-whole : goal.returns-clause-whole
+returns-clause-whole g c =
+    let trace = c.in_ok-trace.trace in
+    whole-bodies (plan_records c.args.plan.now) (entries c.args.outcomes) trace.done c.len-count.ensures.sound
+    (subst (λ s. (i : ℕ) (outcome : Outcome) → reported trace.done i ≡ Some outcome → OffersRecorded s i (Ok outcome)) c.in_ok-new.ensures c.in_ok-trace.ensures.offered)

@@ -1,0 +1,71 @@
+-- For private clauses: why an engine halts before it writes, and what it writes of what it found.
+use Rattle.std.specs.Prelude.{◌≡◌, ◌≢◌, ◌↔◌, List, ℕ, Option, Result, Ok, Err, IsTrue, OnOk, OnErr, String, string_bytes}
+use Rattle.std.specs.declared.alloc.Global.{Global}
+use Rattle.std.specs.Io.KnownBytes.{Appends}
+use Rattle.odb_doc.specs.Devices.{Writing}
+use Rattle.odb_doc.specs.Devices.{AppendsPrefix}
+use Rattle.odb_doc.specs.Records.{Record}
+use Rattle.odb_check.specs.declared.fault.CheckFault.{CheckFault}
+use Rattle.odb_check.specs.FaultTable as names
+use Rattle.odb_check.specs.LeastNameFault.{RefusesNames}
+use Rattle.odb_engine.specs.declared.ending.Ended.{Ended}
+use Rattle.odb_engine.specs.declared.ending.Ended.TheVariants.{Done, Refused}
+use Rattle.odb_engine.specs.declared.ending.EngineFault.{EngineFault}
+use Rattle.odb_engine.specs.declared.ending.EngineFault.TheVariants as faults
+use Rattle.odb_engine.specs.declared.halt.Halt.{Halt}
+use Rattle.odb_engine.specs.declared.halt.Halt.TheVariants as halts
+use Rattle.odb_engine.specs.declared.input.ReadFault.{ReadFault}
+use Rattle.odb_engine.specs.declared.input.ReadFault.TheVariants as reads
+use Rattle.odb_engine.specs.Cascade.{Writes, Prints, Refusal, line_of, names_refusal}
+use Rattle.odb_engine.specs.Engines.{Ends}
+
+-- a halt by a fault is one by such a fault
+abbrev pub Halted : (Refusal → Type 0) → Halt → Type 0
+Halted Is (halts.Refused code name place) = Is (record { code = code.now; name = name.now; place = place })
+Halted Is halts.Read = Unit {0}
+Halted Is halts.OutOfMemory = Unit {0}
+
+-- a halt by a fault is one whose line may be written
+abbrev pub Refuses : Writes → Halt → Type 0
+Refuses P halt = Halted (λ refusal. P Refused (line_of refusal)) halt
+
+-- what was found may be written this way
+abbrev pub Found : Writes → Result (String Global) Halt → Type 0
+Found P (Ok text) = P Done (string_bytes text)
+Found P (Err halt) = Refuses P halt
+
+-- what a phase of an engine that writes its result itself returns: how it ended, or why nothing was written
+abbrev pub Sent : {W : Type 0} → (W → Option (List ℕ)) → Writes → Type 0 → Writing W → Writing W → Result (Result Ended EngineFault) Halt → Type 0
+Sent contents P ReadFailed old new (Ok result) = Ends contents P ReadFailed old new result
+Sent contents P ReadFailed old new (Err halt) = (new ≡ old) × Refuses P halt
+
+-- The writer has received the text, or a prefix of it. Write means exactly that the output failed, and no input did.
+pub record Sends {W : Type 0} (contents : W → Option (List ℕ)) (text : List ℕ) (old new : Writing W) (result : Result (Unit {0}) EngineFault) : Type 0 where
+  pub whole : OnOk result (Appends (contents old.writer) (contents new.writer) text)
+  pub part : OnErr result (AppendsPrefix (contents old.writer) (contents new.writer) text)
+  pub write : (result ≡ Err faults.Write) ↔ IsTrue new.failed
+  pub unread : result ≢ Err faults.Read
+
+-- what is written of what was found
+abbrev pub text_found : Result (String Global) Halt → Writes
+text_found (Ok found) ended text = Prints (string_bytes found) ended text
+text_found (Err (halts.Refused code name place)) ended text = (ended ≡ Refused) × (text ≡ line_of (record { code = code.now; name = name.now; place = place }))
+text_found (Err halts.Read) ended text = ⊥
+text_found (Err halts.OutOfMemory) ended text = ⊥
+
+-- the halt is by this fault if the fault is numbered, and else out of memory
+abbrev pub HaltsBy : Type 0 → Refusal → Halt → Type 0
+HaltsBy Numbered refusal (halts.Refused code name place) = Numbered × (refusal ≡ record { code = code.now; name = name.now; place = place })
+HaltsBy Numbered refusal halts.Read = ⊥
+HaltsBy Numbered refusal halts.OutOfMemory = Unit {0}
+
+abbrev pub halt_of : ReadFault → Halt
+halt_of reads.Read = halts.Read
+halt_of reads.OutOfMemory = halts.OutOfMemory
+
+-- the names of these requests have a fault
+pub record RefusesNamesOf (batch : List Record) (refusal : Refusal) : Type 0 where
+  pub fault : CheckFault
+  pub numbered : names.IsNumbered fault
+  pub refuses : RefusesNames fault batch
+  pub is : refusal ≡ names_refusal fault

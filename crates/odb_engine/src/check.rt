@@ -1,0 +1,76 @@
+ghost use Rattle.std.specs.Prelude.{◌≡◌, false, Err, IsTrue};
+ghost use Rattle.odb_engine.specs.Inputs.{IsFresh, ReadsFew, SomeDocument};
+ghost use Rattle.odb_engine.specs.Cascade.{Answers};
+ghost use Rattle.odb_engine.specs.Engines.{Ends};
+ghost use Rattle.odb_engine.specs.Commands as commands;
+
+use crate::command::{Command, answer};
+use crate::ending::{Ended, EngineFault};
+use crate::halt::Halt;
+use crate::lines::accepted_line;
+use crate::setup::Setup;
+use odb_check::Plan;
+use odb_doc::{Batch, Input, Output};
+use std::alloc::Global;
+use std::io::{Read, Write};
+
+/// Prints how many requests and groups there are.
+struct Counts;
+
+impl Command for Counts {
+    ghost writes = { λ _. commands.Counts };
+
+    fn text(&self, alloc: Global, _batch: &Batch<'_>, plan: &Plan<'_>) -> Result<String, Halt> {
+        Ok(accepted_line(alloc, plan.len(), plan.group_count())?)
+    }
+}
+
+/// Checks the batch in a document: writes the line of its counts, or of its least fault.
+///
+/// The input must be new, and the output must not have failed. Names are looked up without a seed, and
+/// the document is dropped at the end; [`check_batch_with`] takes a [`Setup`] for both.
+///
+/// Takes O(n log n) time and O(n) memory for a document of n bytes.
+///
+/// # Errors
+///
+/// - `Read` if and only if the input failed; nothing was written.
+/// - `Write` if and only if the output failed; it has received a prefix of the text.
+/// - `OutOfMemory` if an allocation fails; nothing was written.
+pub fn check_batch<R: Read, W: Write>(
+    alloc: Global,
+    input: &mut Input<R>,
+    output: &mut Output<W>,
+) -> Result<Ended, EngineFault>
+    requires input { IsFresh input.old }
+    requires output { output.old.failed ≡ false }
+    ensures ends { SomeDocument (R.remaining input.old.reader) (λ bytes. Ends W.contents
+        (Answers commands.Counts bytes) (IsTrue input.new.failed)
+        output.old output.new result) }
+    ensures memory { result ≡ Err EngineFault.OutOfMemory → output.new ≡ output.old }
+    ensures reads { ReadsFew R.remaining input.old input.new }
+{
+    check_batch_with(alloc, input, output, Setup::plain())
+}
+
+/// Does what [`check_batch`] does, with a setup of the caller's.
+///
+/// # Errors
+///
+/// Those of [`check_batch`].
+pub fn check_batch_with<R: Read, W: Write>(
+    alloc: Global,
+    input: &mut Input<R>,
+    output: &mut Output<W>,
+    setup: Setup,
+) -> Result<Ended, EngineFault>
+    requires input { IsFresh input.old }
+    requires output { output.old.failed ≡ false }
+    ensures ends { SomeDocument (R.remaining input.old.reader) (λ bytes. Ends W.contents
+        (Answers commands.Counts bytes) (IsTrue input.new.failed)
+        output.old output.new result) }
+    ensures memory { result ≡ Err EngineFault.OutOfMemory → output.new ≡ output.old }
+    ensures reads { ReadsFew R.remaining input.old input.new }
+{
+    answer(alloc, input, output, &Counts, setup)
+}

@@ -1,0 +1,99 @@
+ghost use Rattle.std.specs.Prelude.{◌≡◌, ◌≤◌, ◌↔◌, false, IsTrue, IfOk, IfErr, Err};
+ghost use Rattle.serde_json.specs.View.{view};
+ghost use Rattle.odb_doc.specs.Documents.{IsDocument};
+ghost use Rattle.odb_engine.specs.Cascade.{RefusesBytes};
+ghost use Rattle.odb_engine.specs.Halts.{Halted};
+ghost use Rattle.odb_engine.specs.Inputs.{GivesDocument, GivesFew, IsFresh, ReadsFew, SomeDocument, WasRead};
+ghost use Rattle.odb_engine.specs.declared.input.ReadFault.TheVariants as faults;
+ghost use Rattle.odb_engine.specs.declared.halt.Halt.TheVariants as halts;
+
+use crate::halt::Halt;
+use odb_doc::{DeviceFault, DocFault, Input, MAX_DOCUMENT_BYTES, Place, parse};
+use serde_json::Value;
+use std::alloc::{AllocError, Global};
+use std::io::Read;
+use thiserror::Error;
+
+/// How many bytes are read of a document: one more than it may have, so that a document that is too
+/// long is noticed.
+pub const MAX_READ_BYTES: usize = MAX_DOCUMENT_BYTES + 1;
+
+const _: () = prove!(MAX_READ_BYTES == 16_777_217);
+
+const CHUNK_BYTES: usize = 8192;
+
+/// The capacity for a document at first. The system provides memory of this size page by page as it
+/// is written, and grows it without a copy.
+const ROOM_BYTES: usize = 262_144;
+
+/// Why a document was not read.
+#[derive(Clone, Copy, Debug, PartialEq, Eq, Error)]
+pub enum ReadFault {
+    #[error("the input failed")]
+    Read,
+    #[error("out of memory")]
+    OutOfMemory,
+}
+
+impl From<DeviceFault> for ReadFault {
+    ghost from_gives = { λ _ fault. fault ≡ faults.Read };
+
+    fn from(_fault: DeviceFault) -> Self {
+        ReadFault::Read
+    }
+}
+
+impl From<AllocError> for ReadFault {
+    ghost from_gives = { λ _ fault. fault ≡ faults.OutOfMemory };
+
+    fn from(_error: AllocError) -> Self {
+        ReadFault::OutOfMemory
+    }
+}
+
+/// Reads a document: what the input gives until a read gives nothing, but 16,777,217 bytes at most.
+pub fn read_document<R: Read>(alloc: Global, input: &mut Input<R>) -> Result<Vec<u8>, ReadFault>
+    requires works { input.old.failed ≡ false }
+    requires fresh { input.old.reads ≡ 0 }
+    ensures document { IfOk result (λ bytes. GivesDocument (R.remaining input.old.reader)
+        bytes.items) }
+    ensures whole { IfOk result (λ bytes. WasRead R.remaining input.old input.new bytes.items) }
+    ensures fault { (result ≡ Err ReadFault.Read) ↔ IsTrue input.new.failed }
+    ensures reads { input.new.reads ≤ 16777217 }
+    ensures given { GivesFew (R.remaining input.old.reader) (R.remaining input.new.reader)
+        input.new.reads }
+{
+    let mut bytes = Vec::with_capacity(alloc, ROOM_BYTES)?;
+    let mut chunk = [0u8; CHUNK_BYTES];
+    while bytes.len() < MAX_READ_BYTES {
+        let room = CHUNK_BYTES.min(MAX_READ_BYTES - bytes.len());
+        let count = input.take(&mut chunk[..room])?;
+        if count == 0 {
+            return Ok(bytes);
+        }
+        bytes.extend_from_slice(&chunk[..count])?;
+    }
+    Ok(bytes)
+}
+
+/// Returns the value of the document that an input gives; `place` is the place of its fault.
+pub fn value_of<R: Read>(alloc: Global, input: &mut Input<R>, place: Place) -> Result<Value, Halt>
+    requires { IsFresh input.old }
+    ensures value { SomeDocument (R.remaining input.old.reader) (λ bytes.
+        IfOk result (λ value. IsDocument bytes (view value)
+        × WasRead R.remaining input.old input.new bytes)
+        × IfErr result (Halted (RefusesBytes place bytes))) }
+    ensures read { (result ≡ Err halts.Read) ↔ IsTrue input.new.failed }
+    ensures input { ReadsFew R.remaining input.old input.new }
+{
+    let bytes = read_document(alloc, input)?;
+    match parse(alloc, &bytes) {
+        Ok(value) => Ok(value),
+        Err(DocFault::OutOfMemory) => Err(Halt::OutOfMemory),
+        Err(fault) => Err(Halt::Refused {
+            code: fault.code(),
+            name: fault.name(),
+            place,
+        }),
+    }
+}

@@ -1,0 +1,153 @@
+ghost use Rattle.std.specs.Prelude.{◌≡◌, ◌≢◌, ◌⊎◌, ◌++◌, ℕ, List, length, false, Err, IsTrue, IfOk, OnOk, string_bytes};
+ghost use Rattle.serde_json.specs.View.{view};
+ghost use Rattle.odb_doc.specs.Documents.{IsDocument};
+ghost use Rattle.odb_check.specs.Plans.{plan_records};
+ghost use Rattle.odb_reply.specs.Tables.{statuses};
+ghost use Rattle.odb_engine.specs.declared.halt.Halt.TheVariants as halts;
+ghost use Rattle.odb_engine.specs.Cascade.{Answers};
+ghost use Rattle.odb_engine.specs.Commands.{BySecond};
+ghost use Rattle.odb_engine.specs.Engines.{Ends};
+ghost use Rattle.odb_engine.specs.Halts.{Found};
+ghost use Rattle.odb_engine.specs.Inputs.{AskedFor, IsFresh, ReadsFew, SomeDocument};
+ghost use Rattle.odb_engine.specs.Matches.{Matches, match_text, status_line};
+
+use crate::ending::{Ended, EngineFault, Sent};
+use crate::halt::Halt;
+use crate::held::{Held, Remains};
+use crate::input::value_of;
+use crate::lines::fit_line;
+use crate::output::print;
+use crate::pair::{PairCommand, answer_pair};
+use crate::setup::Setup;
+use odb_check::Plan;
+use odb_doc::{Input, Output, Place};
+use odb_reply::{Responses, Table, match_responses};
+use serde_json::Value;
+use std::alloc::{AllocError, Global};
+use std::io::{Read, Write};
+
+/// Appends the line of a request.
+fn push_status(alloc: Global, text: &mut String, id: &str, status: u16) -> Result<(), AllocError>
+    ensures { OnOk result (string_bytes text.new ≡ string_bytes text.old ++ status_line id.now status) }
+{
+    text.push_str(&format!(in alloc; "{id} {status}\n")?)
+}
+
+/// Returns the line of the count, and the line of each request.
+fn match_text(alloc: Global, plan: &Plan<'_>, table: &Table) -> Result<String, AllocError>
+    requires { length (statuses table.now) ≡ length (plan_records plan.now) }
+    ensures { IfOk result (λ text. string_bytes text
+        ≡ match_text (plan_records plan.now) (statuses table.now)) }
+{
+    let count = plan.len();
+    let mut text = fit_line(alloc, count)?;
+    for i in 0..count {
+        push_status(alloc, &mut text, plan.request(i).id, table.status(i))?;
+    }
+    Ok(text)
+}
+
+/// Returns what is printed of the responses in a value.
+fn matched(alloc: Global, plan: &Plan<'_>, value: &Value, remains: Remains) -> Result<String, Halt>
+    ensures found { (bytes : List ℕ) → IsDocument bytes (view value.now)
+        → Found (Matches (plan_records plan.now) bytes) result }
+    ensures read { result ≢ Err halts.Read }
+{
+    let responses = Held {
+        value: Responses::read(alloc, value)?,
+        remains,
+    };
+    let table = match_responses(alloc, plan, &responses.value)?;
+    Ok(match_text(alloc, plan, &table)?)
+}
+
+/// Prints the status of each request.
+#[derive(Drop)]
+struct Match {
+    setup: Setup,
+}
+
+impl PairCommand for Match {
+    ghost writes = { λ _. Matches };
+
+    ghost streams = { λ _. ⊥ };
+
+    fn setup(&self) -> Setup {
+        self.setup
+    }
+
+    fn perform<S: Read, W: Write>(
+        &mut self,
+        alloc: Global,
+        plan: &Plan<'_>,
+        second: &mut Input<S>,
+        output: &mut Output<W>,
+    ) -> Sent {
+        let remains = self.setup.remains;
+        let value = Held {
+            value: value_of(alloc, second, Place::Responses)?,
+            remains,
+        };
+        let text = matched(alloc, plan, &value.value, remains)?;
+        Ok(print(output, &text))
+    }
+}
+
+/// Matches the response document of a service against the batch in a document: writes the count of
+/// the responses and the status of each request, or the line of the first fault.
+///
+/// The responses fit the batch if each request has exactly one and nothing else has one, if each has
+/// the group of its request, and if no success rests on a failure. The responses are read only if the
+/// check accepts the batch. The inputs must be new, and the output must not have failed.
+/// [`match_batch_with`] takes a [`Setup`] too, as [`crate::check_batch_with`] does.
+///
+/// Takes O(n log n) time and O(n) memory for documents of n bytes.
+///
+/// # Errors
+///
+/// Those of [`crate::check_batch`], of either input.
+pub fn match_batch<R: Read, S: Read, W: Write>(
+    alloc: Global,
+    batch: &mut Input<R>,
+    responses: &mut Input<S>,
+    output: &mut Output<W>,
+) -> Result<Ended, EngineFault>
+    requires batch { IsFresh batch.old }
+    requires responses { IsFresh responses.old }
+    requires output { output.old.failed ≡ false }
+    ensures ends { SomeDocument (R.remaining batch.old.reader) (λ bytes. Ends W.contents
+        (Answers (BySecond (S.remaining responses.old.reader) Matches) bytes)
+        (IsTrue batch.new.failed ⊎ IsTrue responses.new.failed) output.old output.new result
+        × AskedFor R.remaining batch.old batch.new bytes responses.old responses.new) }
+    ensures memory { result ≡ Err EngineFault.OutOfMemory → output.new ≡ output.old }
+    ensures batch { ReadsFew R.remaining batch.old batch.new }
+    ensures responses { ReadsFew S.remaining responses.old responses.new }
+{
+    match_batch_with(alloc, batch, responses, output, Setup::plain())
+}
+
+/// Does what [`match_batch`] does, with a setup of the caller's.
+///
+/// # Errors
+///
+/// Those of [`match_batch`].
+pub fn match_batch_with<R: Read, S: Read, W: Write>(
+    alloc: Global,
+    batch: &mut Input<R>,
+    responses: &mut Input<S>,
+    output: &mut Output<W>,
+    setup: Setup,
+) -> Result<Ended, EngineFault>
+    requires batch { IsFresh batch.old }
+    requires responses { IsFresh responses.old }
+    requires output { output.old.failed ≡ false }
+    ensures ends { SomeDocument (R.remaining batch.old.reader) (λ bytes. Ends W.contents
+        (Answers (BySecond (S.remaining responses.old.reader) Matches) bytes)
+        (IsTrue batch.new.failed ⊎ IsTrue responses.new.failed) output.old output.new result
+        × AskedFor R.remaining batch.old batch.new bytes responses.old responses.new) }
+    ensures memory { result ≡ Err EngineFault.OutOfMemory → output.new ≡ output.old }
+    ensures batch { ReadsFew R.remaining batch.old batch.new }
+    ensures responses { ReadsFew S.remaining responses.old responses.new }
+{
+    answer_pair(alloc, batch, responses, output, &mut Match { setup })
+}

@@ -1,0 +1,71 @@
+ghost use Rattle.std.specs.Prelude.{◌≡◌, false, Err, IsTrue};
+ghost use Rattle.odb_engine.specs.Inputs.{IsFresh, ReadsFew, SomeDocument};
+ghost use Rattle.odb_engine.specs.Cascade.{Answers};
+ghost use Rattle.odb_engine.specs.Engines.{Ends};
+ghost use Rattle.odb_engine.specs.Commands as commands;
+
+use crate::command::{Command, answer};
+use crate::ending::{Ended, EngineFault};
+use crate::halt::Halt;
+use crate::setup::Setup;
+use odb_check::Plan;
+use odb_doc::{Batch, Input, Output};
+use std::alloc::Global;
+use std::io::{Read, Write};
+
+/// Prints the plan.
+struct Plans;
+
+impl Command for Plans {
+    ghost writes = { λ _. commands.Plans };
+
+    fn text(&self, alloc: Global, _batch: &Batch<'_>, plan: &Plan<'_>) -> Result<String, Halt> {
+        Ok(plan.text(alloc)?)
+    }
+}
+
+/// Plans the batch in a document: writes a line per request, or the line of its least fault.
+///
+/// The arguments are those of [`crate::check_batch`], and so is the cost; the text of the plan is held in
+/// memory too.
+///
+/// # Errors
+///
+/// Those of [`crate::check_batch`].
+pub fn plan_batch<R: Read, W: Write>(
+    alloc: Global,
+    input: &mut Input<R>,
+    output: &mut Output<W>,
+) -> Result<Ended, EngineFault>
+    requires input { IsFresh input.old }
+    requires output { output.old.failed ≡ false }
+    ensures ends { SomeDocument (R.remaining input.old.reader) (λ bytes. Ends W.contents
+        (Answers commands.Plans bytes) (IsTrue input.new.failed)
+        output.old output.new result) }
+    ensures memory { result ≡ Err EngineFault.OutOfMemory → output.new ≡ output.old }
+    ensures reads { ReadsFew R.remaining input.old input.new }
+{
+    plan_batch_with(alloc, input, output, Setup::plain())
+}
+
+/// Does what [`plan_batch`] does, with a setup of the caller's.
+///
+/// # Errors
+///
+/// Those of [`crate::check_batch`].
+pub fn plan_batch_with<R: Read, W: Write>(
+    alloc: Global,
+    input: &mut Input<R>,
+    output: &mut Output<W>,
+    setup: Setup,
+) -> Result<Ended, EngineFault>
+    requires input { IsFresh input.old }
+    requires output { output.old.failed ≡ false }
+    ensures ends { SomeDocument (R.remaining input.old.reader) (λ bytes. Ends W.contents
+        (Answers commands.Plans bytes) (IsTrue input.new.failed)
+        output.old output.new result) }
+    ensures memory { result ≡ Err EngineFault.OutOfMemory → output.new ≡ output.old }
+    ensures reads { ReadsFew R.remaining input.old input.new }
+{
+    answer(alloc, input, output, &Plans, setup)
+}

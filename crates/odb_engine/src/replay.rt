@@ -1,0 +1,201 @@
+ghost use Rattle.std.specs.Prelude.{◌≡◌, ◌≢◌, ◌<◌, ◌↔◌, ◌⊎◌, Bool, All, false, Err, IsTrue, IfErr, IfOk};
+ghost use Rattle.odb_doc.specs.OutcomeLists.{entries};
+ghost use Rattle.odb_sched.specs.State.{size};
+ghost use Rattle.odb_sched.specs.Courses.{position_in};
+ghost use Rattle.odb_reply.specs.NotWhole.{HasWholeBodies};
+ghost use Rattle.odb_engine.specs.declared.ending.Ended.TheVariants.{Done};
+ghost use Rattle.odb_engine.specs.declared.halt.Halt.TheVariants as halts;
+ghost use Rattle.odb_engine.specs.Cascade.{Answers};
+ghost use Rattle.odb_engine.specs.Engines.{Ends};
+ghost use Rattle.odb_engine.specs.Inputs.{AskedFor, IsFresh, ReadsFew, SomeDocument};
+ghost use Rattle.odb_engine.specs.Replays as replays;
+ghost use Rattle.odb_engine.specs.Halts.{Refuses, Halted};
+
+use crate::ending::{Ended, EngineFault, Sent};
+use crate::halt::Halt;
+use crate::held::{Held, Remains};
+use crate::input::value_of;
+use crate::output::send;
+use crate::pair::{PairCommand, answer_pair};
+use crate::setup::Setup;
+use odb_check::Plan;
+use odb_doc::{Input, Outcomes, Output, Place};
+use odb_reply::laws::every_response;
+use odb_sched::{Chooser, Policy, Recorded, Trace, execute};
+use std::alloc::Global;
+use std::io::{Read, Write};
+
+/// Returns the outcomes in a document.
+fn outcomes_of<R: Read>(
+    alloc: Global,
+    input: &mut Input<R>,
+    remains: Remains,
+) -> Result<Outcomes, Halt>
+    requires { IsFresh input.old }
+    ensures outcomes { SomeDocument (R.remaining input.old.reader) (λ bytes.
+        IfOk result (λ outcomes. replays.IsRecordOf bytes (entries outcomes))
+        × IfErr result (Halted (replays.IsLeastOfOutcomes bytes))) }
+    ensures read { (result ≡ Err halts.Read) ↔ IsTrue input.new.failed }
+    ensures input { ReadsFew R.remaining input.old input.new }
+{
+    let value = value_of(alloc, input, Place::Outcomes)?;
+    let (outcomes, rest) = Outcomes::split(alloc, value)?;
+    drop(Held {
+        value: rest,
+        remains,
+    });
+    Ok(outcomes)
+}
+
+/// Writes the result of an execution by recorded outcomes. `C` is `&mut dyn Chooser`: a field cannot
+/// have that type itself.
+#[derive(Drop)]
+struct Replay<C> {
+    policy: Policy,
+    chooser: C,
+    traced: bool,
+    setup: Setup,
+}
+
+/// Executes a plan by recorded outcomes.
+fn run_of<'a: 'p, 'p>(
+    alloc: Global,
+    plan: &'p Plan<'a>,
+    outcomes: Outcomes,
+    replay: &mut Replay<&mut dyn Chooser>,
+) -> Result<Trace<'p>, Halt>
+    ensures result { IfOk result (λ trace. (traced : Bool) → replays.IsResult
+        ((Chooser-dyn replay.old.chooser.now).allows replay.old.chooser.now.1) replay.old.policy
+        traced plan.now (entries outcomes) Done
+        (replays.result_text traced trace.done trace.steps.items)) }
+    ensures within { IfOk result (λ trace.
+        All (λ step. position_in step < size trace.done) trace.steps.items) }
+    ensures whole { IfOk result (λ trace. HasWholeBodies trace.done) }
+    ensures lacks { IfErr result (Refuses (replays.LacksOutcome
+        ((Chooser-dyn replay.old.chooser.now).allows replay.old.chooser.now.1) replay.old.policy
+        plan.now (entries outcomes))) }
+    ensures read { result ≢ Err halts.Read }
+{
+    // Only a call on the outcomes states that they are sound.
+    let _count = outcomes.len();
+    let mut service = Held {
+        value: Recorded::new(alloc, plan, outcomes)?,
+        remains: replay.setup.remains,
+    };
+    let chooser = &mut *replay.chooser;
+    let trace = execute(alloc, plan, replay.policy, chooser, &mut service.value)?;
+    every_response(&trace.done);
+    Ok(trace)
+}
+
+impl<'c> PairCommand for Replay<&'c mut dyn Chooser> {
+    ghost writes = { λ self. replays.ReplaysBatch
+        ((Chooser-dyn self.chooser.now).allows self.chooser.now.1) self.policy self.traced };
+
+    ghost streams = { λ _. Unit {0} };
+
+    fn setup(&self) -> Setup {
+        self.setup
+    }
+
+    fn perform<S: Read, W: Write>(
+        &mut self,
+        alloc: Global,
+        plan: &Plan<'_>,
+        second: &mut Input<S>,
+        output: &mut Output<W>,
+    ) -> Sent {
+        let (remains, traced) = (self.setup.remains, self.traced);
+        let outcomes = outcomes_of(alloc, second, remains)?;
+        let trace = Held {
+            value: run_of(alloc, plan, outcomes, self)?,
+            remains,
+        };
+        Ok(send(alloc, output, &trace.value, traced))
+    }
+}
+
+/// Replays the batch in a document by the recorded outcomes in another: writes the response, after
+/// the trace of the steps if `traced` is set; or the line of a fault.
+///
+/// The inputs must be new, and the output must not have failed. The chooser gives the order, and the
+/// policy whether an error stops the run and how many requests may run at once. The outcomes are read
+/// only if the check accepts the batch. [`replay_batch_with`] takes a [`Setup`] too, as
+/// [`crate::check_batch_with`] does.
+///
+/// Both documents and the lines of the trace are held in memory; the response is written through a
+/// buffer, as [`odb_reply::write_responses`] does. If the chooser follows an order, takes O(n log n)
+/// time for n bytes of documents and output; else the chooser is asked at each step.
+///
+/// # Errors
+///
+/// - `Read` if and only if an input failed; nothing was written.
+/// - `Write` if and only if the output failed; it has received a prefix of what is written.
+/// - `OutOfMemory` if an allocation fails; nothing was written, or a prefix of the trace and the
+///   response.
+pub fn replay_batch<R: Read, S: Read, W: Write>(
+    alloc: Global,
+    batch: &mut Input<R>,
+    outcomes: &mut Input<S>,
+    output: &mut Output<W>,
+    policy: Policy,
+    chooser: &mut dyn Chooser,
+    traced: bool,
+) -> Result<Ended, EngineFault>
+    requires batch { IsFresh batch.old }
+    requires outcomes { IsFresh outcomes.old }
+    requires output { output.old.failed ≡ false }
+    ensures ends { SomeDocument (R.remaining batch.old.reader) (λ bytes. Ends W.contents
+        (Answers (replays.Replays (allows chooser.old) policy traced
+        (S.remaining outcomes.old.reader)) bytes)
+        (IsTrue batch.new.failed ⊎ IsTrue outcomes.new.failed) output.old output.new result
+        × AskedFor R.remaining batch.old batch.new bytes outcomes.old outcomes.new) }
+    ensures batch { ReadsFew R.remaining batch.old batch.new }
+    ensures outcomes { ReadsFew S.remaining outcomes.old outcomes.new }
+{
+    replay_batch_with(
+        alloc,
+        batch,
+        outcomes,
+        output,
+        policy,
+        chooser,
+        traced,
+        Setup::plain(),
+    )
+}
+
+/// Does what [`replay_batch`] does, with a setup of the caller's.
+///
+/// # Errors
+///
+/// Those of [`replay_batch`].
+pub fn replay_batch_with<R: Read, S: Read, W: Write>(
+    alloc: Global,
+    batch: &mut Input<R>,
+    outcomes: &mut Input<S>,
+    output: &mut Output<W>,
+    policy: Policy,
+    chooser: &mut dyn Chooser,
+    traced: bool,
+    setup: Setup,
+) -> Result<Ended, EngineFault>
+    requires batch { IsFresh batch.old }
+    requires outcomes { IsFresh outcomes.old }
+    requires output { output.old.failed ≡ false }
+    ensures ends { SomeDocument (R.remaining batch.old.reader) (λ bytes. Ends W.contents
+        (Answers (replays.Replays (allows chooser.old) policy traced
+        (S.remaining outcomes.old.reader)) bytes)
+        (IsTrue batch.new.failed ⊎ IsTrue outcomes.new.failed) output.old output.new result
+        × AskedFor R.remaining batch.old batch.new bytes outcomes.old outcomes.new) }
+    ensures batch { ReadsFew R.remaining batch.old batch.new }
+    ensures outcomes { ReadsFew S.remaining outcomes.old outcomes.new }
+{
+    let mut replay = Replay {
+        policy,
+        chooser,
+        traced,
+        setup,
+    };
+    answer_pair(alloc, batch, outcomes, output, &mut replay)
+}

@@ -1,0 +1,186 @@
+ghost use Rattle.std.specs.Prelude.{◌≡◌, ◌≢◌, ◌↔◌, ◌⊎◌, false, Err, IsTrue, IfErr, IfOk};
+ghost use Rattle.odb_doc.specs.EventLists.{entries};
+ghost use Rattle.odb_reply.specs.NotWhole.{HasWholeBodies};
+ghost use Rattle.odb_engine.specs.declared.ending.Ended.TheVariants as ends;
+ghost use Rattle.odb_engine.specs.declared.halt.Halt.TheVariants as halts;
+ghost use Rattle.odb_engine.specs.Cascade.{Answers};
+ghost use Rattle.odb_engine.specs.Engines.{Ends};
+ghost use Rattle.odb_engine.specs.Inputs.{AskedFor, IsFresh, ReadsFew, SomeDocument};
+ghost use Rattle.odb_engine.specs.Lines.{response_line};
+ghost use Rattle.odb_engine.specs.Runs as runs;
+ghost use Rattle.odb_engine.specs.Halts.{Halted};
+
+use crate::ending::{Ended, EngineFault, Sent};
+use crate::halt::Halt;
+use crate::held::{Held, Remains};
+use crate::input::value_of;
+use crate::output::send_done;
+use crate::pair::{PairCommand, answer_pair};
+use crate::setup::Setup;
+use odb_check::Plan;
+use odb_doc::{Events, Input, Output, Place};
+use odb_reply::laws::every_response;
+use odb_sched::{Done, Policy, resolve, run};
+use std::alloc::Global;
+use std::io::{Read, Write};
+
+/// The code of the fault that [`crate::run_batch`] writes if each event may come and the run is not
+/// finished.
+pub const UNFINISHED_CODE: &str = "F66";
+
+/// The name of that fault.
+pub const UNFINISHED_NAME: &str = "Unfinished";
+
+/// F66: no event is refused, but the run is unfinished after the last.
+const UNFINISHED: Halt = Halt::Refused {
+    code: UNFINISHED_CODE,
+    name: UNFINISHED_NAME,
+    place: Place::Events,
+};
+
+/// Returns the events in a document.
+fn events_of<R: Read>(alloc: Global, input: &mut Input<R>, remains: Remains) -> Result<Events, Halt>
+    requires { IsFresh input.old }
+    ensures events { SomeDocument (R.remaining input.old.reader) (λ bytes.
+        IfOk result (λ events. runs.AreEventsIn bytes (entries events))
+        × IfErr result (Halted (runs.IsLeastOfEvents bytes))) }
+    ensures read { (result ≡ Err halts.Read) ↔ IsTrue input.new.failed }
+    ensures input { ReadsFew R.remaining input.old input.new }
+{
+    let value = value_of(alloc, input, Place::Events)?;
+    let (events, rest) = Events::split(alloc, value)?;
+    drop(Held {
+        value: rest,
+        remains,
+    });
+    Ok(events)
+}
+
+/// Returns the finished run of a plan by recorded events.
+fn done_of<'a: 'p, 'p>(
+    alloc: Global,
+    plan: &'p Plan<'a>,
+    events: Events,
+    policy: Policy,
+    remains: Remains,
+) -> Result<Done<'p>, Halt>
+    ensures result { IfOk result (λ done. runs.IsResult policy plan.now (entries events) ends.Done
+        (response_line done)) }
+    ensures whole { IfOk result (λ done. HasWholeBodies done) }
+    ensures least { IfErr result
+        (Halted (runs.IsLeastOfRun policy plan.now (entries events))) }
+    ensures read { result ≢ Err halts.Read }
+{
+    // Only a call on the events states that they are sound.
+    let _count = events.len();
+    let resolved = resolve(alloc, plan, events)?;
+    let scheduler = run(alloc, plan, policy, resolved)?;
+    if !scheduler.is_finished() {
+        drop(Held {
+            value: scheduler,
+            remains,
+        });
+        return Err(UNFINISHED);
+    }
+    let done = scheduler.close();
+    every_response(&done);
+    Ok(done)
+}
+
+/// Writes the response to a run by recorded events.
+#[derive(Drop)]
+struct Run {
+    policy: Policy,
+    setup: Setup,
+}
+
+impl PairCommand for Run {
+    ghost writes = { λ self. runs.RunsBatch self.policy };
+
+    ghost streams = { λ _. Unit {0} };
+
+    fn setup(&self) -> Setup {
+        self.setup
+    }
+
+    fn perform<S: Read, W: Write>(
+        &mut self,
+        alloc: Global,
+        plan: &Plan<'_>,
+        second: &mut Input<S>,
+        output: &mut Output<W>,
+    ) -> Sent {
+        let remains = self.setup.remains;
+        let events = events_of(alloc, second, remains)?;
+        let done = Held {
+            value: done_of(alloc, plan, events, self.policy, remains)?,
+            remains,
+        };
+        Ok(send_done(alloc, output, &done.value))
+    }
+}
+
+/// Runs the batch in a document by the recorded events in another: writes the response if every event
+/// may come and the run is finished; or the line of a fault.
+///
+/// The inputs must be new, and the output must not have failed. The policy sets whether an error stops
+/// the run and how many requests may run at once. The events are read only if the check accepts the
+/// batch. [`run_batch_with`] takes a [`Setup`] too, as [`crate::check_batch_with`] does.
+///
+/// The faults come in this order: those of the batch; those of the events document; F65 of the first
+/// event that names no request; the first event that may not come, with its first cause, S1 to S5 or
+/// P1 and P2; and F66 if the run is not finished.
+///
+/// Both documents are held in memory; the response is written through a buffer, as
+/// [`odb_reply::write_responses`] does. Takes O(n log n) time for n bytes of documents and output.
+///
+/// # Errors
+///
+/// - `Read` if and only if an input failed; nothing was written.
+/// - `Write` if and only if the output failed; it has received a prefix of what is written.
+/// - `OutOfMemory` if an allocation fails; nothing was written, or a prefix of the response.
+pub fn run_batch<R: Read, S: Read, W: Write>(
+    alloc: Global,
+    batch: &mut Input<R>,
+    events: &mut Input<S>,
+    output: &mut Output<W>,
+    policy: Policy,
+) -> Result<Ended, EngineFault>
+    requires batch { IsFresh batch.old }
+    requires events { IsFresh events.old }
+    requires output { output.old.failed ≡ false }
+    ensures ends { SomeDocument (R.remaining batch.old.reader) (λ bytes. Ends W.contents
+        (Answers (runs.Runs policy (S.remaining events.old.reader)) bytes)
+        (IsTrue batch.new.failed ⊎ IsTrue events.new.failed) output.old output.new result
+        × AskedFor R.remaining batch.old batch.new bytes events.old events.new) }
+    ensures batch { ReadsFew R.remaining batch.old batch.new }
+    ensures events { ReadsFew S.remaining events.old events.new }
+{
+    run_batch_with(alloc, batch, events, output, policy, Setup::plain())
+}
+
+/// Does what [`run_batch`] does, with a setup of the caller's.
+///
+/// # Errors
+///
+/// Those of [`run_batch`].
+pub fn run_batch_with<R: Read, S: Read, W: Write>(
+    alloc: Global,
+    batch: &mut Input<R>,
+    events: &mut Input<S>,
+    output: &mut Output<W>,
+    policy: Policy,
+    setup: Setup,
+) -> Result<Ended, EngineFault>
+    requires batch { IsFresh batch.old }
+    requires events { IsFresh events.old }
+    requires output { output.old.failed ≡ false }
+    ensures ends { SomeDocument (R.remaining batch.old.reader) (λ bytes. Ends W.contents
+        (Answers (runs.Runs policy (S.remaining events.old.reader)) bytes)
+        (IsTrue batch.new.failed ⊎ IsTrue events.new.failed) output.old output.new result
+        × AskedFor R.remaining batch.old batch.new bytes events.old events.new) }
+    ensures batch { ReadsFew R.remaining batch.old batch.new }
+    ensures events { ReadsFew S.remaining events.old events.new }
+{
+    answer_pair(alloc, batch, events, output, &mut Run { policy, setup })
+}
