@@ -1,16 +1,16 @@
 -- The questions to a run between events, by its counts.
-use Rattle.std.proofs.Common.{◌≡◌, ℕ, ◌<◌, ◌≤◌, ◌+◌, ◌==◌, ◌∙◌, ap, refl, subst, arith, Bool, true, false, not, cond, ◌&&◌, ◌||◌, nat_lt, eq-eqb, ne_eqb, List, [], ◌∷◌, length, get_or, map, inl, inr, count_by}
+use Rattle.std.proofs.Common.{◌≡◌, ℕ, ◌<◌, ◌≤◌, ◌+◌, ◌==◌, ◌∙◌, ap, refl, subst, arith, Bool, true, false, not, cond, ◌&&◌, ◌||◌, nat_lt, eq-eqb, ne_eqb, eqb-true, lt-ltb, sym, ◌⊎◌, List, [], ◌∷◌, length, get_or, map, inl, inr, count_by}
 use Rattle.std.specs.List.{list_all}
-use Rattle.std.proofs.lemmas.Bool.{cases_Bool, both_ways, false_from_ne_true}
+use Rattle.std.proofs.lemmas.Bool.{cases_Bool, cases_lt, both_ways, false_from_ne_true, and_parts, and_from, and_left, and_right, or_cases, or_left, or_right, not-true, not_from_true}
 use Rattle.std.proofs.Math.ListN.{get_or-map}
-use Rattle.std.proofs.lemmas.List.{get_or_default, length-map}
+use Rattle.std.proofs.lemmas.List.{get_or_default, get_or_past, length-map}
 use Rattle.std.proofs.lemmas.List.Sums.{sum_by-cons, get_or-le-sum_by}
 use Rattle.odb_check.specs.Shape.{unit_of, needs_of}
 use Rattle.odb_sched.specs.declared.phase.Phase.TheVariants.{Unstarted}
 use Rattle.odb_sched.specs.declared.tracker.Tracker.{Tracker}
 use Rattle.odb_dense.specs.Lists.{ListsOnce}
-use Rattle.odb_sched.specs.Below.{any_below, all_below}
-use Rattle.odb_sched.specs.Phases.{is_unstarted, is_running, is_reported}
+use Rattle.odb_sched.specs.Below.{any_below}
+use Rattle.odb_sched.specs.Phases.{is_unstarted, is_running}
 use Rattle.odb_sched.specs.State.{State, size, phase_at}
 use Rattle.odb_sched.specs.Steps.{satisfied_in, all_satisfied, unit_failed, is_stopped, running_count, may_start, is_finished}
 use Rattle.odb_sched.specs.Reached.{IsReached}
@@ -18,7 +18,8 @@ use Rattle.odb_sched.specs.ProgressCounts.{is_skipped}
 use Rattle.odb_sched.specs.Kept.{IsTracked}
 use Rattle.odb_sched.proofs.BelowLemmas.{any_below-Decides, count_by-none}
 use Rattle.odb_sched.proofs.ListLemmas.{lists_alike}
-use Rattle.odb_sched.proofs.UnmetLemmas.{none_counted, all_alike}
+use Rattle.odb_sched.proofs.PropagateLemmas.{same_test}
+use Rattle.odb_sched.proofs.KeptLemmas.{finished_idle}
 
 count_map : {X : Type 0} (test : X → Bool) (xs : List X) → count_by (λ b. b) (map test xs) ≡ count_by test xs
 count_map test [] = refl
@@ -88,17 +89,34 @@ pub running_listed : (state : State) (tracker : Tracker) (xs : List ℕ) → IsR
 running_listed state tracker xs reached are listed = lists_alike (size state) _ _ xs (λ i within. runs_is state tracker i are)
     (subst (λ n. ListsOnce n (λ i. get_or tracker.progress.running i false) xs) (ap length are.counts.running ∙ length-map state.phases is_running ∙ reached.each) listed)
 
--- nothing runs and nothing may start any more exactly when the run is finished
-pub finished_is : (state : State) (tracker : Tracker) → IsReached state → IsTracked state tracker → ((count_by (λ runs. runs) tracker.progress.running == 0) && (tracker.stopped || (tracker.progress.left == 0))) ≡ is_finished state
-finished_is state tracker reached are = rw (running_is state tracker are, none_pass is_running state.phases Unstarted, reached.each, are.stopped, left_is) refl
-  where
-    turned : (a b : Bool) → (a || b) ≡ not (not a && not b)
-    turned true b = refl
-    turned false true = refl
-    turned false false = refl
+-- of an empty set no position is a member
+none_in : (members : List Bool) (i : ℕ) → (count_by (λ b. b) members == 0) ≡ true → get_or members i false ≡ false
+none_in members i none = elim (cases_lt i (length members)) [
+  | inl within ↦ false_from_ne_true _ (λ has. both_ways _ (not-true _ (sym (none_pass (λ b. b) members false) ∙ none)) ((any_below-Decides (length members) (λ k. get_or members k false)).1 (i, within, has)))
+  | inr past ↦ get_or_past members i false past
+]
 
-    left_is : (tracker.progress.left == 0) ≡ all_below (size state) (λ i. is_reported (phase_at state i) || unit_failed state (unit_of state.shape i))
-    left_is =
-        ap (λ n. n == 0) are.counts.left
-        ∙ none_counted (size state) _ _ (λ i. turned (is_reported (phase_at state i)) (is_skipped state.shape tracker.progress.units i))
-        ∙ all_alike (size state) _ _ (λ i within. ap (λ b. is_reported (phase_at state i) || b) (skipped_is state tracker i reached are within))
+-- a set of which no position is a member is empty
+empty_from : (members : List Bool) → ((i : ℕ) → i < length members → get_or members i false ≡ false) → (count_by (λ b. b) members == 0) ≡ true
+empty_from members none = eq-eqb _ 0 (count_by-none (λ b. b) members (λ k d within. get_or_default members k d false within ∙ none k within))
+
+-- nothing runs, and the run was stopped or nothing is ready, exactly when the run is finished
+pub finished_is : (state : State) (tracker : Tracker) → IsReached state → IsTracked state tracker → ((count_by (λ runs. runs) tracker.progress.running == 0) && (tracker.stopped || (count_by (λ ready. ready) tracker.progress.ready == 0))) ≡ is_finished state
+finished_is state tracker reached are = same_test _ _
+    (λ over. let parts = and_parts (count_by (λ runs. runs) tracker.progress.running == 0) _ over in (finished_idle state reached).1 (λ i within. (bars i within parts.1, sym (runs_is state tracker i are) ∙ none_in tracker.progress.running i parts.0)))
+    (λ finished. let idle = (finished_idle state reached).0 finished in and_from _ _ (still idle) (waits idle (cases_Bool tracker.stopped)))
+  where
+    bars : (i : ℕ) → i < size state → (tracker.stopped || (count_by (λ ready. ready) tracker.progress.ready == 0)) ≡ true → may_start state i ≡ false
+    bars i within over = sym (starts_is state tracker i reached are within) ∙ elim (or_cases tracker.stopped _ over) [
+      | inl stopped ↦ and_left _ _ (and_right _ _ (not_from_true _ stopped))
+      | inr none ↦ and_left _ _ (and_left _ _ (none_in tracker.progress.ready i none))
+    ]
+
+    still : ((i : ℕ) → i < size state → (may_start state i ≡ false) × (is_running (phase_at state i) ≡ false)) → (count_by (λ runs. runs) tracker.progress.running == 0) ≡ true
+    still idle = empty_from tracker.progress.running (λ i within. runs_is state tracker i are ∙ (idle i (subst (λ n. i < n) (ap length are.counts.running ∙ length-map state.phases is_running ∙ reached.each) within)).1)
+
+    waits : ((i : ℕ) → i < size state → (may_start state i ≡ false) × (is_running (phase_at state i) ≡ false)) → (tracker.stopped ≡ true) ⊎ (tracker.stopped ≡ false) → (tracker.stopped || (count_by (λ ready. ready) tracker.progress.ready == 0)) ≡ true
+    waits idle (inl stopped) = or_left _ _ stopped
+    waits idle (inr unstopped) = or_right _ _ (empty_from tracker.progress.ready (λ i inside. false_from_ne_true _ (λ ready.
+        let within : i < size state = subst (λ n. i < n) are.counts.ready.each inside in
+        both_ways _ (idle i within).0 (sym (starts_is state tracker i reached are within) ∙ rw (ready, unstopped, eqb-true _ _ (still idle)) (lt-ltb 0 state.policy.width state.policy.wide)))))

@@ -16,11 +16,11 @@ use Rattle.odb_sched.specs.Phases.{is_running, has_succeeded, has_failed}
 use Rattle.odb_sched.specs.Failing.{own}
 use Rattle.odb_sched.specs.Steps.{satisfied_in, failed_in}
 use Rattle.odb_dense.specs.Marks.{is_marked, is_visited, marked}
-use Rattle.odb_sched.specs.ProgressCounts.{is_skipped, unmet_in, pending_in, ArePropagated, AreReady, AreCounts, open_count}
+use Rattle.odb_sched.specs.ProgressCounts.{is_skipped, unmet_in, pending_in, ArePropagated, AreReady, AreCounts}
 use Rattle.odb_sched.specs.Propagation.{NeedsUnit, HaveMarked, ArePropagating}
 use Rattle.odb_sched.proofs.CountLemmas.{count_same}
 use Rattle.odb_sched.proofs.FailingLemmas.{Fails-from_fails, fails-from_Fails, Fails-as}
-use Rattle.odb_sched.proofs.PropagateLemmas.{own_fails, need_fails, skipped_marked}
+use Rattle.odb_sched.proofs.PropagateLemmas.{own_fails, need_fails}
 
 failed_not_succeeded : (phase : Phase) → has_failed phase ≡ true → has_succeeded phase ≡ false
 failed_not_succeeded Unstarted e = refl
@@ -144,16 +144,15 @@ propagating_failed plan phases units i laws within as_long failed are = record {
 
 -- the counts are right again
 pub counts_failed : (plan : Shape) (phases : List Phase) (i : ℕ) (before t : Progress) → i < length phases → has_failed (get_or phases i Unstarted) ≡ true → AreCounts plan (set phases i Running) before
-    → t.unmet.items ≡ before.unmet.items → t.pending.items ≡ before.pending.items → t.running ≡ map is_running phases → ArePropagated plan phases t.units → AreReady plan (is_skipped plan t.units) phases t.unmet.items t.ready → t.left ≡ open_count plan (is_skipped plan t.units) phases
+    → t.unmet.items ≡ before.unmet.items → t.pending.items ≡ before.pending.items → t.running ≡ map is_running phases → ArePropagated plan phases t.units → AreReady plan (is_skipped plan t.units) phases t.unmet.items t.ready
     → AreCounts plan phases t
-counts_failed plan phases i before t within failed counts unmet pending running units ready left = record {
+counts_failed plan phases i before t within failed counts unmet pending running units ready = record {
   unmet = λ j below. ap (λ xs. get_or xs j 0) unmet ∙ counts.unmet j below ∙ unmet_same plan (set phases i Running) phases same j;
   members = ap length pending ∙ counts.members;
   pending = λ u below. ap (λ xs. get_or xs u 0) pending ∙ counts.pending u below ∙ pending_same plan (set phases i Running) phases same u;
   units = units;
   ready = ready;
   running = running;
-  left = left;
 }
   where
     same : (j : ℕ) → has_succeeded (get_or (set phases i Running) j Unstarted) ≡ has_succeeded (get_or phases j Unstarted)
@@ -162,7 +161,3 @@ counts_failed plan phases i before t within failed counts unmet pending running 
 -- the unit of the request is put on the worklist as it was before
 pub put_unit : (plan : Shape) (units between after : List Mark) (i u : ℕ) → between ≡ units → u ≡ unit_of plan i → after ≡ marked between u → after ≡ marked units (unit_of plan i)
 put_unit plan units between after i u same unit_is put = put ∙ ap (λ us. marked us u) same ∙ ap (marked units) unit_is
-
--- the same requests are skipped
-pub skipped_put : (plan : Shape) (units after : List Mark) (i : ℕ) → unit_of plan i < length units → after ≡ marked units (unit_of plan i) → (j : ℕ) → is_skipped plan units j ≡ is_skipped plan after j
-skipped_put plan units after i known put j = skipped_marked plan units after j (subst (HaveMarked units) (sym put) (put_marks units (unit_of plan i) known))

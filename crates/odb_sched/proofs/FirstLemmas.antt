@@ -13,12 +13,12 @@ use Rattle.odb_dense.specs.Marks.{is_marked, is_visited}
 use Rattle.odb_sched.specs.declared.phase.Phase.{Phase}
 use Rattle.odb_sched.specs.declared.phase.Phase.TheVariants.{Unstarted}
 use Rattle.odb_sched.specs.declared.progress.Progress.{Progress}
-use Rattle.odb_sched.specs.Phases.{is_running, is_unstarted, is_reported, has_succeeded, has_failed}
+use Rattle.odb_sched.specs.Phases.{is_running, is_unstarted, has_succeeded, has_failed}
 use Rattle.odb_sched.specs.Failing.{Fails, own, propagated, unit_needed}
 use Rattle.odb_sched.specs.FirstCounts.{needs_in, members_in, need_counts, member_counts}
 use Rattle.odb_sched.specs.Plans.{IsSpan, IsNeed}
 use Rattle.odb_sched.specs.Steps.{satisfied_in, failed_in}
-use Rattle.odb_sched.specs.ProgressCounts.{AreCounts, AreReady, ArePropagated, is_skipped, open_count, pending_in, unmet_in}
+use Rattle.odb_sched.specs.ProgressCounts.{AreCounts, AreReady, ArePropagated, is_skipped, pending_in, unmet_in}
 use Rattle.odb_sched.proofs.CountLemmas.{count_same, count_none}
 use Rattle.odb_sched.proofs.FailingLemmas.{Fails-from_fails}
 use Rattle.odb_sched.proofs.PhaseLemmas.{get_or-replicate_Unstarted}
@@ -59,11 +59,6 @@ pub counted_more : (n count : ℕ) (value : ℕ → ℕ) (counts : List ℕ) →
 counted_more n count value counts before here =
     let next : suc n ≡ n + 1 = omega arith in
     ap (λ ns. ns ++ count ∷ []) before ∙ ap (λ m. list_below n value ++ m ∷ []) here ∙ ap (λ m. list_below m value) next
-
--- if each number passes, all are counted
-count_each : (n : ℕ) (test : ℕ → Bool) → ((i : ℕ) → i < n → test i ≡ true) → count_below n test ≡ n
-count_each zero test each = refl
-count_each (suc n) test each = rw (each n (omega arith), count_each n test (λ i below. each i (omega arith))) refl
 
 -- if each element passes, all are counted
 count_elements : {X : Type 0} (test : X → Bool) (xs : List X) → All (λ x. test x ≡ true) xs → count_by test xs ≡ length xs
@@ -137,21 +132,17 @@ ready_first plan free each exact = record {
   exact = λ i within. exact i within ∙ rw (ap is_unstarted (fresh_at plan i), not_skipped plan i, get_or-list_below (length plan.units) i (needs_in plan) 0 within) refl;
 }
 
-open_first : (plan : Shape) → length plan.units ≡ open_count plan (is_skipped plan (replicate plan.unit_count Unvisited)) (fresh plan)
-open_first plan = sym (count_each (length plan.units) _ (λ i within. rw (ap is_reported (fresh_at plan i), not_skipped plan i) refl))
-
 -- the counts of needs and members are right before any event
 pub first_counts : (plan : Shape) (t : Progress) → IsPlan plan → t.unmet.items ≡ need_counts plan → t.pending.items ≡ member_counts plan → All (λ count. 0 < count) t.pending.items → t.units ≡ replicate plan.unit_count Unvisited
-    → length t.ready ≡ length plan.units → ((i : ℕ) → i < length plan.units → get_or t.ready i false ≡ (needs_in plan i == 0)) → t.running ≡ replicate (length plan.units) false → t.left ≡ length plan.units
+    → length t.ready ≡ length plan.units → ((i : ℕ) → i < length plan.units → get_or t.ready i false ≡ (needs_in plan i == 0)) → t.running ≡ replicate (length plan.units) false
     → AreCounts plan (fresh plan) t
-first_counts plan t laws unmet pending some units each exact running left = record {
+first_counts plan t laws unmet pending some units each exact running = record {
   unmet = λ i within. ap (λ ns. get_or ns i 0) unmet ∙ get_or-list_below (length plan.units) i (needs_in plan) 0 within ∙ unmet_first plan i laws populated within;
   members = ap length pending ∙ length-list_below plan.unit_count (members_in plan);
   pending = λ u inside. member_count u inside ∙ sym (pending_first plan u);
   units = rw units (propagated_first plan);
   ready = rw (units, unmet) (ready_first plan t.ready each exact);
   running = running ∙ none_running (length plan.units);
-  left = rw units (left ∙ open_first plan);
 }
   where
     member_count : (u : ℕ) → u < plan.unit_count → get_or t.pending.items u 0 ≡ members_in plan u

@@ -16,7 +16,6 @@ pub mod ResultLemmas
 pub mod SpanLemmas
 pub mod ListLemmas
 pub mod CountLemmas
-pub mod CompletingLemmas
 pub mod PropagateLemmas
 pub mod DependentLemmas
 pub mod NeedPairLemmas
@@ -28,9 +27,9 @@ pub mod UnmetLemmas
 pub mod SucceedLemmas
 pub mod StartingLemmas
 pub mod TrackerLemmas
+pub mod KeptLemmas
 pub mod CountedLemmas
 pub mod EndLemmas
-pub mod KeptLemmas
 pub mod TakenLemmas
 pub mod ChoiceLemmas
 pub mod CourseLemmas

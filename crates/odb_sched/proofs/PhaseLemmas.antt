@@ -27,6 +27,16 @@ has_succeeded-from (Reported outcome) a b = at (is_success outcome.status) b
     at true e = refl
     at false e = absurd (true≢false e)
 
+pub succeeded_idle : (phase : Phase) → has_succeeded phase ≡ true → is_running phase ≡ false
+succeeded_idle Unstarted e = refl
+succeeded_idle Running e = sym e
+succeeded_idle (Reported outcome) e = refl
+
+pub failed_idle : (phase : Phase) → has_failed phase ≡ true → is_running phase ≡ false
+failed_idle Unstarted e = refl
+failed_idle Running e = sym e
+failed_idle (Reported outcome) e = refl
+
 pub Unstarted-from : (phase : Phase) → is_unstarted phase ≡ true → phase ≡ Unstarted
 Unstarted-from Unstarted e = refl
 Unstarted-from Running e = absurd (true≢false (sym e))

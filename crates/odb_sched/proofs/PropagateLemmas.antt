@@ -95,7 +95,7 @@ taken_fails plan phases units _ are none (own i within failed) = sym (visited_if
 taken_fails plan phases units _ are none (propagated i need within has other failing) =
     sym (visited_if_marked _ (none (unit_of plan i))) ∙ are.propagated (unit_needed plan need) (unit_of plan i) (i, need, within, has, refl, refl) (taken_fails plan phases units (unit_needed plan need) are none failing)
 
-same_test : (a b : Bool) → (a ≡ true → b ≡ true) → (b ≡ true → a ≡ true) → a ≡ b
+pub same_test : (a b : Bool) → (a ≡ true → b ≡ true) → (b ≡ true → a ≡ true) → a ≡ b
 same_test true b there back = sym (there refl)
 same_test false true there back = back refl
 same_test false false there back = refl
@@ -109,8 +109,8 @@ all_propagated plan phases units are none = record {
   marked = λ u. visited_if_marked _ (none u);
 }
 
--- three fields have changed at most
-pub others_kept : (before t : Progress) → t.unmet ≡ before.unmet → t.pending ≡ before.pending → t.running ≡ before.running → t ≡ record before { units = t.units; ready = t.ready; left = t.left }
+-- two fields have changed at most
+pub others_kept : (before t : Progress) → t.unmet ≡ before.unmet → t.pending ≡ before.pending → t.running ≡ before.running → t ≡ record before { units = t.units; ready = t.ready }
 others_kept before t unmet pending running =
     ap (λ x. record t { unmet = x }) unmet
     ∙ ap (λ x. record t { unmet = before.unmet; pending = x }) pending

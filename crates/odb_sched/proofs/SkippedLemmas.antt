@@ -1,31 +1,26 @@
--- The members of a unit that was taken from the worklist are skipped one by one: they are neither ready nor open then.
-use Rattle.std.proofs.Common.{◌≡◌, ◌≢◌, ℕ, suc, ◌<◌, ◌≤◌, ◌+◌, ◌-◌, ◌∙◌, sym, ap, refl, arith, Bool, true, false, ◌&&◌, not, eqb, eq-eqb, ne_eqb, List, length, get_or, set, get_or-set_other, get_or-set_same, length-set, inl, inr}
-use Rattle.std.proofs.Math.Bool.{and-true, and-false}
+-- The members of a unit that was taken from the worklist are skipped one by one: they are not ready then.
+use Rattle.std.proofs.Common.{◌≡◌, ◌≢◌, ℕ, ◌<◌, ◌≤◌, ◌+◌, ◌∙◌, sym, ap, refl, arith, Bool, true, false, ◌&&◌, not, eqb, eq-eqb, ne_eqb, List, length, get_or, set, get_or-set_other, get_or-set_same, length-set, inl, inr}
+use Rattle.std.proofs.Math.Bool.{and-true}
 use Rattle.std.proofs.lemmas.Bool.{cases_eq, cases_lt, le-leb, lt-leb}
-use Rattle.std.proofs.lemmas.List.{get_or_read}
 use Rattle.odb_check.specs.Shape.{Shape, unit_of}
 use Rattle.odb_dense.specs.declared.worklist.Mark.{Mark}
 use Rattle.odb_dense.specs.declared.worklist.Mark.TheVariants.{Unvisited}
 use Rattle.odb_sched.specs.declared.phase.Phase.{Phase}
 use Rattle.odb_sched.specs.declared.phase.Phase.TheVariants.{Unstarted}
-use Rattle.odb_sched.specs.Phases.{is_unstarted, is_reported}
+use Rattle.odb_sched.specs.Phases.{is_unstarted}
 use Rattle.odb_sched.specs.Plans.{IsSpan}
 use Rattle.odb_sched.specs.declared.progress.Progress.{Progress}
 use Rattle.odb_dense.specs.Marks.{is_visited}
-use Rattle.odb_sched.specs.ProgressCounts.{is_skipped, AreReady, open_count}
+use Rattle.odb_sched.specs.ProgressCounts.{is_skipped, AreReady}
 use Rattle.odb_sched.specs.Propagation.{is_skipped_until}
-use Rattle.odb_sched.proofs.CountLemmas.{count_same, count_less}
 
--- if the same requests are skipped, the same are ready, and as many are open
+-- if the same requests are skipped, the same are ready
 pub ready_same : (plan : Shape) (skipped other : ℕ → Bool) (phases : List Phase) (unmet : List ℕ) (ready : List Bool) → ((i : ℕ) → i < length plan.units → skipped i ≡ other i) → AreReady plan skipped phases unmet ready → AreReady plan other phases unmet ready
 ready_same plan skipped other phases unmet ready same are = record {
   counted = are.counted;
   each = are.each;
   exact = λ i within. are.exact i within ∙ ap (λ b. is_unstarted (get_or phases i Unstarted) && not b && eqb (get_or unmet i 0) 0) (same i within);
 }
-
-pub left_same : (plan : Shape) (skipped other : ℕ → Bool) (phases : List Phase) → ((i : ℕ) → i < length plan.units → skipped i ≡ other i) → open_count plan skipped phases ≡ open_count plan other phases
-left_same plan skipped other phases same = count_same (length plan.units) _ _ (λ i within. ap (λ b. not (is_reported (get_or phases i Unstarted)) && not b) (same i within))
 
 never_both : (a b : Bool) → (a && not true && b) ≡ false
 never_both true b = refl
@@ -42,20 +37,6 @@ ready_out plan skipped other phases unmet ready i within now same are = record {
     | inr elsewhere ↦ get_or-set_other ready i j false false elsewhere ∙ are.exact j below ∙ ap (λ b. is_unstarted (get_or phases j Unstarted) && not b && eqb (get_or unmet j 0) 0) (same j elsewhere)
   ];
 }
-
-left_out : (plan : Shape) (skipped other : ℕ → Bool) (phases : List Phase) (i : ℕ) → i < length plan.units → is_reported (get_or phases i Unstarted) ≡ false → skipped i ≡ false → other i ≡ true → ((j : ℕ) → j ≢ i → skipped j ≡ other j)
-    → open_count plan skipped phases ≡ suc (open_count plan other phases)
-left_out plan skipped other phases i within fresh before now same =
-    count_less (length plan.units) i _ _ within (rw (fresh, before) refl) (rw (fresh, now) refl)
-    (λ j below elsewhere. ap (λ b. not (is_reported (get_or phases j Unstarted)) && not b) (same j elsewhere))
-
--- one that has reported is not open in any case
-left_kept : (plan : Shape) (skipped other : ℕ → Bool) (phases : List Phase) (i : ℕ) → is_reported (get_or phases i Unstarted) ≡ true → ((j : ℕ) → j ≢ i → skipped j ≡ other j)
-    → open_count plan skipped phases ≡ open_count plan other phases
-left_kept plan skipped other phases i reported same = count_same (length plan.units) _ _ (λ j below. elim (cases_eq j i) [
-  | inl here ↦ rw (here, reported) refl
-  | inr elsewhere ↦ ap (λ b. not (is_reported (get_or phases j Unstarted)) && not b) (same j elsewhere)
-])
 
 -- at first no member of the unit is skipped, and in the end all are
 pub skipped_first : (plan : Shape) (units : List Mark) (u from to i : ℕ) → IsSpan plan u from to → i < length plan.units → (is_skipped plan units i && not (eqb (unit_of plan i) u)) ≡ is_skipped_until plan units u from i
@@ -74,9 +55,6 @@ skipped_last plan units u from to end i span done within = elim (cases_eq (unit_
 ]
 
 -- a member is skipped in its turn, and no other request is
-skipped_before : (plan : Shape) (units : List Mark) (u i : ℕ) → unit_of plan i ≡ u → is_skipped_until plan units u i i ≡ false
-skipped_before plan units u i here = rw (eq-eqb (unit_of plan i) u here, le-leb i i (omega arith)) (and-false (is_skipped plan units i))
-
 skipped_now : (plan : Shape) (units : List Mark) (u i : ℕ) → unit_of plan i ≡ u → is_visited (get_or units u Unvisited) ≡ true → is_skipped_until plan units u (i + 1) i ≡ true
 skipped_now plan units u i here visited = rw (here, visited, lt-leb (i + 1) i (omega arith), eq-eqb u u refl) refl
 
@@ -86,45 +64,18 @@ skipped_other plan units u i j elsewhere = elim (cases_lt j i) [
   | inr after ↦ rw (le-leb i j after, le-leb (i + 1) j (omega (arith, elsewhere))) refl
 ]
 
--- the members of a unit before a position are neither ready nor open, and nothing else has changed
+-- the members of a unit before a position are not ready, and nothing else has changed
 pub record AreSkipped (plan : Shape) (phases : List Phase) (u i : ℕ) (before t : Progress) : Type 0 where
   pub ready : AreReady plan (is_skipped_until plan before.units u i) phases t.unmet.items t.ready
-  pub left : t.left ≡ open_count plan (is_skipped_until plan before.units u i) phases
-  pub rest : t ≡ record before { ready = t.ready; left = t.left }
+  pub rest : t ≡ record before { ready = t.ready }
 
 -- after a turn one member more is not ready
-one_out : (plan : Shape) (phases : List Phase) (u i : ℕ) (before t : Progress) → i < length plan.units → unit_of plan i ≡ u → is_visited (get_or before.units u Unvisited) ≡ true → AreSkipped plan phases u i before t
-    → AreReady plan (is_skipped_until plan before.units u (i + 1)) phases t.unmet.items (set t.ready i false)
-one_out plan phases u i before t within here visited were = ready_out plan (is_skipped_until plan before.units u i) (is_skipped_until plan before.units u (i + 1)) phases t.unmet.items t.ready i within (skipped_now plan before.units u i here visited) (λ j elsewhere. skipped_other plan before.units u i j elsewhere) were.ready
-
-one_open : (plan : Shape) (phases : List Phase) (u i : ℕ) (before t : Progress) → i < length plan.units → unit_of plan i ≡ u → is_visited (get_or before.units u Unvisited) ≡ true → AreSkipped plan phases u i before t → is_reported (get_or phases i Unstarted) ≡ false
-    → t.left ≡ suc (open_count plan (is_skipped_until plan before.units u (i + 1)) phases)
-one_open plan phases u i before t within here visited were fresh = were.left ∙ left_out plan _ _ phases i within fresh (skipped_before plan before.units u i here) (skipped_now plan before.units u i here visited) (λ j elsewhere. skipped_other plan before.units u i j elsewhere)
-
-pub some_open : (plan : Shape) (phases : List Phase) (u i : ℕ) (before t : Progress) → i < length plan.units → unit_of plan i ≡ u → is_visited (get_or before.units u Unvisited) ≡ true → AreSkipped plan phases u i before t → is_reported (get_or phases i Unstarted) ≡ false → 1 ≤ t.left
-some_open plan phases u i before t within here visited were fresh = omega (arith, one_open plan phases u i before t within here visited were fresh)
-
--- a member that was open is open no longer
-pub skipped_open : (plan : Shape) (phases : List Phase) (u i : ℕ) (before t : Progress) (ready : List Bool) → i < length plan.units → unit_of plan i ≡ u → is_visited (get_or before.units u Unvisited) ≡ true → AreSkipped plan phases u i before t → is_reported (get_or phases i Unstarted) ≡ false
-    → ready ≡ set t.ready i false → AreSkipped plan phases u (i + 1) before (record t { ready = ready; left = t.left - 1 })
-skipped_open plan phases u i before t ready within here visited were fresh out = record {
-  ready = rw out (one_out plan phases u i before t within here visited were);
-  left = omega (arith, one_open plan phases u i before t within here visited were fresh);
-  rest = ap (λ (x : Progress). record x { ready = ready; left = t.left - 1 }) were.rest;
-}
-
--- a member that has reported was not open
-pub skipped_reported : (plan : Shape) (phases : List Phase) (u i : ℕ) (before t : Progress) (ready : List Bool) → i < length plan.units → unit_of plan i ≡ u → is_visited (get_or before.units u Unvisited) ≡ true → AreSkipped plan phases u i before t → is_reported (get_or phases i Unstarted) ≡ true
+pub skipped_more : (plan : Shape) (phases : List Phase) (u i : ℕ) (before t : Progress) (ready : List Bool) → i < length plan.units → unit_of plan i ≡ u → is_visited (get_or before.units u Unvisited) ≡ true → AreSkipped plan phases u i before t
     → ready ≡ set t.ready i false → AreSkipped plan phases u (i + 1) before (record t { ready = ready })
-skipped_reported plan phases u i before t ready within here visited were reported out = record {
-  ready = rw out (one_out plan phases u i before t within here visited were);
-  left = were.left ∙ left_kept plan _ _ phases i reported (λ j elsewhere. skipped_other plan before.units u i j elsewhere);
-  rest = ap (λ (x : Progress). record x { ready = ready; left = t.left }) were.rest;
+skipped_more plan phases u i before t ready within here visited were out = record {
+  ready = rw out (ready_out plan (is_skipped_until plan before.units u i) (is_skipped_until plan before.units u (i + 1)) phases t.unmet.items t.ready i within (skipped_now plan before.units u i here visited) (λ j elsewhere. skipped_other plan before.units u i j elsewhere) were.ready);
+  rest = ap (λ (x : Progress). record x { ready = ready }) were.rest;
 }
-
--- what is read of the phase of a member
-pub reported_read : (phases : List Phase) (i : ℕ) (phase : Phase) (answer said : Bool) → i < length phases → phase ≡ get_or phases i phase → answer ≡ is_reported phase → answer ≡ said → is_reported (get_or phases i Unstarted) ≡ said
-reported_read phases i phase answer said within read e h = ap is_reported (sym (get_or_read phases i phase within read Unstarted)) ∙ sym e ∙ h
 
 -- the position of the walk is one of the unit
 pub member_here : (plan : Shape) (u from to i : ℕ) → IsSpan plan u from to → from ≤ i → i < to → (i < length plan.units) × (unit_of plan i ≡ u)

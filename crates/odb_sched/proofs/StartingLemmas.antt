@@ -1,4 +1,4 @@
--- The counts after a request has started.
+-- The counts after a request has started, and the running requests after one has reported.
 use Rattle.std.proofs.Math.Path.{fun_ext}
 use Rattle.std.proofs.Common.{◌≡◌, ℕ, zero, suc, ◌<◌, ◌==◌, ◌∙◌, sym, ap, refl, Bool, true, false, not, ◌&&◌, ◌||◌, List, [], ◌∷◌, length, length-set, map, get_or, set, inl, inr, count_by, get_or-set_same, get_or-set_other}
 use Rattle.std.proofs.lemmas.Bool.{cases_eq}
@@ -11,9 +11,9 @@ use Rattle.odb_sched.specs.declared.phase.Phase.TheVariants.{Unstarted, Running}
 use Rattle.odb_dense.specs.declared.worklist.Mark.{Mark}
 use Rattle.odb_sched.specs.Below.{all_below}
 use Rattle.odb_sched.specs.Failing.{fails}
-use Rattle.odb_sched.specs.Phases.{is_unstarted, is_running, is_reported, has_succeeded, has_failed}
+use Rattle.odb_sched.specs.Phases.{is_unstarted, is_running, has_succeeded, has_failed}
 use Rattle.odb_sched.specs.Steps.{satisfied_in}
-use Rattle.odb_sched.specs.ProgressCounts.{AreReady, ArePropagated, unmet_in, pending_in, open_count}
+use Rattle.odb_sched.specs.ProgressCounts.{AreReady, ArePropagated, unmet_in, pending_in}
 use Rattle.odb_sched.proofs.PhaseLemmas.{Running-from}
 
 -- a test that is the same for a running request and an unstarted one has the same value before the start
@@ -31,7 +31,7 @@ satisfied_by_start : (plan : Shape) (phases : List Phase) (i : ℕ) (need : Need
 satisfied_by_start plan phases i (One r) within runs = same_by_start has_succeeded phases i r within refl runs
 satisfied_by_start plan phases i (Group u) within runs = ap (λ done. all_below (length plan.units) (λ j. not (unit_of plan j == u) || done j)) (same_tests has_succeeded phases i within refl runs)
 
--- what is unmet, pending, failed and open before a start is so after it
+-- what is unmet, pending and failed before a start is so after it
 pub unmet_by_start : (plan : Shape) (phases : List Phase) (i j : ℕ) → i < length phases → is_running (get_or phases i Unstarted) ≡ true → unmet_in plan (set phases i Unstarted) j ≡ unmet_in plan phases j
 unmet_by_start plan phases i j within runs = ap (λ satisfied. count_by (λ need. not (satisfied need)) (needs_of plan j)) (fun_ext (λ need. satisfied_by_start plan phases i need within runs))
 
@@ -45,14 +45,17 @@ propagated_by_start plan phases i units within runs are = record {
   marked = are.marked;
 }
 
-pub left_by_start : (plan : Shape) (skipped : ℕ → Bool) (phases : List Phase) (i : ℕ) → i < length phases → is_running (get_or phases i Unstarted) ≡ true → open_count plan skipped (set phases i Unstarted) ≡ open_count plan skipped phases
-left_by_start plan skipped phases i within runs = ap (λ reported. count_below (length plan.units) (λ j. not (reported j) && not (skipped j))) (same_tests is_reported phases i within refl runs)
-
 -- the running requests are those before, and the one that has started
 pub running_in : (phases : List Phase) (i : ℕ) → is_running (get_or phases i Unstarted) ≡ true → set (map is_running (set phases i Unstarted)) i true ≡ map is_running phases
 running_in [] i e = refl
 running_in (phase ∷ phases) zero e = ap (λ b. b ∷ map is_running phases) (sym e)
 running_in (phase ∷ phases) (suc i) e = ap (λ bs. is_running phase ∷ bs) (running_in phases i e)
+
+-- the running requests are those before, without the one that has reported
+pub running_out : (phases : List Phase) (i : ℕ) → is_running (get_or phases i Unstarted) ≡ false → set (map is_running (set phases i Running)) i false ≡ map is_running phases
+running_out [] i e = refl
+running_out (phase ∷ phases) zero e = ap (λ b. b ∷ map is_running phases) (sym e)
+running_out (phase ∷ phases) (suc i) e = ap (λ bs. is_running phase ∷ bs) (running_out phases i e)
 
 not_unstarted : (phase : Phase) → is_running phase ≡ true → is_unstarted phase ≡ false
 not_unstarted phase e = ap is_unstarted (Running-from phase e)

@@ -10,7 +10,7 @@ use Rattle.odb_check.specs.Shape.{Shape, unit_of, needs_of}
 use Rattle.odb_sched.specs.declared.phase.Phase.{Phase}
 use Rattle.odb_sched.specs.declared.phase.Phase.TheVariants.{Unstarted}
 use Rattle.odb_sched.specs.declared.progress.Progress.{Progress}
-use Rattle.odb_sched.specs.Phases.{is_unstarted, is_running, is_reported, has_succeeded}
+use Rattle.odb_sched.specs.Phases.{is_unstarted, is_running, has_succeeded}
 use Rattle.odb_sched.specs.Steps.{succeeded_in, satisfied_in, failed_in}
 
 -- the key of what is needed: a position, or a unit, whose keys come after those of all positions
@@ -58,10 +58,6 @@ pub record AreReady (plan : Shape) (skipped : ℕ → Bool) (phases : List Phase
   pub each : length ready ≡ length plan.units
   pub exact : (i : ℕ) → i < length plan.units → slice_index_or ready i false ≡ (is_unstarted (slice_index_or phases i Unstarted) && not (skipped i) && (slice_index_or unmet i 0 == 0))
 
--- how many requests are neither reported nor skipped
-abbrev pub open_count : Shape → (ℕ → Bool) → List Phase → ℕ
-open_count plan skipped phases = count_below (length plan.units) (λ i. not (is_reported (slice_index_or phases i Unstarted)) && not (skipped i))
-
 -- the units that have failed were taken from the worklist, and no others were ever on it
 pub record ArePropagated (plan : Shape) (phases : List Phase) (units : List Mark) : Type 0 where
   pub each : length units ≡ plan.unit_count
@@ -76,4 +72,3 @@ pub record AreCounts (plan : Shape) (phases : List Phase) (t : Progress) : Type 
   pub units : ArePropagated plan phases t.units
   pub ready : AreReady plan (is_skipped plan t.units) phases t.unmet.items t.ready
   pub running : t.running ≡ map is_running phases
-  pub left : t.left ≡ open_count plan (is_skipped plan t.units) phases

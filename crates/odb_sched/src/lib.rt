@@ -11,7 +11,6 @@
 #![tactic(auto)]
 
 mod chooser;
-mod completing;
 mod dependents;
 mod done;
 mod event;

@@ -21,8 +21,6 @@ pub(crate) struct Progress {
     pub(crate) ready: OrderedPositions,
     /// The running requests.
     pub(crate) running: OrderedPositions,
-    /// The number of requests that have not reported and are not in a failed unit.
-    pub(crate) left: usize,
 }
 
 /// Returns for each request the number of its dependencies.
@@ -82,7 +80,6 @@ impl Progress {
             units: Worklist::new(alloc, plan.unit_count())?,
             ready: without_needs(alloc, plan)?,
             running: OrderedPositions::new(alloc, plan.len())?,
-            left: plan.len() as usize,
         })
     }
 }

@@ -8,38 +8,27 @@ ghost use Rattle.odb_sched.specs.Phases as tests;
 ghost use Rattle.odb_dense.specs.Marks.{is_marked, is_visited};
 ghost use Rattle.odb_sched.specs.Propagation as propagation;
 
-use crate::completing::complete;
 use crate::dependents::unit_key;
 use crate::phase::Phase;
 use crate::progress::Progress;
 use odb_check::Plan;
 use odb_dense::Rows;
 
-/// Skips the members of a unit that has failed: removes them from the ready and the open requests.
+/// Removes the members of a unit that has failed from the ready requests.
 fn skip_members(plan: &Plan<'_>, phases: &[Phase], u: u32, progress: &mut Progress)
     requires laws { shapes.IsPlan (shape plan.now) }
-    requires each { length phases.now ≡ length (shape plan.now).units }
-    requires units { length progress.old.units ≡ (shape plan.now).unit_count }
     requires unit { u < (shape plan.now).unit_count }
     requires visited { is_visited (slice_index_or progress.old.units u Unvisited) ≡ true }
     requires ready { counting.AreReady (shape plan.now)
         (λ i. counting.is_skipped (shape plan.now) progress.old.units i && not (shapes.unit_of (shape plan.now) i == u))
         phases.now progress.old.unmet.items progress.old.ready }
-    requires left { progress.old.left ≡ counting.open_count (shape plan.now)
-        (λ i. counting.is_skipped (shape plan.now) progress.old.units i && not (shapes.unit_of (shape plan.now) i == u))
-        phases.now }
     ensures ready { counting.AreReady (shape plan.now) (counting.is_skipped (shape plan.now) progress.old.units)
         phases.now progress.new.unmet.items progress.new.ready }
-    ensures left { progress.new.left ≡ counting.open_count (shape plan.now)
-        (counting.is_skipped (shape plan.now) progress.old.units) phases.now }
-    ensures rest { progress.new ≡ record progress.old { ready = progress.new.ready; left = progress.new.left } }
+    ensures rest { progress.new ≡ record progress.old { ready = progress.new.ready } }
 {
     let members = plan.members(u);
     for i in members.start..members.end {
         progress.ready.remove(i);
-        if !phases[i as usize].is_reported() {
-            progress.left -= 1;
-        }
     }
 }
 
@@ -92,15 +81,11 @@ fn propagate(plan: &Plan<'_>, phases: &[Phase], dependents: &Rows, progress: &mu
     requires propagating { propagation.ArePropagating (shape plan.now) phases.now progress.old.units }
     requires ready { counting.AreReady (shape plan.now) (counting.is_skipped (shape plan.now) progress.old.units)
         phases.now progress.old.unmet.items progress.old.ready }
-    requires left { progress.old.left ≡ counting.open_count (shape plan.now)
-        (counting.is_skipped (shape plan.now) progress.old.units) phases.now }
     ensures propagated { counting.ArePropagated (shape plan.now) phases.now progress.new.units }
     ensures ready { counting.AreReady (shape plan.now) (counting.is_skipped (shape plan.now) progress.new.units)
         phases.now progress.new.unmet.items progress.new.ready }
-    ensures left { progress.new.left ≡ counting.open_count (shape plan.now)
-        (counting.is_skipped (shape plan.now) progress.new.units) phases.now }
     ensures rest { progress.new
-        ≡ record progress.old { units = progress.new.units; ready = progress.new.ready; left = progress.new.left } }
+        ≡ record progress.old { units = progress.new.units; ready = progress.new.ready } }
 {
     while let Some(u) = progress.units.take() {
         skip_members(plan, phases, u, progress);
@@ -125,7 +110,7 @@ pub(crate) fn fail(
     requires counts { counting.AreCounts (shape plan.now) (slice_set phases.now i Running) progress.old }
     ensures { counting.AreCounts (shape plan.now) phases.now progress.new }
 {
-    complete(plan, phases, i, progress);
+    progress.running.remove(i);
     progress.units.put(plan.unit_of(i));
     propagate(plan, phases, dependents, progress);
 }

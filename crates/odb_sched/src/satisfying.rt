@@ -5,7 +5,6 @@ ghost use Rattle.odb_sched.specs.State.{shape};
 ghost use Rattle.odb_sched.specs.ProgressCounts as counting;
 ghost use Rattle.odb_sched.specs.Phases as tests;
 
-use crate::completing::complete;
 use crate::dependents::unit_key;
 use crate::phase::Phase;
 use crate::progress::Progress;
@@ -122,7 +121,7 @@ pub(crate) fn succeed(
     requires counts { counting.AreCounts (shape plan.now) (slice_set phases.now i Running) progress.old }
     ensures { counting.AreCounts (shape plan.now) phases.now progress.new }
 {
-    complete(plan, phases, i, progress);
+    progress.running.remove(i);
     let unit = plan.unit_of(i);
     count_success(unit, progress);
     satisfy_each(plan, phases, dependents.row(i), progress);

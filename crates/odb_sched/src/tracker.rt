@@ -145,9 +145,9 @@ impl Tracker {
     /// Returns whether no request is running and none may start any more.
     pub(crate) fn is_finished(&self) -> bool
         ensures { result ≡ ((count_by (λ runs. runs) self.now.progress.running == 0)
-            && (self.now.stopped || (self.now.progress.left == 0))) }
+            && (self.now.stopped || (count_by (λ ready. ready) self.now.progress.ready == 0))) }
     {
-        self.progress.running.is_empty() && (self.stopped || self.progress.left == 0)
+        self.progress.running.is_empty() && (self.stopped || self.progress.ready.is_empty())
     }
 
     /// Returns the ready positions.

@@ -6,7 +6,7 @@ use Rattle.odb_dense.specs.declared.worklist.Mark.TheVariants.{Unvisited}
 use Rattle.odb_dense.specs.Marks.{is_marked}
 use Rattle.odb_sched.specs.ProgressCounts.{AreReady, ArePropagated, is_skipped}
 use Rattle.odb_sched.specs.Propagation.{HaveMarked, NeedsUnit}
-use Rattle.odb_sched.proofs.SkippedLemmas.{ready_same, left_same}
+use Rattle.odb_sched.proofs.SkippedLemmas.{ready_same}
 use Rattle.odb_sched.proofs.PropagateLemmas.{all_propagated, propagating_on, fewer_wait, skipped_marked, others_kept}
 use Rattle.odb_sched.proofs.propagating.propagate.Goals as goal
 
@@ -29,7 +29,6 @@ loop-u-preserved c =
           (subst (λ units. (v : ℕ) → is_marked (get_or c.mark_dependents.new.progress.units v Unvisited) ≡ true → (is_marked (get_or units v Unvisited) ≡ true) ⊎ NeedsUnit (shape c.args.plan.now) v c.in-Some.u) (units_are ∙ taken) c.mark_dependents.ensures.only);
       ready = subst (λ (t : Progress). AreReady (shape c.args.plan.now) (is_skipped (shape c.args.plan.now) c.mark_dependents.new.progress.units) c.args.phases.now t.unmet.items t.ready) (sym c.mark_dependents.ensures.rest)
           (ready_same (shape c.args.plan.now) _ _ c.args.phases.now c.skip_members.new.progress.unmet.items c.skip_members.new.progress.ready (λ i below. skipped_marked (shape c.args.plan.now) _ _ i marks) c.skip_members.ensures.ready);
-      left = ap (λ (t : Progress). t.left) c.mark_dependents.ensures.rest ∙ c.skip_members.ensures.left ∙ left_same (shape c.args.plan.now) _ _ c.args.phases.now (λ i below. skipped_marked (shape c.args.plan.now) _ _ i marks);
       rest = others_kept c.args.progress.now c.mark_dependents.new.progress
           (ap (λ (t : Progress). t.unmet) c.mark_dependents.ensures.rest ∙ ap (λ (t : Progress). t.unmet) c.skip_members.ensures.rest ∙ ap (λ (t : Progress). t.unmet) c.loop-u.invariant.rest)
           (ap (λ (t : Progress). t.pending) c.mark_dependents.ensures.rest ∙ ap (λ (t : Progress). t.pending) c.skip_members.ensures.rest ∙ ap (λ (t : Progress). t.pending) c.loop-u.invariant.rest)

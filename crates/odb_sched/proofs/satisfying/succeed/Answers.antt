@@ -1,9 +1,11 @@
 -- The steps bring the counts to what they are after a success.
-use Rattle.std.proofs.Common.{◌≡◌, ◌+◌, ◌-◌, ◌∙◌, suc, sym, ap, subst, arith, length, length-set, get_or, set}
+use Rattle.std.proofs.Common.{◌≡◌, ◌+◌, ◌-◌, ◌∙◌, suc, sym, ap, subst, arith, false, length, length-set, get_or, set}
 use Rattle.odb_check.specs.Shape.{unit_of}
 use Rattle.odb_sched.specs.declared.progress.Progress.{Progress}
 use Rattle.odb_sched.specs.State.{shape}
-use Rattle.odb_sched.specs.ProgressCounts.{ArePending, AreReady, ArePropagated, is_skipped, need_count, unmet_in, satisfied_by_unit, pending_in, open_count}
+use Rattle.odb_sched.specs.ProgressCounts.{ArePending, AreReady, ArePropagated, is_skipped, need_count, unmet_in, satisfied_by_unit, pending_in}
+use Rattle.odb_sched.proofs.PhaseLemmas.{succeeded_idle}
+use Rattle.odb_sched.proofs.StartingLemmas.{running_out}
 use Rattle.odb_sched.proofs.UnmetLemmas.{unmet_falls, pending_own, request_row}
 use Rattle.odb_sched.proofs.SucceedLemmas.{propagated_kept, pending_after, unmet_satisfied}
 use Rattle.odb_sched.proofs.satisfying.succeed.Goals as goal
@@ -13,7 +15,7 @@ pub count_success-requires-clause-some : goal.count_success-requires-clause-some
 count_success-requires-clause-some c =
     let before : get_or c.args.progress.now.pending.items (unit_of (shape c.args.plan.now) c.args.i) 0 ≡ suc (pending_in (shape c.args.plan.now) c.args.phases.now (unit_of (shape c.args.plan.now) c.args.i)) =
     c.requires.counts.pending _ (c.requires.laws.counted c.args.i c.requires.request) ∙ pending_own (shape c.args.plan.now) c.args.phases.now c.args.i c.requires.request c.requires.each c.requires.succeeded in
-    rw (ap (λ (t : Progress). t.pending.items) c.complete.ensures.rest, c.unit_of-unit.ensures.unit, before) (omega arith)
+    rw (c.unit_of-unit.ensures.unit, before) (omega arith)
 
 pub satisfy_each-requires-clause-enough : goal.satisfy_each-requires-clause-enough
 satisfy_each-requires-clause-enough c = λ i inside.
@@ -21,14 +23,14 @@ satisfy_each-requires-clause-enough c = λ i inside.
     c.requires.counts.unmet i inside ∙ unmet_falls (shape c.args.plan.now) c.args.phases.now c.args.i i c.requires.laws c.requires.request inside c.requires.each c.requires.succeeded in
     rw (
       request_row (shape c.args.plan.now) c.args.i i c.args.dependents.now c.row.result.now c.requires.dependents c.requires.request inside c.row.ensures,
-      ap (λ (t : Progress). t.unmet.items) (c.count_success.ensures.rest ∙ ap (λ (t : Progress). record t { pending = c.count_success.new.progress.pending }) c.complete.ensures.rest),
+      ap (λ (t : Progress). t.unmet.items) c.count_success.ensures.rest,
       before,
     ) (omega arith)
 
 pub satisfy_unit-requires-clause-pending : goal.satisfy_unit-requires-clause-pending
 satisfy_unit-requires-clause-pending c =
     let own = c.unit_of-unit.ensures.unit in
-    let pending_now = c.count_success.ensures.pending ∙ ap (λ ps. set ps c.unit_of-unit.result (get_or ps c.unit_of-unit.result 0 - 1)) (ap (λ (t : Progress). t.pending.items) c.complete.ensures.rest) ∙ ap (λ u. set c.args.progress.now.pending.items u (get_or c.args.progress.now.pending.items u 0 - 1)) own in
+    let pending_now = c.count_success.ensures.pending ∙ ap (λ u. set c.args.progress.now.pending.items u (get_or c.args.progress.now.pending.items u 0 - 1)) own in
     rw (ap (λ (t : Progress). t.pending.items) c.satisfy_each.ensures.rest)
     (pending_after (shape c.args.plan.now) c.args.phases.now c.args.i c.args.progress.now.pending.items c.count_success.new.progress.pending.items c.requires.laws c.requires.request c.requires.each c.requires.succeeded c.requires.counts.members c.requires.counts.pending pending_now
     c.unit_of-unit.result c.unit_of-unit.ensures.counted)
@@ -36,7 +38,7 @@ satisfy_unit-requires-clause-pending c =
 pub satisfy_unit-requires-clause-enough : goal.satisfy_unit-requires-clause-enough
 satisfy_unit-requires-clause-enough c = λ i inside.
     let listed = request_row (shape c.args.plan.now) c.args.i i c.args.dependents.now c.row.result.now c.requires.dependents c.requires.request inside c.row.ensures in
-    let same = ap (λ (t : Progress). get_or t.unmet.items i 0) (c.count_success.ensures.rest ∙ ap (λ (t : Progress). record t { pending = c.count_success.new.progress.pending }) c.complete.ensures.rest) in
+    let same = ap (λ (t : Progress). get_or t.unmet.items i 0) c.count_success.ensures.rest in
     let before : get_or c.args.progress.now.unmet.items i 0 ≡ unmet_in (shape c.args.plan.now) c.args.phases.now i + (need_count (shape c.args.plan.now) c.args.i i + satisfied_by_unit (shape c.args.plan.now) c.args.phases.now (unit_of (shape c.args.plan.now) c.args.i) i) =
     c.requires.counts.unmet i inside ∙ unmet_falls (shape c.args.plan.now) c.args.phases.now c.args.i i c.requires.laws c.requires.request inside c.requires.each c.requires.succeeded in
     let fallen : get_or c.satisfy_each.new.progress.unmet.items i 0 + need_count (shape c.args.plan.now) c.args.i i ≡ get_or c.args.progress.now.unmet.items i 0 =
@@ -46,18 +48,17 @@ satisfy_unit-requires-clause-enough c = λ i inside.
 pub returns : goal.returns
 returns c =
     let own = c.unit_of-unit.ensures.unit in
-    let pending_now = c.count_success.ensures.pending ∙ ap (λ ps. set ps c.unit_of-unit.result (get_or ps c.unit_of-unit.result 0 - 1)) (ap (λ (t : Progress). t.pending.items) c.complete.ensures.rest) ∙ ap (λ u. set c.args.progress.now.pending.items u (get_or c.args.progress.now.pending.items u 0 - 1)) own in
+    let pending_now = c.count_success.ensures.pending ∙ ap (λ u. set c.args.progress.now.pending.items u (get_or c.args.progress.now.pending.items u 0 - 1)) own in
     let to_satisfied = c.satisfy_unit.ensures.rest ∙ ap (λ (t : Progress). record t { unmet = c.satisfy_unit.new.progress.unmet; ready = c.satisfy_unit.new.progress.ready }) c.satisfy_each.ensures.rest in
     let to_left = to_satisfied ∙ ap (λ (t : Progress). record t { unmet = c.satisfy_unit.new.progress.unmet; ready = c.satisfy_unit.new.progress.ready }) c.count_success.ensures.rest in
-    let to_first = to_left ∙ ap (λ (t : Progress). record t { pending = c.count_success.new.progress.pending; unmet = c.satisfy_unit.new.progress.unmet; ready = c.satisfy_unit.new.progress.ready }) c.complete.ensures.rest in
     let pending_same = ap (λ (t : Progress). t.pending.items) to_satisfied in
-    let units_same = ap (λ (t : Progress). t.units) to_first in
+    let units_same = ap (λ (t : Progress). t.units) to_left in
     let satisfied_units = ap (λ (t : Progress). t.units) c.satisfy_unit.ensures.rest in
     record {
       unmet = unmet_satisfied (shape c.args.plan.now) c.args.phases.now c.args.i c.row.result.now c.args.progress.now.unmet.items c.satisfy_each.new.progress.unmet.items c.satisfy_unit.new.progress.unmet.items c.requires.laws c.requires.request c.requires.each c.requires.succeeded
           (λ j inside. request_row (shape c.args.plan.now) c.args.i j c.args.dependents.now c.row.result.now c.requires.dependents c.requires.request inside c.row.ensures)
           c.requires.counts.unmet
-          (λ j inside. c.satisfy_each.ensures.fallen j inside ∙ ap (λ (t : Progress). get_or t.unmet.items j 0) (c.count_success.ensures.rest ∙ ap (λ (t : Progress). record t { pending = c.count_success.new.progress.pending }) c.complete.ensures.rest))
+          (λ j inside. c.satisfy_each.ensures.fallen j inside ∙ ap (λ (t : Progress). get_or t.unmet.items j 0) c.count_success.ensures.rest)
           (λ j inside. subst (λ u. get_or c.satisfy_unit.new.progress.unmet.items j 0 + satisfied_by_unit (shape c.args.plan.now) c.args.phases.now u j ≡ get_or c.satisfy_each.new.progress.unmet.items j 0) own (c.satisfy_unit.ensures.fallen j inside));
       members = ap length (pending_same ∙ pending_now) ∙ length-set _ _ _ ∙ c.requires.counts.members;
       pending = subst (λ ps. ArePending (shape c.args.plan.now) c.args.phases.now ps) (sym pending_same)
@@ -65,6 +66,5 @@ returns c =
       units = subst (ArePropagated (shape c.args.plan.now) c.args.phases.now) (sym units_same)
           (propagated_kept (shape c.args.plan.now) c.args.phases.now c.args.i c.args.progress.now.units (rw c.requires.each c.requires.request) c.requires.succeeded c.requires.counts.units);
       ready = subst (λ units. AreReady (shape c.args.plan.now) (is_skipped (shape c.args.plan.now) units) c.args.phases.now c.satisfy_unit.new.progress.unmet.items c.satisfy_unit.new.progress.ready) (sym satisfied_units) c.satisfy_unit.ensures.ready;
-      running = ap (λ (t : Progress). t.running) to_left ∙ c.complete.ensures.running;
-      left = subst (λ units. c.satisfy_unit.new.progress.left ≡ open_count (shape c.args.plan.now) (is_skipped (shape c.args.plan.now) units) c.args.phases.now) (sym units_same) (ap (λ (t : Progress). t.left) to_left ∙ c.complete.ensures.left);
+      running = ap (λ (t : Progress). t.running) to_left ∙ c.remove.ensures ∙ ap (λ b. set b c.args.i false) c.requires.counts.running ∙ running_out c.args.phases.now c.args.i (succeeded_idle _ c.requires.succeeded);
     }

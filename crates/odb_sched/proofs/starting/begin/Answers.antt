@@ -2,7 +2,7 @@
 use Rattle.std.proofs.Common.{◌<◌, ◌∙◌, sym, ap, subst, true, set, length}
 use Rattle.odb_sched.specs.State.{shape}
 use Rattle.odb_sched.specs.ProgressCounts.{AreReady, is_skipped}
-use Rattle.odb_sched.proofs.StartingLemmas.{unmet_by_start, pending_by_start, propagated_by_start, left_by_start, running_in, ready_out}
+use Rattle.odb_sched.proofs.StartingLemmas.{unmet_by_start, pending_by_start, propagated_by_start, running_in, ready_out}
 use Rattle.odb_sched.proofs.starting.begin.Goals as goal
 
 pub returns : goal.returns
@@ -18,5 +18,4 @@ returns c =
       ready = subst (AreReady plan (is_skipped plan c.args.progress.now.units) phases c.args.progress.now.unmet.items) (sym c.remove.ensures)
           (ready_out plan (is_skipped plan c.args.progress.now.units) phases c.args.i c.args.progress.now.unmet.items c.args.progress.now.ready c.requires.request c.requires.runs c.requires.counts.ready);
       running = c.insert.ensures ∙ ap (λ running. set running c.args.i true) c.requires.counts.running ∙ running_in phases c.args.i c.requires.runs;
-      left = c.requires.counts.left ∙ left_by_start plan (is_skipped plan c.args.progress.now.units) phases c.args.i within c.requires.runs;
     }

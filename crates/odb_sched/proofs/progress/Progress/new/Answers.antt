@@ -1,5 +1,5 @@
 -- The parts are what is counted before any event.
-use Rattle.std.proofs.Common.{◌∙◌, ap, arith, false, replicate}
+use Rattle.std.proofs.Common.{◌∙◌, ap, false, replicate}
 use Rattle.odb_dense.specs.declared.worklist.Mark.TheVariants.{Unvisited}
 use Rattle.odb_sched.specs.State.{shape}
 use Rattle.odb_sched.proofs.FirstLemmas.{first_counts}
@@ -10,4 +10,3 @@ returns c = first_counts (shape c.args.plan.now) _ c.every_plan.ensures.order c.
     (c.in_ok-new.ensures ∙ ap (λ n. replicate n Unvisited) c.unit_count.ensures.size)
     c.in_ok-without_needs.ensures.each c.in_ok-without_needs.ensures.exact
     (c.in_ok-new-2.ensures ∙ ap (λ n. replicate n false) c.len.ensures.size)
-    (omega (arith, c.len-2.ensures.size))
