@@ -4,18 +4,26 @@
 //! The laws are clauses of functions that change nothing. They speak of the very relations that the
 //! clauses `ends` of the engines cite.
 
-ghost use Rattle.std.specs.Prelude.{ℕ, Bool, false, List, Some};
+ghost use Rattle.std.specs.Prelude.{◌≡◌, ℕ, Bool, false, List, Some};
 ghost use Rattle.odb_sched.specs.Choosing.{AllowsOrder};
 ghost use Rattle.odb_sched.specs.declared.order.Order.{Order};
 ghost use Rattle.odb_sched.specs.declared.policy.Policy.{Policy};
 ghost use Rattle.odb_engine.specs.Cascade.{Accepts, Answers};
 ghost use Rattle.odb_engine.specs.Commands.{BySecond, Canonical, Counts, Plans};
+ghost use Rattle.odb_engine.specs.Inputs.{IsDocumentOf};
 ghost use Rattle.odb_engine.specs.Laws.{IsOne};
 ghost use Rattle.odb_engine.specs.Matches.{Matches};
 ghost use Rattle.odb_engine.specs.declared.ending.Ended.TheVariants.{Done};
 ghost use Rattle.odb_engine.specs.ReadAgain.{IsReadAgain};
 ghost use Rattle.odb_engine.specs.Replays.{Replays};
 ghost use Rattle.odb_engine.specs.Runs.{Runs};
+
+/// A reader that has `left` to give gives one document.
+pub fn one_document()
+    ensures { (left document other : List ℕ) → IsDocumentOf left document → IsDocumentOf left other
+        → document ≡ other }
+{
+}
 
 /// Two texts that a check may write for the same bytes are equal, and so are the ends; likewise for a
 /// plan, a canonical text and a match. So what these commands write is a function of the bytes.
