@@ -16,8 +16,7 @@ from dataclasses import dataclass
 sys.dont_write_bytecode = True
 
 import shells
-from helps import Texts, read_helps
-from program import read_arguments
+from helps import compare_with_help, read_helps
 from shells import FILE, Unread
 
 # Lines, each with what is offered for its last word.
@@ -163,25 +162,13 @@ def mistake_faults(texts):
             yield f"not found: {shell}, {title}"
 
 
-def more_options(option):
-    option("--mistakes", action="store_true", help="show that each planted mistake is found")
+def checks_of(texts):
+    checks = [example_faults(texts)]
+    return checks + [check(texts, shell) for shell in SHELLS for check in (syntax_faults, script_faults)]
 
 
 def main():
-    options = read_arguments("Compares the completions with the help.", more_options)
-    texts = Texts(options.binary)
-    checks = [example_faults(texts)]
-    checks += [check(texts, shell) for shell in SHELLS for check in (syntax_faults, script_faults)]
-    found = [list(check) for check in checks]
-    if options.mistakes:
-        missed = list(mistake_faults(texts))
-        print(f"{len(MISTAKES) - len(missed)} mistakes found, {len(missed)} not found")
-        found.append(missed)
-    for line in sum(found, []):
-        print(line)
-    failed = len(list(filter(None, found)))
-    print(f"{len(found) - failed} passed, {failed} failed")
-    return 1 if failed else 0
+    return compare_with_help("Compares the completions with the help.", checks_of, MISTAKES, mistake_faults)
 
 
 if __name__ == "__main__":

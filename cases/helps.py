@@ -5,6 +5,8 @@ import subprocess
 import sys
 from dataclasses import dataclass, field
 
+from program import read_arguments
+
 SECONDS = 60
 
 
@@ -89,3 +91,27 @@ def read_helps(texts):
     """The help of the program, and of each command by its name."""
     program = read_help(texts.text("--help"))
     return program, {name: read_help(texts.text(name, "--help")) for name in program.commands}
+
+
+def more_options(option):
+    option("--mistakes", action="store_true", help="show that each planted mistake is found")
+
+
+def compare_with_help(about, checks_of, mistakes, mistake_faults):
+    """Compares what the program prints with its help, and prints each difference; returns the exit status.
+
+    `checks_of` returns the checks of the texts, each a list of differences. `mistake_faults` yields which of
+    the planted mistakes are not found.
+    """
+    options = read_arguments(about, more_options)
+    texts = Texts(options.binary)
+    found = [list(check) for check in checks_of(texts)]
+    if options.mistakes:
+        missed = list(mistake_faults(texts))
+        print(f"{len(mistakes) - len(missed)} mistakes found, {len(missed)} not found")
+        found.append(missed)
+    for line in sum(found, []):
+        print(line)
+    failed = len(list(filter(None, found)))
+    print(f"{len(found) - failed} passed, {failed} failed")
+    return 1 if failed else 0

@@ -16,8 +16,7 @@ import sys
 
 sys.dont_write_bytecode = True
 
-from helps import Texts, read_helps
-from program import read_arguments
+from helps import compare_with_help, read_helps
 
 PAGE = """\
 .TH ODB_BATCH 1
@@ -127,28 +126,19 @@ def groff_faults(texts):
             return
 
 
-def look_for_mistakes(texts):
-    """Prints whether each planted mistake is found; returns the titles of those that are not."""
-    missed = [title for title, change in MISTAKES.items() if not any(page_faults(texts.changed(("man",), change)))]
-    print(f"{len(MISTAKES) - len(missed)} mistakes found, {len(missed)} not found")
-    return missed
+def mistake_faults(texts):
+    """The planted mistakes that are not found."""
+    for title, change in MISTAKES.items():
+        if not any(page_faults(texts.changed(("man",), change))):
+            yield f"not found: {title}"
 
 
-def more_options(option):
-    option("--mistakes", action="store_true", help="show that each planted mistake is found")
+def checks_of(texts):
+    return [page_faults(texts), groff_faults(texts)]
 
 
 def main():
-    options = read_arguments("Compares the manual page with the help.", more_options)
-    texts = Texts(options.binary)
-    found = [list(check(texts)) for check in (page_faults, groff_faults)]
-    if options.mistakes:
-        found.append([f"not found: {title}" for title in look_for_mistakes(texts)])
-    for line in sum(found, []):
-        print(line)
-    failed = len(list(filter(None, found)))
-    print(f"{len(found) - failed} passed, {failed} failed")
-    return 1 if failed else 0
+    return compare_with_help("Compares the manual page with the help.", checks_of, MISTAKES, mistake_faults)
 
 
 if __name__ == "__main__":

@@ -1,7 +1,8 @@
-ghost use Rattle.std.specs.Prelude.{◌≡◌, Option, option_map, IsSome, IfSome};
+ghost use Rattle.std.specs.Prelude.{◌≡◌, Option, None, option_map, IsSome, IfSome};
 ghost use Rattle.odb_doc.specs.Refusals.{Printed, printed};
 
 use crate::fault::Place;
+use std::alloc::AllocError;
 
 /// What is printed of a fault.
 #[derive(Clone, Copy, Debug, PartialEq, Eq)]
@@ -61,5 +62,13 @@ pub trait Fault {
         ensures { IfSome (row self.now) (λ it. result ≡ it.place) }
     {
         self.refusal().unwrap().place
+    }
+}
+
+impl Fault for AllocError {
+    ghost row = { λ _. None };
+
+    fn refusal(&self) -> Option<Refusal> {
+        None
     }
 }

@@ -4,8 +4,11 @@ use Rattle.std.proofs.lemmas.Bool.{cases_order}
 use Rattle.odb_doc.specs.declared.fault.TextFault.TheVariants.{NotWhole}
 use Rattle.odb_doc.specs.Canonical.{HasWholeBodies, IsFirstNotWhole}
 use Rattle.odb_doc.specs.Records.{Record}
-use Rattle.odb_engine.specs.Cascade.{Refusal, line_of}
-use Rattle.odb_engine.specs.Commands.{Canonical, IsNotWhole, text_refusal}
+use Rattle.odb_doc.specs.Refusals.{Printed}
+use Rattle.odb_engine.specs.Cascade.{line_of}
+use Rattle.odb_engine.specs.Commands.{Canonical, IsNotWhole}
+use Rattle.odb_doc.specs.Faults.{text_row}
+use Rattle.std.proofs.lemmas.Option.{same_Some}
 use Rattle.odb_engine.specs.Laws.{IsOne}
 
 one_first : (batch : List Record) (at other : ℕ) → IsFirstNotWhole batch at → IsFirstNotWhole batch other → at ≡ other
@@ -19,8 +22,8 @@ one_first batch at other one two =
 whole_no_first : (batch : List Record) (at : ℕ) → HasWholeBodies batch → ¬ IsFirstNotWhole batch at
 whole_no_first batch at whole first = first.holds (whole at first.within)
 
-one_not_whole : (batch : List Record) (s t : Refusal) → IsNotWhole batch s → IsNotWhole batch t → s ≡ t
-one_not_whole batch s t one two = one.is ∙ ap (λ at. text_refusal (NotWhole at)) (one_first batch one.at two.at one.first two.first) ∙ sym two.is
+one_not_whole : (batch : List Record) (s t : Printed) → IsNotWhole batch s → IsNotWhole batch t → s ≡ t
+one_not_whole batch s t one two = same_Some s t (sym one.is ∙ ap (λ at. text_row (NotWhole at)) (one_first batch one.at two.at one.first two.first) ∙ two.is)
 
 pub canonical_one : (batch : List Record) → IsOne (Canonical batch)
 canonical_one batch a b s t (inl x) (inl y) = (x.ends ∙ sym y.ends, x.line ∙ ap line_of (one_not_whole batch x.refusal y.refusal x.is y.is) ∙ sym y.line)

@@ -1,9 +1,11 @@
 -- What a replay may write of the same requests, by one document of outcomes, in an order: one text.
-use Rattle.std.proofs.Common.{◌≡◌, ◌∙◌, ℕ, Bool, List, Option, Some, inl, inr, sym, ap, rules}
+use Rattle.std.proofs.Common.{◌≡◌, ◌∙◌, ℕ, Bool, List, Option, Some, inl, inr, refl, sym, ap, rules}
+use Rattle.std.proofs.lemmas.Option.{same_Some}
 use Rattle.odb_doc.specs.declared.outcome.Outcome.{Outcome}
 use Rattle.odb_doc.specs.declared.fault.Place.TheVariants as places
 use Rattle.odb_doc.specs.LeastOutcomeFault.{IsOutcomesDocument, RefusesOutcomes}
 use Rattle.odb_doc.specs.OutcomeFaults as documents
+use Rattle.odb_doc.specs.declared.outcome_fault.OutcomeFault.TheVariants as outcome_faults
 use Rattle.odb_doc.specs.Outcomes.{Recorded, AreOutcomesOf}
 use Rattle.odb_doc.specs.Records.{Record}
 use Rattle.odb_check.specs.declared.plan.Plan.{Plan}
@@ -11,6 +13,7 @@ use Rattle.odb_check.specs.Plans.{plan_records}
 use Rattle.odb_sched.specs.declared.fault.ExecFault.TheVariants as fault
 use Rattle.odb_sched.specs.declared.order.Order.{Order}
 use Rattle.odb_sched.specs.declared.policy.Policy.{Policy}
+use Rattle.odb_sched.specs.ExecFaults.{exec_row}
 use Rattle.odb_sched.specs.Choosing.{AllowsOrder}
 use Rattle.odb_sched.specs.Courses.{Allowance}
 use Rattle.odb_sched.specs.Orders.{Faults, HasOneCourse, HasOneFault, FaultsOrFinishes}
@@ -19,7 +22,8 @@ use Rattle.odb_sched.specs.State.{State, at_first}
 use Rattle.odb_engine.specs.declared.ending.Ended.{Ended}
 use Rattle.odb_engine.specs.Cascade.{line_of}
 use Rattle.odb_engine.specs.Laws.{IsOne}
-use Rattle.odb_engine.specs.Replays.{Replays, ReplaysBatch, ReplaysBy, ReplaysPlan, LacksOutcome, execution_refusal, outcomes_refusal, result_text}
+use Rattle.odb_engine.specs.Replays.{Replays, ReplaysBatch, ReplaysBy, ReplaysPlan, LacksOutcome, result_text}
+use Rattle.odb_engine.proofs.EngineLemmas.{has-row}
 use Rattle.odb_engine.proofs.PlanLemmas.{replays-plan}
 use Rattle.odb_engine.proofs.SecondLemmas.{IsOneKind, second_one, some_document_one}
 
@@ -42,7 +46,7 @@ module _ (order : Order) (policy : Policy) (traced : Bool) (plan : Plan) (entrie
   one_plan law a b s t (inr x) (inl y) = absurd (law.apart (fault.NoOutcome x.at) y.steps y.last (missing a s x) y.course)
   one_plan law a b s t (inr x) (inr y) =
       let same = law.fault (fault.NoOutcome x.at) (fault.NoOutcome y.at) (missing a s x) (missing b t y) in
-      (x.ends ∙ sym y.ends, x.line ∙ ap (λ cause. line_of (execution_refusal cause)) same ∙ sym y.line)
+      (x.ends ∙ sym y.ends, x.line ∙ ap line_of (same_Some _ _ (ap exec_row same)) ∙ sym y.line)
 
 -- what a document of outcomes gives with one plan it gives with the other
 replays-by : (allows : Allowance) (policy : Policy) (traced : Bool) (plan other : Plan) → plan_records plan ≡ plan_records other → (bytes : List ℕ) (ended : Ended) (text : List ℕ)
@@ -62,6 +66,7 @@ replays_one order courses law policy traced outcomes batch =
   where
     one : (bytes : List ℕ) → IsOne (ReplaysBatch (AllowsOrder order) policy traced batch bytes)
     one bytes a b s t (plan, same, x) (other, equal, y) =
-        second_one places.Outcomes documents.IsNumbered RefusesOutcomes outcomes_refusal IsOutcomesDocument AreOutcomesOf law bytes (ReplaysPlan (AllowsOrder order) policy traced other)
+        second_one places.Outcomes documents.IsNumbered RefusesOutcomes documents.outcome_row IsOutcomesDocument AreOutcomesOf
+        (λ fault refusal is. has-row documents.outcome_row outcome_faults.OutOfMemory fault refusal refl is) law bytes (ReplaysPlan (AllowsOrder order) policy traced other)
         (λ entries. one_plan order policy traced other entries (courses (recorded_for (plan_records other) entries) (at_first other policy))) a b s t
         (replays-by (AllowsOrder order) policy traced other plan (equal ∙ sym same) bytes a s x) y

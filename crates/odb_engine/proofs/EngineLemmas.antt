@@ -6,11 +6,11 @@ use Rattle.std.proofs.lemmas.Result.{err_from_is_err_and, IfOk-weaker}
 use Rattle.std.specs.declared.alloc.Global.{Global}
 use Rattle.serde_json.specs.Data.{Data}
 use Rattle.odb_doc.specs.Devices.{Writing}
-use Rattle.odb_doc.specs.declared.fault.Place.{Place}
 use Rattle.odb_doc.specs.declared.fault.Place.TheVariants.{Batch}
 use Rattle.odb_doc.specs.declared.fault.DocFault.{DocFault}
 use Rattle.odb_doc.specs.Documents.{IsDocument}
-use Rattle.odb_doc.specs.FaultTable as document
+use Rattle.odb_doc.specs.Faults.{document_row}
+use Rattle.odb_doc.specs.Refusals as refusals
 use Rattle.odb_doc.specs.LeastFault.{IsWellShaped, IsLeastFault}
 use Rattle.odb_doc.specs.Records.{Record, IsBatchOf}
 use Rattle.odb_engine.specs.declared.ending.Ended.{Ended}
@@ -21,7 +21,8 @@ use Rattle.odb_engine.specs.declared.input.ReadFault.TheVariants as reads
 use Rattle.odb_engine.specs.declared.halt.Halt.{Halt}
 use Rattle.odb_engine.specs.declared.halt.Halt.TheVariants as halts
 use Rattle.odb_engine.specs.Inputs.{most_read, GivesDocument, SomeDocument}
-use Rattle.odb_engine.specs.Cascade.{Writes, Prints, Refusal, line_of, Reports, RefusesBytes, IsLeast, Answers, document_refusal}
+use Rattle.odb_doc.specs.Refusals.{Printed}
+use Rattle.odb_engine.specs.Cascade.{Writes, Prints, line_of, Reports, RefusesBytes, IsLeast, Answers}
 use Rattle.odb_engine.specs.Cascade.IsLeast.{OfBytes, OfShape, OfNames}
 use Rattle.odb_engine.specs.Engines.{Ends, WritesPrefix}
 use Rattle.odb_engine.specs.Halts.{Found, Refuses, RefusesNamesOf, Sent, Halted, text_found, HaltsBy, halt_of}
@@ -57,28 +58,32 @@ at-exit C Q r is to = let (error, same, holds) = err_from_is_err_and r is in sub
 pub exit-error : {T E : Type 0} (C : Result T E → Type 0) (error : E) (r : Result T E) → IsErrAnd r (λ other. other ≡ error) → C (Err error) → C r
 exit-error C error r is so = at-exit C (λ other. other ≡ error) r is (λ other same. subst (λ s. C (Err s)) (sym same) so)
 
--- a halt by a fault, if it is numbered
-pub halted-by : (Is : Refusal → Type 0) (Numbered : Type 0) (refusal : Refusal) → (Numbered → Is refusal) → (halt : Halt) → HaltsBy Numbered refusal halt → Halted Is halt
-halted-by Is Numbered refusal may (halts.Refused code name place) (numbered, same) = subst Is same (may numbered)
-halted-by Is Numbered refusal may halts.Read by = absurd by
-halted-by Is Numbered refusal may halts.OutOfMemory by = tt
+-- a halt by a fault, if it has a row
+pub halted-by : (Is : Printed → Type 0) (row : Option Printed) → ((refusal : Printed) → row ≡ Some refusal → Is refusal) → (halt : Halt) → HaltsBy row halt → Halted Is halt
+halted-by Is row may (halts.Refused refusal) by = may (refusals.printed refusal) by
+halted-by Is row may halts.Read by = absurd by
+halted-by Is row may halts.OutOfMemory by = tt
 
-pub Halted-weaker : (Is Js : Refusal → Type 0) → ((refusal : Refusal) → Is refusal → Js refusal) → (halt : Halt) → Halted Is halt → Halted Js halt
-Halted-weaker Is Js to (halts.Refused code name place) so = to _ so
+-- a fault with a row is another than one without
+pub has-row : {F : Type 0} (row : F → Option Printed) (none fault : F) (refusal : Printed) → row none ≡ None → row fault ≡ Some refusal → ¬ (fault ≡ none)
+has-row row none fault refusal without with_row same = absurd (cc (sym without ∙ sym (ap row same) ∙ with_row))
+
+pub Halted-weaker : (Is Js : Printed → Type 0) → ((refusal : Printed) → Is refusal → Js refusal) → (halt : Halt) → Halted Is halt → Halted Js halt
+Halted-weaker Is Js to (halts.Refused refusal) so = to _ so
 Halted-weaker Is Js to halts.Read so = tt
 Halted-weaker Is Js to halts.OutOfMemory so = tt
 
-pub reports : (Is : Refusal → Type 0) (refusal : Refusal) → Is refusal → Reports Is Refused (line_of refusal)
+pub reports : (Is : Printed → Type 0) (refusal : Printed) → Is refusal → Reports Is Refused (line_of refusal)
 reports Is refusal is = record { refusal = refusal; is = is; ends = refl; line = refl }
 
 -- no document was read, so there is no value
-pub unread-value : {T : Type 0} (left : Option (List ℕ)) (Q : List ℕ → T → Type 0) (Is : List ℕ → Refusal → Type 0) (read : ReadFault) (r : Result T Halt) → IsErrAnd r (λ halt. halt ≡ halt_of read)
+pub unread-value : {T : Type 0} (left : Option (List ℕ)) (Q : List ℕ → T → Type 0) (Is : List ℕ → Printed → Type 0) (read : ReadFault) (r : Result T Halt) → IsErrAnd r (λ halt. halt ≡ halt_of read)
     → SomeDocument left (λ bytes. IfOk r (Q bytes) × IfErr r (Halted (Is bytes)))
 unread-value left Q Is read r is =
     let (bytes, gives) = some-document left in
     (bytes, gives, exit-error (λ x. IfOk x (Q bytes) × IfErr x (Halted (Is bytes))) (halt_of read) r is (tt, unrefused (Is bytes) read))
   where
-    unrefused : (Is : Refusal → Type 0) (read : ReadFault) → Halted Is (halt_of read)
+    unrefused : (Is : Printed → Type 0) (read : ReadFault) → Halted Is (halt_of read)
     unrefused Is reads.Read = tt
     unrefused Is reads.OutOfMemory = tt
 
@@ -89,15 +94,15 @@ halt-bytes P bytes = Halted-weaker (RefusesBytes Batch bytes) (λ refusal. Answe
 
 -- its value has a fault of shape
 pub halt-shape : (P : List Record → Writes) (bytes : List ℕ) (fault : DocFault) (value : Data) → IsDocument bytes value → IsLeastFault fault value
-    → (halt : Halt) → HaltsBy (document.IsNumbered fault) (document_refusal fault) halt → Refuses (Answers P bytes) halt
-halt-shape P bytes fault value is_document least = halted-by (λ refusal. Answers P bytes Refused (line_of refusal)) _ _
-    (λ numbered. inl (reports (IsLeast bytes) (document_refusal fault) (OfShape fault numbered (record { value = value; document = is_document; holds = least }) refl)))
+    → (halt : Halt) → HaltsBy (document_row fault) halt → Refuses (Answers P bytes) halt
+halt-shape P bytes fault value is_document least = halted-by (λ refusal. Answers P bytes Refused (line_of refusal)) _
+    (λ refusal row. inl (reports (IsLeast bytes) refusal (OfShape fault (record { value = value; document = is_document; holds = least }) row)))
 
 -- the names of its requests have a fault
 pub halt-names : (P : List Record → Writes) (bytes : List ℕ) (value : Data) (batch : List Record) → IsDocument bytes value → IsWellShaped value → IsBatchOf value batch
     → (halt : Halt) → Halted (RefusesNamesOf batch) halt → Refuses (Answers P bytes) halt
 halt-names P bytes value batch is_document shape is_batch = Halted-weaker (RefusesNamesOf batch) (λ refusal. Answers P bytes Refused (line_of refusal))
-    (λ refusal refuses. inl (reports (IsLeast bytes) refusal (OfNames refuses.fault refuses.numbered (record { value = value; document = is_document; holds = record { batch = batch; shape = shape; is_batch = is_batch; holds = refuses.refuses } }) refuses.is)))
+    (λ refusal refuses. inl (reports (IsLeast bytes) refusal (OfNames refuses.fault (record { value = value; document = is_document; holds = record { batch = batch; shape = shape; is_batch = is_batch; holds = refuses.refuses } }) refuses.is)))
 
 -- what may be written in less cases may be written
 pub Refuses-weaker : (P Q : Writes) (halt : Halt) → ((ended : Ended) (text : List ℕ) → P ended text → Q ended text) → Refuses P halt → Refuses Q halt
@@ -128,7 +133,7 @@ printed P line so ended text (ends, same) = subst (λ e. P e text) (sym ends) (s
 -- what is written of what was found is what may be written
 pub answered : (P : Writes) (found : FoundText) → Found P found → (ended : Ended) (text : List ℕ) → text_found found ended text → P ended text
 answered P (Ok found) so ended text prints = printed P (string_bytes found) so ended text prints
-answered P (Err (halts.Refused code name place)) so ended text (ends, line) = subst (λ e. P e text) (sym ends) (subst (P Refused) (sym line) so)
+answered P (Err (halts.Refused refusal)) so ended text (ends, line) = subst (λ e. P e text) (sym ends) (subst (P Refused) (sym line) so)
 answered P (Err halts.Read) so ended text none = absurd none
 answered P (Err halts.OutOfMemory) so ended text none = absurd none
 
@@ -141,10 +146,3 @@ Ends-found contents P ReadFailed old new found result so read is =
 abbrev pub halt_in : {T : Type 0} → Result T Halt → Halt
 halt_in (Ok value) = halts.Read
 halt_in (Err halt) = halt
-
-abbrev pub the_refusal : List ℕ → List ℕ → Place → Refusal
-the_refusal code name place = record { code = code; name = name; place = place }
-
-pub refusal-as : (code other_code name other_name : List ℕ) (place : Place) → code ≡ other_code → name ≡ other_name → the_refusal code name place ≡ the_refusal other_code other_name place
-refusal-as code other_code name other_name place codes_are names_are =
-    ap (λ c. the_refusal c name place) codes_are ∙ ap (λ n. the_refusal other_code n place) names_are

@@ -1,5 +1,6 @@
 -- Two texts that the cascade allows for the same bytes are equal, if P allows one for each batch.
-use Rattle.std.proofs.Common.{◌≡◌, ℕ, ◌≤◌, ◌<◌, ◌∙◌, List, length, unwrap_or, inl, inr, refl, sym, subst, ap, arith}
+use Rattle.std.proofs.lemmas.Option.{same_Some}
+use Rattle.std.proofs.Common.{◌≡◌, ℕ, ◌≤◌, ◌<◌, ◌∙◌, List, Some, option_map, length, unwrap_or, inl, inr, refl, sym, subst, ap, arith}
 use Rattle.serde_json.specs.Data.{Data}
 use Rattle.odb_doc.specs.declared.fault.Place.{Place}
 use Rattle.odb_doc.specs.declared.fault.Place.TheVariants.{Batch}
@@ -7,15 +8,20 @@ use Rattle.odb_doc.specs.declared.fault.DocFault.{DocFault}
 use Rattle.odb_doc.specs.declared.fault.DocFault.TheVariants as faults
 use Rattle.odb_doc.specs.declared.fault.DocumentRule.TheVariants as rules
 use Rattle.odb_doc.specs.Documents.{most_bytes, IsDocument, RefusesDocument}
-use Rattle.odb_doc.specs.FaultTable as document
+use Rattle.odb_doc.specs.Faults as document
+use Rattle.odb_doc.specs.Faults.{document_row}
 use Rattle.odb_doc.specs.LeastFault.{IsWellShaped, IsLeastFault}
 use Rattle.odb_doc.specs.Records.{Record, IsBatchOf}
 use Rattle.odb_check.specs.declared.fault.CheckFault.{CheckFault}
 use Rattle.odb_check.specs.FaultTable as names
+use Rattle.odb_check.specs.FaultTable.{check_row}
+use Rattle.odb_check.specs.declared.fault.CheckFault.TheVariants as check_faults
 use Rattle.odb_check.specs.LeastNameFault.{HasGoodNames, RefusesNames}
 use Rattle.odb_engine.specs.Laws.{IsOne}
-use Rattle.odb_engine.specs.Cascade.{Writes, Refusal, line_of, RefusesBytes, IsLeast, Accepts, Answers, HasValue, document_refusal, names_refusal}
+use Rattle.odb_doc.specs.Refusals.{Printed}
+use Rattle.odb_engine.specs.Cascade.{Writes, line_of, RefusesBytes, IsLeast, Accepts, Answers, HasValue, at_place}
 use Rattle.odb_engine.specs.Cascade.IsLeast.{OfBytes, OfShape, OfNames}
+use Rattle.odb_engine.proofs.EngineLemmas.{has-row}
 
 -- the laws of the lower crates on their own relations
 pub record AreFunctional : Type 0 where
@@ -57,43 +63,53 @@ no_value : (bytes : List ℕ) (fault : DocFault) (d : Data) → Cause bytes faul
 no_value bytes _ d (Long long) is = omega (arith, long, is.0)
 no_value bytes _ d (NoJson short none) is = none d is
 
-pub one_refusal : (place : Place) (bytes : List ℕ) (refusal other : Refusal) → RefusesBytes place bytes refusal → RefusesBytes place bytes other → refusal ≡ other
-one_refusal place bytes refusal other one two =
-    let same = one_cause bytes one.fault two.fault (cause bytes one.fault one.numbered one.refuses) (cause bytes two.fault two.numbered two.refuses) in
-    one.is ∙ ap (λ (fault : DocFault). record { code = document.fault_code fault; name = document.fault_name fault; place = place }) same ∙ sym two.is
+bytes_cause : (place : Place) (bytes : List ℕ) (refusal : Printed) → (refused : RefusesBytes place bytes refusal) → Cause bytes refused.fault
+bytes_cause place bytes refusal refused =
+    cause bytes refused.fault (has-row (λ (fault : DocFault). option_map (at_place place) (document_row fault)) faults.OutOfMemory refused.fault refusal refl refused.is) refused.refuses
 
-pub refused_no_value : (place : Place) (bytes : List ℕ) (refusal : Refusal) (P : Data → Type 0) → RefusesBytes place bytes refusal → HasValue bytes P → ⊥
+numbered_shape : (fault : DocFault) (refusal : Printed) → document_row fault ≡ Some refusal → document.IsNumbered fault
+numbered_shape fault refusal is = has-row document_row faults.OutOfMemory fault refusal refl is
+
+numbered_names : (fault : CheckFault) (refusal : Printed) → check_row fault ≡ Some refusal → names.IsNumbered fault
+numbered_names fault refusal is = has-row check_row check_faults.OutOfMemory fault refusal refl is
+
+pub one_refusal : (place : Place) (bytes : List ℕ) (refusal other : Printed) → RefusesBytes place bytes refusal → RefusesBytes place bytes other → refusal ≡ other
+one_refusal place bytes refusal other one two =
+    let same = one_cause bytes one.fault two.fault (bytes_cause place bytes refusal one) (bytes_cause place bytes other two) in
+    same_Some refusal other (sym one.is ∙ ap (λ (fault : DocFault). option_map (at_place place) (document_row fault)) same ∙ two.is)
+
+pub refused_no_value : (place : Place) (bytes : List ℕ) (refusal : Printed) (P : Data → Type 0) → RefusesBytes place bytes refusal → HasValue bytes P → ⊥
 refused_no_value place bytes refusal P refused has =
-    no_value bytes refused.fault has.value (cause bytes refused.fault refused.numbered refused.refuses) has.document
+    no_value bytes refused.fault has.value (bytes_cause place bytes refusal refused) has.document
 
 -- ---- the cascade
 
-least_one : AreFunctional → (bytes : List ℕ) (s t : Refusal) → IsLeast bytes s → IsLeast bytes t → s ≡ t
+least_one : AreFunctional → (bytes : List ℕ) (s t : Printed) → IsLeast bytes s → IsLeast bytes t → s ≡ t
 least_one law bytes s t (OfBytes one) (OfBytes two) = one_refusal Batch bytes s t one two
-least_one law bytes s t (OfBytes one) (OfShape g m has d) = absurd (refused_no_value Batch bytes s (IsLeastFault g) one has)
-least_one law bytes s t (OfBytes one) (OfNames g m has d) = absurd (refused_no_value Batch bytes s _ one has)
-least_one law bytes s t (OfShape f n has e) (OfBytes two) = absurd (refused_no_value Batch bytes t (IsLeastFault f) two has)
-least_one law bytes s t (OfShape f n has e) (OfShape g m had d) =
-    e ∙ ap document_refusal (law.one_shape had.value f g n m (subst (IsLeastFault f) (one_value bytes has.value had.value has.document had.document) has.holds) had.holds) ∙ sym d
-least_one law bytes s t (OfShape f n has e) (OfNames g m had d) =
-    absurd (law.no_shape had.value f n (subst (IsLeastFault f) (one_value bytes has.value had.value has.document had.document) has.holds) had.holds.shape)
-least_one law bytes s t (OfNames f n has e) (OfBytes two) = absurd (refused_no_value Batch bytes t _ two has)
-least_one law bytes s t (OfNames f n has e) (OfShape g m had d) =
-    absurd (law.no_shape has.value g m (subst (IsLeastFault g) (one_value bytes had.value has.value had.document has.document) had.holds) has.holds.shape)
-least_one law bytes s t (OfNames f n has e) (OfNames g m had d) =
+least_one law bytes s t (OfBytes one) (OfShape g has d) = absurd (refused_no_value Batch bytes s (IsLeastFault g) one has)
+least_one law bytes s t (OfBytes one) (OfNames g has d) = absurd (refused_no_value Batch bytes s _ one has)
+least_one law bytes s t (OfShape f has e) (OfBytes two) = absurd (refused_no_value Batch bytes t (IsLeastFault f) two has)
+least_one law bytes s t (OfShape f has e) (OfShape g had d) =
+    same_Some s t (sym e ∙ ap document_row (law.one_shape had.value f g (numbered_shape f s e) (numbered_shape g t d) (subst (IsLeastFault f) (one_value bytes has.value had.value has.document had.document) has.holds) had.holds) ∙ d)
+least_one law bytes s t (OfShape f has e) (OfNames g had d) =
+    absurd (law.no_shape had.value f (numbered_shape f s e) (subst (IsLeastFault f) (one_value bytes has.value had.value has.document had.document) has.holds) had.holds.shape)
+least_one law bytes s t (OfNames f has e) (OfBytes two) = absurd (refused_no_value Batch bytes t _ two has)
+least_one law bytes s t (OfNames f has e) (OfShape g had d) =
+    absurd (law.no_shape has.value g (numbered_shape g t d) (subst (IsLeastFault g) (one_value bytes had.value has.value had.document has.document) had.holds) has.holds.shape)
+least_one law bytes s t (OfNames f has e) (OfNames g had d) =
     let same = one_value bytes has.value had.value has.document had.document in
     let is_batch = subst (λ v. IsBatchOf v has.holds.batch) same has.holds.is_batch in
-    e ∙ ap names_refusal (law.one_name had.holds.batch f g n m (subst (RefusesNames f) (law.one_batch had.value _ _ is_batch had.holds.is_batch) has.holds.holds) had.holds.holds) ∙ sym d
+    same_Some s t (sym e ∙ ap check_row (law.one_name had.holds.batch f g (numbered_names f s e) (numbered_names g t d) (subst (RefusesNames f) (law.one_batch had.value _ _ is_batch had.holds.is_batch) has.holds.holds) had.holds.holds) ∙ d)
 
-least_not : AreFunctional → (bytes : List ℕ) (P : List Record → Type 0) (refusal : Refusal) → IsLeast bytes refusal → Accepts bytes P → ⊥
+least_not : AreFunctional → (bytes : List ℕ) (P : List Record → Type 0) (refusal : Printed) → IsLeast bytes refusal → Accepts bytes P → ⊥
 least_not law bytes P refusal (OfBytes one) is =
-    no_value bytes one.fault is.value (cause bytes one.fault one.numbered one.refuses) is.document
-least_not law bytes P refusal (OfShape f n has e) is =
-    law.no_shape is.value f n (subst (IsLeastFault f) (one_value bytes has.value is.value has.document is.document) has.holds) is.shape
-least_not law bytes P refusal (OfNames f n has e) is =
+    no_value bytes one.fault is.value (bytes_cause Batch bytes refusal one) is.document
+least_not law bytes P refusal (OfShape f has e) is =
+    law.no_shape is.value f (numbered_shape f refusal e) (subst (IsLeastFault f) (one_value bytes has.value is.value has.document is.document) has.holds) is.shape
+least_not law bytes P refusal (OfNames f has e) is =
     let same = one_value bytes has.value is.value has.document is.document in
     let is_batch = subst (λ v. IsBatchOf v has.holds.batch) same has.holds.is_batch in
-    law.no_name is.batch f n (subst (RefusesNames f) (law.one_batch is.value _ _ is_batch is.is_batch) has.holds.holds) is.names
+    law.no_name is.batch f (numbered_names f refusal e) (subst (RefusesNames f) (law.one_batch is.value _ _ is_batch is.is_batch) has.holds.holds) is.names
 
 -- two readings of a batch that is accepted have the same requests
 same_batch : AreFunctional → (bytes : List ℕ) (P Q : List Record → Type 0) → (one : Accepts bytes P) (two : Accepts bytes Q) → one.batch ≡ two.batch

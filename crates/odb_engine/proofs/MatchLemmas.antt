@@ -13,7 +13,7 @@ use Rattle.odb_engine.specs.declared.ending.Ended.TheVariants.{Refused}
 use Rattle.odb_engine.specs.declared.halt.Halt.{Halt}
 use Rattle.odb_engine.specs.Cascade.{line_of}
 use Rattle.odb_engine.specs.Halts.{Refuses, HaltsBy}
-use Rattle.odb_engine.specs.Matches.{IsLeastOfResponses, Lists, Matches, Misfits, match_refusal, responses_refusal, status_line, status_lines}
+use Rattle.odb_engine.specs.Matches.{IsLeastOfResponses, Lists, Matches, Misfits, status_line, status_lines}
 use Rattle.odb_engine.specs.Cascade.IsLeastOf.{OfValue}
 use Rattle.odb_engine.proofs.EngineLemmas.{reports, halted-by}
 
@@ -57,12 +57,12 @@ lines_left-none rs ss i past = none rs ss i past
 
 -- the response document has a fault
 pub halt-responses : (batch : List Record) (bytes : List ℕ) (fault : ResponseFault) (value : Data) → IsDocument bytes value → RefusesResponses fault value
-    → (halt : Halt) → HaltsBy (documents.IsNumbered fault) (responses_refusal fault) halt → Refuses (Matches batch bytes) halt
-halt-responses batch bytes fault value is_document least = halted-by (λ refusal. Matches batch bytes Refused (line_of refusal)) _ _
-    (λ numbered. inl (reports (IsLeastOfResponses bytes) (responses_refusal fault) (OfValue fault numbered (record { value = value; document = is_document; holds = least }) refl)))
+    → (halt : Halt) → HaltsBy (documents.responses_row fault) halt → Refuses (Matches batch bytes) halt
+halt-responses batch bytes fault value is_document least = halted-by (λ refusal. Matches batch bytes Refused (line_of refusal)) _
+    (λ refusal row. inl (reports (IsLeastOfResponses bytes) refusal (OfValue fault (record { value = value; document = is_document; holds = least }) row)))
 
 -- the responses do not fit the batch
 pub halt-match : (batch : List Record) (bytes : List ℕ) (entries : List Entry) (fault : MatchFault) → Lists bytes entries → RefusesMatch fault batch entries
-    → (halt : Halt) → HaltsBy (matches.IsNumbered fault) (match_refusal fault) halt → Refuses (Matches batch bytes) halt
-halt-match batch bytes entries fault lists least = halted-by (λ refusal. Matches batch bytes Refused (line_of refusal)) _ _
-    (λ numbered. inr (entries, lists, inl (reports (Misfits batch entries) (match_refusal fault) (record { fault = fault; numbered = numbered; least = least; is = refl }))))
+    → (halt : Halt) → HaltsBy (matches.match_row fault) halt → Refuses (Matches batch bytes) halt
+halt-match batch bytes entries fault lists least = halted-by (λ refusal. Matches batch bytes Refused (line_of refusal)) _
+    (λ refusal row. inr (entries, lists, inl (reports (Misfits batch entries) refusal (record { fault = fault; least = least; is = row }))))

@@ -20,7 +20,9 @@ use Rattle.odb_sched.specs.declared.fault.ExecFault.{ExecFault}
 use Rattle.odb_sched.specs.declared.fault.ExecFault.TheVariants as fault
 use Rattle.odb_sched.specs.Answers.{answer, answer_of, outcome_of, reported}
 use Rattle.odb_sched.specs.Courses.{Allowance, IsDue, IsCausedBy}
-use Rattle.odb_sched.specs.ExecFaults.{IsNumbered}
+use Rattle.odb_sched.specs.ExecFaults.{exec_row}
+use Rattle.odb_doc.specs.Refusals.{Printed}
+use Rattle.std.proofs.lemmas.Option.{same_Some}
 use Rattle.odb_sched.specs.Recordings.{outcome_for, recorded_for, offered, OffersRecorded}
 use Rattle.odb_sched.specs.State.{State, phase_at, at_first}
 use Rattle.odb_sched.specs.Statuses.{is_status, is_success}
@@ -29,7 +31,7 @@ use Rattle.odb_reply.specs.NotWhole.{HasWholeBody, HasWholeBodies}
 use Rattle.odb_reply.specs.Readable.{AnswersBy, IsReadable}
 use Rattle.odb_engine.specs.declared.ending.Ended.TheVariants.{Refused}
 use Rattle.odb_engine.specs.Cascade.{line_of}
-use Rattle.odb_engine.specs.Replays.{LacksOutcome, offers_of, execution_refusal}
+use Rattle.odb_engine.specs.Replays.{LacksOutcome, offers_of}
 
 -- what is recorded for an id is in an entry
 entry-for : (entries : List Recorded) (id : List ℕ) (outcome : Outcome) → outcome_for entries id ≡ Some outcome → (entry : Recorded) × Contains entries entry × (entry.1 ≡ outcome)
@@ -118,12 +120,12 @@ in_range : (status : ℕ) → 200 ≤ status → status ≤ 599 → is_status st
 in_range status low high = grind (arith, nat_tests)
 
 -- an execution by recorded outcomes fails only if an outcome is missing
-pub lacks-outcome : (allows : Allowance) (policy : Policy) (plan : Plan) (entries : List Recorded) (cause : ExecFault) → All IsSoundOutcome entries → IsNumbered cause
+pub lacks-outcome : (allows : Allowance) (policy : Policy) (plan : Plan) (entries : List Recorded) (cause : ExecFault) → All IsSoundOutcome entries
     → IsCausedBy (offers_of plan entries) (IsDue allows (offers_of plan entries) (at_first plan policy)) cause
-    → LacksOutcome allows policy plan entries Refused (line_of (execution_refusal cause))
-lacks-outcome allows policy plan entries (fault.NoOutcome i) sound numbered (due, none) = record { at = i; due = due; none = none; ends = refl; line = refl }
-lacks-outcome allows policy plan entries (fault.Service i) sound numbered (due, failed) = absurd (not_failed (get_or (recorded_for (plan_records plan) entries) i None) failed)
-lacks-outcome allows policy plan entries (fault.BadStatus i) sound numbered (due, (outcome, offer, bad)) =
+    → (refusal : Printed) → exec_row cause ≡ Some refusal → LacksOutcome allows policy plan entries Refused (line_of refusal)
+lacks-outcome allows policy plan entries (fault.NoOutcome i) sound (due, none) refusal row = record { at = i; due = due; none = none; ends = refl; line = ap line_of (same_Some _ _ (sym row)) }
+lacks-outcome allows policy plan entries (fault.Service i) sound (due, failed) refusal row = absurd (not_failed (get_or (recorded_for (plan_records plan) entries) i None) failed)
+lacks-outcome allows policy plan entries (fault.BadStatus i) sound (due, (outcome, offer, bad)) refusal row =
     let (entry, fit, same) = offered-entry IsSoundOutcome (plan_records plan) entries i outcome sound offer in
     absurd (both_ways _ bad (ap (λ o. is_status o.status) (sym same) ∙ in_range entry.1.status fit.low fit.high))
-lacks-outcome allows policy plan entries fault.OutOfMemory sound numbered none = absurd (numbered refl)
+lacks-outcome allows policy plan entries fault.OutOfMemory sound none refusal row = absurd (cc row)

@@ -2,6 +2,7 @@
 use Rattle.std.proofs.Common.{◌≡◌, ◌⊎◌, ◌∙◌, ℕ, zero, suc, ◌<◌, true, List, [], ◌∷◌, ◌++◌, length, slice_get, IsSomeAnd, Some, inl, inr, refl, sym, ap, subst}
 use Rattle.std.specs.List.{AllZip}
 use Rattle.std.proofs.lemmas.Bool.{cases_order, both_ways}
+use Rattle.std.proofs.lemmas.Option.{same_Some}
 use Rattle.odb_doc.specs.Events.{EventValue}
 use Rattle.odb_doc.specs.Events as named
 use Rattle.odb_doc.specs.Records.{Record}
@@ -24,10 +25,11 @@ use Rattle.odb_sched.specs.Runs.{IsRunFrom, RefusesEvent, Refuses, StopsAt, afte
 use Rattle.odb_sched.specs.State.{State, after, at_first}
 use Rattle.odb_sched.specs.Steps.{is_finished, may_come}
 use Rattle.odb_engine.specs.declared.ending.Ended.{Ended}
-use Rattle.odb_engine.specs.Cascade.{Refusal, line_of}
+use Rattle.odb_doc.specs.Refusals.{Printed}
+use Rattle.odb_engine.specs.Cascade.{line_of}
 use Rattle.odb_engine.specs.Laws.{IsOne}
 use Rattle.odb_engine.specs.Lines.{response_line}
-use Rattle.odb_engine.specs.Runs.{AreResolved, IsLeastOfRun, IsResult, RunsPlan, end_of, resolve_refusal, run_refusal}
+use Rattle.odb_engine.specs.Runs.{AreResolved, IsLeastOfRun, IsResult, RunsPlan, end_of}
 use Rattle.odb_engine.specs.Runs.IsLeastOfRun.{OfIds, OfEvent, OfEnd}
 
 -- ---- events by positions
@@ -120,13 +122,13 @@ module _ (causes : HaveOneCause) (policy : Policy) (plan : Plan) (good : HasGood
   same-events : (es fs : List Event) → AreResolved plan ns es → AreResolved plan ns fs → es ≡ fs
   same-events es fs a b = one-list (plan_records plan) good ns es fs a b
 
-  one-least : (a b : Refusal) → IsLeastOfRun policy plan ns a → IsLeastOfRun policy plan ns b → a ≡ b
-  one-least a b (OfIds i x same) (OfIds j y equal) = same ∙ ap (λ fault. resolve_refusal fault) (one-unknown causes (plan_records plan) ns i j x y) ∙ sym equal
+  one-least : (a b : Printed) → IsLeastOfRun policy plan ns a → IsLeastOfRun policy plan ns b → a ≡ b
+  one-least a b (OfIds i x same) (OfIds j y equal) = same_Some a b (sym same ∙ ap resolving.resolve_row (one-unknown causes (plan_records plan) ns i j x y) ∙ equal)
   one-least a b (OfIds i x same) (OfEvent fs d r y equal) = absurd (not-unknown (plan_records plan) ns fs i r x.unknown)
   one-least a b (OfIds i x same) (OfEnd fs r run barred equal) = absurd (not-unknown (plan_records plan) ns fs i r x.unknown)
   one-least a b (OfEvent es c q x same) (OfIds j y equal) = absurd (not-unknown (plan_records plan) ns es j q y.unknown)
   one-least a b (OfEvent es c q x same) (OfEvent fs d r y equal) =
-      same ∙ ap (λ k. run_refusal k) (one-halt causes first fs c d (subst (λ (l : List Event). StopsAt first l c) (same-events es fs q r) x) y) ∙ sym equal
+      same_Some a b (sym same ∙ ap refusals.run_row (one-halt causes first fs c d (subst (λ (l : List Event). StopsAt first l c) (same-events es fs q r) x) y) ∙ equal)
   one-least a b (OfEvent es c q x same) (OfEnd fs r run barred equal) =
       absurd (not-stopped first fs c (subst (λ (l : List Event). StopsAt first l c) (same-events es fs q r) x) run)
   one-least a b (OfEnd es q run barred same) (OfIds j y equal) = absurd (not-unknown (plan_records plan) ns es j q y.unknown)
@@ -134,7 +136,7 @@ module _ (causes : HaveOneCause) (policy : Policy) (plan : Plan) (good : HasGood
       absurd (not-stopped first es d (subst (λ (l : List Event). StopsAt first l d) (same-events fs es r q) y) run)
   one-least a b (OfEnd es q run barred same) (OfEnd fs r walk closed equal) = same ∙ sym equal
 
-  not-least : (a : Refusal) (ended : Ended) (text : List ℕ) → IsLeastOfRun policy plan ns a → IsResult policy plan ns ended text → ⊥
+  not-least : (a : Printed) (ended : Ended) (text : List ℕ) → IsLeastOfRun policy plan ns a → IsResult policy plan ns ended text → ⊥
   not-least a ended text (OfIds i x same) y = not-unknown (plan_records plan) ns y.events i y.resolved x.unknown
   not-least a ended text (OfEvent es c q x same) y = not-stopped first y.events c (subst (λ (l : List Event). StopsAt first l c) (same-events es y.events q y.resolved) x) y.run
   not-least a ended text (OfEnd es q run barred same) y =

@@ -1,5 +1,5 @@
 -- Runs by recorded events: what is reported was recorded.
-use Rattle.std.proofs.Common.{ℕ, zero, suc, Bool, true, false, not, ◌&&◌, get_or, List, [], ◌∷◌, All, Option, Some, None, IfSome, if◌then◌else◌, refl, sym, subst}
+use Rattle.std.proofs.Common.{◌≡◌, ℕ, zero, suc, Bool, true, false, not, ◌&&◌, get_or, List, [], ◌∷◌, All, Option, Some, None, IfSome, if◌then◌else◌, refl, sym, subst}
 use Rattle.std.specs.List.{AllZip}
 use Rattle.std.proofs.lemmas.List.Elements.{All-nil, All-cons, All-head, All-tail, All-set, All-replicate}
 use Rattle.odb_doc.specs.declared.outcome.Outcome.{Outcome}
@@ -20,6 +20,7 @@ use Rattle.odb_sched.specs.declared.refusal.RunRefusal.TheVariants as refusal
 use Rattle.odb_sched.specs.declared.resolving.ResolveFault.{ResolveFault}
 use Rattle.odb_sched.specs.declared.resolving.ResolveFault.TheVariants as fault
 use Rattle.odb_sched.specs.Answers.{answer, answer_of, outcome_of}
+use Rattle.odb_doc.specs.Refusals.{Printed}
 use Rattle.odb_sched.specs.Refusals as refusals
 use Rattle.odb_sched.specs.ResolveFaults as ids
 use Rattle.odb_sched.specs.Resolving.{IsResolved, RefusesNamed}
@@ -29,7 +30,7 @@ use Rattle.odb_sched.specs.Statuses.{is_success}
 use Rattle.odb_sched.specs.Steps.{unit_succeeded}
 use Rattle.odb_reply.specs.NotWhole.{HasWholeBody, HasWholeBodies}
 use Rattle.odb_reply.specs.Readable.{AnswersBy, IsReadable}
-use Rattle.odb_engine.specs.Runs.{AreResolved, IsLeastOfRun, end_of, resolve_refusal, run_refusal}
+use Rattle.odb_engine.specs.Runs.{AreResolved, IsLeastOfRun, end_of}
 use Rattle.odb_engine.specs.Runs.IsLeastOfRun.{OfIds, OfEvent}
 
 at-or : {X : Type 0} (P : X → Type 0) (xs : List X) (i : ℕ) (d : X) → P d → All P xs → P (get_or xs i d)
@@ -117,14 +118,14 @@ readable-answers policy plan recorded events is sound can i outcome within answe
     (on-answers IsReadable policy plan recorded events is (λ k d less. readable-named (get_or recorded k d) (sound k d less) (can k d less)) i)
 
 -- an event that names no request
-pub unknown-event : (policy : Policy) (plan : Plan) (recorded : List EventValue) (cause : ResolveFault) → RefusesNamed cause (plan_records plan) recorded → ids.IsNumbered cause
-    → IsLeastOfRun policy plan recorded (resolve_refusal cause)
-unknown-event policy plan recorded (fault.UnknownEvent at) first numbered = OfIds at first refl
-unknown-event policy plan recorded fault.OutOfMemory first numbered = absurd (numbered refl)
+pub unknown-event : (policy : Policy) (plan : Plan) (recorded : List EventValue) (cause : ResolveFault) → RefusesNamed cause (plan_records plan) recorded
+    → (shown : Printed) → ids.resolve_row cause ≡ Some shown → IsLeastOfRun policy plan recorded shown
+unknown-event policy plan recorded (fault.UnknownEvent at) first shown row = OfIds at first row
+unknown-event policy plan recorded fault.OutOfMemory first shown row = absurd (cc row)
 
 -- an event that may not come
 pub barred-event : (policy : Policy) (plan : Plan) (recorded : List EventValue) (events : List Event) (cause : RunRefusal) → AreResolved plan recorded events
-    → Refuses (at_first plan policy) events cause → refusals.IsNumbered cause → IsLeastOfRun policy plan recorded (run_refusal cause)
-barred-event policy plan recorded events (refusal.Start at cause) resolved stops numbered = OfEvent events (refusal.Start at cause) resolved stops refl
-barred-event policy plan recorded events (refusal.Report at cause) resolved stops numbered = OfEvent events (refusal.Report at cause) resolved stops refl
-barred-event policy plan recorded events refusal.OutOfMemory resolved stops numbered = absurd (numbered refl)
+    → Refuses (at_first plan policy) events cause → (shown : Printed) → refusals.run_row cause ≡ Some shown → IsLeastOfRun policy plan recorded shown
+barred-event policy plan recorded events (refusal.Start at cause) resolved stops shown row = OfEvent events (refusal.Start at cause) resolved stops row
+barred-event policy plan recorded events (refusal.Report at cause) resolved stops shown row = OfEvent events (refusal.Report at cause) resolved stops row
+barred-event policy plan recorded events refusal.OutOfMemory resolved stops shown row = absurd (cc row)

@@ -3,6 +3,7 @@ use Rattle.std.proofs.Common.{◌≡◌, ◌↔◌, ◌∙◌, ℕ, false, List,
 use Rattle.std.specs.List.{AllZip}
 use Rattle.odb_doc.specs.declared.fault.Place.TheVariants as places
 use Rattle.odb_doc.specs.EventFaults as documents
+use Rattle.odb_doc.specs.declared.event_fault.EventFault.TheVariants as event_faults
 use Rattle.odb_doc.specs.Events.{EventValue, AreEventsOf}
 use Rattle.odb_doc.specs.LeastEventFault.{IsEventsDocument, RefusesEvents}
 use Rattle.odb_doc.specs.Records.{Record}
@@ -28,13 +29,14 @@ use Rattle.odb_sched.specs.Steps.{is_finished, may_come}
 use Rattle.odb_reply.specs.OnePerId.{HasOnePerId}
 use Rattle.odb_reply.specs.Responses.{response_value}
 use Rattle.odb_engine.specs.declared.ending.Ended.{Ended}
-use Rattle.odb_engine.specs.Cascade.{Refusal}
+use Rattle.odb_doc.specs.Refusals.{Printed}
 use Rattle.odb_engine.specs.Laws.{IsOne}
 use Rattle.odb_engine.specs.Lines.{response_line}
-use Rattle.odb_engine.specs.Runs.{AreResolved, IsLeastOfRun, IsResult, Runs, RunsBatch, RunsBy, RunsPlan, end_of, events_refusal}
+use Rattle.odb_engine.specs.Runs.{AreResolved, IsLeastOfRun, IsResult, Runs, RunsBatch, RunsBy, RunsPlan, end_of}
 use Rattle.odb_engine.specs.Runs.IsLeastOfRun.{OfIds, OfEvent, OfEnd}
 use Rattle.odb_engine.proofs.PlanLemmas.{read_again-plan, with_plan, IsRunFrom-plan, after_all-plan, at_first-plan, plan-kept, response_value-plan, result_text-plan}
 use Rattle.odb_engine.proofs.RunLawLemmas.{HaveOneCause, one-run}
+use Rattle.odb_engine.proofs.EngineLemmas.{has-row}
 use Rattle.odb_engine.proofs.SecondLemmas.{IsOneKind, second_one, some_document_one}
 
 module _ (policy : Policy) (plan other : Plan) (same : plan_records plan ≡ plan_records other) (ns : List EventValue) where
@@ -89,7 +91,7 @@ module _ (policy : Policy) (plan other : Plan) (same : plan_records plan ≡ pla
   resolved-plan : (events : List Event) → AreResolved other ns events → AreResolved plan ns events
   resolved-plan events = subst (λ (rs : List Record). AllZip (IsResolved rs) ns events) (sym same)
 
-  least-plan : (a : Refusal) → IsLeastOfRun policy other ns a → IsLeastOfRun policy plan ns a
+  least-plan : (a : Printed) → IsLeastOfRun policy other ns a → IsLeastOfRun policy plan ns a
   least-plan a (OfIds i x is) = OfIds i (subst (λ (rs : List Record). IsFirstUnknown rs ns i) (sym same) x) is
   least-plan a (OfEvent events cause resolved x is) = OfEvent events cause (resolved-plan events resolved) (stops-plan events cause x) is
   least-plan a (OfEnd events resolved run unfinished is) =
@@ -133,5 +135,6 @@ runs_one causes law policy events batch good = some_document_one events (RunsBat
     one : (bytes : List ℕ) → IsOne (RunsBatch policy batch bytes)
     one bytes a b s t (plan, same, x) (other, equal, y) =
         let names = subst HasGoodNames (sym equal) good in
-        second_one places.Events documents.IsNumbered RefusesEvents events_refusal IsEventsDocument AreEventsOf law bytes (RunsPlan policy other) (one-run causes policy other names) a b s t
+        second_one places.Events documents.IsNumbered RefusesEvents documents.event_row IsEventsDocument AreEventsOf
+        (λ fault refusal is. has-row documents.event_row event_faults.OutOfMemory fault refusal refl is) law bytes (RunsPlan policy other) (one-run causes policy other names) a b s t
         (runs-by policy other plan (equal ∙ sym same) bytes a s x) y

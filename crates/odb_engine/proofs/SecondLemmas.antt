@@ -1,10 +1,12 @@
 -- A reader gives one document, and a second document has one least fault or one reading: so what is written by it is one text.
-use Rattle.std.proofs.Common.{◌≡◌, ◌⊎◌, ◌∙◌, ℕ, ◌<◌, List, length, take, Some, inl, inr, sym, ap, subst, arith, length-append}
+use Rattle.std.proofs.Common.{◌≡◌, ◌⊎◌, ◌∙◌, ℕ, ◌<◌, List, length, take, Option, Some, inl, inr, sym, ap, subst, arith, length-append}
 use Rattle.std.proofs.lemmas.Bool.{cases_order}
+use Rattle.std.proofs.lemmas.Option.{same_Some}
 use Rattle.std.proofs.Math.Seq.{take-append_seam}
 use Rattle.serde_json.specs.Data.{Data}
 use Rattle.odb_doc.specs.declared.fault.Place.{Place}
-use Rattle.odb_engine.specs.Cascade.{Writes, Refusal, HasValue, IsLeastOf, Reports, line_of}
+use Rattle.odb_doc.specs.Refusals.{Printed}
+use Rattle.odb_engine.specs.Cascade.{Writes, HasValue, IsLeastOf, Reports, line_of}
 use Rattle.odb_engine.specs.Cascade.IsLeastOf.{OfBytes, OfValue}
 use Rattle.odb_engine.specs.Inputs.{IsDocumentOf, SomeDocument}
 use Rattle.odb_engine.specs.Laws.{IsOne}
@@ -37,24 +39,24 @@ pub record IsOneKind {F X : Type 0} (IsNumbered : F → Type 0) (Refuses : F →
   pub no_fault : (value : Data) (fault : F) → IsNumbered fault → Refuses fault value → ¬ IsGood value
   pub one_reading : (value : Data) (x y : X) → Reads value x → Reads value y → x ≡ y
 
-module _ {F X : Type 0} (place : Place) (IsNumbered : F → Type 0) (Refuses : F → Data → Type 0) (shown : F → Refusal) (IsGood : Data → Type 0) (Reads : Data → X → Type 0) (law : IsOneKind IsNumbered Refuses IsGood Reads) where
-  abbrev IsFaulty : List ℕ → Refusal → Type 0
-  IsFaulty = IsLeastOf place IsNumbered Refuses shown
+module _ {F X : Type 0} (place : Place) (IsNumbered : F → Type 0) (Refuses : F → Data → Type 0) (row : F → Option Printed) (IsGood : Data → Type 0) (Reads : Data → X → Type 0) (numbered : (fault : F) (refusal : Printed) → row fault ≡ Some refusal → IsNumbered fault) (law : IsOneKind IsNumbered Refuses IsGood Reads) where
+  abbrev IsFaulty : List ℕ → Printed → Type 0
+  IsFaulty = IsLeastOf place Refuses row
 
   abbrev IsReadAs : List ℕ → X → Type 0
   IsReadAs bytes x = HasValue bytes (λ value. IsGood value × Reads value x)
 
-  least_one : (bytes : List ℕ) (s t : Refusal) → IsFaulty bytes s → IsFaulty bytes t → s ≡ t
+  least_one : (bytes : List ℕ) (s t : Printed) → IsFaulty bytes s → IsFaulty bytes t → s ≡ t
   least_one bytes s t (OfBytes one) (OfBytes two) = one_refusal place bytes s t one two
-  least_one bytes s t (OfBytes one) (OfValue g m has d) = absurd (refused_no_value place bytes s (Refuses g) one has)
-  least_one bytes s t (OfValue f n has e) (OfBytes two) = absurd (refused_no_value place bytes t (Refuses f) two has)
-  least_one bytes s t (OfValue f n has e) (OfValue g m had d) =
-      e ∙ ap shown (law.one_fault had.value f g n m (subst (Refuses f) (one_value bytes has.value had.value has.document had.document) has.holds) had.holds) ∙ sym d
+  least_one bytes s t (OfBytes one) (OfValue g has d) = absurd (refused_no_value place bytes s (Refuses g) one has)
+  least_one bytes s t (OfValue f has e) (OfBytes two) = absurd (refused_no_value place bytes t (Refuses f) two has)
+  least_one bytes s t (OfValue f has e) (OfValue g had d) =
+      same_Some s t (sym e ∙ ap row (law.one_fault had.value f g (numbered f s e) (numbered g t d) (subst (Refuses f) (one_value bytes has.value had.value has.document had.document) has.holds) had.holds) ∙ d)
 
-  least_not : (bytes : List ℕ) (x : X) (refusal : Refusal) → IsFaulty bytes refusal → ¬ IsReadAs bytes x
+  least_not : (bytes : List ℕ) (x : X) (refusal : Printed) → IsFaulty bytes refusal → ¬ IsReadAs bytes x
   least_not bytes x refusal (OfBytes one) is = refused_no_value place bytes refusal _ one is
-  least_not bytes x refusal (OfValue f n has e) is =
-      law.no_fault is.value f n (subst (Refuses f) (one_value bytes has.value is.value has.document is.document) has.holds) is.holds.0
+  least_not bytes x refusal (OfValue f has e) is =
+      law.no_fault is.value f (numbered f refusal e) (subst (Refuses f) (one_value bytes has.value is.value has.document is.document) has.holds) is.holds.0
 
   one_reading : (bytes : List ℕ) (x y : X) → IsReadAs bytes x → IsReadAs bytes y → x ≡ y
   one_reading bytes x y one two =

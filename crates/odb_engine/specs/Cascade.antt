@@ -1,15 +1,16 @@
 -- What is written of a batch document: the line of its least fault, or what a command prints of its requests.
-use Rattle.std.specs.Prelude.{◌≡◌, ◌⊎◌, ℕ, List}
+use Rattle.std.specs.Prelude.{◌≡◌, ◌⊎◌, ℕ, List, Option, Some, option_map}
 use Rattle.serde_json.specs.Data.{Data}
 use Rattle.odb_doc.specs.declared.fault.Place.{Place}
 use Rattle.odb_doc.specs.declared.fault.Place.TheVariants.{Batch}
 use Rattle.odb_doc.specs.declared.fault.DocFault.{DocFault}
 use Rattle.odb_doc.specs.Documents.{IsDocument, RefusesDocument}
-use Rattle.odb_doc.specs.FaultTable as document
+use Rattle.odb_doc.specs.Faults.{document_row}
+use Rattle.odb_doc.specs.Refusals.{Printed}
 use Rattle.odb_doc.specs.LeastFault.{IsWellShaped, IsLeastFault}
 use Rattle.odb_doc.specs.Records.{Record, IsBatchOf}
 use Rattle.odb_check.specs.declared.fault.CheckFault.{CheckFault}
-use Rattle.odb_check.specs.FaultTable as names
+use Rattle.odb_check.specs.FaultTable.{check_row}
 use Rattle.odb_check.specs.LeastNameFault.{HasGoodNames, RefusesNames}
 use Rattle.odb_engine.specs.declared.ending.Ended.{Ended}
 use Rattle.odb_engine.specs.declared.ending.Ended.TheVariants.{Done, Refused}
@@ -23,27 +24,18 @@ Writes = Ended → List ℕ → Type 0
 abbrev pub Prints : List ℕ → Writes
 Prints text ended written = (ended ≡ Done) × (written ≡ text)
 
--- what is reported of a fault: its code, its name and its place
-pub record Refusal : Type 0 where
-  pub code : List ℕ
-  pub name : List ℕ
-  pub place : Place
-
-abbrev pub line_of : Refusal → List ℕ
+abbrev pub line_of : Printed → List ℕ
 line_of refusal = fault_line refusal.code refusal.name refusal.place
 
-abbrev pub document_refusal : DocFault → Refusal
-document_refusal fault = record { code = document.fault_code fault; name = document.fault_name fault; place = document.fault_place fault }
-
-abbrev pub names_refusal : CheckFault → Refusal
-names_refusal fault = record { code = names.fault_code fault; name = names.fault_name fault; place = names.fault_place fault }
+-- what is printed of a fault in another document than that of its row
+abbrev pub at_place : Place → Printed → Printed
+at_place place refusal = record { code = refusal.code; name = refusal.name; place = place }
 
 -- the bytes of the document at this place have this refusal
-pub record RefusesBytes (place : Place) (bytes : List ℕ) (refusal : Refusal) : Type 0 where
+pub record RefusesBytes (place : Place) (bytes : List ℕ) (refusal : Printed) : Type 0 where
   pub fault : DocFault
-  pub numbered : document.IsNumbered fault
   pub refuses : RefusesDocument fault bytes
-  pub is : refusal ≡ record { code = document.fault_code fault; name = document.fault_name fault; place = place }
+  pub is : option_map (at_place place) (document_row fault) ≡ Some refusal
 
 -- the bytes are a document whose value has this property
 pub record HasValue (bytes : List ℕ) (P : Data → Type 0) : Type 0 where
@@ -52,10 +44,10 @@ pub record HasValue (bytes : List ℕ) (P : Data → Type 0) : Type 0 where
   pub holds : P value
 
 -- The least fault of a document: of its bytes, with this place, or else of its value. `Refuses` says which fault a value
--- has, and `shown` what is reported of it.
-pub data IsLeastOf {F : Type 0} (place : Place) (IsNumbered : F → Type 0) (Refuses : F → Data → Type 0) (shown : F → Refusal) (bytes : List ℕ) (refusal : Refusal) : Type 0 where
-  OfBytes : RefusesBytes place bytes refusal → IsLeastOf place IsNumbered Refuses shown bytes refusal
-  OfValue : (fault : F) → IsNumbered fault → HasValue bytes (Refuses fault) → refusal ≡ shown fault → IsLeastOf place IsNumbered Refuses shown bytes refusal
+-- has, and `row` what is printed of it.
+pub data IsLeastOf {F : Type 0} (place : Place) (Refuses : F → Data → Type 0) (row : F → Option Printed) (bytes : List ℕ) (refusal : Printed) : Type 0 where
+  OfBytes : RefusesBytes place bytes refusal → IsLeastOf place Refuses row bytes refusal
+  OfValue : (fault : F) → HasValue bytes (Refuses fault) → row fault ≡ Some refusal → IsLeastOf place Refuses row bytes refusal
 
 -- the value has no fault of shape, and its requests have this property
 pub record HasBatch (value : Data) (P : List Record → Type 0) : Type 0 where
@@ -65,10 +57,10 @@ pub record HasBatch (value : Data) (P : List Record → Type 0) : Type 0 where
   pub holds : P batch
 
 -- The least fault of a batch document: of its bytes, or else of the shape of its value, or else of the names of its requests.
-pub data IsLeast (bytes : List ℕ) (refusal : Refusal) : Type 0 where
+pub data IsLeast (bytes : List ℕ) (refusal : Printed) : Type 0 where
   OfBytes : RefusesBytes Batch bytes refusal → IsLeast bytes refusal
-  OfShape : (fault : DocFault) → document.IsNumbered fault → HasValue bytes (IsLeastFault fault) → refusal ≡ document_refusal fault → IsLeast bytes refusal
-  OfNames : (fault : CheckFault) → names.IsNumbered fault → HasValue bytes (λ value. HasBatch value (RefusesNames fault)) → refusal ≡ names_refusal fault → IsLeast bytes refusal
+  OfShape : (fault : DocFault) → HasValue bytes (IsLeastFault fault) → document_row fault ≡ Some refusal → IsLeast bytes refusal
+  OfNames : (fault : CheckFault) → HasValue bytes (λ value. HasBatch value (RefusesNames fault)) → check_row fault ≡ Some refusal → IsLeast bytes refusal
 
 -- the bytes are a batch that the check accepts, and its requests have this property
 pub record Accepts (bytes : List ℕ) (P : List Record → Type 0) : Type 0 where
@@ -81,8 +73,8 @@ pub record Accepts (bytes : List ℕ) (P : List Record → Type 0) : Type 0 wher
   pub holds : P batch
 
 -- the line of such a fault
-pub record Reports (Is : Refusal → Type 0) (ended : Ended) (text : List ℕ) : Type 0 where
-  pub refusal : Refusal
+pub record Reports (Is : Printed → Type 0) (ended : Ended) (text : List ℕ) : Type 0 where
+  pub refusal : Printed
   pub is : Is refusal
   pub ends : ended ≡ Refused
   pub line : text ≡ line_of refusal

@@ -1,13 +1,13 @@
 -- What each command prints of the requests of a batch that is accepted.
-use Rattle.std.specs.Prelude.{◌≡◌, ◌++◌, ◌∷◌, ◌⊎◌, ℕ, List, [], Option, length}
-use Rattle.odb_doc.specs.declared.fault.TextFault.{TextFault}
+use Rattle.std.specs.Prelude.{◌≡◌, ◌++◌, ◌∷◌, ◌⊎◌, ℕ, List, [], Option, Some, length}
 use Rattle.odb_doc.specs.declared.fault.TextFault.TheVariants.{NotWhole}
 use Rattle.odb_doc.specs.Canonical.{HasWholeBodies, IsFirstNotWhole, canonical_text}
 use Rattle.odb_doc.specs.Records.{Record}
-use Rattle.odb_doc.specs.TextFaults as texts
+use Rattle.odb_doc.specs.Faults.{text_row}
 use Rattle.odb_check.specs.Groups.{groups_of}
 use Rattle.odb_check.specs.Texts.{plan_text}
-use Rattle.odb_engine.specs.Cascade.{Writes, Prints, Refusal, Reports}
+use Rattle.odb_doc.specs.Refusals.{Printed}
+use Rattle.odb_engine.specs.Cascade.{Writes, Prints, Reports}
 use Rattle.odb_engine.specs.Inputs.{SomeDocument}
 use Rattle.odb_check.specs.Texts.{newline}
 use Rattle.odb_engine.specs.Lines.{accepted_line}
@@ -24,14 +24,11 @@ Plans batch = Prints (plan_text batch)
 abbrev pub BySecond : Option (List ℕ) → (List Record → List ℕ → Writes) → List Record → Writes
 BySecond left P batch ended text = SomeDocument left (λ bytes. P batch bytes ended text)
 
-abbrev pub text_refusal : TextFault → Refusal
-text_refusal fault = record { code = texts.fault_code fault; name = texts.fault_name fault; place = texts.fault_place fault }
-
 -- the first request whose body holds a number that is not whole is reported
-pub record IsNotWhole (batch : List Record) (refusal : Refusal) : Type 0 where
+pub record IsNotWhole (batch : List Record) (refusal : Printed) : Type 0 where
   pub at : ℕ
   pub first : IsFirstNotWhole batch at
-  pub is : refusal ≡ text_refusal (NotWhole at)
+  pub is : text_row (NotWhole at) ≡ Some refusal
 
 -- the canonical text, if it exists
 abbrev pub Canonical : List Record → Writes

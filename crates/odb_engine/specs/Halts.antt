@@ -1,12 +1,11 @@
 -- For private clauses: why an engine halts before it writes, and what it writes of what it found.
-use Rattle.std.specs.Prelude.{◌≡◌, ◌≢◌, ◌↔◌, List, ℕ, Option, Result, Ok, Err, IsTrue, OnOk, OnErr, String, string_bytes}
+use Rattle.std.specs.Prelude.{◌≡◌, ◌≢◌, ◌↔◌, List, ℕ, Option, Some, None, Result, Ok, Err, IsTrue, OnOk, OnErr, String, string_bytes}
 use Rattle.std.specs.declared.alloc.Global.{Global}
 use Rattle.std.specs.Io.KnownBytes.{Appends}
-use Rattle.odb_doc.specs.Devices.{Writing}
-use Rattle.odb_doc.specs.Devices.{AppendsPrefix}
+use Rattle.odb_doc.specs.Devices.{AppendsPrefix, Writing}
 use Rattle.odb_doc.specs.Records.{Record}
 use Rattle.odb_check.specs.declared.fault.CheckFault.{CheckFault}
-use Rattle.odb_check.specs.FaultTable as names
+use Rattle.odb_check.specs.FaultTable.{check_row}
 use Rattle.odb_check.specs.LeastNameFault.{RefusesNames}
 use Rattle.odb_engine.specs.declared.ending.Ended.{Ended}
 use Rattle.odb_engine.specs.declared.ending.Ended.TheVariants.{Done, Refused}
@@ -16,12 +15,14 @@ use Rattle.odb_engine.specs.declared.halt.Halt.{Halt}
 use Rattle.odb_engine.specs.declared.halt.Halt.TheVariants as halts
 use Rattle.odb_engine.specs.declared.input.ReadFault.{ReadFault}
 use Rattle.odb_engine.specs.declared.input.ReadFault.TheVariants as reads
-use Rattle.odb_engine.specs.Cascade.{Writes, Prints, Refusal, line_of, names_refusal}
+use Rattle.odb_doc.specs.Refusals.{Printed}
+use Rattle.odb_doc.specs.Refusals as refusals
+use Rattle.odb_engine.specs.Cascade.{Writes, Prints, line_of}
 use Rattle.odb_engine.specs.Engines.{Ends}
 
 -- a halt by a fault is one by such a fault
-abbrev pub Halted : (Refusal → Type 0) → Halt → Type 0
-Halted Is (halts.Refused code name place) = Is (record { code = code.now; name = name.now; place = place })
+abbrev pub Halted : (Printed → Type 0) → Halt → Type 0
+Halted Is (halts.Refused refusal) = Is (refusals.printed refusal)
 Halted Is halts.Read = Unit {0}
 Halted Is halts.OutOfMemory = Unit {0}
 
@@ -49,23 +50,22 @@ pub record Sends {W : Type 0} (contents : W → Option (List ℕ)) (text : List 
 -- what is written of what was found
 abbrev pub text_found : Result (String Global) Halt → Writes
 text_found (Ok found) ended text = Prints (string_bytes found) ended text
-text_found (Err (halts.Refused code name place)) ended text = (ended ≡ Refused) × (text ≡ line_of (record { code = code.now; name = name.now; place = place }))
+text_found (Err (halts.Refused refusal)) ended text = (ended ≡ Refused) × (text ≡ line_of (refusals.printed refusal))
 text_found (Err halts.Read) ended text = ⊥
 text_found (Err halts.OutOfMemory) ended text = ⊥
 
--- the halt is by this fault if the fault is numbered, and else out of memory
-abbrev pub HaltsBy : Type 0 → Refusal → Halt → Type 0
-HaltsBy Numbered refusal (halts.Refused code name place) = Numbered × (refusal ≡ record { code = code.now; name = name.now; place = place })
-HaltsBy Numbered refusal halts.Read = ⊥
-HaltsBy Numbered refusal halts.OutOfMemory = Unit {0}
+-- the halt of a fault with this row: it is refused if it has one, and else out of memory
+abbrev pub HaltsBy : Option Printed → Halt → Type 0
+HaltsBy row (halts.Refused refusal) = row ≡ Some (refusals.printed refusal)
+HaltsBy row halts.Read = ⊥
+HaltsBy row halts.OutOfMemory = row ≡ None
 
 abbrev pub halt_of : ReadFault → Halt
 halt_of reads.Read = halts.Read
 halt_of reads.OutOfMemory = halts.OutOfMemory
 
 -- the names of these requests have a fault
-pub record RefusesNamesOf (batch : List Record) (refusal : Refusal) : Type 0 where
+pub record RefusesNamesOf (batch : List Record) (refusal : Printed) : Type 0 where
   pub fault : CheckFault
-  pub numbered : names.IsNumbered fault
   pub refuses : RefusesNames fault batch
-  pub is : refusal ≡ names_refusal fault
+  pub is : check_row fault ≡ Some refusal

@@ -1,18 +1,18 @@
 -- What a match writes of a batch and of the response document of a service (OData JSON Format 4.01, section 19.5).
-use Rattle.std.specs.Prelude.{◌≡◌, ◌⊎◌, ℕ, List, [], ◌∷◌, ◌++◌, length, codes}
+use Rattle.std.specs.Prelude.{◌≡◌, ◌⊎◌, ℕ, List, [], ◌∷◌, ◌++◌, Some, length, codes}
 use Rattle.std.specs.Fmt.{decimal}
 use Rattle.std.specs.List.{AllZip}
 use Rattle.odb_doc.specs.declared.fault.Place.TheVariants as places
 use Rattle.odb_doc.specs.Records.{Record}
 use Rattle.odb_reply.specs.declared.match_fault.MatchFault.{MatchFault}
-use Rattle.odb_reply.specs.declared.response_fault.ResponseFault.{ResponseFault}
 use Rattle.odb_reply.specs.Fits.{Fits, IsTableOf}
 use Rattle.odb_reply.specs.LeastMatchFault.{RefusesMatch}
-use Rattle.odb_reply.specs.MatchFaults as matches
+use Rattle.odb_reply.specs.MatchFaults.{match_row}
 use Rattle.odb_reply.specs.ResponseDocuments.{Entry, IsResponseDocument, RefusesResponses, Says, responses_in}
-use Rattle.odb_reply.specs.ResponseFaults as documents
+use Rattle.odb_reply.specs.ResponseFaults.{responses_row}
 use Rattle.odb_engine.specs.declared.ending.Ended.{Ended}
-use Rattle.odb_engine.specs.Cascade.{Writes, Prints, Refusal, Reports, HasValue, IsLeastOf}
+use Rattle.odb_doc.specs.Refusals.{Printed}
+use Rattle.odb_engine.specs.Cascade.{Writes, Prints, Reports, HasValue, IsLeastOf}
 use Rattle.odb_check.specs.Texts.{newline}
 use Rattle.odb_engine.specs.Lines.{fit_line}
 
@@ -30,26 +30,19 @@ status_lines (r ∷ rs) (status ∷ statuses) = status_line r.id status ++ statu
 abbrev pub match_text : List Record → List ℕ → List ℕ
 match_text batch statuses = fit_line (length batch) ++ status_lines batch statuses
 
-abbrev pub responses_refusal : ResponseFault → Refusal
-responses_refusal fault = record { code = documents.fault_code fault; name = documents.fault_name fault; place = documents.fault_place fault }
-
-abbrev pub match_refusal : MatchFault → Refusal
-match_refusal fault = record { code = matches.fault_code fault; name = matches.fault_name fault; place = matches.fault_place fault }
-
 -- the first fault of a response document
-abbrev pub IsLeastOfResponses : List ℕ → Refusal → Type 0
-IsLeastOfResponses bytes refusal = IsLeastOf places.Responses documents.IsNumbered RefusesResponses responses_refusal bytes refusal
+abbrev pub IsLeastOfResponses : List ℕ → Printed → Type 0
+IsLeastOfResponses bytes refusal = IsLeastOf places.Responses RefusesResponses responses_row bytes refusal
 
 -- the bytes are a response document that lists these responses
 abbrev pub Lists : List ℕ → List Entry → Type 0
 Lists bytes entries = HasValue bytes (λ value. IsResponseDocument value × AllZip Says (responses_in value) entries)
 
 -- the responses do not fit the batch, and this is the least fault
-pub record Misfits (batch : List Record) (entries : List Entry) (refusal : Refusal) : Type 0 where
+pub record Misfits (batch : List Record) (entries : List Entry) (refusal : Printed) : Type 0 where
   pub fault : MatchFault
-  pub numbered : matches.IsNumbered fault
   pub least : RefusesMatch fault batch entries
-  pub is : refusal ≡ match_refusal fault
+  pub is : match_row fault ≡ Some refusal
 
 -- the responses fit the batch, and their statuses are printed
 pub record PrintsFit (batch : List Record) (entries : List Entry) (ended : Ended) (text : List ℕ) : Type 0 where

@@ -1,9 +1,8 @@
 -- What a run by recorded outcomes writes of a batch.
 use Rattle.std.specs.Prelude.{◌≡◌, ◌⊎◌, ℕ, Bool, List, [], ◌∷◌, ◌++◌, Option, All, Err, codes, if◌then◌else◌}
 use Rattle.odb_doc.specs.declared.fault.Place.TheVariants as places
-use Rattle.odb_doc.specs.declared.outcome_fault.OutcomeFault.{OutcomeFault}
 use Rattle.odb_doc.specs.LeastOutcomeFault.{IsOutcomesDocument, RefusesOutcomes}
-use Rattle.odb_doc.specs.OutcomeFaults as outcomes
+use Rattle.odb_doc.specs.OutcomeFaults.{outcome_row}
 use Rattle.odb_doc.specs.OutcomeValues.{IsRecordable}
 use Rattle.odb_doc.specs.Outcomes.{Recorded, AreOutcomesOf}
 use Rattle.odb_doc.specs.Records.{Record}
@@ -22,9 +21,8 @@ use Rattle.odb_engine.specs.declared.ending.Ended.{Ended}
 use Rattle.odb_engine.specs.declared.ending.Ended.TheVariants.{Done, Refused}
 use Rattle.odb_engine.specs.Lines.{response_line}
 use Rattle.odb_engine.specs.Traces.{trace_text}
-use Rattle.odb_engine.specs.Cascade.{Writes, Refusal, line_of, Reports, HasValue, IsLeastOf}
-use Rattle.odb_sched.specs.declared.fault.ExecFault.{ExecFault}
-use Rattle.odb_sched.specs.ExecFaults.{exec_code, exec_name, exec_place}
+use Rattle.odb_doc.specs.Refusals.{Printed}
+use Rattle.odb_engine.specs.Cascade.{Writes, line_of, Reports, HasValue, IsLeastOf}
 use Rattle.odb_engine.specs.Commands.{BySecond}
 use Rattle.odb_engine.specs.ReadAgain.{IsReadAgain}
 
@@ -65,15 +63,9 @@ pub record LacksOutcome (allows : Allowance) (policy : Policy) (plan : Plan) (en
 abbrev pub ReplaysPlan : Allowance → Policy → Bool → Plan → List Recorded → Writes
 ReplaysPlan allows policy traced plan entries ended text = IsResult allows policy traced plan entries ended text ⊎ LacksOutcome allows policy plan entries ended text
 
-abbrev pub outcomes_refusal : OutcomeFault → Refusal
-outcomes_refusal fault = record { code = outcomes.fault_code fault; name = outcomes.fault_name fault; place = outcomes.fault_place fault }
-
-abbrev pub execution_refusal : ExecFault → Refusal
-execution_refusal fault = record { code = exec_code fault; name = exec_name fault; place = exec_place fault }
-
 -- the least fault of an outcomes document
-abbrev pub IsLeastOfOutcomes : List ℕ → Refusal → Type 0
-IsLeastOfOutcomes bytes refusal = IsLeastOf places.Outcomes outcomes.IsNumbered RefusesOutcomes outcomes_refusal bytes refusal
+abbrev pub IsLeastOfOutcomes : List ℕ → Printed → Type 0
+IsLeastOfOutcomes bytes refusal = IsLeastOf places.Outcomes RefusesOutcomes outcome_row bytes refusal
 
 -- the bytes are a document of these outcomes
 abbrev pub IsRecordOf : List ℕ → List Recorded → Type 0

@@ -1,9 +1,8 @@
 -- What recorded events write of a batch: the response if every event may come and the run is finished.
-use Rattle.std.specs.Prelude.{◌≡◌, ◌⊎◌, ℕ, List, Option, All, true, false, codes}
+use Rattle.std.specs.Prelude.{◌≡◌, ◌⊎◌, ℕ, List, Option, Some, All, true, false, codes}
 use Rattle.std.specs.List.{AllZip}
 use Rattle.odb_doc.specs.declared.fault.Place.TheVariants as places
-use Rattle.odb_doc.specs.declared.event_fault.EventFault.{EventFault}
-use Rattle.odb_doc.specs.EventFaults as documents
+use Rattle.odb_doc.specs.EventFaults.{event_row}
 use Rattle.odb_doc.specs.Events.{EventValue, AreEventsOf, IsRecordableEvent}
 use Rattle.odb_doc.specs.LeastEventFault.{IsEventsDocument, RefusesEvents}
 use Rattle.odb_doc.specs.Records.{Record}
@@ -12,11 +11,10 @@ use Rattle.odb_check.specs.Plans.{plan_records}
 use Rattle.odb_sched.specs.declared.event.Event.{Event}
 use Rattle.odb_sched.specs.declared.policy.Policy.{Policy}
 use Rattle.odb_sched.specs.declared.refusal.RunRefusal.{RunRefusal}
-use Rattle.odb_sched.specs.declared.resolving.ResolveFault.{ResolveFault}
 use Rattle.odb_sched.specs.declared.resolving.ResolveFault.TheVariants.{UnknownEvent}
 use Rattle.odb_sched.specs.Laws.{StartsLast}
-use Rattle.odb_sched.specs.Refusals as events
-use Rattle.odb_sched.specs.ResolveFaults as ids
+use Rattle.odb_sched.specs.Refusals.{run_row}
+use Rattle.odb_sched.specs.ResolveFaults.{resolve_row}
 use Rattle.odb_sched.specs.Resolving.{IsResolved, IsFirstUnknown}
 use Rattle.odb_sched.specs.Runs.{IsRun, StopsAt, state_after}
 use Rattle.odb_sched.specs.State.{State, at_first}
@@ -25,27 +23,19 @@ use Rattle.odb_reply.specs.OnePerId.{HasOnePerId}
 use Rattle.odb_reply.specs.Responses.{response_value}
 use Rattle.odb_engine.specs.declared.ending.Ended.{Ended}
 use Rattle.odb_engine.specs.declared.ending.Ended.TheVariants.{Done}
-use Rattle.odb_engine.specs.Cascade.{Writes, Refusal, Reports, HasValue, IsLeastOf}
+use Rattle.odb_doc.specs.Refusals.{Printed}
+use Rattle.odb_engine.specs.Cascade.{Writes, Reports, HasValue, IsLeastOf}
 use Rattle.odb_engine.specs.Commands.{BySecond}
 use Rattle.odb_engine.specs.ReadAgain.{IsReadAgain}
 use Rattle.odb_engine.specs.Lines.{response_line}
 
-abbrev pub events_refusal : EventFault → Refusal
-events_refusal fault = record { code = documents.fault_code fault; name = documents.fault_name fault; place = documents.fault_place fault }
-
-abbrev pub resolve_refusal : ResolveFault → Refusal
-resolve_refusal fault = record { code = ids.fault_code fault; name = ids.fault_name fault; place = ids.fault_place fault }
-
-abbrev pub run_refusal : RunRefusal → Refusal
-run_refusal cause = record { code = events.run_code cause; name = events.run_name cause; place = events.run_place cause }
-
 -- F66
-abbrev pub unfinished : Refusal
+abbrev pub unfinished : Printed
 unfinished = record { code = codes "F66"; name = codes "Unfinished"; place = places.Events }
 
 -- the least fault of an events document
-abbrev pub IsLeastOfEvents : List ℕ → Refusal → Type 0
-IsLeastOfEvents bytes refusal = IsLeastOf places.Events documents.IsNumbered RefusesEvents events_refusal bytes refusal
+abbrev pub IsLeastOfEvents : List ℕ → Printed → Type 0
+IsLeastOfEvents bytes refusal = IsLeastOf places.Events RefusesEvents event_row bytes refusal
 
 -- the bytes are a document of these events
 abbrev pub AreEventsIn : List ℕ → List EventValue → Type 0
@@ -61,9 +51,9 @@ end_of policy plan events = state_after plan policy events
 
 -- The least fault of recorded events on a plan: the first that names no request; or else the first that may not come,
 -- with its first cause; or else that the run is not finished after all of them.
-pub data IsLeastOfRun (policy : Policy) (plan : Plan) (named : List EventValue) (refusal : Refusal) : Type 0 where
-  OfIds : (at : ℕ) → IsFirstUnknown (plan_records plan) named at → refusal ≡ resolve_refusal (UnknownEvent at) → IsLeastOfRun policy plan named refusal
-  OfEvent : (events : List Event) (cause : RunRefusal) → AreResolved plan named events → StopsAt (at_first plan policy) events cause → refusal ≡ run_refusal cause → IsLeastOfRun policy plan named refusal
+pub data IsLeastOfRun (policy : Policy) (plan : Plan) (named : List EventValue) (refusal : Printed) : Type 0 where
+  OfIds : (at : ℕ) → IsFirstUnknown (plan_records plan) named at → resolve_row (UnknownEvent at) ≡ Some refusal → IsLeastOfRun policy plan named refusal
+  OfEvent : (events : List Event) (cause : RunRefusal) → AreResolved plan named events → StopsAt (at_first plan policy) events cause → run_row cause ≡ Some refusal → IsLeastOfRun policy plan named refusal
   OfEnd : (events : List Event) → AreResolved plan named events → IsRun plan policy events → is_finished (end_of policy plan events) ≡ false → refusal ≡ unfinished → IsLeastOfRun policy plan named refusal
 
 -- The response to a finished run of the plan, under the policy, by just these events. In it no request starts before all

@@ -6,8 +6,7 @@ ghost use Rattle.odb_engine.specs.Halts.{text_found};
 
 use crate::halt::Halt;
 use crate::lines::fault_line;
-use odb_doc::Output;
-use odb_reply::{WriteFault, write_text};
+use odb_doc::{DeviceFault, Output};
 use std::alloc::{AllocError, Global};
 use std::io::Write;
 use thiserror::Error;
@@ -36,10 +35,10 @@ pub enum EngineFault {
     OutOfMemory,
 }
 
-impl From<WriteFault> for EngineFault {
+impl From<DeviceFault> for EngineFault {
     ghost from_gives = { λ _ fault. fault ≡ faults.Write };
 
-    fn from(_fault: WriteFault) -> Self {
+    fn from(_fault: DeviceFault) -> Self {
         EngineFault::Write
     }
 }
@@ -69,13 +68,14 @@ pub fn end<W: Write>(
 {
     let (ended, text) = match found {
         Ok(text) => (Ended::Done, text),
-        Err(Halt::Refused { code, name, place }) => {
-            (Ended::Refused, fault_line(alloc, code, name, place)?)
+        Err(Halt::Refused(refusal)) => {
+            let line = fault_line(alloc, refusal.code, refusal.name, refusal.place)?;
+            (Ended::Refused, line)
         }
         Err(Halt::Read) => return Err(EngineFault::Read),
         Err(Halt::OutOfMemory) => return Err(EngineFault::OutOfMemory),
     };
-    write_text(output, &text)?;
+    output.put_text(&text)?;
     Ok(ended)
 }
 

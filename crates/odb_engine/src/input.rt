@@ -1,14 +1,15 @@
-ghost use Rattle.std.specs.Prelude.{◌≡◌, ◌≤◌, ◌↔◌, false, IsTrue, IfOk, IfErr, Err};
+ghost use Rattle.std.specs.Prelude.{◌≡◌, ◌≤◌, ◌↔◌, false, option_map, IsTrue, IfOk, IfErr, Err};
 ghost use Rattle.serde_json.specs.View.{view};
 ghost use Rattle.odb_doc.specs.Documents.{IsDocument};
-ghost use Rattle.odb_engine.specs.Cascade.{RefusesBytes};
-ghost use Rattle.odb_engine.specs.Halts.{Halted};
+ghost use Rattle.odb_doc.specs.Faults.{document_row};
+ghost use Rattle.odb_engine.specs.Cascade.{RefusesBytes, at_place};
+ghost use Rattle.odb_engine.specs.Halts.{Halted, HaltsBy};
 ghost use Rattle.odb_engine.specs.Inputs.{GivesDocument, GivesFew, IsFresh, ReadsFew, SomeDocument, WasRead};
 ghost use Rattle.odb_engine.specs.declared.input.ReadFault.TheVariants as faults;
 ghost use Rattle.odb_engine.specs.declared.halt.Halt.TheVariants as halts;
 
 use crate::halt::Halt;
-use odb_doc::{DeviceFault, DocFault, Input, MAX_DOCUMENT_BYTES, Place, parse};
+use odb_doc::{DeviceFault, DocFault, Fault, Input, MAX_DOCUMENT_BYTES, Place, Refusal, parse};
 use serde_json::Value;
 use std::alloc::{AllocError, Global};
 use std::io::Read;
@@ -76,6 +77,16 @@ pub fn read_document<R: Read>(alloc: Global, input: &mut Input<R>) -> Result<Vec
     Ok(bytes)
 }
 
+/// Returns the halt by a fault of a document; `place` is the place of the document.
+fn halt_at(fault: DocFault, place: Place) -> Halt
+    ensures { HaltsBy (option_map (at_place place) (document_row fault)) result }
+{
+    match fault.refusal() {
+        Some(refusal) => Halt::Refused(Refusal::new((refusal.code, refusal.name), place)),
+        None => Halt::OutOfMemory,
+    }
+}
+
 /// Returns the value of the document that an input gives; `place` is the place of its fault.
 pub fn value_of<R: Read>(alloc: Global, input: &mut Input<R>, place: Place) -> Result<Value, Halt>
     requires { IsFresh input.old }
@@ -89,11 +100,6 @@ pub fn value_of<R: Read>(alloc: Global, input: &mut Input<R>, place: Place) -> R
     let bytes = read_document(alloc, input)?;
     match parse(alloc, &bytes) {
         Ok(value) => Ok(value),
-        Err(DocFault::OutOfMemory) => Err(Halt::OutOfMemory),
-        Err(fault) => Err(Halt::Refused {
-            code: fault.code(),
-            name: fault.name(),
-            place,
-        }),
+        Err(fault) => Err(halt_at(fault, place)),
     }
 }

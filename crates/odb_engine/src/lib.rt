@@ -37,5 +37,5 @@ pub use held::Remains;
 pub use match_responses::{match_batch, match_batch_with};
 pub use plan::{plan_batch, plan_batch_with};
 pub use replay::{replay_batch, replay_batch_with};
-pub use run::{UNFINISHED_CODE, UNFINISHED_NAME, run_batch, run_batch_with};
+pub use run::{run_batch, run_batch_with};
 pub use setup::Setup;

@@ -12,7 +12,7 @@ ghost use Rattle.odb_engine.specs.Replays as replays;
 use crate::ending::{Ended, EngineFault};
 use crate::trace::trace_text;
 use odb_doc::Output;
-use odb_reply::{ReplyFault, write_responses, write_text};
+use odb_reply::{ReplyFault, write_responses};
 use odb_sched::{Done, Trace};
 use std::alloc::Global;
 use std::io::Write;
@@ -22,7 +22,7 @@ fn send_text<W: Write>(output: &mut Output<W>, text: &str) -> Result<(), EngineF
     requires { output.old.failed ≡ false }
     ensures { Sends W.contents text.now output.old output.new result }
 {
-    Ok(write_text(output, text)?)
+    Ok(output.put_text(text)?)
 }
 
 /// Writes a text as the result, and returns how the engine has ended.
@@ -31,7 +31,7 @@ pub fn print<W: Write>(output: &mut Output<W>, text: &str) -> Result<Ended, Engi
     ensures ends { Ends W.contents (Prints text.now) ⊥ output.old output.new result }
     ensures memory { result ≢ Err EngineFault.OutOfMemory }
 {
-    write_text(output, text)?;
+    output.put_text(text)?;
     Ok(Ended::Done)
 }
 

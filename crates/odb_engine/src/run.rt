@@ -18,25 +18,18 @@ use crate::output::send_done;
 use crate::pair::{PairCommand, answer_pair};
 use crate::setup::Setup;
 use odb_check::Plan;
-use odb_doc::{Events, Input, Output, Place};
+use odb_doc::{Events, Input, Output, Place, Refusal};
 use odb_reply::laws::every_response;
 use odb_sched::{Done, Policy, resolve, run};
 use std::alloc::Global;
 use std::io::{Read, Write};
 
-/// The code of the fault that [`crate::run_batch`] writes if each event may come and the run is not
-/// finished.
-pub const UNFINISHED_CODE: &str = "F66";
-
-/// The name of that fault.
-pub const UNFINISHED_NAME: &str = "Unfinished";
-
 /// F66: no event is refused, but the run is unfinished after the last.
-const UNFINISHED: Halt = Halt::Refused {
-    code: UNFINISHED_CODE,
-    name: UNFINISHED_NAME,
+const UNFINISHED: Halt = Halt::Refused(Refusal {
+    code: "F66",
+    name: "Unfinished",
     place: Place::Events,
-};
+});
 
 /// Returns the events in a document.
 fn events_of<R: Read>(alloc: Global, input: &mut Input<R>, remains: Remains) -> Result<Events, Halt>

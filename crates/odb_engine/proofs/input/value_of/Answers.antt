@@ -1,10 +1,9 @@
-use Rattle.std.proofs.Common.{sym, subst, rules}
+use Rattle.std.proofs.Common.{sym, subst}
 use Rattle.serde_json.specs.View.{view}
 use Rattle.odb_doc.specs.Documents.{IsDocument}
-use Rattle.odb_doc.specs.FaultTable as document
 use Rattle.odb_engine.specs.Cascade.{RefusesBytes}
 use Rattle.odb_engine.specs.Inputs.{GivesDocument, WasRead}
-use Rattle.odb_engine.proofs.EngineLemmas.{unread-value, refusal-as}
+use Rattle.odb_engine.proofs.EngineLemmas.{halted-by, unread-value}
 use Rattle.odb_engine.proofs.input.value_of.Goals as goal
 
 pub returns-in_err-bytes-clause-value : goal.returns-in_err-bytes-clause-value
@@ -15,14 +14,9 @@ pub returns-in-Ok-clause-value : goal.returns-in-Ok-clause-value
 returns-in-Ok-clause-value g c =
     (c.deref.result.now, subst (GivesDocument _) (sym c.deref.ensures.value) c.in_ok-bytes.ensures.document, ((c.in-Ok.ensures.ok, subst (WasRead g.R.Read.remaining c.args.input.now c.read_document.new.input) (sym c.deref.ensures.value) c.in_ok-bytes.ensures.whole), tt))
 
-pub returns-in-Err-OutOfMemory-clause-value : goal.returns-in-Err-OutOfMemory-clause-value
-returns-in-Err-OutOfMemory-clause-value g c =
-    (c.deref.result.now, subst (GivesDocument _) (sym c.deref.ensures.value) c.in_ok-bytes.ensures.document, (tt, tt))
-
 pub returns-clause-value : goal.returns-clause-value
-returns-clause-value g c =
-    let numbered : document.IsNumbered c.in-Err.fault = search rules in (
-      c.deref.result.now,
-      subst (GivesDocument _) (sym c.deref.ensures.value) c.in_ok-bytes.ensures.document,
-      (tt, record { fault = c.in-Err.fault; numbered = numbered; refuses = c.in-Err.ensures.err; is = refusal-as _ _ _ _ _ c.code.ensures c.name.ensures }),
-    )
+returns-clause-value g c = (
+  c.deref.result.now,
+  subst (GivesDocument _) (sym c.deref.ensures.value) c.in_ok-bytes.ensures.document,
+  (tt, halted-by (RefusesBytes c.args.place c.deref.result.now) _ (λ refusal is. record { fault = c.in-Err.fault; refuses = c.in-Err.ensures.err; is = is }) _ c.halt_at.ensures),
+)

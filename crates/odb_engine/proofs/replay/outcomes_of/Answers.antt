@@ -1,7 +1,7 @@
 use Rattle.std.proofs.Common.{refl, IfOk, IfErr}
 use Rattle.odb_doc.specs.OutcomeLists.{entries}
 use Rattle.odb_engine.specs.Halts.{Halted}
-use Rattle.odb_engine.specs.Replays.{IsLeastOfOutcomes, IsRecordOf, outcomes_refusal}
+use Rattle.odb_engine.specs.Replays.{IsLeastOfOutcomes, IsRecordOf}
 use Rattle.odb_engine.specs.Cascade.IsLeastOf.{OfValue}
 use Rattle.odb_engine.proofs.EngineLemmas.{at-exit, halted-by}
 use Rattle.odb_engine.proofs.replay.outcomes_of.Goals as goal
@@ -13,5 +13,5 @@ returns-in_err-outcomes-clause-outcomes g c =
       bytes,
       gives,
       at-exit (λ r. IfOk r (λ outcomes. IsRecordOf bytes (entries outcomes)) × IfErr r (Halted (IsLeastOfOutcomes bytes))) _ _ c.from_residual-in_err-outcomes.ensures.1
-          (λ halt by. (tt, halted-by (IsLeastOfOutcomes bytes) _ (outcomes_refusal fault) (λ numbered. OfValue fault numbered (record { value = _; document = is; holds = c.in_err-outcomes.ensures.least }) refl) halt by)),
+          (λ halt by. (tt, halted-by (IsLeastOfOutcomes bytes) _ (λ refusal row. OfValue fault (record { value = _; document = is; holds = c.in_err-outcomes.ensures.least }) row) halt by)),
     )

@@ -14,7 +14,7 @@ use Rattle.odb_reply.specs.Responses.{response_value}
 use Rattle.odb_engine.specs.declared.ending.Ended.TheVariants.{Refused}
 use Rattle.odb_engine.specs.Cascade.{line_of}
 use Rattle.odb_engine.specs.Halts.{Refuses}
-use Rattle.odb_engine.specs.Replays.{LacksOutcome, execution_refusal}
+use Rattle.odb_engine.specs.Replays.{LacksOutcome}
 use Rattle.odb_engine.proofs.EngineLemmas.{at-exit, halted-by}
 use Rattle.odb_engine.proofs.ReplayLemmas.{readable-answers, whole-bodies, lacks-outcome}
 use Rattle.odb_engine.proofs.replay.run_of.Goals as goal
@@ -28,7 +28,7 @@ returns-in_err-trace-clause-lacks g c =
     let lacks = LacksOutcome allows c.args.replay.now.policy plan recorded in
     let caused = subst (λ s. IsCausedBy (OffersRecorded s) (IsDue allows (OffersRecorded s) (at_first plan c.args.replay.now.policy)) cause) c.in_ok-new.ensures c.in_err-trace.ensures.fault in
     at-exit (λ r. IfErr r (Refuses lacks)) _ _ c.from_residual-in_err-trace.ensures.1
-    (halted-by (λ refusal. lacks Refused (line_of refusal)) _ (execution_refusal cause) (λ numbered. lacks-outcome allows c.args.replay.now.policy plan recorded cause c.len-count.ensures.sound numbered caused))
+    (halted-by (λ refusal. lacks Refused (line_of refusal)) _ (lacks-outcome allows c.args.replay.now.policy plan recorded cause c.len-count.ensures.sound caused))
 
 pub returns-clause-result : goal.returns-clause-result
 returns-clause-result g c =

@@ -13,7 +13,7 @@ use Rattle.odb_reply.specs.ResponseDocuments.{IsResponseDocument}
 use Rattle.odb_reply.specs.Responses.{response_value}
 use Rattle.odb_engine.specs.Halts.{Halted}
 use Rattle.odb_engine.specs.Lines.{response_line}
-use Rattle.odb_engine.specs.Runs.{IsLeastOfRun, end_of, resolve_refusal, run_refusal}
+use Rattle.odb_engine.specs.Runs.{IsLeastOfRun, end_of}
 use Rattle.odb_engine.specs.Runs.IsLeastOfRun.{OfEnd}
 use Rattle.odb_engine.proofs.EngineLemmas.{at-exit, halted-by}
 use Rattle.odb_engine.proofs.PlanLemmas.{plan-kept}
@@ -28,7 +28,7 @@ returns-in_err-resolved-clause-least c =
     let fault = c.in_err-resolved.field-0.0 in
     let least = IsLeastOfRun policy plan named in
     at-exit (λ r. IfErr r (Halted least)) _ _ c.from_residual.ensures.1
-    (halted-by least _ (resolve_refusal fault) (unknown-event policy plan named fault c.in_err-resolved.ensures.least))
+    (halted-by least _ (unknown-event policy plan named fault c.in_err-resolved.ensures.least))
 
 pub returns-in_err-scheduler-clause-least : goal.returns-in_err-scheduler-clause-least
 returns-in_err-scheduler-clause-least c =
@@ -38,7 +38,7 @@ returns-in_err-scheduler-clause-least c =
     let cause = c.in_err-scheduler.field-0.0 in
     let least = IsLeastOfRun policy plan named in
     at-exit (λ r. IfErr r (Halted least)) _ _ c.from_residual-in_err-scheduler.ensures.1
-    (halted-by least _ (run_refusal cause) (barred-event policy plan named c.in_ok-resolved.resolved.items cause c.in_ok-resolved.ensures.events c.in_err-scheduler.ensures.refused))
+    (halted-by least _ (barred-event policy plan named c.in_ok-resolved.resolved.items cause c.in_ok-resolved.ensures.events c.in_err-scheduler.ensures.refused))
 
 pub returns-then-not-is_finished-clause-least : goal.returns-then-not-is_finished-clause-least
 returns-then-not-is_finished-clause-least c =

@@ -1,7 +1,7 @@
 use Rattle.std.proofs.Common.{refl, IfOk, IfErr}
 use Rattle.odb_doc.specs.EventLists.{entries}
 use Rattle.odb_engine.specs.Halts.{Halted}
-use Rattle.odb_engine.specs.Runs.{AreEventsIn, IsLeastOfEvents, events_refusal}
+use Rattle.odb_engine.specs.Runs.{AreEventsIn, IsLeastOfEvents}
 use Rattle.odb_engine.specs.Cascade.IsLeastOf.{OfValue}
 use Rattle.odb_engine.proofs.EngineLemmas.{at-exit, halted-by}
 use Rattle.odb_engine.proofs.run.events_of.Goals as goal
@@ -13,5 +13,5 @@ returns-in_err-events-clause-events g c =
       bytes,
       gives,
       at-exit (λ r. IfOk r (λ events. AreEventsIn bytes (entries events)) × IfErr r (Halted (IsLeastOfEvents bytes))) _ _ c.from_residual-in_err-events.ensures.1
-          (λ halt by. (tt, halted-by (IsLeastOfEvents bytes) _ (events_refusal fault) (λ numbered. OfValue fault numbered (record { value = _; document = is; holds = c.in_err-events.ensures.least }) refl) halt by)),
+          (λ halt by. (tt, halted-by (IsLeastOfEvents bytes) _ (λ refusal row. OfValue fault (record { value = _; document = is; holds = c.in_err-events.ensures.least }) row) halt by)),
     )
