@@ -1,7 +1,5 @@
 -- What a law says of two calls: two texts of one document, and two readings of one thing.
-use Rattle.std.proofs.Common.{◌≡◌, ◌∙◌, ℕ, ◌<◌, List, length, take, Option, Some, None, Result, Ok, Err, IfSome, unwrap_or, inl, inr, sym, ap, subst, arith, length-append}
-use Rattle.std.proofs.lemmas.Bool.{cases_order}
-use Rattle.std.proofs.Math.Seq.{take-append_seam}
+use Rattle.std.proofs.Common.{◌≡◌, ◌∙◌, ℕ, List, Option, Some, None, Result, Ok, Err, IfSome, unwrap_or, sym, ap, subst}
 use Rattle.odb_engine.specs.declared.ending.Ended.{Ended}
 use Rattle.odb_engine.specs.declared.ending.Ended.TheVariants.{Done}
 use Rattle.serde_json.specs.Data.{Data}
@@ -13,26 +11,18 @@ use Rattle.odb_tests.specs.Readings.{IsReading, IsSame}
 
 -- ---- one text
 
-shorter : (left a b : List ℕ) → IsDocumentOf left a → IsDocumentOf left b → length a < length b → ⊥
-shorter left a b x y less =
-    let none = ap length (x.ends (omega (arith, y.within))) in
-    omega (arith, none, simp length-append at (ap length x.whole), simp length-append at (ap length y.whole))
-
-one_document : (left a b : List ℕ) → IsDocumentOf left a → IsDocumentOf left b → a ≡ b
-one_document left a b x y = elim (cases_order (length a) (length b)) [
-  | inl same ↦ sym (take-append_seam a x.rest) ∙ ap (take (length a)) (sym x.whole) ∙ ap (λ n. take n left) same ∙ ap (take (length b)) y.whole ∙ take-append_seam b y.rest
-  | inr (inl less) ↦ absurd (shorter left a b x y less)
-  | inr (inr less) ↦ absurd (shorter left b a y x less)
-]
+-- a reader with this left gives one document
+abbrev pub IsOneDocument : List ℕ → Type 0
+IsOneDocument left = (document other : List ℕ) → IsDocumentOf left document → IsDocumentOf left other → document ≡ other
 
 -- two calls that may each write such a text of the reader's document have written one, and ended alike
-pub one_written : {X : Type 0} (ended : X → Ended) (text : X → List ℕ) (left : List ℕ) (W : List ℕ → Writes) → ((bytes : List ℕ) → IsOne (W bytes)) → (a b : Option X)
+pub one_written : {X : Type 0} (ended : X → Ended) (text : X → List ℕ) (left : List ℕ) → IsOneDocument left → (W : List ℕ → Writes) → ((bytes : List ℕ) → IsOne (W bytes)) → (a b : Option X)
     → IfSome a (λ x. SomeDocument (Some left) (λ bytes. W bytes (ended x) (text x))) → IfSome b (λ y. SomeDocument (Some left) (λ bytes. W bytes (ended y) (text y)))
     → IfSome a (λ x. IfSome b (λ y. (ended x ≡ ended y) × (text x ≡ text y)))
-one_written ended text left W one None b _ _ = tt
-one_written ended text left W one (Some x) None _ _ = tt
-one_written ended text left W one (Some x) (Some y) (bytes, gives, is) (others, give, too) =
-    one others (ended x) (ended y) (text x) (text y) (subst (λ document. W document (ended x) (text x)) (one_document left bytes others gives give) is) too
+one_written ended text left document W one None b _ _ = tt
+one_written ended text left document W one (Some x) None _ _ = tt
+one_written ended text left document W one (Some x) (Some y) (bytes, gives, is) (others, give, too) =
+    one others (ended x) (ended y) (text x) (text y) (subst (λ d. W d (ended x) (text x)) (document bytes others gives give) is) too
 
 -- what holds of each result that may be written of a document holds of what a call wrote
 pub done_written : {X : Type 0} (ended : X → Ended) (text : X → List ℕ) (left : List ℕ) (W : List ℕ → Writes) (Q : List ℕ → List ℕ → Type 0) → ((bytes written : List ℕ) → W bytes Done written → Q bytes written) → (a : Option X)
@@ -73,6 +63,11 @@ module _ {X F Y : Type 0} (shown : X → Y) (Good : Data → Type 0) (Says : Dat
   one_reading_of_bytes same one none bytes (Some a) None _ _ = tt
   one_reading_of_bytes same one none bytes (Some a) (Some b) p q =
       one_reading shown Good Says Num Refuses same one none q.value (Some a) (Some b) (subst (λ d. Reads shown Good Says Num Refuses d a) (one_value bytes p.value q.value p.document q.document) p.holds) q.holds
+
+-- what holds of each such thing holds of what a call finds
+pub of_found : {X : Type 0} (P Q : X → Type 0) → ((x : X) → P x → Q x) → (a : Option X) → IfSome a P → IfSome a Q
+of_found P Q so None _ = tt
+of_found P Q so (Some x) p = so x p
 
 -- two calls that find such a thing, of which there is one
 pub one_found : {X Y : Type 0} (shown : X → Y) (P : Y → Type 0) → ((x y : Y) → P x → P y → x ≡ y) → (a b : Option X) → IfSome a (λ x. P (shown x)) → IfSome b (λ x. P (shown x))

@@ -4,6 +4,7 @@ mod seeds;
 
 use odb_check::{CheckFault, Need, Plan, Seed, check, check_with};
 use odb_doc::{Batch, parse};
+use serde_json::Value;
 use std::alloc::{AllocError, Global};
 use std::test::Fail;
 
@@ -80,36 +81,65 @@ fn push_positions(alloc: Global, plan: &Plan<'_>, notes: &mut String) -> Result<
     Ok(())
 }
 
+fn push_count(alloc: Global, plan: &Plan<'_>, notes: &mut String) -> Result<(), AllocError> {
+    notes.push_str(&format!(in alloc; "{} groups ", plan.group_count())?)
+}
+
+/// Adds the parts of a plan.
+fn push_parts(alloc: Global, plan: &Plan<'_>, notes: &mut String) -> Result<(), AllocError> {
+    push_requests(alloc, plan, notes)?;
+    push_members(alloc, plan, notes)?;
+    push_count(alloc, plan, notes)?;
+    push_positions(alloc, plan, notes)
+}
+
 /// The text of a plan and its parts.
 fn parts_of(alloc: Global, plan: &Plan<'_>) -> Result<String, AllocError> {
     let mut notes = plan.text(alloc)?;
-    push_requests(alloc, plan, &mut notes)?;
-    push_members(alloc, plan, &mut notes)?;
-    notes.push_str(&format!(in alloc; "{} groups ", plan.group_count())?)?;
-    push_positions(alloc, plan, &mut notes)?;
+    push_parts(alloc, plan, &mut notes)?;
     Ok(notes)
 }
 
 /// What a plan has, or the fault in words.
-fn text_of(alloc: Global, found: Result<Plan<'_>, CheckFault>) -> Result<String, AllocError> {
+fn text_of(alloc: Global, found: &Result<Plan<'_>, CheckFault>) -> Result<String, AllocError> {
     match found {
-        Ok(plan) => parts_of(alloc, &plan),
+        Ok(plan) => parts_of(alloc, plan),
         Err(CheckFault::OutOfMemory) => Err(AllocError),
         Err(fault) => format!(in alloc; "{fault}"),
     }
 }
 
+fn has_text(
+    alloc: Global,
+    found: &Result<Plan<'_>, CheckFault>,
+    want: &str,
+) -> Result<bool, AllocError> {
+    Ok(text_of(alloc, found)?.as_str() == want)
+}
+
+fn is_found_plainly(alloc: Global, batch: &Batch<'_>, want: &str) -> Result<bool, AllocError> {
+    let found = check(alloc, batch);
+    has_text(alloc, &found, want)
+}
+
+fn is_found_with_seed(alloc: Global, batch: &Batch<'_>, want: &str) -> Result<bool, AllocError> {
+    let found = check_with(alloc, Seed::new(7), batch);
+    has_text(alloc, &found, want)
+}
+
 /// Whether what is found of a batch has this text, with and without a seed.
-fn is_found(alloc: Global, batch: &Batch<'_>, want: &str) -> Result<bool, AllocError> {
-    let sorted = text_of(alloc, check(alloc, batch))?;
-    let hashed = text_of(alloc, check_with(alloc, Seed::new(7), batch))?;
-    Ok(sorted.as_str() == want && hashed.as_str() == want)
+fn is_found(alloc: Global, batch: &Batch<'_>, want: &str) -> Result<bool, Fail> {
+    Ok(is_found_plainly(alloc, batch, want)? && is_found_with_seed(alloc, batch, want)?)
+}
+
+fn is_value_found(alloc: Global, value: &Value, want: &str) -> Result<bool, Fail> {
+    let batch = Batch::read(alloc, value)?;
+    is_found(alloc, &batch, want)
 }
 
 fn is_document_found(alloc: Global, document: &str, want: &str) -> Result<bool, Fail> {
     let value = parse(alloc, document.as_bytes())?;
-    let batch = Batch::read(alloc, &value)?;
-    Ok(is_found(alloc, &batch, want)?)
+    is_value_found(alloc, &value, want)
 }
 
 #[test]

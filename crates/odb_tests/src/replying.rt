@@ -14,7 +14,7 @@ use odb_doc::{Outcome, Output, TextFault};
 use odb_reply::{ReplyFault, response_text, write_responses};
 use odb_sched::{Done, Mode, Policy, Scheduler};
 use serde_json::Value;
-use std::alloc::Global;
+use std::alloc::{AllocError, Global};
 use std::collections::BTreeMap;
 use std::io::{self, Write};
 use std::test::Fail;
@@ -56,13 +56,21 @@ impl Write for Longest {
     }
 }
 
+fn insert(
+    alloc: Global,
+    headers: &mut BTreeMap<String, String>,
+    name: &str,
+    value: &str,
+) -> Result<(), AllocError> {
+    let name = String::from_str(alloc, name)?;
+    headers.insert(name, String::from_str(alloc, value)?)?;
+    Ok(())
+}
+
 fn headers_of(alloc: Global, listed: &[(&str, &str)]) -> Result<BTreeMap<String, String>, Fail> {
     let mut headers = BTreeMap::new(alloc);
     for (name, value) in listed {
-        headers.insert(
-            String::from_str(alloc, name)?,
-            String::from_str(alloc, value)?,
-        )?;
+        insert(alloc, &mut headers, name, value)?;
     }
     Ok(headers)
 }
@@ -72,6 +80,17 @@ fn body_of(alloc: Global, text: &str) -> Result<Option<Value>, Fail> {
         return Ok(None);
     }
     Ok(Some(Value::from_str(alloc, text)?))
+}
+
+/// The outcome of an ending.
+fn outcome_of(alloc: Global, ending: &Ending<'_>) -> Result<Outcome, Fail> {
+    let (_, status, headers, body) = *ending;
+    let body = body_of(alloc, body)?;
+    Ok(Outcome {
+        status,
+        headers: headers_of(alloc, headers)?,
+        body,
+    })
 }
 
 /// Starts the request of an ending, and reports its outcome.
@@ -84,15 +103,10 @@ fn play(
     requires { size scheduler.old ≡ length (plan_records plan.now) }
     ensures { size scheduler.new ≡ size scheduler.old }
 {
-    let (i, status, headers, body) = *ending;
+    let i = ending.0;
     if i < plan.len() {
         scheduler.start(i)?;
-        let outcome = Outcome {
-            status,
-            headers: headers_of(alloc, headers)?,
-            body: body_of(alloc, body)?,
-        };
-        scheduler.report(i, outcome)?;
+        scheduler.report(i, outcome_of(alloc, ending)?)?;
     }
     Ok(())
 }

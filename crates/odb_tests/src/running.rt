@@ -18,7 +18,7 @@ ghost use Rattle.odb_sched.specs.State.{size};
 
 use odb_check::{Plan, check};
 use odb_doc::{Batch, Outcome, parse};
-use odb_sched::{Mode, Policy, Scheduler};
+use odb_sched::{Mode, Policy, ReportRefusal, Scheduler};
 use serde_json::Value;
 use std::alloc::Global;
 use std::collections::BTreeMap;
@@ -87,6 +87,26 @@ fn outcome(alloc: Global, status: u16) -> Outcome {
     }
 }
 
+/// The code of the refusal of a start, or `ok`.
+fn start_code(scheduler: &mut Scheduler<'_>, i: u32) -> &'static str
+    requires { i < size scheduler.old }
+    ensures { size scheduler.new ≡ size scheduler.old }
+{
+    match scheduler.start(i) {
+        Ok(()) => "ok",
+        Err(cause) => cause.code(),
+    }
+}
+
+/// The code of the refusal of a report that hands back an outcome with this status, or `ok`.
+fn refusal_code(refusal: &Result<(), (ReportRefusal, Outcome)>, status: u16) -> &'static str {
+    match refusal {
+        Ok(()) => "ok",
+        Err((cause, back)) if back.status == status => cause.code(),
+        Err(_) => "another outcome",
+    }
+}
+
 /// The code of the refusal of a report with this status, or of a start where the status is 0; or
 /// `ok`.
 fn code_of(alloc: Global, scheduler: &mut Scheduler<'_>, i: u32, status: u16) -> &'static str
@@ -94,14 +114,7 @@ fn code_of(alloc: Global, scheduler: &mut Scheduler<'_>, i: u32, status: u16) ->
     ensures { size scheduler.new ≡ size scheduler.old }
 {
     if status == 0 {
-        return match scheduler.start(i) {
-            Ok(()) => "ok",
-            Err(cause) => cause.code(),
-        };
+        return start_code(scheduler, i);
     }
-    match scheduler.report(i, outcome(alloc, status)) {
-        Ok(()) => "ok",
-        Err((cause, back)) if back.status == status => cause.code(),
-        Err(_) => "another outcome",
-    }
+    refusal_code(&scheduler.report(i, outcome(alloc, status)), status)
 }

@@ -92,11 +92,15 @@ fn are_outcomes_split(alloc: Global) -> Result<bool, Fail> {
     Ok(notes.as_str() == READ_OUTCOMES)
 }
 
-fn are_events_read(alloc: Global) -> Result<bool, Fail> {
-    let events = Events::read(alloc, parse(alloc, EVENTS)?)?;
+fn are_events(alloc: Global, events: &[NamedEvent]) -> Result<bool, Fail> {
     let mut notes = String::new(alloc);
-    push_events(alloc, &mut notes, &events.into_vec())?;
+    push_events(alloc, &mut notes, events)?;
     Ok(notes.as_str() == READ_EVENTS)
+}
+
+fn are_events_read(alloc: Global) -> Result<bool, Fail> {
+    let events = Events::read(alloc, parse(alloc, EVENTS)?)?.into_vec();
+    are_events(alloc, &events)
 }
 
 /// Whether the least fault of outcomes is given.

@@ -58,15 +58,34 @@ fn is_planned(alloc: Global, batch: &Batch<'_>) -> bool
     }
 }
 
+/// Returns what a check found, without the plan. To run out of memory is a fault.
+fn verdict_of(found: &Option<Result<Plan<'_>, CheckFault>>) -> Result<(), CheckFault> {
+    match found {
+        Some(Ok(_)) => Ok(()),
+        Some(Err(fault)) => Err(*fault),
+        None => Err(CheckFault::OutOfMemory),
+    }
+}
+
+/// Returns what two checks of a batch found.
+fn verdicts(alloc: Global, batch: &Batch<'_>) -> (Result<(), CheckFault>, Result<(), CheckFault>) {
+    let (one, other) = plan_twice(alloc, batch);
+    (verdict_of(&one), verdict_of(&other))
+}
+
+/// Returns the code of what a check found: none for a plan, and `memory` if memory ran out.
+fn code_of(verdict: Result<(), CheckFault>) -> &'static str {
+    match verdict {
+        Ok(()) => "",
+        Err(CheckFault::OutOfMemory) => "memory",
+        Err(fault) => fault.code(),
+    }
+}
+
 /// Whether two checks of a batch found the same, which is this fault, or a plan if it has no code.
 fn is_one(alloc: Global, batch: &Batch<'_>, code: &str) -> bool {
-    match plan_twice(alloc, batch) {
-        (Some(Ok(_)), Some(Ok(_))) => code.is_empty() && is_planned(alloc, batch),
-        (Some(Err(one)), Some(Err(other))) => {
-            one == other && one != CheckFault::OutOfMemory && one.code() == code
-        }
-        _ => false,
-    }
+    let (one, other) = verdicts(alloc, batch);
+    one == other && code_of(one) == code && (!code.is_empty() || is_planned(alloc, batch))
 }
 
 /// Documents, and the code of the fault of their names if they have one.

@@ -7,8 +7,10 @@ ghost use Rattle.serde_json.specs.Read.{read};
 ghost use Rattle.serde_json.specs.View.{view};
 ghost use Rattle.odb_names.specs.Fronts.{HasFront, form};
 ghost use Rattle.odb_names.specs.Methods.{Names};
+ghost use Rattle.odb_names.specs.Runs.{SplitsRun};
 ghost use Rattle.odb_doc.specs.Batches.{records};
-ghost use Rattle.odb_doc.specs.CanonicalLaws.{IsDocumentOf};
+ghost use Rattle.odb_doc.specs.Canonical.{canonical_text};
+ghost use Rattle.odb_doc.specs.CanonicalLaws.{HasCanonicalText, IsDocumentOf};
 ghost use Rattle.odb_doc.specs.Documents.{IsDocument};
 ghost use Rattle.odb_doc.specs.FaultTable as faults;
 ghost use Rattle.odb_doc.specs.EventFaults as event_faults;
@@ -19,6 +21,7 @@ ghost use Rattle.odb_doc.specs.LeastFault.{IsLeastFault, IsWellShaped};
 ghost use Rattle.odb_doc.specs.LeastOutcomeFault.{IsOutcomesDocument, RefusesOutcomes};
 ghost use Rattle.odb_doc.specs.OutcomeFaults as outcome_faults;
 ghost use Rattle.odb_doc.specs.OutcomeLists as outcomes;
+ghost use Rattle.odb_doc.specs.MediaTypes.{is_in_type};
 ghost use Rattle.odb_doc.specs.Outcomes.{AreOutcomesOf};
 ghost use Rattle.odb_doc.specs.Records.{Record, IsBatchOf};
 ghost use Rattle.odb_engine.specs.Cascade.{HasValue};
@@ -62,6 +65,22 @@ fn front_twice(alloc: Global, url: &str) -> (Option<Front>, Option<Front>)
 {
     one_reading();
     (front_of(alloc, url), front_of(alloc, url))
+}
+
+/// Splits a value before its first `;`, with which the parameters of a media type begin.
+fn type_in(value: &[u8]) -> (&[u8], &[u8])
+    ensures { SplitsRun is_in_type value.now result.0.now result.1.now }
+{
+    let end = value.iter().position(|byte| *byte == b';');
+    value.split_at(end.unwrap_or(value.len()))
+}
+
+/// Splits a value twice: it is split in one way.
+fn type_twice(value: &[u8]) -> ((&[u8], &[u8]), (&[u8], &[u8]))
+    ensures { (result.0.0.now ≡ result.1.0.now) × (result.0.1.now ≡ result.1.1.now) }
+{
+    one_reading();
+    (type_in(value), type_in(value))
 }
 
 /// Reads a batch, unless memory runs out.
@@ -170,10 +189,10 @@ fn written(alloc: Global, bytes: &[u8]) -> Option<String>
     }
 }
 
-/// Returns the canonical text of a document: both are documents of one batch.
-fn canonical_of(alloc: Global, bytes: &[u8]) -> Option<String>
-    ensures { IfSome result (λ text. (batch : List Record)
-        × IsDocumentOf bytes.now batch × IsDocumentOf (string_bytes text) batch) }
+/// Returns the canonical text of the batch that a document is.
+fn text_of(alloc: Global, bytes: &[u8]) -> Option<String>
+    ensures { IfSome result (λ text. (batch : List Record) × IsDocumentOf bytes.now batch
+        × HasCanonicalText batch × (string_bytes text ≡ canonical_text batch)) }
 {
     one_text();
     let Ok(document) = parse(alloc, bytes) else {
@@ -188,6 +207,15 @@ fn canonical_of(alloc: Global, bytes: &[u8]) -> Option<String>
     }
 }
 
+/// Returns the canonical text of a document: both are documents of one batch.
+fn canonical_of(alloc: Global, bytes: &[u8]) -> Option<String>
+    ensures { IfSome result (λ text. (batch : List Record)
+        × IsDocumentOf bytes.now batch × IsDocumentOf (string_bytes text) batch) }
+{
+    one_text();
+    text_of(alloc, bytes)
+}
+
 /// Returns whether the bytes of two documents are one batch, by their canonical texts.
 fn is_same(alloc: Global, bytes: &[u8], other_bytes: &[u8]) -> Option<bool>
     ensures { IfSome result (λ is_same. (batch other : List Record)
@@ -195,22 +223,9 @@ fn is_same(alloc: Global, bytes: &[u8], other_bytes: &[u8]) -> Option<bool>
         × (IsTrue is_same ↔ (batch ≡ other))) }
 {
     one_text();
-    let Ok(document) = parse(alloc, bytes) else {
-        return None;
-    };
-    let Ok(batch) = Batch::read(alloc, &document) else {
-        return None;
-    };
-    let Ok(other_document) = parse(alloc, other_bytes) else {
-        return None;
-    };
-    let Ok(other) = Batch::read(alloc, &other_document) else {
-        return None;
-    };
-    match (batch.canonical(alloc), other.canonical(alloc)) {
-        (Ok(text), Ok(other_text)) => Some(text == other_text),
-        _ => None,
-    }
+    let text = text_of(alloc, bytes)?;
+    let other = text_of(alloc, other_bytes)?;
+    Some(text == other)
 }
 
 /// A batch, and the same batch in other words.
@@ -219,21 +234,29 @@ const BATCH: &[u8] = br#"{"requests":[{"id":"a","method":"get","url":"$b"}]}"#;
 const SAME: &[u8] = br#"{"requests":[{"url":"$b","method":"GET","id":"a"}]}"#;
 
 /// Whether two readings of outcomes found the same, a value or a fault.
-fn are_same_outcomes(alloc: Global, bytes: &[u8], is_good: bool) -> bool {
-    match &outcomes_twice(alloc, bytes) {
+fn are_alike_outcomes(both: &TwoRecords, is_good: bool) -> bool {
+    match both {
         (Some(Ok(one)), Some(Ok(other))) => is_good && one.len() == other.len(),
         (Some(Err(one)), Some(Err(other))) => !is_good && one == other,
         _ => false,
     }
 }
 
+fn are_same_outcomes(alloc: Global, bytes: &[u8], is_good: bool) -> bool {
+    are_alike_outcomes(&outcomes_twice(alloc, bytes), is_good)
+}
+
 /// Whether two readings of events found the same, a value or a fault.
-fn are_same_events(alloc: Global, bytes: &[u8], is_good: bool) -> bool {
-    match &events_twice(alloc, bytes) {
+fn are_alike_events(both: &TwoHistories, is_good: bool) -> bool {
+    match both {
         (Some(Ok(one)), Some(Ok(other))) => is_good && one.len() == other.len(),
         (Some(Err(one)), Some(Err(other))) => !is_good && one == other,
         _ => false,
     }
+}
+
+fn are_same_events(alloc: Global, bytes: &[u8], is_good: bool) -> bool {
+    are_alike_events(&events_twice(alloc, bytes), is_good)
 }
 
 /// Whether two readings of a batch refuse it alike.
@@ -257,6 +280,7 @@ fn two_readings_of_one_document_are_one(rt: HostRuntime) {
             (Some(Front::Plain), Some(Front::Plain))
         )
     );
+    assert!(rt; type_twice(b"a/b;c").1.1 == b";c".as_slice());
     assert!(rt; is_refused_alike(alloc, b"{}"));
     assert!(rt; are_same_outcomes(alloc, br#"{"outcomes":[{"id":"a","status":200}]}"#, true));
     assert!(rt; are_same_outcomes(alloc, b"{}", false));

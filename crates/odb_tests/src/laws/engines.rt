@@ -14,7 +14,7 @@ ghost use Rattle.odb_engine.specs.Replays.{Replays};
 ghost use Rattle.odb_engine.specs.Runs.{Runs};
 
 use odb_doc::{Input, Output};
-use odb_engine::laws::{one_replay, one_run, one_text, read_again};
+use odb_engine::laws::{one_document, one_replay, one_run, one_text, read_again};
 use odb_engine::{
     Ended, canon_batch, check_batch, match_batch, plan_batch, replay_batch, run_batch,
 };
@@ -42,6 +42,7 @@ fn checked_twice(alloc: Global, batch: &[u8]) -> Both
     ensures { IfSome result.0 (λ one. IfSome result.1 (λ other.
         (one.0 ≡ other.0) × (one.1.items ≡ other.1.items))) }
 {
+    one_document();
     one_text();
     (checked(alloc, batch), checked(alloc, batch))
 }
@@ -61,6 +62,7 @@ fn planned_twice(alloc: Global, batch: &[u8]) -> Both
     ensures { IfSome result.0 (λ one. IfSome result.1 (λ other.
         (one.0 ≡ other.0) × (one.1.items ≡ other.1.items))) }
 {
+    one_document();
     one_text();
     (planned(alloc, batch), planned(alloc, batch))
 }
@@ -80,6 +82,7 @@ fn made_canonical_twice(alloc: Global, batch: &[u8]) -> Both
     ensures { IfSome result.0 (λ one. IfSome result.1 (λ other.
         (one.0 ≡ other.0) × (one.1.items ≡ other.1.items))) }
 {
+    one_document();
     one_text();
     (made_canonical(alloc, batch), made_canonical(alloc, batch))
 }
@@ -104,6 +107,7 @@ fn matched_twice(alloc: Global, batch: &[u8], responses: &[u8]) -> Both
     ensures { IfSome result.0 (λ one. IfSome result.1 (λ other.
         (one.0 ≡ other.0) × (one.1.items ≡ other.1.items))) }
 {
+    one_document();
     one_text();
     (
         matched(alloc, batch, responses),
@@ -132,6 +136,7 @@ fn ran_twice(alloc: Global, batch: &[u8], events: &[u8], policy: Policy) -> Both
     ensures { IfSome result.0 (λ one. IfSome result.1 (λ other.
         (one.0 ≡ other.0) × (one.1.items ≡ other.1.items))) }
 {
+    one_document();
     one_run();
     (
         ran(alloc, batch, events, policy),
@@ -169,6 +174,7 @@ fn replayed_twice(alloc: Global, batch: &[u8], outcomes: &[u8], policy: Policy) 
     ensures { IfSome result.0 (λ one. IfSome result.1 (λ other.
         (one.0 ≡ other.0) × (one.1.items ≡ other.1.items))) }
 {
+    one_document();
     one_replay();
     (
         replayed(alloc, batch, outcomes, policy, true),
@@ -210,7 +216,7 @@ const EVENTS: &[u8] = br#"{"events":[{"start":"a"},{"report":"a","status":404}]}
 const RESPONSES: &[u8] = br#"{"responses":[{"id":"b","status":201},{"id":"a","status":200}]}"#;
 
 /// Whether both calls ended in the same way, with one text that begins so.
-fn is_one(both: &Both, ended: Ended, text: &str) -> bool {
+fn are_one(both: &Both, ended: Ended, text: &str) -> bool {
     match both {
         (Some(one), Some(other)) => {
             one.0 == ended && one == other && one.1.as_slice().starts_with(text.as_bytes())
@@ -219,32 +225,34 @@ fn is_one(both: &Both, ended: Ended, text: &str) -> bool {
     }
 }
 
-#[test]
-fn engines_write_one_text_of_the_same_bytes(rt: HostRuntime) {
-    let alloc = rt.alloc();
-    let (done, policy) = (Ended::Done, Policy::free(Mode::Continue));
-    assert!(rt; is_one(&checked_twice(alloc, BATCH), done, "ok 2"));
-    assert!(rt; is_one(&planned_twice(alloc, BATCH), done, "0 a level 0"));
-    assert!(rt; is_one(&made_canonical_twice(alloc, BATCH), done, "{\"requests\":"));
-    assert!(rt; is_one(&matched_twice(alloc, BATCH, RESPONSES), done, "ok 2"));
-    assert!(rt;
-        is_one(
-            &ran_twice(alloc, BATCH, EVENTS, policy),
-            done,
-            "{\"responses\":"
-        )
-    );
-    let both = replayed_twice(alloc, BATCH, OUTCOMES, policy);
-    assert!(rt; is_one(&both, done, "start a\n"));
+/// Whether both calls are done, and wrote one text that begins so.
+fn is_one(both: Both, text: &str) -> bool {
+    are_one(&both, Ended::Done, text)
 }
 
-/// Whether the response fits the batch.
-fn fits(alloc: Global, response: Option<Written>) -> bool {
-    let Some((Ended::Done, text)) = response else {
-        return false;
-    };
-    let found = matched(alloc, BATCH, text.as_slice());
+#[test]
+fn engines_write_one_text_of_the_same_bytes(rt: HostRuntime) {
+    let (alloc, policy) = (rt.alloc(), Policy::free(Mode::Continue));
+    assert!(rt; is_one(checked_twice(alloc, BATCH), "ok 2"));
+    assert!(rt; is_one(planned_twice(alloc, BATCH), "0 a level 0"));
+    assert!(rt; is_one(made_canonical_twice(alloc, BATCH), "{\"requests\":"));
+    assert!(rt; is_one(matched_twice(alloc, BATCH, RESPONSES), "ok 2"));
+    assert!(rt; is_one(ran_twice(alloc, BATCH, EVENTS, policy), "{\"responses\":"));
+    assert!(rt; is_one(replayed_twice(alloc, BATCH, OUTCOMES, policy), "start a\n"));
+}
+
+/// Whether a match finds that responses fit the batch.
+fn is_matched(alloc: Global, responses: &[u8]) -> bool {
+    let found = matched(alloc, BATCH, responses);
     found.is_some_and(|it| it.0 == Ended::Done)
+}
+
+/// Whether a run or a replay wrote a response, which fits the batch.
+fn fits(alloc: Global, response: Option<Written>) -> bool {
+    match &response {
+        Some((Ended::Done, text)) => is_matched(alloc, text.as_slice()),
+        _ => false,
+    }
 }
 
 #[test]

@@ -1,5 +1,8 @@
 //! The body of a report that is refused: it is handed back.
 
+ghost use Rattle.std.specs.Prelude.{◌<◌};
+ghost use Rattle.odb_sched.specs.State.{size};
+
 use super::{OnPlan, on_document};
 use odb_check::Plan;
 use odb_doc::Outcome;
@@ -26,6 +29,17 @@ fn has_body(outcome: &Outcome, text: &str) -> bool {
     }
 }
 
+/// Whether a report of the first request, before its start, hands its body back.
+fn is_handed_back(alloc: Global, scheduler: &mut Scheduler<'_>) -> Result<bool, Fail>
+    requires { 0 < size scheduler.old }
+{
+    let outcome = with_body(alloc, "early")?;
+    match scheduler.report(0, outcome) {
+        Ok(()) => Ok(false),
+        Err((_, back)) => Ok(has_body(&back, "early")),
+    }
+}
+
 /// Reports the first request before its start.
 #[derive(Clone, Copy)]
 struct Early;
@@ -34,15 +48,11 @@ impl OnPlan for Early {
     type Found = bool;
 
     fn on_plan(&mut self, alloc: Global, plan: &Plan<'_>) -> Result<bool, Fail> {
-        let outcome = with_body(alloc, "early")?;
-        let mut scheduler = Scheduler::new(alloc, plan, Policy::free(Mode::Continue))?;
         if plan.len() == 0 {
             return Ok(false);
         }
-        Ok(match scheduler.report(0, outcome) {
-            Ok(()) => false,
-            Err((_, back)) => has_body(&back, "early"),
-        })
+        let mut scheduler = Scheduler::new(alloc, plan, Policy::free(Mode::Continue))?;
+        is_handed_back(alloc, &mut scheduler)
     }
 }
 

@@ -1,18 +1,16 @@
 //! The calls that an execution makes of its service: one for each report of its trace, in order, and
 //! no other. And lists of events that `run` refuses.
 
-ghost use Rattle.std.specs.Prelude.{◌≡◌, ◌<◌, length, All, IfOk};
-ghost use Rattle.odb_check.specs.Plans.{plan_records};
+ghost use Rattle.std.specs.Prelude.{◌≡◌, IfOk};
 ghost use Rattle.odb_sched.specs.Calls.{reported_by};
-ghost use Rattle.odb_sched.specs.Runs.{event_position};
 
+use super::events::events_of;
 use super::{GROUP, OnPlan, PASSED_ON, REFERENCE, THREE, on_document, outcome};
 use odb_check::Plan;
 use odb_doc::{Outcome, Request};
 use odb_sched::laws::every_call;
 use odb_sched::{
-    Event, ExecFault, Mode, Order, Policy, RunRefusal, Service, ServiceFault, Step, Trace, execute,
-    run,
+    ExecFault, Mode, Order, Policy, RunRefusal, Service, ServiceFault, Step, Trace, execute, run,
 };
 use std::alloc::{AllocError, Global};
 use std::test::Fail;
@@ -117,15 +115,20 @@ const CALLS: &[(&str, Order, u32, &str)] = &[
     ),
 ];
 
+/// Whether an execution takes these steps and makes these calls.
+fn is_asked(alloc: Global, document: &str, mut task: Execution, want: &str) -> Result<bool, Fail> {
+    let found = on_document(alloc, document, &mut task)?;
+    Ok(found.as_str() == want)
+}
+
 #[test]
 fn asks_its_service_once_for_each_report(rt: HostRuntime) -> Result<(), Fail> {
     for (document, order, failing, want) in CALLS {
-        let mut task = Execution {
+        let task = Execution {
             order: *order,
             failing: *failing,
         };
-        let found = on_document(rt.alloc(), document, &mut task)?;
-        assert_eq!(rt; found.as_str(), *want);
+        assert!(rt; is_asked(rt.alloc(), document, task, want)?, "{want}");
     }
     Ok(())
 }
@@ -135,35 +138,6 @@ const AROUND: &str = r#"{"requests":[{"id":"a","method":"get","url":"X"},
     {"id":"p","method":"get","url":"X","atomicityGroup":"g"},
     {"id":"q","method":"get","url":"X","atomicityGroup":"g"},
     {"id":"z","method":"get","url":"X"}]}"#;
-
-/// An event of the request at a position: a start where the status is 0.
-fn event_of(alloc: Global, i: u32, status: u16) -> Event
-    ensures { event_position result ≡ i }
-{
-    if status == 0 {
-        Event::Start(i)
-    } else {
-        Event::Report(i, outcome(alloc, status))
-    }
-}
-
-/// The events of requests that the plan has.
-fn events_of(
-    alloc: Global,
-    plan: &Plan<'_>,
-    events: &[(u32, u16)],
-) -> Result<Vec<Event>, AllocError>
-    ensures { IfOk result (λ list. All
-        (λ event. event_position event < length (plan_records plan.now)) list.items) }
-{
-    let mut list = Vec::new(alloc);
-    for (i, status) in events {
-        if *i < plan.len() {
-            list.push(event_of(alloc, *i, *status))?;
-        }
-    }
-    Ok(list)
-}
 
 /// Runs events as a list, in the mode Stop or Continue.
 #[derive(Clone, Copy)]
@@ -231,15 +205,20 @@ const LISTS: &[(&str, Mode, &[(u32, u16)], &str)] = &[
     ),
 ];
 
+/// Whether `run` says this of a list.
+fn is_taken(alloc: Global, document: &str, mut task: Listed, want: &str) -> Result<bool, Fail> {
+    let found = on_document(alloc, document, &mut task)?;
+    Ok(found.as_str() == want)
+}
+
 #[test]
 fn refuses_a_list_at_its_first_wrong_start(rt: HostRuntime) -> Result<(), Fail> {
     for (document, mode, events, want) in LISTS {
-        let mut task = Listed {
+        let task = Listed {
             mode: *mode,
             events,
         };
-        let found = on_document(rt.alloc(), document, &mut task)?;
-        assert_eq!(rt; found.as_str(), *want);
+        assert!(rt; is_taken(rt.alloc(), document, task, want)?, "{want}");
     }
     Ok(())
 }

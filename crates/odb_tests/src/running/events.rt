@@ -108,7 +108,7 @@ fn note_run(
     note_end(alloc, scheduler, notes)
 }
 
-/// An event of the request at a position.
+/// An event of the request at a position: a start where the status is 0.
 fn event_of(alloc: Global, i: u32, status: u16) -> Event
     ensures { event_position result ≡ i }
 {
@@ -120,7 +120,7 @@ fn event_of(alloc: Global, i: u32, status: u16) -> Event
 }
 
 /// The events of requests that the plan has.
-fn events_of(
+pub fn events_of(
     alloc: Global,
     plan: &Plan<'_>,
     events: &[(u32, u16)],

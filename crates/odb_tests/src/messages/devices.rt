@@ -1,0 +1,41 @@
+//! The messages of texts that cannot be written, and of devices that fail.
+
+use super::compare;
+use odb_doc::{DeviceFault, TextFault};
+use odb_engine::EngineFault;
+use odb_reply::{ReplyFault, WriteFault};
+use std::test::Fail;
+
+/// F50.
+const TEXTS: &[(TextFault, &str)] = &[
+    (
+        TextFault::NotWhole { at: 3 },
+        "request 3: the body holds a number that is not whole",
+    ),
+    (TextFault::OutOfMemory, "out of memory"),
+];
+
+const REPLIES: &[(ReplyFault, &str)] = &[
+    (
+        ReplyFault::NotWhole { at: 15 },
+        "request 15: the body holds a number that is not whole",
+    ),
+    (ReplyFault::Write, "the output failed"),
+    (ReplyFault::OutOfMemory, "out of memory"),
+];
+
+const ENGINES: &[(EngineFault, &str)] = &[
+    (EngineFault::Read, "an input failed"),
+    (EngineFault::Write, "the output failed"),
+    (EngineFault::OutOfMemory, "out of memory"),
+];
+
+#[test]
+fn faults_of_devices_have_their_messages(rt: HostRuntime) -> Result<(), Fail> {
+    let alloc = rt.alloc();
+    compare(alloc, TEXTS)?;
+    compare(alloc, REPLIES)?;
+    compare(alloc, &[(DeviceFault, "the device failed")])?;
+    compare(alloc, &[(WriteFault, "the output failed")])?;
+    compare(alloc, ENGINES)
+}
