@@ -11,7 +11,7 @@ ghost use Rattle.odb_tests.specs.Readings.{IsReading, IsSame};
 
 use odb_check::laws::{every_plan, one_fault};
 use odb_check::{CheckFault, Plan, check};
-use odb_doc::{Batch, parse};
+use odb_doc::{Batch, Fault, parse};
 use std::alloc::Global;
 use std::test::Fail;
 

@@ -12,7 +12,7 @@ ghost use Rattle.odb_doc.specs.Batches.{records};
 ghost use Rattle.odb_doc.specs.Canonical.{canonical_text};
 ghost use Rattle.odb_doc.specs.CanonicalLaws.{HasCanonicalText, IsDocumentOf};
 ghost use Rattle.odb_doc.specs.Documents.{IsDocument};
-ghost use Rattle.odb_doc.specs.FaultTable as faults;
+ghost use Rattle.odb_doc.specs.Faults as faults;
 ghost use Rattle.odb_doc.specs.EventFaults as event_faults;
 ghost use Rattle.odb_doc.specs.Events.{AreEventsOf};
 ghost use Rattle.odb_doc.specs.EventLists as events;

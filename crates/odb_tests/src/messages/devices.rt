@@ -3,7 +3,7 @@
 use super::compare;
 use odb_doc::{DeviceFault, TextFault};
 use odb_engine::EngineFault;
-use odb_reply::{ReplyFault, WriteFault};
+use odb_reply::ReplyFault;
 use std::test::Fail;
 
 /// F50.
@@ -36,6 +36,5 @@ fn faults_of_devices_have_their_messages(rt: HostRuntime) -> Result<(), Fail> {
     compare(alloc, TEXTS)?;
     compare(alloc, REPLIES)?;
     compare(alloc, &[(DeviceFault, "the device failed")])?;
-    compare(alloc, &[(WriteFault, "the output failed")])?;
     compare(alloc, ENGINES)
 }

@@ -1,7 +1,7 @@
 //! Bodies that hold a number that is not whole.
 
 use super::{Ending, TWO, reply_to};
-use odb_doc::Place;
+use odb_doc::{Fault, Place};
 use odb_reply::ReplyFault;
 use std::alloc::Global;
 use std::test::Fail;

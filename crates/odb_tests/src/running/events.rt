@@ -9,6 +9,7 @@ ghost use Rattle.odb_sched.specs.Runs.{event_position};
 use super::notes::note_done;
 use super::{GROUP, OnPlan, PASSED_ON, REFERENCE, THREE, code_of, on_document, outcome, policy};
 use odb_check::Plan;
+use odb_doc::Fault;
 use odb_sched::Mode::{Continue, Stop};
 use odb_sched::{Event, Mode, Policy, RunRefusal, Scheduler, run};
 use std::alloc::{AllocError, Global};
@@ -139,10 +140,10 @@ pub fn events_of(
 
 /// Adds a refusal with its code and its name.
 fn note_refusal(alloc: Global, refusal: RunRefusal, notes: &mut String) -> Result<(), AllocError> {
-    if refusal == RunRefusal::OutOfMemory {
+    let Some(printed) = refusal.refusal() else {
         return Err(AllocError);
-    }
-    let (code, name) = (refusal.code(), refusal.name());
+    };
+    let (code, name) = (printed.code, printed.name);
     notes.push_str(&format!(in alloc; "{code} {name} {refusal:?}")?)
 }
 

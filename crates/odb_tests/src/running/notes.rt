@@ -1,5 +1,6 @@
 //! Notes of what a run did, as texts that a table can hold.
 
+use odb_doc::Fault;
 use odb_sched::{Done, ExecFault, Step, Trace};
 use std::alloc::{AllocError, Global};
 
@@ -66,9 +67,9 @@ pub fn note_trace(alloc: Global, trace: &Trace<'_>, notes: &mut String) -> Resul
 
 /// Adds a fault with its code, its name and its place.
 pub fn note_fault(alloc: Global, fault: ExecFault, notes: &mut String) -> Result<(), AllocError> {
-    if let ExecFault::OutOfMemory = fault {
+    let Some(printed) = fault.refusal() else {
         return Err(AllocError);
-    }
-    let (code, name, place) = (fault.code(), fault.name(), fault.place());
+    };
+    let (code, name, place) = (printed.code, printed.name, printed.place);
     notes.push_str(&format!(in alloc; "{code} {name} {place:?}")?)
 }

@@ -1,6 +1,6 @@
 use Rattle.serde_json.specs.View.{view}
 use Rattle.odb_doc.specs.Batches.{records}
-use Rattle.odb_doc.specs.FaultTable.{IsNumbered}
+use Rattle.odb_doc.specs.Faults.{IsNumbered}
 use Rattle.odb_doc.specs.LeastFault.{IsLeastFault, IsWellShaped}
 use Rattle.odb_doc.specs.Records.{IsBatchOf}
 use Rattle.odb_tests.proofs.LawLemmas.{one_reading}
