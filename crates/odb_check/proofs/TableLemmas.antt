@@ -5,7 +5,7 @@ use Rattle.std.specs.List.{IsDistinct, list_any}
 use Rattle.std.proofs.lemmas.Bool.{both_ways, cases_Bool, cases_lt, eq-eqb, ne_eqb}
 use Rattle.std.proofs.lemmas.List.{get_or_append_left, get_or_push}
 use Rattle.std.proofs.lemmas.Option.{slice_get_within}
-use Rattle.odb_doc.specs.Records.{Record}
+use Rattle.odb_doc.specs.batch.Records.{Record}
 use Rattle.odb_check.specs.declared.table.Table.{Table}
 use Rattle.odb_check.specs.Firsts.{or_else, is_text, first_below, list_below}
 use Rattle.odb_check.specs.Positions.{id_at, group_at, names_at}

@@ -1,7 +1,7 @@
 -- For invariants and private clauses: the request that is checked.
 use Rattle.std.specs.Prelude.{◌≡◌, ◌<◌, ℕ, Bool, List, Option, Some, option_and_then}
 use Rattle.std.specs.Bool.{Decides}
-use Rattle.odb_doc.specs.Records.{Record}
+use Rattle.odb_doc.specs.batch.Records.{Record}
 use Rattle.odb_check.specs.declared.names.Judged.{Judged}
 use Rattle.odb_check.specs.declared.need.Need.{Need}
 use Rattle.odb_check.specs.Needs.{need_of}

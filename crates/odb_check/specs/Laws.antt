@@ -1,7 +1,7 @@
 -- What holds of the requests of every plan: what a unit is, which texts have a position, and that who depends on a
 -- member of another group depends on the group.
 use Rattle.std.specs.Prelude.{◌≡◌, ◌↔◌, ◌⊎◌, ℕ, List, Some, Contains}
-use Rattle.odb_doc.specs.Records.{Record}
+use Rattle.odb_doc.specs.batch.Records.{Record}
 use Rattle.odb_check.specs.declared.need.Need.TheVariants.{One, Group}
 use Rattle.odb_check.specs.Needs.{needs_at}
 use Rattle.odb_check.specs.Positions.{id_at, group_at, IsInGroupOf}

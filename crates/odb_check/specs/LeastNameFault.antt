@@ -1,7 +1,7 @@
 -- Which fault of names is reported: the least by phase, position and number.
 use Rattle.std.specs.Prelude.{◌≡◌, ◌<◌, ℕ, List}
 use Rattle.odb_doc.specs.LeastRules.{AreSound, IsFirst}
-use Rattle.odb_doc.specs.Records.{Record}
+use Rattle.odb_doc.specs.batch.Records.{Record}
 use Rattle.odb_check.specs.declared.fault.NameRule.{NameRule}
 use Rattle.odb_check.specs.declared.fault.CheckFault.{CheckFault}
 use Rattle.odb_check.specs.declared.fault.CheckFault.TheVariants as faults

@@ -1,7 +1,7 @@
 -- Where each rule on names is broken, over all pairs of positions (OData JSON Format 4.01, sections 19.1
 -- and 19.2).
 use Rattle.std.specs.Prelude.{◌≡◌, ◌<◌, ◌⊎◌, ◌+◌, ℕ, List, Some, Contains, IsSomeAnd}
-use Rattle.odb_doc.specs.Records.{Record}
+use Rattle.odb_doc.specs.batch.Records.{Record}
 use Rattle.odb_check.specs.declared.fault.NameRule.{NameRule}
 use Rattle.odb_check.specs.declared.fault.NameRule.TheVariants as rules
 use Rattle.odb_check.specs.Positions.{id_at, group_at, names_at, reference_at, IsId, IsIdBefore, IsIdFrom, IsGroup, IsGroupBefore, IsGroupAfter, IsInGroupOf, NamesGroupOf}

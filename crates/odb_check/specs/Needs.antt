@@ -1,7 +1,7 @@
 -- What the requests of a batch need (OData JSON Format 4.01, section 19.1, `dependsOn`, and section 19.2).
 use Rattle.std.specs.Prelude.{ℕ, List, [], ◌∷◌, ◌++◌, Option, Some, None, bytes_eq, cond}
 use Rattle.std.specs.List.{list_any, filter_map}
-use Rattle.odb_doc.specs.Records.{Record}
+use Rattle.odb_doc.specs.batch.Records.{Record}
 use Rattle.odb_check.specs.declared.need.Need.{Need}
 use Rattle.odb_check.specs.declared.need.Need.TheVariants.{One, Group}
 use Rattle.odb_check.specs.Positions.{names_at, reference_at}

@@ -1,6 +1,6 @@
 -- A plan as the requests of its batch, and as their units and needs.
 use Rattle.std.specs.Prelude.{List}
-use Rattle.odb_doc.specs.Records.{Record}
+use Rattle.odb_doc.specs.batch.Records.{Record}
 use Rattle.odb_check.specs.declared.plan.Plan.{Plan}
 use Rattle.odb_check.specs.Requests.{requests}
 use Rattle.odb_check.specs.Shape.{Shape, shape_of}

@@ -1,6 +1,6 @@
 -- What the positions of a batch have (OData JSON Format 4.01, section 19.1).
 use Rattle.std.specs.Prelude.{◌≡◌, ◌<◌, ◌≤◌, ℕ, List, [], Option, Some, option_map, option_and_then, unwrap_or, slice_get, Contains}
-use Rattle.odb_doc.specs.Records.{Record}
+use Rattle.odb_doc.specs.batch.Records.{Record}
 
 -- the identifier, if the batch has the position
 abbrev pub id_at : List Record → ℕ → Option (List ℕ)

@@ -3,8 +3,8 @@ use Rattle.std.specs.Prelude.{◌≡◌, ◌≤◌, ◌<◌, ℕ, zero, suc, tru
 use Rattle.std.specs.List.{IsDistinct}
 use Rattle.std.specs.BTreeMap.{get_by_text, btree_map_len}
 use Rattle.indexmap.specs.IndexMap.{get_by, index_map_len}
-use Rattle.odb_doc.specs.Names.{with_name}
-use Rattle.odb_doc.specs.Records.{Record}
+use Rattle.odb_doc.specs.batch.Names.{with_name}
+use Rattle.odb_doc.specs.batch.Records.{Record}
 use Rattle.odb_check.specs.declared.table.Table.{Table}
 use Rattle.odb_check.specs.declared.table.Table.TheVariants as tables
 use Rattle.odb_check.specs.Positions.{group_at, names_at}

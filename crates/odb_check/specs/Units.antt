@@ -1,7 +1,7 @@
 -- The units of a batch: its atomicity groups, and its requests without a group (OData JSON Format 4.01,
 -- section 19.1, `atomicityGroup`).
 use Rattle.std.specs.Prelude.{◌≡◌, ◌↔◌, ◌≤◌, ◌<◌, ℕ, Bool, true, not, is_some, List, Option, Some, None, option_map, unwrap_or, length}
-use Rattle.odb_doc.specs.Records.{Record}
+use Rattle.odb_doc.specs.batch.Records.{Record}
 use Rattle.odb_check.specs.Positions.{id_at, group_at}
 use Rattle.odb_check.specs.Firsts.{first_below, count_below, is_text}
 

@@ -6,7 +6,7 @@
 //! run a plan.
 
 ghost use Rattle.std.specs.Prelude.{◌≡◌, List};
-ghost use Rattle.odb_doc.specs.Records.{Record};
+ghost use Rattle.odb_doc.specs.batch.Records.{Record};
 ghost use Rattle.odb_check.specs.declared.fault.CheckFault.{CheckFault};
 ghost use Rattle.odb_check.specs.FaultTable.{IsNumbered};
 ghost use Rattle.odb_check.specs.Laws.{HasPositions, HasUnits, NeedsGroups};

@@ -1,6 +1,6 @@
 ghost use Rattle.std.specs.Prelude.{◌≡◌, ◌≤◌, ◌<◌, length, slice_get, All, Some};
 ghost use Rattle.std.proofs.Props.{props};
-ghost use Rattle.odb_doc.specs.Records.{IsSoundRecord, record_of};
+ghost use Rattle.odb_doc.specs.batch.Records.{IsSoundRecord, record_of};
 ghost use Rattle.odb_check.specs.LeastNameFault.{HasGoodNames};
 ghost use Rattle.odb_check.specs.Levels.{level_at, levels_below};
 ghost use Rattle.odb_check.specs.Requests.{requests};

@@ -1,5 +1,5 @@
 ghost use Rattle.std.specs.Prelude.{◌≡◌, ◌<◌, ◌+◌, ◌++◌, length, OnOk, IfOk, IfErr};
-ghost use Rattle.odb_doc.specs.Names.{texts_in};
+ghost use Rattle.odb_doc.specs.batch.Names.{texts_in};
 ghost use Rattle.odb_check.specs.LeastNameFault.{HasGoodNames, RefusesNames};
 ghost use Rattle.odb_check.specs.Marks.{AreMarksOf, AreUpTo};
 ghost use Rattle.odb_check.specs.NameFaults.{IsBrokenAt};

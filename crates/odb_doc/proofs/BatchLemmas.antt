@@ -9,9 +9,9 @@ use Rattle.odb_names.specs.declared.method.Method.{Method}
 use Rattle.odb_doc.specs.Headers.{Header}
 use Rattle.odb_doc.specs.Members.{given}
 use Rattle.odb_doc.specs.OneLeast.{one_list}
-use Rattle.odb_doc.specs.Records.{Record, Says}
-use Rattle.odb_doc.specs.References.{RefersTo}
-use Rattle.odb_doc.specs.Shapes.{HasMethod, HasGroup}
+use Rattle.odb_doc.specs.batch.Records.{Record, Says}
+use Rattle.odb_doc.specs.batch.References.{RefersTo}
+use Rattle.odb_doc.specs.batch.Shapes.{HasMethod, HasGroup}
 use Rattle.odb_doc.proofs.OneHeaders.{one_headers}
 
 -- what the texts below determine

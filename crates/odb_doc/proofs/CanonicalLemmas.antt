@@ -9,10 +9,10 @@ use Rattle.serde_json.proofs.OnLiterals.{serde_json_on_literals}
 use Rattle.odb_names.specs.Methods.{method_name}
 use Rattle.odb_names.specs.declared.method.Method.{Method}
 use Rattle.odb_names.specs.declared.method.Method.TheVariants.{Delete, Get, Patch, Post, Put}
-use Rattle.odb_doc.specs.Canonical.{with_some, names_value, headers_value, request_value, canonical_text}
-use Rattle.odb_doc.specs.CanonicalParts.{end_part, requests_left}
+use Rattle.odb_doc.specs.canonical.Canonical.{with_some, names_value, headers_value, request_value, canonical_text}
+use Rattle.odb_doc.specs.canonical.CanonicalParts.{end_part, requests_left}
 use Rattle.odb_doc.specs.Texts.{member_part}
-use Rattle.odb_doc.specs.Records.{Record}
+use Rattle.odb_doc.specs.batch.Records.{Record}
 
 -- three pieces that were appended one by one, the last one if it was taken
 pub pushed : {A E : Type 0} (r : Result A E) (old first second third mid new : List ℕ) → mid ≡ (old ++ first) ++ second → new ≡ (if is_ok r then mid ++ third else mid) → OnOk r (new ≡ old ++ (first ++ (second ++ third)))

@@ -12,12 +12,12 @@ use Rattle.serde_json.specs.Find.{get, get_member, as_array}
 use Rattle.serde_json.specs.View.{items_of}
 use Rattle.serde_json.specs.Written.{items_have_float, members_have_float}
 use Rattle.odb_names.specs.Methods.{method_name}
-use Rattle.odb_doc.specs.Canonical.{HasWholeBodies, HasHeldBodies, body_at, names_value, headers_value, request_members, request_value, canonical_value}
-use Rattle.odb_doc.specs.HeldValues.{IsHeld, AreItemsHeld, AreMembersHeld}
-use Rattle.odb_doc.specs.Bodies.{body_of}
+use Rattle.odb_doc.specs.canonical.Canonical.{HasWholeBodies, HasHeldBodies, body_at, names_value, headers_value, request_members, request_value, canonical_value}
+use Rattle.odb_doc.specs.canonical.HeldValues.{IsHeld, AreItemsHeld, AreMembersHeld}
+use Rattle.odb_doc.specs.batch.Bodies.{body_of}
 use Rattle.odb_doc.specs.Members.{elements_at, list_of, given}
-use Rattle.odb_doc.specs.Records.{Record, Says, IsBatchOf}
-use Rattle.odb_doc.specs.Shapes.{elements}
+use Rattle.odb_doc.specs.batch.Records.{Record, Says, IsBatchOf}
+use Rattle.odb_doc.specs.batch.Shapes.{elements}
 use Rattle.odb_doc.proofs.ReadBackLemmas.{by_order}
 use Rattle.odb_doc.proofs.SafeLemmas.{IsSafe, AreSafe, safe-put, safe-string, safe-none, safe-with_some, safe-group, safe-headers, safe-body, AreItemsSafe}
 

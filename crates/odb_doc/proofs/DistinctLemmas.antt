@@ -3,7 +3,7 @@ use Rattle.std.proofs.Common.{◌≡◌, Bool, true, false, Option, None, Some, 
 use Rattle.std.specs.List.{IsDistinct, list_any}
 use Rattle.std.proofs.lemmas.Cmp.{nat_list_eq_equiv}
 use Rattle.std.proofs.lemmas.Map.Keys.{IsDistinct-push}
-use Rattle.odb_doc.specs.Names.{distinct, with_name}
+use Rattle.odb_doc.specs.batch.Names.{distinct, with_name}
 use Rattle.odb_doc.proofs.NameLemmas.{fold-with_name-nil}
 
 distinct-put : (among : Bool) (names : List (List ℕ)) (name : List ℕ) → list_any (bytes_eq name) names ≡ among → IsDistinct bytes_eq names → IsDistinct bytes_eq (if among then names else names ++ name ∷ [])

@@ -4,14 +4,14 @@ use Rattle.std.specs.declared.alloc.Global.{Global}
 use Rattle.serde_json.specs.Data.{Data}
 use Rattle.serde_json.specs.Find.{get}
 use Rattle.serde_json.specs.View.{view, number_view}
-use Rattle.odb_doc.specs.declared.event_fault.EventRule.{EventRule}
-use Rattle.odb_doc.specs.declared.event_fault.EventRule.TheVariants.{NotWhole, BadEvents}
+use Rattle.odb_doc.specs.declared.recorded.event_fault.EventRule.{EventRule}
+use Rattle.odb_doc.specs.declared.recorded.event_fault.EventRule.TheVariants.{NotWhole, BadEvents}
 use Rattle.odb_doc.specs.declared.member.Object.TheVariants as objects
-use Rattle.odb_doc.specs.declared.outcome.RawOutcome.{RawOutcome}
-use Rattle.odb_doc.specs.EventFaults.{rule_number}
-use Rattle.odb_doc.specs.Events.{IsEventBy, IsReport, IsReportedStatus, IsStart}
-use Rattle.odb_doc.specs.RawReports.{IsReportOf, IsLeastBroken}
-use Rattle.odb_doc.specs.LeastEventFault.{BreaksEvent, HasBrokenNumber}
+use Rattle.odb_doc.specs.declared.recorded.outcome.RawOutcome.{RawOutcome}
+use Rattle.odb_doc.specs.recorded.EventFaults.{rule_number}
+use Rattle.odb_doc.specs.recorded.Events.{IsEventBy, IsReport, IsReportedStatus, IsStart}
+use Rattle.odb_doc.specs.recorded.RawReports.{IsReportOf, IsLeastBroken}
+use Rattle.odb_doc.specs.recorded.LeastEventFault.{BreaksEvent, HasBrokenNumber}
 use Rattle.odb_doc.specs.Members.{HasOther, text_at}
 use Rattle.odb_doc.specs.WholeNumbers.{IsWhole}
 use Rattle.odb_doc.proofs.OutcomeLemmas.{BreaksOutcome-not_whole, BreaksOutcome-whole}

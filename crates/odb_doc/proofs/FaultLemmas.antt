@@ -6,9 +6,9 @@ use Rattle.odb_doc.specs.declared.fault.RequestRule.{RequestRule}
 use Rattle.odb_doc.specs.declared.fault.DocFault.{DocFault}
 use Rattle.odb_doc.specs.declared.fault.DocFault.TheVariants as faults
 use Rattle.odb_doc.specs.Faults.{IsNumbered, document_number, request_number}
-use Rattle.odb_doc.specs.LeastFault.{BreaksRequestAt, IsWellShaped, IsLeastFault}
+use Rattle.odb_doc.specs.batch.LeastFault.{BreaksRequestAt, IsWellShaped, IsLeastFault}
 use Rattle.odb_doc.specs.OneLeast.{one_least, one_first}
-use Rattle.odb_doc.specs.Shapes.{BreaksDocument, elements}
+use Rattle.odb_doc.specs.batch.Shapes.{BreaksDocument, elements}
 
 -- ---- rules with one number are equal
 

@@ -13,7 +13,7 @@ use Rattle.serde_json.specs.Data.{Data, depth}
 use Rattle.serde_json.specs.Read.{of_json, max_depth, read}
 use Rattle.serde_json.specs.Written.{outline, has_float, compact_text}
 use Rattle.serde_json.proofs.Texts.{print-outline}
-use Rattle.odb_doc.specs.HeldValues.{IsHeld}
+use Rattle.odb_doc.specs.canonical.HeldValues.{IsHeld}
 use Rattle.odb_doc.proofs.ReadBackLemmas.{outline-numbers, read_back}
 
 abbrev token_lexemes : Token → List Lexeme

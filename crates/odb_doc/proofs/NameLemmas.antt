@@ -5,7 +5,7 @@ use Rattle.std.proofs.lemmas.List.Elements.{filter_agree}
 use Rattle.std.proofs.lemmas.List.Folds.{list_any-append}
 use Rattle.std.proofs.lemmas.Bool.Decides.{same_from_decides}
 use Rattle.std.proofs.lemmas.Slice.Eq.{bytes_eq-Decides}
-use Rattle.odb_doc.specs.Names.{without, distinct, with_name, texts_in}
+use Rattle.odb_doc.specs.batch.Names.{without, distinct, with_name, texts_in}
 
 -- ---- filters
 

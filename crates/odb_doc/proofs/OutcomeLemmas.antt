@@ -6,12 +6,12 @@ use Rattle.std.proofs.lemmas.Cmp.{nat_list_eq_equiv}
 use Rattle.std.proofs.lemmas.Map.Views.{list_any-from_Contains, Contains-from_any}
 use Rattle.std.proofs.lemmas.Slice.Eq.{bytes_eq-Decides}
 use Rattle.serde_json.specs.Data.{Data, Num}
-use Rattle.odb_doc.specs.declared.outcome_fault.OutcomeRule.{OutcomeRule}
-use Rattle.odb_doc.specs.declared.outcome_fault.OutcomeRule.TheVariants.{BadOutcomes, OutcomeTwice, BadStatus, NotWhole}
-use Rattle.odb_doc.specs.Bodies.{body_of}
-use Rattle.odb_doc.specs.LeastOutcomeFault.{BreaksOutcome}
-use Rattle.odb_doc.specs.OutcomeFaults.{rule_number}
-use Rattle.odb_doc.specs.Outcomes.{IsOutcomeObject, IsStatus, id_of, status_of}
+use Rattle.odb_doc.specs.declared.recorded.outcome_fault.OutcomeRule.{OutcomeRule}
+use Rattle.odb_doc.specs.declared.recorded.outcome_fault.OutcomeRule.TheVariants.{BadOutcomes, OutcomeTwice, BadStatus, NotWhole}
+use Rattle.odb_doc.specs.batch.Bodies.{body_of}
+use Rattle.odb_doc.specs.recorded.LeastOutcomeFault.{BreaksOutcome}
+use Rattle.odb_doc.specs.recorded.OutcomeFaults.{rule_number}
+use Rattle.odb_doc.specs.recorded.Outcomes.{IsOutcomeObject, IsStatus, id_of, status_of}
 use Rattle.odb_doc.specs.WholeNumbers.{IsWhole}
 
 -- ---- each rule

@@ -4,9 +4,9 @@ use Rattle.std.specs.List.{AllZip}
 use Rattle.std.specs.Map.{keys_of}
 use Rattle.std.proofs.lemmas.List.{map-append}
 use Rattle.serde_json.specs.Data.{Data}
-use Rattle.odb_doc.specs.declared.outcome_fault.OutcomeRule.{OutcomeRule}
-use Rattle.odb_doc.specs.LeastOutcomeFault.{BreaksOutcome}
-use Rattle.odb_doc.specs.Outcomes.{Recorded, Says, ids}
+use Rattle.odb_doc.specs.declared.recorded.outcome_fault.OutcomeRule.{OutcomeRule}
+use Rattle.odb_doc.specs.recorded.LeastOutcomeFault.{BreaksOutcome}
+use Rattle.odb_doc.specs.recorded.Outcomes.{Recorded, Says, ids}
 
 -- what an outcome breaks, judged by those before it
 abbrev pub Breaks : OutcomeRule → List Data → Data → Type 0

@@ -6,7 +6,7 @@ use Rattle.std.specs.List.{AllPass}
 use Rattle.serde_json.specs.Data.{string}
 use Rattle.serde_json.specs.Written.{compact_text}
 use Rattle.serde_json.proofs.OnLiterals.{serde_json_on_literals}
-use Rattle.odb_doc.specs.Quoting.{is_plain}
+use Rattle.odb_doc.specs.canonical.Quoting.{is_plain}
 
 plain_byte : (x : ℕ) → is_plain x ≡ true → (32 ≤ x) × (x ≢ 34) × (x ≢ 92)
 plain_byte x is = (grind (arith, nat_tests), grind (arith, nat_tests), grind (arith, nat_tests))

@@ -20,7 +20,7 @@ use Rattle.serde_json.specs.Read.{is_integer, number_from, number_of, of_json, o
 use Rattle.serde_json.specs.Written.{number_text, outline, items_outline, members_outline, has_float, items_have_float, members_have_float, compact_text}
 use Rattle.serde_json.proofs.Numbers.{number_of-decimal, number_of-negative}
 use Rattle.serde_json.proofs.Texts.{print-outline}
-use Rattle.odb_doc.specs.HeldValues.{IsHeldNumber, IsBelow, AreOrdered, IsHeld, AreItemsHeld, AreMembersHeld}
+use Rattle.odb_doc.specs.canonical.HeldValues.{IsHeldNumber, IsBelow, AreOrdered, IsHeld, AreItemsHeld, AreMembersHeld}
 
 -- ---- one more member
 

@@ -4,27 +4,27 @@ use Rattle.std.specs.List.{AllZip, AllByRecursion}
 use Rattle.std.proofs.lemmas.List.Elements.{All-nil, All-cons}
 use Rattle.serde_json.specs.Data.{Data, depth}
 use Rattle.serde_json.specs.Find.{get, as_str}
-use Rattle.odb_doc.specs.Bodies.{body_of}
-use Rattle.odb_doc.specs.declared.event_fault.EventRule.{EventRule}
-use Rattle.odb_doc.specs.declared.event_fault.EventFault.{EventFault}
-use Rattle.odb_doc.specs.declared.event_fault.EventFault.TheVariants as events
-use Rattle.odb_doc.specs.declared.outcome.Outcome.{Outcome}
-use Rattle.odb_doc.specs.declared.outcome_fault.OutcomeRule.{OutcomeRule}
-use Rattle.odb_doc.specs.declared.outcome_fault.OutcomeFault.{OutcomeFault}
-use Rattle.odb_doc.specs.declared.outcome_fault.OutcomeFault.TheVariants as outcomes
-use Rattle.odb_doc.specs.EventFaults as event_faults
-use Rattle.odb_doc.specs.Events.{EventValue, Start, Report, AreEventsOf, IsRecordableEvent}
-use Rattle.odb_doc.specs.HeldValues.{IsHeld}
-use Rattle.odb_doc.specs.OutcomeValues.{IsRecordable, IsShallow}
-use Rattle.odb_doc.specs.Events as recorded_events
+use Rattle.odb_doc.specs.batch.Bodies.{body_of}
+use Rattle.odb_doc.specs.declared.recorded.event_fault.EventRule.{EventRule}
+use Rattle.odb_doc.specs.declared.recorded.event_fault.EventFault.{EventFault}
+use Rattle.odb_doc.specs.declared.recorded.event_fault.EventFault.TheVariants as events
+use Rattle.odb_doc.specs.declared.recorded.outcome.Outcome.{Outcome}
+use Rattle.odb_doc.specs.declared.recorded.outcome_fault.OutcomeRule.{OutcomeRule}
+use Rattle.odb_doc.specs.declared.recorded.outcome_fault.OutcomeFault.{OutcomeFault}
+use Rattle.odb_doc.specs.declared.recorded.outcome_fault.OutcomeFault.TheVariants as outcomes
+use Rattle.odb_doc.specs.recorded.EventFaults as event_faults
+use Rattle.odb_doc.specs.recorded.Events.{EventValue, Start, Report, AreEventsOf, IsRecordableEvent}
+use Rattle.odb_doc.specs.canonical.HeldValues.{IsHeld}
+use Rattle.odb_doc.specs.recorded.OutcomeValues.{IsRecordable, IsShallow}
+use Rattle.odb_doc.specs.recorded.Events as recorded_events
 use Rattle.odb_doc.specs.Headers.{Header, HasHeaders}
-use Rattle.odb_doc.specs.LeastEventFault.{BreaksEventAt, IsEventsDocument, RefusesEvents}
-use Rattle.odb_doc.specs.LeastOutcomeFault.{BreaksOutcomeAt, IsOutcomesDocument, RefusesOutcomes}
+use Rattle.odb_doc.specs.recorded.LeastEventFault.{BreaksEventAt, IsEventsDocument, RefusesEvents}
+use Rattle.odb_doc.specs.recorded.LeastOutcomeFault.{BreaksOutcomeAt, IsOutcomesDocument, RefusesOutcomes}
 use Rattle.odb_doc.specs.Members.{text_at}
 use Rattle.odb_doc.specs.OneLeast.{one_first, one_list}
-use Rattle.odb_doc.specs.OutcomeFaults as outcome_faults
-use Rattle.odb_doc.specs.Outcomes.{Recorded, AreOutcomesOf, Says}
-use Rattle.odb_doc.specs.Outcomes as recorded_outcomes
+use Rattle.odb_doc.specs.recorded.OutcomeFaults as outcome_faults
+use Rattle.odb_doc.specs.recorded.Outcomes.{Recorded, AreOutcomesOf, Says}
+use Rattle.odb_doc.specs.recorded.Outcomes as recorded_outcomes
 use Rattle.odb_doc.proofs.CanonicalReads.{Nests, held-body, held-list_at, nests-body, nests-list_at}
 use Rattle.odb_doc.proofs.OneHeaders.{one_headers}
 

@@ -15,8 +15,8 @@ use Rattle.std.proofs.lemmas.Map.Text.{is_eq-slice_cmp}
 use Rattle.serde_json.specs.Find.{as_str}
 use Rattle.serde_json.specs.View.{view, items_view}
 use Rattle.serde_json.specs.declared.value.Value.{Value}
-use Rattle.odb_doc.specs.Names.{distinct, texts_in, with_name}
-use Rattle.odb_doc.specs.Shapes.{texts_of}
+use Rattle.odb_doc.specs.batch.Names.{distinct, texts_in, with_name}
+use Rattle.odb_doc.specs.batch.Shapes.{texts_of}
 use Rattle.odb_doc.proofs.NameLemmas.{fold-with_name-nil, list_any-texts_in, list_any-comm}
 use Rattle.odb_doc.proofs.SetLemmas.{none_when_new}
 use Rattle.odb_doc.proofs.WatchLemmas.{distinct_new}

@@ -6,9 +6,9 @@ use Rattle.odb_doc.specs.declared.broken.Broken.{Broken}
 use Rattle.odb_doc.specs.declared.fault.RequestRule.{RequestRule}
 use Rattle.odb_doc.specs.BrokenRules.{OnRule, OnPlace, IsRequestObject, IsLeastRequestRule, broken_at}
 use Rattle.odb_doc.specs.Faults.{request_number}
-use Rattle.odb_doc.specs.LeastFault.{IsFirstBroken}
-use Rattle.odb_doc.specs.Records.{Record, Says}
-use Rattle.odb_doc.specs.Shapes.{BreaksRequest}
+use Rattle.odb_doc.specs.batch.LeastFault.{IsFirstBroken}
+use Rattle.odb_doc.specs.batch.Records.{Record, Says}
+use Rattle.odb_doc.specs.batch.Shapes.{BreaksRequest}
 use Rattle.odb_doc.proofs.LeastLemmas.{AreRead, AreRead-more, first_broken}
 
 -- what a request breaks, whatever is before it

@@ -18,11 +18,11 @@ use Rattle.odb_names.specs.Methods.{method_name, takes_body}
 use Rattle.odb_names.specs.declared.method.Method.{Method}
 use Rattle.odb_names.specs.declared.method.Method.TheVariants.{Delete, Get, Patch, Post, Put}
 use Rattle.odb_doc.specs.declared.fault.RequestRule.TheVariants as request
-use Rattle.odb_doc.specs.Bodies.{body_of, content_type}
+use Rattle.odb_doc.specs.batch.Bodies.{body_of, content_type}
 use Rattle.odb_doc.specs.Headers.{Header, HoldsHeaders, HasHeaders, IsHeaders, folded, folded_names, listed_headers}
 use Rattle.odb_doc.specs.BrokenRules.{BreaksNoneBefore, IsRequestObject}
-use Rattle.odb_doc.specs.MediaTypes.{AllowsBody}
-use Rattle.odb_doc.specs.Shapes.{HasMethod, BreaksRequest}
+use Rattle.odb_doc.specs.batch.MediaTypes.{AllowsBody}
+use Rattle.odb_doc.specs.batch.Shapes.{HasMethod, BreaksRequest}
 use Rattle.odb_doc.proofs.FoldedNames.{names_in-text_members_in}
 use Rattle.odb_doc.proofs.OneHeaders.{one_headers}
 

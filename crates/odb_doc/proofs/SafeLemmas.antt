@@ -8,9 +8,9 @@ use Rattle.std.specs.Ordering.{nat_cmp}
 use Rattle.std.proofs.lemmas.Bool.{or_from, or_parts}
 use Rattle.serde_json.specs.Data.{Data, string, Items, Members, no_members, member, put, depth, items_depth, members_depth}
 use Rattle.serde_json.specs.Written.{has_float, items_have_float, members_have_float}
-use Rattle.odb_doc.specs.Canonical.{header_members, headers_value, with_some}
+use Rattle.odb_doc.specs.canonical.Canonical.{header_members, headers_value, with_some}
 use Rattle.odb_doc.specs.Headers.{Header}
-use Rattle.odb_doc.specs.HeldValues.{AreOrdered, IsBelow, IsHeld, AreItemsHeld, AreMembersHeld}
+use Rattle.odb_doc.specs.canonical.HeldValues.{AreOrdered, IsBelow, IsHeld, AreItemsHeld, AreMembersHeld}
 use Rattle.odb_doc.specs.WholeNumbers.{IsWhole}
 use Rattle.odb_doc.proofs.ReadBackLemmas.{by_order, ordered-put, held-put}
 

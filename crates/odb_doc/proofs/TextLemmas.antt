@@ -3,10 +3,10 @@ use Rattle.std.proofs.Common.{◌≡◌, ◌↔◌, ◌++◌, ℕ, List, Some, a
 use Rattle.serde_json.specs.Data.{Data}
 use Rattle.serde_json.specs.Read.{read}
 use Rattle.serde_json.proofs.Nesting.{depth-read}
-use Rattle.odb_doc.specs.Canonical.{HasWholeBodies, canonical_value, canonical_text}
-use Rattle.odb_doc.specs.CanonicalLaws.{HasCanonicalText, IsDocumentOf}
-use Rattle.odb_doc.specs.Records.{Record, IsBatchOf}
-use Rattle.odb_doc.specs.Shapes.{elements}
+use Rattle.odb_doc.specs.canonical.Canonical.{HasWholeBodies, canonical_value, canonical_text}
+use Rattle.odb_doc.specs.canonical.CanonicalLaws.{HasCanonicalText, IsDocumentOf}
+use Rattle.odb_doc.specs.batch.Records.{Record, IsBatchOf}
+use Rattle.odb_doc.specs.batch.Shapes.{elements}
 use Rattle.odb_doc.proofs.BatchLemmas.{AreOneReading, one_batch}
 use Rattle.odb_doc.proofs.CanonicalReads.{canonical-safe, held-bodies}
 use Rattle.odb_doc.proofs.CanonicalShapes.{canonical-batch, canonical-shaped}

@@ -6,10 +6,10 @@ use Rattle.std.specs.Str.{str_to_ascii_lowercase}
 use Rattle.std.proofs.lemmas.List.Elements.{All-head, All-tail}
 use Rattle.odb_names.specs.Runs.{SplitsRun}
 use Rattle.serde_json.specs.Data.{Data}
-use Rattle.odb_doc.specs.declared.media_type.BodyKind.{BodyKind}
-use Rattle.odb_doc.specs.declared.media_type.BodyKind.TheVariants.{Any, Text, Base64Url}
-use Rattle.odb_doc.specs.MediaTypes.{is_blank, is_in_type, TypeAllows, AllowsBody, HasType, IsEndOf, IsTrimmed}
-use Rattle.odb_doc.specs.BodyKinds.{AsksFor, HasKind, IsOfKind}
+use Rattle.odb_doc.specs.declared.batch.media_type.BodyKind.{BodyKind}
+use Rattle.odb_doc.specs.declared.batch.media_type.BodyKind.TheVariants.{Any, Text, Base64Url}
+use Rattle.odb_doc.specs.batch.MediaTypes.{is_blank, is_in_type, TypeAllows, AllowsBody, HasType, IsEndOf, IsTrimmed}
+use Rattle.odb_doc.specs.batch.BodyKinds.{AsksFor, HasKind, IsOfKind}
 
 abbrev IsBlank : ℕ → Type 0
 IsBlank byte = is_blank byte ≡ true

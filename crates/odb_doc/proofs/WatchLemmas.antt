@@ -5,7 +5,7 @@ use Rattle.std.proofs.lemmas.Cmp.{nat_list_eq_equiv}
 use Rattle.std.proofs.lemmas.List.{at_drop_more}
 use Rattle.serde_json.specs.View.{view}
 use Rattle.serde_json.specs.declared.value.Value.{Value}
-use Rattle.odb_doc.specs.Outcomes.{id_of, ids}
+use Rattle.odb_doc.specs.recorded.Outcomes.{id_of, ids}
 
 -- ---- the ids of the elements
 

@@ -8,7 +8,7 @@ use Rattle.odb_doc.specs.declared.fault.DocFault.{DocFault}
 use Rattle.odb_doc.specs.declared.fault.DocFault.TheVariants as faults
 use Rattle.odb_doc.specs.Faults.{request_number}
 use Rattle.odb_doc.specs.LeastRules.{IsLeast}
-use Rattle.odb_doc.specs.Shapes.{BreaksRequest}
+use Rattle.odb_doc.specs.batch.Shapes.{BreaksRequest}
 
 -- the rule has the property. Out of memory may come with any.
 abbrev pub OnRule : {R : Type 0} → (R → Type 0) → Broken R → Type 0

@@ -2,16 +2,23 @@ ghost use Rattle.std.specs.Prelude.{◌≡◌, ◌≤◌, ◌<◌, List, length,
 ghost use Rattle.std.specs.List.{AllZip};
 ghost use Rattle.serde_json.specs.View.{view};
 ghost use Rattle.odb_doc.specs.declared.fault.DocFault.TheVariants as faults;
-ghost use Rattle.odb_doc.specs.LeastFault.{IsWellShaped, IsLeastFault, IsBatchObject, IsFirstBroken, IsLeastDocumentRule, BreaksRequestAt};
+ghost use Rattle.odb_doc.specs.batch.LeastFault.{IsWellShaped, IsLeastFault, IsBatchObject, IsFirstBroken, IsLeastDocumentRule, BreaksRequestAt};
 ghost use Rattle.odb_doc.specs.BrokenRules.{OnPlace, request_fault};
 ghost use Rattle.odb_doc.specs.LeastRules.{AreSound};
-ghost use Rattle.odb_doc.specs.Shapes.{elements, requests_in};
-ghost use Rattle.odb_doc.specs.Records.{Says, IsSoundRecord, IsBatchOf, record_of};
+ghost use Rattle.odb_doc.specs.batch.Shapes.{elements, requests_in};
+ghost use Rattle.odb_doc.specs.batch.Records.{Says, IsSoundRecord, IsBatchOf, record_of};
 
+mod body;
+mod depends_on;
+mod line;
+mod media_type;
+mod reference;
+pub mod request;
+
+use crate::batch::request::Request;
 use crate::broken::Broken;
 use crate::fault::{DocFault, DocumentRule, RequestRule};
 use crate::member::Object;
-use crate::request::Request;
 use serde_json::Value;
 use std::alloc::Global;
 
@@ -91,7 +98,7 @@ fn requests_from<'a>(
 }
 
 impl<'a> Batch<'a> {
-    ghost use Rattle.odb_doc.specs.Batches.{records};
+    ghost use Rattle.odb_doc.specs.batch.Batches.{records};
 
     /// Reads a batch from its document (OData JSON Format 4.01, section 19.1).
     ///

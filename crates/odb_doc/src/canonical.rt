@@ -1,17 +1,19 @@
 ghost use Rattle.std.specs.Prelude.{◌≡◌, ◌≤◌, ◌↔◌, ℕ, length, None, option_map, string_bytes, IsTrue, IfOk, IfSome, OnOk};
 ghost use Rattle.serde_json.specs.View.{view};
 ghost use Rattle.odb_doc.specs.declared.fault.TextFault.TheVariants as faults;
-ghost use Rattle.odb_doc.specs.Batches.{records};
-ghost use Rattle.odb_doc.specs.Canonical.{HasHeldBodies, HasWholeBodies, IsFirstNotWhole, canonical_text, canonical_value};
-ghost use Rattle.odb_doc.specs.CanonicalLaws.{HasCanonicalText};
+ghost use Rattle.odb_doc.specs.batch.Batches.{records};
+ghost use Rattle.odb_doc.specs.canonical.Canonical.{HasHeldBodies, HasWholeBodies, IsFirstNotWhole, canonical_text, canonical_value};
+ghost use Rattle.odb_doc.specs.canonical.CanonicalLaws.{HasCanonicalText};
 ghost use Rattle.odb_doc.specs.Documents.{IsDocument, most_bytes};
-ghost use Rattle.odb_doc.specs.HeldValues.{IsHeld};
+ghost use Rattle.odb_doc.specs.canonical.HeldValues.{IsHeld};
 ghost use Rattle.odb_doc.specs.WholeNumbers.{HasWholeBody};
 
+mod parts;
+
 use crate::batch::Batch;
+use crate::batch::request::Request;
+use crate::canonical::parts::push_request;
 use crate::fault::TextFault;
-use crate::parts::push_request;
-use crate::request::Request;
 use crate::whole::is_whole;
 use std::alloc::{AllocError, Global};
 

@@ -12,26 +12,26 @@ ghost use Rattle.serde_json.specs.Written.{compact_text};
 ghost use Rattle.odb_doc.specs.declared.device.TheConstants.{MAX_READS};
 ghost use Rattle.odb_doc.specs.declared.document.TheConstants.{MAX_DOCUMENT_BYTES};
 ghost use Rattle.odb_doc.specs.declared.fault.DocFault.{DocFault};
-ghost use Rattle.odb_doc.specs.declared.event_fault.EventFault.{EventFault};
-ghost use Rattle.odb_doc.specs.declared.outcome_fault.OutcomeFault.{OutcomeFault};
-ghost use Rattle.odb_doc.specs.Canonical.{HasWholeBodies, canonical_text, canonical_value};
-ghost use Rattle.odb_doc.specs.CanonicalLaws.{HasCanonicalText, IsDocumentOf};
-ghost use Rattle.odb_doc.specs.EventFaults as event_faults;
-ghost use Rattle.odb_doc.specs.Events.{EventValue, AreEventsOf, IsRecordableEvent};
+ghost use Rattle.odb_doc.specs.declared.recorded.event_fault.EventFault.{EventFault};
+ghost use Rattle.odb_doc.specs.declared.recorded.outcome_fault.OutcomeFault.{OutcomeFault};
+ghost use Rattle.odb_doc.specs.canonical.Canonical.{HasWholeBodies, canonical_text, canonical_value};
+ghost use Rattle.odb_doc.specs.canonical.CanonicalLaws.{HasCanonicalText, IsDocumentOf};
+ghost use Rattle.odb_doc.specs.recorded.EventFaults as event_faults;
+ghost use Rattle.odb_doc.specs.recorded.Events.{EventValue, AreEventsOf, IsRecordableEvent};
 ghost use Rattle.odb_doc.specs.Faults.{IsNumbered};
 ghost use Rattle.odb_doc.specs.Headers.{IsInOrder};
-ghost use Rattle.odb_doc.specs.HeldValues.{IsHeld};
-ghost use Rattle.odb_doc.specs.LeastEventFault.{IsEventsDocument, RefusesEvents};
-ghost use Rattle.odb_doc.specs.LeastFault.{IsLeastFault, IsWellShaped};
-ghost use Rattle.odb_doc.specs.LeastOutcomeFault.{IsOutcomesDocument, RefusesOutcomes};
-ghost use Rattle.odb_doc.specs.Names.{distinct, with_name};
-ghost use Rattle.odb_doc.specs.OutcomeFaults as outcome_faults;
-ghost use Rattle.odb_doc.specs.OutcomeValues.{IsRecordable};
-ghost use Rattle.odb_doc.specs.Outcomes.{Recorded, AreOutcomesOf};
-ghost use Rattle.odb_doc.specs.Records.{Record, IsBatchOf};
+ghost use Rattle.odb_doc.specs.canonical.HeldValues.{IsHeld};
+ghost use Rattle.odb_doc.specs.recorded.LeastEventFault.{IsEventsDocument, RefusesEvents};
+ghost use Rattle.odb_doc.specs.batch.LeastFault.{IsLeastFault, IsWellShaped};
+ghost use Rattle.odb_doc.specs.recorded.LeastOutcomeFault.{IsOutcomesDocument, RefusesOutcomes};
+ghost use Rattle.odb_doc.specs.batch.Names.{distinct, with_name};
+ghost use Rattle.odb_doc.specs.recorded.OutcomeFaults as outcome_faults;
+ghost use Rattle.odb_doc.specs.recorded.OutcomeValues.{IsRecordable};
+ghost use Rattle.odb_doc.specs.recorded.Outcomes.{Recorded, AreOutcomesOf};
+ghost use Rattle.odb_doc.specs.batch.Records.{Record, IsBatchOf};
 ghost use Rattle.odb_doc.specs.WholeNumbers.{IsWhole};
 
-use crate::outcome::Outcome;
+use crate::recorded::outcome::Outcome;
 
 /// A value has one least fault of shape at most, and none if it is well shaped (OData JSON Format
 /// 4.01, section 19.1).

@@ -7,10 +7,10 @@ ghost use Rattle.std.specs.List.{AllPass};
 ghost use Rattle.serde_json.specs.Data.{string};
 ghost use Rattle.serde_json.specs.View.{view};
 ghost use Rattle.serde_json.specs.Written.{compact_text, comma_if};
-ghost use Rattle.odb_doc.specs.Canonical.{headers_value};
-ghost use Rattle.odb_doc.specs.CanonicalParts.{headers_left};
+ghost use Rattle.odb_doc.specs.canonical.Canonical.{headers_value};
+ghost use Rattle.odb_doc.specs.canonical.CanonicalParts.{headers_left};
 ghost use Rattle.odb_doc.specs.Headers.{headers_in};
-ghost use Rattle.odb_doc.specs.Quoting.{is_plain};
+ghost use Rattle.odb_doc.specs.canonical.Quoting.{is_plain};
 ghost use Rattle.odb_doc.specs.Texts.{member_part};
 ghost use Rattle.odb_doc.specs.WholeNumbers.{IsWhole};
 

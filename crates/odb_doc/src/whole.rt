@@ -2,7 +2,7 @@ ghost use Rattle.std.specs.Prelude.{◌≡◌, ◌↔◌, false, option_map, IsT
 ghost use Rattle.serde_json.specs.Find.{is_float};
 ghost use Rattle.serde_json.specs.View.{view, number_view, items_view, members_view};
 ghost use Rattle.serde_json.specs.Written.{items_have_float, members_have_float};
-ghost use Rattle.odb_doc.specs.HeldValues.{IsHeld, IsHeldNumber, AreOrdered, AreItemsHeld, AreMembersHeld};
+ghost use Rattle.odb_doc.specs.canonical.HeldValues.{IsHeld, IsHeldNumber, AreOrdered, AreItemsHeld, AreMembersHeld};
 ghost use Rattle.odb_doc.specs.WholeNumbers.{IsWhole};
 
 use serde_json::{Map, Number, Value};

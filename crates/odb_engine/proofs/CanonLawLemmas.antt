@@ -2,8 +2,8 @@
 use Rattle.std.proofs.Common.{◌≡◌, ◌∙◌, ℕ, List, inl, inr, sym, ap}
 use Rattle.std.proofs.lemmas.Bool.{cases_order}
 use Rattle.odb_doc.specs.declared.fault.TextFault.TheVariants.{NotWhole}
-use Rattle.odb_doc.specs.Canonical.{HasWholeBodies, IsFirstNotWhole}
-use Rattle.odb_doc.specs.Records.{Record}
+use Rattle.odb_doc.specs.canonical.Canonical.{HasWholeBodies, IsFirstNotWhole}
+use Rattle.odb_doc.specs.batch.Records.{Record}
 use Rattle.odb_doc.specs.Refusals.{Printed}
 use Rattle.odb_engine.specs.Cascade.{line_of}
 use Rattle.odb_engine.specs.Commands.{Canonical, IsNotWhole}

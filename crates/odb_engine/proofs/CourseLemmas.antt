@@ -1,13 +1,13 @@
 -- What a replay may write of the same requests, by one document of outcomes, in an order: one text.
 use Rattle.std.proofs.Common.{◌≡◌, ◌∙◌, ℕ, Bool, List, Option, Some, inl, inr, refl, sym, ap, rules}
 use Rattle.std.proofs.lemmas.Option.{same_Some}
-use Rattle.odb_doc.specs.declared.outcome.Outcome.{Outcome}
+use Rattle.odb_doc.specs.declared.recorded.outcome.Outcome.{Outcome}
 use Rattle.odb_doc.specs.declared.fault.Place.TheVariants as places
-use Rattle.odb_doc.specs.LeastOutcomeFault.{IsOutcomesDocument, RefusesOutcomes}
-use Rattle.odb_doc.specs.OutcomeFaults as documents
-use Rattle.odb_doc.specs.declared.outcome_fault.OutcomeFault.TheVariants as outcome_faults
-use Rattle.odb_doc.specs.Outcomes.{Recorded, AreOutcomesOf}
-use Rattle.odb_doc.specs.Records.{Record}
+use Rattle.odb_doc.specs.recorded.LeastOutcomeFault.{IsOutcomesDocument, RefusesOutcomes}
+use Rattle.odb_doc.specs.recorded.OutcomeFaults as documents
+use Rattle.odb_doc.specs.declared.recorded.outcome_fault.OutcomeFault.TheVariants as outcome_faults
+use Rattle.odb_doc.specs.recorded.Outcomes.{Recorded, AreOutcomesOf}
+use Rattle.odb_doc.specs.batch.Records.{Record}
 use Rattle.odb_check.specs.declared.plan.Plan.{Plan}
 use Rattle.odb_check.specs.Plans.{plan_records}
 use Rattle.odb_sched.specs.declared.fault.ExecFault.TheVariants as fault

@@ -11,8 +11,8 @@ use Rattle.odb_doc.specs.declared.fault.DocFault.{DocFault}
 use Rattle.odb_doc.specs.Documents.{IsDocument}
 use Rattle.odb_doc.specs.Faults.{document_row}
 use Rattle.odb_doc.specs.Refusals as refusals
-use Rattle.odb_doc.specs.LeastFault.{IsWellShaped, IsLeastFault}
-use Rattle.odb_doc.specs.Records.{Record, IsBatchOf}
+use Rattle.odb_doc.specs.batch.LeastFault.{IsWellShaped, IsLeastFault}
+use Rattle.odb_doc.specs.batch.Records.{Record, IsBatchOf}
 use Rattle.odb_engine.specs.declared.ending.Ended.{Ended}
 use Rattle.odb_engine.specs.declared.ending.Ended.TheVariants.{Done, Refused}
 use Rattle.odb_engine.specs.declared.ending.EngineFault.{EngineFault}

@@ -10,8 +10,8 @@ use Rattle.odb_doc.specs.declared.fault.DocumentRule.TheVariants as rules
 use Rattle.odb_doc.specs.Documents.{most_bytes, IsDocument, RefusesDocument}
 use Rattle.odb_doc.specs.Faults as document
 use Rattle.odb_doc.specs.Faults.{document_row}
-use Rattle.odb_doc.specs.LeastFault.{IsWellShaped, IsLeastFault}
-use Rattle.odb_doc.specs.Records.{Record, IsBatchOf}
+use Rattle.odb_doc.specs.batch.LeastFault.{IsWellShaped, IsLeastFault}
+use Rattle.odb_doc.specs.batch.Records.{Record, IsBatchOf}
 use Rattle.odb_check.specs.declared.fault.CheckFault.{CheckFault}
 use Rattle.odb_check.specs.FaultTable as names
 use Rattle.odb_check.specs.FaultTable.{check_row}

@@ -2,7 +2,7 @@
 use Rattle.std.proofs.Common.{◌≡◌, ℕ, zero, suc, ◌≤◌, List, [], ◌∷◌, ◌++◌, length, drop, Some, slice_get, inl, inr, refl, arith}
 use Rattle.serde_json.specs.Data.{Data}
 use Rattle.odb_doc.specs.Documents.{IsDocument}
-use Rattle.odb_doc.specs.Records.{Record}
+use Rattle.odb_doc.specs.batch.Records.{Record}
 use Rattle.odb_reply.specs.declared.match_fault.MatchFault.{MatchFault}
 use Rattle.odb_reply.specs.declared.response_fault.ResponseFault.{ResponseFault}
 use Rattle.odb_reply.specs.LeastMatchFault.{RefusesMatch}

@@ -4,8 +4,8 @@ use Rattle.std.specs.List.{flat_map}
 use Rattle.serde_json.specs.Data.{array, object, put, no_members}
 use Rattle.serde_json.specs.View.{items_of}
 use Rattle.serde_json.specs.Written.{compact_text}
-use Rattle.odb_doc.specs.Outcomes.{Recorded}
-use Rattle.odb_doc.specs.Records.{Record}
+use Rattle.odb_doc.specs.recorded.Outcomes.{Recorded}
+use Rattle.odb_doc.specs.batch.Records.{Record}
 use Rattle.odb_check.specs.declared.plan.Plan.{Plan}
 use Rattle.odb_check.specs.Plans.{plan_records, shape}
 use Rattle.odb_check.specs.Positions.{id_at}

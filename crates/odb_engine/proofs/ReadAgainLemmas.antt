@@ -2,11 +2,11 @@
 use Rattle.std.proofs.Common.{◌≡◌, ◌≤◌, ℕ, false, List, All, Some, inl, inr, sym}
 use Rattle.serde_json.specs.Data.{Data, depth}
 use Rattle.serde_json.specs.Read.{read}
-use Rattle.odb_doc.specs.Events.{EventValue, AreEventsOf, IsRecordableEvent}
-use Rattle.odb_doc.specs.HeldValues.{IsHeld}
-use Rattle.odb_doc.specs.OutcomeValues.{IsRecordable}
-use Rattle.odb_doc.specs.Outcomes.{Recorded, AreOutcomesOf}
-use Rattle.odb_doc.specs.Records.{Record}
+use Rattle.odb_doc.specs.recorded.Events.{EventValue, AreEventsOf, IsRecordableEvent}
+use Rattle.odb_doc.specs.canonical.HeldValues.{IsHeld}
+use Rattle.odb_doc.specs.recorded.OutcomeValues.{IsRecordable}
+use Rattle.odb_doc.specs.recorded.Outcomes.{Recorded, AreOutcomesOf}
+use Rattle.odb_doc.specs.batch.Records.{Record}
 use Rattle.odb_check.specs.Plans.{plan_records}
 use Rattle.odb_sched.specs.declared.order.Order.{Order}
 use Rattle.odb_sched.specs.declared.policy.Policy.{Policy}

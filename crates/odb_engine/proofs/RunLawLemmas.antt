@@ -3,9 +3,9 @@ use Rattle.std.proofs.Common.{◌≡◌, ◌⊎◌, ◌∙◌, ℕ, zero, suc, �
 use Rattle.std.specs.List.{AllZip}
 use Rattle.std.proofs.lemmas.Bool.{cases_order, both_ways}
 use Rattle.std.proofs.lemmas.Option.{same_Some}
-use Rattle.odb_doc.specs.Events.{EventValue}
-use Rattle.odb_doc.specs.Events as named
-use Rattle.odb_doc.specs.Records.{Record}
+use Rattle.odb_doc.specs.recorded.Events.{EventValue}
+use Rattle.odb_doc.specs.recorded.Events as named
+use Rattle.odb_doc.specs.batch.Records.{Record}
 use Rattle.odb_check.specs.declared.fault.NameRule.TheVariants as rules
 use Rattle.odb_check.specs.declared.plan.Plan.{Plan}
 use Rattle.odb_check.specs.LeastNameFault.{HasGoodNames}

@@ -2,10 +2,10 @@
 use Rattle.std.proofs.Common.{◌≡◌, ℕ, zero, suc, Bool, true, false, not, ◌&&◌, get_or, List, [], ◌∷◌, All, Option, Some, None, IfSome, if◌then◌else◌, refl, sym, subst}
 use Rattle.std.specs.List.{AllZip}
 use Rattle.std.proofs.lemmas.List.Elements.{All-nil, All-cons, All-head, All-tail, All-set, All-replicate}
-use Rattle.odb_doc.specs.declared.outcome.Outcome.{Outcome}
-use Rattle.odb_doc.specs.Events.{EventValue, IsRecordableEvent, IsSoundEvent}
-use Rattle.odb_doc.specs.Events as named
-use Rattle.odb_doc.specs.Records.{Record}
+use Rattle.odb_doc.specs.declared.recorded.outcome.Outcome.{Outcome}
+use Rattle.odb_doc.specs.recorded.Events.{EventValue, IsRecordableEvent, IsSoundEvent}
+use Rattle.odb_doc.specs.recorded.Events as named
+use Rattle.odb_doc.specs.batch.Records.{Record}
 use Rattle.odb_doc.specs.WholeNumbers.{IsWhole}
 use Rattle.odb_check.specs.declared.plan.Plan.{Plan}
 use Rattle.odb_check.specs.Plans.{plan_records}

@@ -2,11 +2,11 @@
 use Rattle.std.proofs.Common.{◌≡◌, ◌↔◌, ◌∙◌, ℕ, false, List, [], length, Some, inl, inr, refl, sym, ap, subst}
 use Rattle.std.specs.List.{AllZip}
 use Rattle.odb_doc.specs.declared.fault.Place.TheVariants as places
-use Rattle.odb_doc.specs.EventFaults as documents
-use Rattle.odb_doc.specs.declared.event_fault.EventFault.TheVariants as event_faults
-use Rattle.odb_doc.specs.Events.{EventValue, AreEventsOf}
-use Rattle.odb_doc.specs.LeastEventFault.{IsEventsDocument, RefusesEvents}
-use Rattle.odb_doc.specs.Records.{Record}
+use Rattle.odb_doc.specs.recorded.EventFaults as documents
+use Rattle.odb_doc.specs.declared.recorded.event_fault.EventFault.TheVariants as event_faults
+use Rattle.odb_doc.specs.recorded.Events.{EventValue, AreEventsOf}
+use Rattle.odb_doc.specs.recorded.LeastEventFault.{IsEventsDocument, RefusesEvents}
+use Rattle.odb_doc.specs.batch.Records.{Record}
 use Rattle.odb_check.specs.declared.plan.Plan.{Plan}
 use Rattle.odb_check.specs.LeastNameFault.{HasGoodNames}
 use Rattle.odb_check.specs.Plans.{plan_records}
@@ -15,7 +15,7 @@ use Rattle.odb_sched.specs.declared.event.Event.TheVariants as event
 use Rattle.odb_sched.specs.declared.policy.Policy.{Policy}
 use Rattle.odb_sched.specs.declared.refusal.RunRefusal.{RunRefusal}
 use Rattle.odb_sched.specs.declared.refusal.RunRefusal.TheVariants as refusal
-use Rattle.odb_doc.specs.declared.outcome.Outcome.{Outcome}
+use Rattle.odb_doc.specs.declared.recorded.outcome.Outcome.{Outcome}
 use Rattle.odb_sched.specs.declared.refusal.StartRefusal.{StartRefusal}
 use Rattle.odb_sched.specs.declared.refusal.StartRefusal.TheVariants as start
 use Rattle.odb_sched.specs.declared.refusal.ReportRefusal.{ReportRefusal}

@@ -2,8 +2,8 @@
 use Rattle.std.proofs.Common.{◌≡◌, ℕ, List, inl, refl}
 use Rattle.odb_doc.specs.declared.fault.TextFault.{TextFault}
 use Rattle.odb_doc.specs.declared.fault.TextFault.TheVariants.{NotWhole, OutOfMemory}
-use Rattle.odb_doc.specs.Canonical.{IsFirstNotWhole}
-use Rattle.odb_doc.specs.Records.{Record}
+use Rattle.odb_doc.specs.canonical.Canonical.{IsFirstNotWhole}
+use Rattle.odb_doc.specs.batch.Records.{Record}
 use Rattle.odb_doc.specs.Faults.{text_row}
 use Rattle.odb_engine.specs.declared.ending.Ended.TheVariants.{Refused}
 use Rattle.odb_engine.specs.declared.halt.Halt.{Halt}

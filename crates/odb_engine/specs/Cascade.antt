@@ -7,8 +7,8 @@ use Rattle.odb_doc.specs.declared.fault.DocFault.{DocFault}
 use Rattle.odb_doc.specs.Documents.{IsDocument, RefusesDocument}
 use Rattle.odb_doc.specs.Faults.{document_row}
 use Rattle.odb_doc.specs.Refusals.{Printed}
-use Rattle.odb_doc.specs.LeastFault.{IsWellShaped, IsLeastFault}
-use Rattle.odb_doc.specs.Records.{Record, IsBatchOf}
+use Rattle.odb_doc.specs.batch.LeastFault.{IsWellShaped, IsLeastFault}
+use Rattle.odb_doc.specs.batch.Records.{Record, IsBatchOf}
 use Rattle.odb_check.specs.declared.fault.CheckFault.{CheckFault}
 use Rattle.odb_check.specs.FaultTable.{check_row}
 use Rattle.odb_check.specs.LeastNameFault.{HasGoodNames, RefusesNames}

@@ -1,8 +1,8 @@
 -- What each command prints of the requests of a batch that is accepted.
 use Rattle.std.specs.Prelude.{◌≡◌, ◌++◌, ◌∷◌, ◌⊎◌, ℕ, List, [], Option, Some, length}
 use Rattle.odb_doc.specs.declared.fault.TextFault.TheVariants.{NotWhole}
-use Rattle.odb_doc.specs.Canonical.{HasWholeBodies, IsFirstNotWhole, canonical_text}
-use Rattle.odb_doc.specs.Records.{Record}
+use Rattle.odb_doc.specs.canonical.Canonical.{HasWholeBodies, IsFirstNotWhole, canonical_text}
+use Rattle.odb_doc.specs.batch.Records.{Record}
 use Rattle.odb_doc.specs.Faults.{text_row}
 use Rattle.odb_check.specs.Groups.{groups_of}
 use Rattle.odb_check.specs.Texts.{plan_text}

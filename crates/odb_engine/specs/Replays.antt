@@ -1,11 +1,11 @@
 -- What a run by recorded outcomes writes of a batch.
 use Rattle.std.specs.Prelude.{◌≡◌, ◌⊎◌, ℕ, Bool, List, [], ◌∷◌, ◌++◌, Option, All, Err, codes, if◌then◌else◌}
 use Rattle.odb_doc.specs.declared.fault.Place.TheVariants as places
-use Rattle.odb_doc.specs.LeastOutcomeFault.{IsOutcomesDocument, RefusesOutcomes}
-use Rattle.odb_doc.specs.OutcomeFaults.{outcome_row}
-use Rattle.odb_doc.specs.OutcomeValues.{IsRecordable}
-use Rattle.odb_doc.specs.Outcomes.{Recorded, AreOutcomesOf}
-use Rattle.odb_doc.specs.Records.{Record}
+use Rattle.odb_doc.specs.recorded.LeastOutcomeFault.{IsOutcomesDocument, RefusesOutcomes}
+use Rattle.odb_doc.specs.recorded.OutcomeFaults.{outcome_row}
+use Rattle.odb_doc.specs.recorded.OutcomeValues.{IsRecordable}
+use Rattle.odb_doc.specs.recorded.Outcomes.{Recorded, AreOutcomesOf}
+use Rattle.odb_doc.specs.batch.Records.{Record}
 use Rattle.odb_check.specs.declared.plan.Plan.{Plan}
 use Rattle.odb_check.specs.Plans.{plan_records}
 use Rattle.odb_sched.specs.declared.policy.Policy.{Policy}

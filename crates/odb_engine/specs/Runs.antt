@@ -2,10 +2,10 @@
 use Rattle.std.specs.Prelude.{◌≡◌, ◌⊎◌, ℕ, List, Option, Some, All, true, false, codes}
 use Rattle.std.specs.List.{AllZip}
 use Rattle.odb_doc.specs.declared.fault.Place.TheVariants as places
-use Rattle.odb_doc.specs.EventFaults.{event_row}
-use Rattle.odb_doc.specs.Events.{EventValue, AreEventsOf, IsRecordableEvent}
-use Rattle.odb_doc.specs.LeastEventFault.{IsEventsDocument, RefusesEvents}
-use Rattle.odb_doc.specs.Records.{Record}
+use Rattle.odb_doc.specs.recorded.EventFaults.{event_row}
+use Rattle.odb_doc.specs.recorded.Events.{EventValue, AreEventsOf, IsRecordableEvent}
+use Rattle.odb_doc.specs.recorded.LeastEventFault.{IsEventsDocument, RefusesEvents}
+use Rattle.odb_doc.specs.batch.Records.{Record}
 use Rattle.odb_check.specs.declared.plan.Plan.{Plan}
 use Rattle.odb_check.specs.Plans.{plan_records}
 use Rattle.odb_sched.specs.declared.event.Event.{Event}

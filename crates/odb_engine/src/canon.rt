@@ -1,6 +1,6 @@
 ghost use Rattle.std.specs.Prelude.{◌≡◌, ◌++◌, ◌∷◌, [], false, Err, IsTrue, IfOk, IfErr, string_bytes};
-ghost use Rattle.odb_doc.specs.Batches.{records};
-ghost use Rattle.odb_doc.specs.Canonical.{canonical_text};
+ghost use Rattle.odb_doc.specs.batch.Batches.{records};
+ghost use Rattle.odb_doc.specs.canonical.Canonical.{canonical_text};
 ghost use Rattle.odb_engine.specs.Inputs.{IsFresh, ReadsFew, SomeDocument};
 ghost use Rattle.odb_engine.specs.Cascade.{Answers};
 ghost use Rattle.odb_engine.specs.Engines.{Ends};

@@ -1,5 +1,5 @@
 ghost use Rattle.std.specs.Prelude.{◌≡◌, ◌≢◌, ◌↔◌, ℕ, List, false, Err, IfErr, IfOk, IsTrue, OnOk};
-ghost use Rattle.odb_doc.specs.Batches.{records};
+ghost use Rattle.odb_doc.specs.batch.Batches.{records};
 ghost use Rattle.odb_check.specs.LeastNameFault.{HasGoodNames};
 ghost use Rattle.odb_check.specs.Plans.{plan_records};
 ghost use Rattle.odb_check.specs.Seeds.{IsSeeded};
@@ -24,8 +24,8 @@ use std::io::{Read, Write};
 /// [`answer`] is its engine.
 pub trait Command {
     ghost use Rattle.std.specs.Prelude.{◌≡◌, ◌≢◌, ℕ, List, Err};
-    ghost use Rattle.odb_doc.specs.Records.{Record};
-    ghost use Rattle.odb_doc.specs.Batches.{records};
+    ghost use Rattle.odb_doc.specs.batch.Records.{Record};
+    ghost use Rattle.odb_doc.specs.batch.Batches.{records};
     ghost use Rattle.odb_check.specs.Plans.{plan_records};
     ghost use Rattle.odb_engine.specs.declared.ending.Ended.{Ended};
     ghost use Rattle.odb_engine.specs.declared.halt.Halt.TheVariants as halts;

@@ -22,7 +22,7 @@ use std::io::{Read, Write};
 /// [`answer_pair`] is its engine.
 pub trait PairCommand {
     ghost use Rattle.std.specs.Prelude.{◌≡◌, ◌↔◌, ℕ, List, false, Ok, Err, IsTrue};
-    ghost use Rattle.odb_doc.specs.Records.{Record};
+    ghost use Rattle.odb_doc.specs.batch.Records.{Record};
     ghost use Rattle.odb_check.specs.Plans.{plan_records};
     ghost use Rattle.odb_engine.specs.declared.ending.Ended.{Ended};
     ghost use Rattle.odb_engine.specs.declared.ending.EngineFault.TheVariants as faults;

@@ -1,5 +1,5 @@
 ghost use Rattle.std.specs.Prelude.{◌≡◌, ◌≢◌, ◌<◌, ◌↔◌, ◌⊎◌, Bool, All, false, Err, IsTrue, IfErr, IfOk};
-ghost use Rattle.odb_doc.specs.OutcomeLists.{entries};
+ghost use Rattle.odb_doc.specs.recorded.OutcomeLists.{entries};
 ghost use Rattle.odb_sched.specs.State.{size};
 ghost use Rattle.odb_sched.specs.Courses.{position_in};
 ghost use Rattle.odb_reply.specs.NotWhole.{HasWholeBodies};

@@ -3,7 +3,7 @@ use Rattle.std.proofs.Common.{◌≡◌, ◌∙◌, ◌⊎◌, ◌<◌, ℕ, zer
 use Rattle.std.proofs.lemmas.Bool.{cases_eq, true≢false, both_ways}
 use Rattle.std.proofs.lemmas.Option.{slice_get_within}
 use Rattle.std.proofs.lemmas.Slice.Eq.{bytes_eq-Decides}
-use Rattle.odb_doc.specs.Records.{Record}
+use Rattle.odb_doc.specs.batch.Records.{Record}
 use Rattle.odb_check.specs.Firsts.{first_below, or_else, is_text}
 use Rattle.odb_check.specs.Positions.{id_at, IsId}
 use Rattle.odb_check.specs.Units.{position_of}

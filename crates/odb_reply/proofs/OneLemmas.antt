@@ -6,15 +6,15 @@ use Rattle.std.proofs.lemmas.List.Sums.{sum_by-cons}
 use Rattle.std.proofs.lemmas.Slice.Eq.{bytes_eq-Decides}
 use Rattle.serde_json.specs.Data.{Data, string, object, put, no_members}
 use Rattle.odb_doc.specs.Members.{text_at}
-use Rattle.odb_doc.specs.Records.{Record}
-use Rattle.odb_doc.specs.declared.outcome.Outcome.{Outcome}
+use Rattle.odb_doc.specs.batch.Records.{Record}
+use Rattle.odb_doc.specs.declared.recorded.outcome.Outcome.{Outcome}
 use Rattle.odb_check.specs.LeastNameFault.{HasGoodNames}
 use Rattle.odb_check.specs.Positions.{id_at, IsId, IsIdBefore}
 use Rattle.odb_check.specs.declared.fault.NameRule.TheVariants.{IdTwice}
 use Rattle.odb_check.specs.Plans.{plan_records}
 use Rattle.odb_sched.specs.Answers.{answer}
 use Rattle.odb_sched.specs.State.{State}
-use Rattle.odb_doc.specs.Canonical.{with_some}
+use Rattle.odb_doc.specs.canonical.Canonical.{with_some}
 use Rattle.odb_reply.specs.Responses.{response, responses_from, responses, response_value}
 use Rattle.odb_reply.specs.OnePerId.{has_id, HasOnePerId}
 use Rattle.odb_reply.specs.ResponseDocuments.{responses_in}

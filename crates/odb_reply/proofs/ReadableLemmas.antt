@@ -4,9 +4,9 @@ use Rattle.std.proofs.lemmas.Bool.{and_parts, or_from}
 use Rattle.serde_json.specs.Data.{Data, unsigned, number, string, array, no_members}
 use Rattle.serde_json.specs.View.{items_of}
 use Rattle.serde_json.specs.Written.{members_have_float}
-use Rattle.odb_doc.specs.declared.outcome.Outcome.{Outcome}
-use Rattle.odb_doc.specs.Canonical.{headers_value}
-use Rattle.odb_doc.specs.Records.{Record}
+use Rattle.odb_doc.specs.declared.recorded.outcome.Outcome.{Outcome}
+use Rattle.odb_doc.specs.canonical.Canonical.{headers_value}
+use Rattle.odb_doc.specs.batch.Records.{Record}
 use Rattle.odb_doc.specs.WholeNumbers.{IsWhole}
 use Rattle.odb_doc.proofs.SafeLemmas.{IsSafe, AreSafe, AreItemsSafe, safe-put, safe-string, safe-none, safe-with_some, safe-group, safe-headers, safe-body}
 use Rattle.odb_check.specs.Plans.{plan_records}
@@ -14,7 +14,7 @@ use Rattle.odb_sched.specs.Answers.{answer, status_of}
 use Rattle.odb_sched.specs.State.{State, size}
 use Rattle.odb_sched.specs.Statuses.{is_status}
 use Rattle.odb_reply.specs.NotWhole.{HasWholeBodies}
-use Rattle.odb_doc.specs.OutcomeValues.{IsHeldOutcome, IsShallow}
+use Rattle.odb_doc.specs.recorded.OutcomeValues.{IsHeldOutcome, IsShallow}
 use Rattle.odb_reply.specs.Readable.{AnswersBy, HasShallowBodies, IsReadable}
 use Rattle.odb_reply.specs.Responses.{answer_body, answer_headers, response_members, responses_from, response_value}
 

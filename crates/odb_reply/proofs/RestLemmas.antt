@@ -5,13 +5,13 @@ use Rattle.std.proofs.lemmas.Option.{slice_get_within, get_or_from_slice_get}
 use Rattle.std.specs.Prelude.{slice_get}
 use Rattle.serde_json.specs.Written.{compact_text, comma_if}
 use Rattle.serde_json.proofs.OnLiterals.{serde_json_on_literals}
-use Rattle.odb_doc.specs.Records.{Record}
+use Rattle.odb_doc.specs.batch.Records.{Record}
 use Rattle.odb_doc.specs.Texts.{member_part}
 use Rattle.serde_json.specs.Data.{string}
 use Rattle.odb_check.specs.Plans.{plan_records}
 use Rattle.odb_sched.specs.Answers.{answer, status_of}
 use Rattle.odb_sched.specs.State.{State}
-use Rattle.odb_doc.specs.Canonical.{headers_value}
+use Rattle.odb_doc.specs.canonical.Canonical.{headers_value}
 use Rattle.odb_reply.specs.Responses.{response, response_text, answer_body, answer_headers}
 use Rattle.odb_reply.specs.Parts.{rest_text, end_part}
 use Rattle.odb_reply.proofs.PartLemmas.{response-parts}

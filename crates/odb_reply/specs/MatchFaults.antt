@@ -1,7 +1,7 @@
 -- How responses do not fit a batch, over all pairs of responses and requests (OData JSON Format 4.01, section 19.5), and
 -- what is printed of it.
 use Rattle.std.specs.Prelude.{◌≡◌, ◌≢◌, ◌<◌, ℕ, List, Option, Some, None, Contains, IsSomeAnd, IsTrue, codes}
-use Rattle.odb_doc.specs.Records.{Record}
+use Rattle.odb_doc.specs.batch.Records.{Record}
 use Rattle.odb_doc.specs.Refusals.{Printed, fault_at}
 use Rattle.odb_doc.specs.declared.fault.Place.{Place}
 use Rattle.odb_doc.specs.declared.fault.Place.TheVariants as places

@@ -1,7 +1,7 @@
 -- Answers that are read again from the text of their response (OData JSON Format 4.01, section 19.5).
 use Rattle.std.specs.Prelude.{◌≡◌, ◌<◌, ℕ, Some, IfSome}
-use Rattle.odb_doc.specs.declared.outcome.Outcome.{Outcome}
-use Rattle.odb_doc.specs.OutcomeValues.{IsHeldOutcome, IsShallow}
+use Rattle.odb_doc.specs.declared.recorded.outcome.Outcome.{Outcome}
+use Rattle.odb_doc.specs.recorded.OutcomeValues.{IsHeldOutcome, IsShallow}
 use Rattle.odb_doc.specs.WholeNumbers.{IsWhole}
 use Rattle.odb_sched.specs.Answers.{answer}
 use Rattle.odb_sched.specs.State.{State, size}

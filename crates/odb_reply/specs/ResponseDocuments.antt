@@ -4,7 +4,7 @@ use Rattle.std.specs.Prelude.{◌≡◌, ◌≤◌, ◌<◌, ℕ, List, [], map,
 use Rattle.serde_json.specs.Data.{Data, Num, unsigned, negative, float, string, Items}
 use Rattle.serde_json.specs.Find.{get, as_array, as_str}
 use Rattle.odb_doc.specs.Members.{list_of, given}
-use Rattle.odb_doc.specs.Outcomes.{id_of, status_of}
+use Rattle.odb_doc.specs.recorded.Outcomes.{id_of, status_of}
 use Rattle.odb_reply.specs.declared.responses.Response.{Response}
 use Rattle.odb_reply.specs.declared.responses.Responses.{Responses}
 use Rattle.odb_reply.specs.declared.response_fault.ResponseFault.{ResponseFault}

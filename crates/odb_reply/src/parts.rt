@@ -1,6 +1,6 @@
 ghost use Rattle.std.specs.Prelude.{◌≡◌, ◌<◌, ◌+◌, ◌++◌, codes, length, option_map, string_bytes, OnOk};
 ghost use Rattle.serde_json.specs.View.{view};
-ghost use Rattle.odb_doc.specs.Canonical.{headers_value};
+ghost use Rattle.odb_doc.specs.canonical.Canonical.{headers_value};
 ghost use Rattle.odb_doc.specs.Texts.{member_part};
 ghost use Rattle.odb_check.specs.Plans.{plan_records};
 ghost use Rattle.odb_sched.specs.Answers.{shown};

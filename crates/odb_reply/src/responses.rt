@@ -3,7 +3,7 @@ ghost use Rattle.std.specs.List.{AllZip};
 ghost use Rattle.serde_json.specs.Data.{string, unsigned};
 ghost use Rattle.serde_json.specs.Find.{as_str};
 ghost use Rattle.serde_json.specs.View.{view};
-ghost use Rattle.odb_doc.specs.Outcomes as members;
+ghost use Rattle.odb_doc.specs.recorded.Outcomes as members;
 ghost use Rattle.odb_reply.specs.declared.response_fault.ResponseFault.TheVariants as faults;
 ghost use Rattle.odb_reply.specs.Elements.{RefusesElements};
 ghost use Rattle.odb_reply.specs.ResponseDocuments as documents;

@@ -1,7 +1,7 @@
 -- The tests of a start and of a report find the first cause, and an event may come if none applies.
 use Rattle.std.proofs.Common.{◌≡◌, ◌↔◌, ◌∙◌, ℕ, ◌<◌, ◌≤◌, ap, sym, refl, subst, arith, Bool, true, false, not, nat_le, Option, Some, None, is_none, is_some, unwrap_or, find, IfSome, IsTrue, if◌then◌else◌}
 use Rattle.std.proofs.lemmas.Bool.{both_ways, true≢false, true_from_ne_false, false_from_ne_true, le-leb, leb-true, and_parts}
-use Rattle.odb_doc.specs.declared.outcome.Outcome.{Outcome}
+use Rattle.odb_doc.specs.declared.recorded.outcome.Outcome.{Outcome}
 use Rattle.odb_doc.specs.LeastRules.{IsLeast}
 use Rattle.odb_check.specs.declared.need.Need.{Need}
 use Rattle.odb_check.specs.Shape.{unit_of, needs_of}

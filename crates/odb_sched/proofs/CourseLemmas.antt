@@ -10,7 +10,7 @@ use Rattle.std.proofs.lemmas.List.Folds.{sum_by-replicate}
 use Rattle.odb_check.specs.declared.plan.Plan.{Plan}
 use Rattle.odb_check.specs.Plans.{plan_records}
 use Rattle.odb_check.specs.Shape.{IsPlan}
-use Rattle.odb_doc.specs.declared.outcome.Outcome.{Outcome}
+use Rattle.odb_doc.specs.declared.recorded.outcome.Outcome.{Outcome}
 use Rattle.odb_sched.specs.declared.policy.Policy.{Policy}
 use Rattle.odb_sched.specs.declared.phase.Phase.{Phase}
 use Rattle.odb_sched.specs.declared.phase.Phase.TheVariants.{Unstarted, Running, Reported}
@@ -37,7 +37,7 @@ use Rattle.odb_sched.specs.Advances.{MayTake, IsNext, IsTaken, IsTakenBy}
 use Rattle.odb_sched.specs.Calls.{Performing, IsCall, Asks, AsksAll, IsDueNow, Faults, IsCutShort}
 use Rattle.odb_sched.specs.Choices.{Picking, Picks, PicksAll}
 use Rattle.odb_sched.specs.Laws.{StartsLast}
-use Rattle.odb_doc.specs.Records.{Record}
+use Rattle.odb_doc.specs.batch.Records.{Record}
 use Rattle.odb_sched.proofs.ChoiceLemmas.{positions-listed, listed-in}
 use Rattle.odb_sched.proofs.PlanLemmas.{length-shape}
 use Rattle.odb_sched.proofs.PhaseLemmas.{get_or-set_cases, get_or-replicate_Unstarted}

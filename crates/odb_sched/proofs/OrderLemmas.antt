@@ -1,7 +1,7 @@
 -- In an order, and with recorded outcomes, a run has one course: each step and each event is determined by the state.
 use Rattle.std.proofs.Common.{◌≡◌, ℕ, ◌<◌, ◌≤◌, ◌∙◌, ap, sym, refl, subst, arith, true, false, List, [], ◌∷◌, length, map, Option, Result, Ok, Err}
 use Rattle.std.proofs.lemmas.Bool.{both_ways, and_parts}
-use Rattle.odb_doc.specs.declared.outcome.Outcome.{Outcome}
+use Rattle.odb_doc.specs.declared.recorded.outcome.Outcome.{Outcome}
 use Rattle.odb_sched.specs.declared.event.Event.{Event}
 use Rattle.odb_sched.specs.declared.event.Event.TheVariants.{Start, Report}
 use Rattle.odb_sched.specs.declared.order.Order.{Order}

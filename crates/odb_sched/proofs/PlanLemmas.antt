@@ -3,7 +3,7 @@ use Rattle.std.proofs.Common.{Option, Some, None, ◌≡◌, ℕ, zero, suc, ◌
 use Rattle.std.proofs.lemmas.Bool.{cases_lt}
 use Rattle.std.proofs.lemmas.List.{get_or_append_left, get_or_at}
 use Rattle.odb_check.specs.declared.plan.Plan.{Plan}
-use Rattle.odb_doc.specs.Records.{Record}
+use Rattle.odb_doc.specs.batch.Records.{Record}
 use Rattle.odb_check.specs.Plans.{plan_records, shape}
 use Rattle.odb_check.specs.Positions.{group_at}
 use Rattle.odb_check.specs.Firsts.{list_below}

@@ -3,9 +3,9 @@ use Rattle.std.proofs.Common.{◌≡◌, ℕ, suc, ◌<◌, ◌∙◌, sym, refl
 use Rattle.std.specs.List.{AllZip}
 use Rattle.std.proofs.lemmas.List.Elements.{All-push}
 use Rattle.std.proofs.Math.Seq.{take-append_seam}
-use Rattle.odb_doc.specs.Records.{Record}
-use Rattle.odb_doc.specs.Events.{EventValue}
-use Rattle.odb_doc.specs.Events as named
+use Rattle.odb_doc.specs.batch.Records.{Record}
+use Rattle.odb_doc.specs.recorded.Events.{EventValue}
+use Rattle.odb_doc.specs.recorded.Events as named
 use Rattle.odb_sched.specs.declared.event.Event.{Event}
 use Rattle.odb_sched.specs.declared.event.Event.TheVariants as at
 use Rattle.odb_sched.specs.Resolving.{IsKnown, IsResolved, IsFirstUnknown}

@@ -2,7 +2,7 @@
 use Rattle.std.proofs.Common.{◌≡◌, ℕ, ◌<◌, ◌∙◌, sym, refl, subst, arith, List, [], Option, Bool, true, false, not, ◌&&◌, ◌||◌, inl, inr, Some, None, Contains, if◌then◌else◌}
 use Rattle.std.proofs.lemmas.Bool.{both_ways, true≢false, and_parts, and_from, or_cases, false_from_ne_true, not-true, not_from_false}
 use Rattle.serde_json.specs.Data.{Data}
-use Rattle.odb_doc.specs.declared.outcome.Outcome.{Outcome}
+use Rattle.odb_doc.specs.declared.recorded.outcome.Outcome.{Outcome}
 use Rattle.odb_doc.specs.Headers.{Header}
 use Rattle.odb_check.specs.declared.need.Need.{Need}
 use Rattle.odb_check.specs.declared.need.Need.TheVariants.{One, Group}

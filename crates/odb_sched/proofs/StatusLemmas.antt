@@ -1,7 +1,7 @@
 -- The statuses of what was reported, and of the answers.
 use Rattle.std.proofs.Common.{◌≡◌, ℕ, ◌∙◌, ap, sym, subst, refl, Bool, true, false, not, ◌&&◌, Some, None, is_some, unwrap_or, IsTrue, inl, inr, set, if◌then◌else◌}
 use Rattle.std.proofs.lemmas.Bool.{true≢false}
-use Rattle.odb_doc.specs.declared.outcome.Outcome.{Outcome}
+use Rattle.odb_doc.specs.declared.recorded.outcome.Outcome.{Outcome}
 use Rattle.odb_sched.specs.declared.phase.Phase.{Phase}
 use Rattle.odb_sched.specs.declared.phase.Phase.TheVariants.{Unstarted, Running, Reported}
 use Rattle.odb_sched.specs.Statuses.{is_success, is_status}

@@ -1,6 +1,6 @@
 -- Private: one step of an execution.
 use Rattle.std.specs.Prelude.{◌≡◌, ◌<◌, true, List}
-use Rattle.odb_doc.specs.Records.{Record}
+use Rattle.odb_doc.specs.batch.Records.{Record}
 use Rattle.odb_sched.specs.declared.event.Event.{Event}
 use Rattle.odb_sched.specs.declared.step.Step.{Step}
 use Rattle.odb_sched.specs.declared.step.Step.TheVariants as step

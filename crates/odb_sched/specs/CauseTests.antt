@@ -1,6 +1,6 @@
 -- Private: the tests of a start and of a report, in the order in which they are made. They find the first of the Causes.
 use Rattle.std.specs.Prelude.{ℕ, Bool, not, nat_le, Option, Some, None, find, if◌then◌else◌}
-use Rattle.odb_doc.specs.declared.outcome.Outcome.{Outcome}
+use Rattle.odb_doc.specs.declared.recorded.outcome.Outcome.{Outcome}
 use Rattle.odb_check.specs.declared.need.Need.{Need}
 use Rattle.odb_check.specs.Shape.{unit_of, needs_of}
 use Rattle.odb_sched.specs.declared.refusal.StartRefusal.{StartRefusal}

@@ -1,6 +1,6 @@
 -- Why a request may not start (S1 to S5), and why an outcome is not accepted (P1 and P2).
 use Rattle.std.specs.Prelude.{◌≡◌, ℕ, ◌≤◌, true, false, not, Some, find}
-use Rattle.odb_doc.specs.declared.outcome.Outcome.{Outcome}
+use Rattle.odb_doc.specs.declared.recorded.outcome.Outcome.{Outcome}
 use Rattle.odb_doc.specs.LeastRules.{IsLeast}
 use Rattle.odb_check.specs.Shape.{unit_of, needs_of}
 use Rattle.odb_sched.specs.declared.refusal.StartRefusal.{StartRefusal}

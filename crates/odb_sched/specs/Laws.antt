@@ -1,7 +1,7 @@
 -- What is true of every run (OData JSON Format 4.01, sections 19.1, 19.4 and 19.5; OData Protocol 4.01, section 11.7).
 use Rattle.std.specs.Prelude.{length, ◌≡◌, ◌≢◌, ◌⊎◌, ◌↔◌, ℕ, ◌<◌, ◌≤◌, ◌==◌, true, false, List, ◌∷◌, ◌++◌, Some, Contains, IsTrue, count_by}
-use Rattle.odb_doc.specs.Records.{Record}
-use Rattle.odb_doc.specs.declared.outcome.Outcome.{Outcome}
+use Rattle.odb_doc.specs.batch.Records.{Record}
+use Rattle.odb_doc.specs.declared.recorded.outcome.Outcome.{Outcome}
 use Rattle.odb_check.specs.declared.need.Need.{Need}
 use Rattle.odb_check.specs.declared.need.Need.TheVariants.{One, Group}
 use Rattle.odb_check.specs.Shape.{Shape, unit_of, needs_of}

@@ -1,6 +1,6 @@
 -- Executions in an order, with recorded outcomes: what is determined by the plan, the policy, the order and the record.
 use Rattle.std.specs.Prelude.{◌≡◌, List, Option}
-use Rattle.odb_doc.specs.declared.outcome.Outcome.{Outcome}
+use Rattle.odb_doc.specs.declared.recorded.outcome.Outcome.{Outcome}
 use Rattle.odb_sched.specs.declared.order.Order.{Order}
 use Rattle.odb_sched.specs.declared.step.Step.{Step}
 use Rattle.odb_sched.specs.declared.fault.ExecFault.{ExecFault}

@@ -1,7 +1,7 @@
 -- Outcomes that were recorded, by the ids of their requests (OData JSON Format 4.01, section 19.5).
 use Rattle.std.specs.Prelude.{◌≡◌, ℕ, List, map, Option, Some, None, option_map, Result, Ok, Err, find, bytes_eq, slice_index_or, slice_set}
-use Rattle.odb_doc.specs.declared.outcome.Outcome.{Outcome}
-use Rattle.odb_doc.specs.Records.{Record}
+use Rattle.odb_doc.specs.declared.recorded.outcome.Outcome.{Outcome}
+use Rattle.odb_doc.specs.batch.Records.{Record}
 use Rattle.odb_sched.specs.declared.service.ServiceFault.{ServiceFault}
 use Rattle.odb_sched.specs.declared.service.ServiceFault.TheVariants.{NoOutcome}
 use Rattle.odb_sched.specs.Courses.{Offer}

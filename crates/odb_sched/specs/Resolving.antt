@@ -1,8 +1,8 @@
 -- Recorded events with the positions of their requests in place of the ids.
 use Rattle.std.specs.Prelude.{◌≡◌, ℕ, List, Some, All, IsSomeAnd, slice_get, take}
-use Rattle.odb_doc.specs.Records.{Record}
-use Rattle.odb_doc.specs.Events.{EventValue}
-use Rattle.odb_doc.specs.Events as named
+use Rattle.odb_doc.specs.batch.Records.{Record}
+use Rattle.odb_doc.specs.recorded.Events.{EventValue}
+use Rattle.odb_doc.specs.recorded.Events as named
 use Rattle.odb_check.specs.Positions.{id_at, IsId}
 use Rattle.odb_sched.specs.declared.event.Event.{Event}
 use Rattle.odb_sched.specs.declared.event.Event.TheVariants as at

@@ -1,6 +1,6 @@
 -- The state of a run: its plan, its policy, and the phase of each request.
 use Rattle.std.specs.Prelude.{ℕ, List, length, replicate, slice_index_or, slice_set}
-use Rattle.odb_doc.specs.declared.outcome.Outcome.{Outcome}
+use Rattle.odb_doc.specs.declared.recorded.outcome.Outcome.{Outcome}
 use Rattle.odb_check.specs.declared.plan.Plan.{Plan}
 unfoldable pub use Rattle.odb_check.specs.Plans.{shape}
 use Rattle.odb_check.specs.Shape.{Shape}

@@ -1,7 +1,7 @@
 -- Which event may come (OData JSON Format 4.01, section 19.4; OData Protocol 4.01, sections 8.2.8.3 and 11.7).
 use Rattle.std.specs.Prelude.{ℕ, ◌==◌, ◌&&◌, ◌||◌, Bool, true, false, not, nat_lt, List, length, slice_index_or, count_by}
 use Rattle.std.specs.List.{list_any, list_all}
-use Rattle.odb_doc.specs.declared.outcome.Outcome.{Outcome}
+use Rattle.odb_doc.specs.declared.recorded.outcome.Outcome.{Outcome}
 use Rattle.odb_check.specs.declared.need.Need.{Need}
 use Rattle.odb_check.specs.declared.need.Need.TheVariants.{One, Group}
 use Rattle.odb_check.specs.Shape.{Shape, unit_of, needs_of}

@@ -5,7 +5,7 @@
 //! relations that the clauses of the scheduler use.
 
 ghost use Rattle.std.specs.Prelude.{◌≡◌, ℕ, ◌<◌, ◌≤◌, ◌++◌, ◌↔◌, Bool, true, List, map, length, Option, IsTrue};
-ghost use Rattle.odb_doc.specs.declared.outcome.Outcome.{Outcome};
+ghost use Rattle.odb_doc.specs.declared.recorded.outcome.Outcome.{Outcome};
 ghost use Rattle.odb_check.specs.Plans.{plan_records};
 ghost use Rattle.odb_sched.specs.declared.policy.Mode.TheVariants.{Continue};
 ghost use Rattle.odb_sched.specs.declared.policy.Policy.{Policy};
@@ -16,7 +16,7 @@ ghost use Rattle.odb_sched.specs.declared.refusal.StartRefusal.TheVariants.{Widt
 ghost use Rattle.odb_sched.specs.declared.refusal.ReportRefusal.{ReportRefusal};
 ghost use Rattle.odb_sched.specs.declared.refusal.RunRefusal.{RunRefusal};
 ghost use Rattle.odb_sched.specs.Refusals as refusals;
-ghost use Rattle.odb_doc.specs.Events.{EventValue};
+ghost use Rattle.odb_doc.specs.recorded.Events.{EventValue};
 ghost use Rattle.odb_sched.specs.declared.resolving.ResolveFault.{ResolveFault};
 ghost use Rattle.odb_sched.specs.Resolving.{RefusesNamed};
 ghost use Rattle.odb_sched.specs.ResolveFaults as resolving;
@@ -26,7 +26,7 @@ ghost use Rattle.odb_sched.specs.Steps.{may_start, may_report, is_finished};
 ghost use Rattle.odb_sched.specs.Causes.{BarsStart, IsStartCause, BarsReport, IsReportCause};
 ghost use Rattle.odb_sched.specs.Runs.{IsRun, state_after, phase_of, Refuses};
 ghost use Rattle.odb_sched.specs.Laws.{HaveSucceeded, StartsLast, IsNeverStuck, HasFewEvents, HasOneResult, HasResultByStatuses, HasSoundResult, IsAllOrNone, IsSound, SucceedsByMembers};
-ghost use Rattle.odb_doc.specs.Records.{Record};
+ghost use Rattle.odb_doc.specs.batch.Records.{Record};
 ghost use Rattle.odb_sched.specs.Courses.{step_of};
 ghost use Rattle.odb_sched.specs.Calls.{AsksAll, Call, calls_of, reported_by, Writes};
 ghost use Rattle.odb_sched.specs.Answers.{HasStatuses};

@@ -3,8 +3,8 @@ ghost use Rattle.std.specs.declared.alloc.Global.{Global};
 ghost use Rattle.odb_check.specs.Plans.{plan_records};
 ghost use Rattle.odb_sched.specs.Recordings.{recorded_for, noted_at};
 ghost use Rattle.odb_check.specs.Units.{position_of};
-ghost use Rattle.odb_doc.specs.Outcomes.{recorded};
-ghost use Rattle.odb_doc.specs.OutcomeLists.{entries};
+ghost use Rattle.odb_doc.specs.recorded.Outcomes.{recorded};
+ghost use Rattle.odb_doc.specs.recorded.OutcomeLists.{entries};
 
 use crate::service::{Service, ServiceFault};
 use odb_check::Plan;
@@ -21,11 +21,11 @@ pub struct Recorded {
 
 impl Model for Recorded {
     ghost use Rattle.std.specs.Prelude.{List, Option};
-    ghost use Rattle.odb_doc.specs.declared.outcome.Outcome.{Outcome};
+    ghost use Rattle.odb_doc.specs.declared.recorded.outcome.Outcome.{Outcome};
 
     ghost Value = { List (Option Outcome) };
 
-    ghost use Rattle.odb_doc.specs.contracts.outcome.Outcome as outcome;
+    ghost use Rattle.odb_doc.specs.contracts.recorded.outcome.Outcome as outcome;
     ghost use Rattle.std.specs.Coded.{codes};
 
     ghost coded = { Prim.hlevel (codes, outcome.the_row.coded) };

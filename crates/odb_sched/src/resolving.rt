@@ -1,8 +1,8 @@
 ghost use Rattle.std.specs.Prelude.{◌≡◌, ◌<◌, List, length, Some, All, IfOk, IfErr, OnOk};
 ghost use Rattle.std.specs.List.{AllZip};
-ghost use Rattle.odb_doc.specs.EventLists.{entries};
-ghost use Rattle.odb_doc.specs.Events.{event_value};
-ghost use Rattle.odb_doc.specs.Records.{Record};
+ghost use Rattle.odb_doc.specs.recorded.EventLists.{entries};
+ghost use Rattle.odb_doc.specs.recorded.Events.{event_value};
+ghost use Rattle.odb_doc.specs.batch.Records.{Record};
 ghost use Rattle.odb_check.specs.Plans.{plan_records};
 ghost use Rattle.odb_check.specs.Positions.{id_at};
 ghost use Rattle.odb_sched.specs.declared.resolving.ResolveFault.TheVariants.{OutOfMemory};

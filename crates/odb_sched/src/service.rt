@@ -22,8 +22,8 @@ pub enum ServiceFault {
 /// promises nothing writes `λ _ _ _. Unit {0}` and `λ _ _ _ _ _. Unit {0}`.
 pub trait Service {
     ghost use Rattle.std.specs.Prelude.{◌≢◌, ℕ, Result, Err};
-    ghost use Rattle.odb_doc.specs.declared.outcome.Outcome.{Outcome};
-    ghost use Rattle.odb_doc.specs.Records.{Record, record_of};
+    ghost use Rattle.odb_doc.specs.declared.recorded.outcome.Outcome.{Outcome};
+    ghost use Rattle.odb_doc.specs.batch.Records.{Record, record_of};
     ghost use Rattle.odb_sched.specs.declared.service.ServiceFault.{ServiceFault};
     ghost use Rattle.odb_sched.specs.declared.service.ServiceFault.TheVariants.{OutOfMemory};
 

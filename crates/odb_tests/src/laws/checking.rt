@@ -1,7 +1,7 @@
 //! Checks of batches: two checks of one batch find the same, and what holds of every plan.
 
 ghost use Rattle.std.specs.Prelude.{◌≡◌, IfSome, IsTrue};
-ghost use Rattle.odb_doc.specs.Batches.{records};
+ghost use Rattle.odb_doc.specs.batch.Batches.{records};
 ghost use Rattle.odb_check.specs.FaultTable.{IsNumbered};
 ghost use Rattle.odb_check.specs.Laws.{HasPositions, HasUnits, NeedsGroups};
 ghost use Rattle.odb_check.specs.LeastNameFault.{HasGoodNames, RefusesNames};

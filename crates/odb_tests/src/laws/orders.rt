@@ -1,7 +1,7 @@
 //! Executions in one order, by one record: two of them take the same steps and answer the same.
 
 ghost use Rattle.std.specs.Prelude.{◌≡◌, IfOk, IfSome};
-ghost use Rattle.odb_doc.specs.OutcomeLists.{entries};
+ghost use Rattle.odb_doc.specs.recorded.OutcomeLists.{entries};
 ghost use Rattle.odb_check.specs.Plans.{plan_records};
 ghost use Rattle.odb_sched.specs.Orders.{Faults, Finishes};
 ghost use Rattle.odb_sched.specs.Recordings.{recorded_for};

@@ -2,7 +2,7 @@ use Rattle.std.proofs.Common.{◌≡◌, ℕ, List, Option, Some, None, sym, ref
 use Rattle.std.specs.Prelude.{is_some}
 use Rattle.std.specs.Bool.{Decides}
 use Rattle.std.proofs.lemmas.Bool.Decides.{Decides-at}
-use Rattle.odb_doc.specs.Records.{Record}
+use Rattle.odb_doc.specs.batch.Records.{Record}
 use Rattle.odb_check.specs.Positions.{id_at, IsGroup}
 use Rattle.odb_check.specs.Requests.{requests}
 use Rattle.odb_check.specs.Units.{unit_of_group}

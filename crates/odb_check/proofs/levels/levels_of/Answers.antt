@@ -1,7 +1,7 @@
 use Rattle.std.proofs.Common.{◌≡◌, ◌<◌, ap, ◌∙◌, subst, length, arith, add-one}
 use Rattle.std.specs.Prelude.{max, slice_index, slice_set}
 use Rattle.std.proofs.lemmas.Grind.{get_or_default_zero}
-use Rattle.odb_doc.specs.Batches.{records}
+use Rattle.odb_doc.specs.batch.Batches.{records}
 use Rattle.odb_check.specs.Units.{unit_at, unit_count}
 use Rattle.odb_check.proofs.LevelLemmas.{length-levels_below, levels_more, levels_known}
 use Rattle.odb_check.proofs.PlanLemmas.{needs_before}

@@ -1,4 +1,4 @@
-use Rattle.odb_doc.specs.Batches.{records}
+use Rattle.odb_doc.specs.batch.Batches.{records}
 use Rattle.odb_check.proofs.levels.levels_of.Given as goal
 use Rattle.odb_check.proofs.LevelLemmas.{AreLevelsOf}
 

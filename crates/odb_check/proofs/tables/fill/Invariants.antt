@@ -1,5 +1,5 @@
 use Rattle.std.specs.Prelude.{◌≡◌}
-use Rattle.odb_doc.specs.Batches.{records}
+use Rattle.odb_doc.specs.batch.Batches.{records}
 use Rattle.odb_check.specs.Starts.{table_start}
 use Rattle.odb_check.specs.Tables.{AreTablesOf}
 use Rattle.odb_check.proofs.tables.fill.Given as goal

@@ -3,8 +3,8 @@ use Rattle.std.proofs.lemmas.List.{length-map, length_push, map-append, take_all
 use Rattle.serde_json.specs.View.{view}
 use Rattle.odb_doc.specs.BrokenRules.{OnPlace, broken_at}
 use Rattle.odb_doc.specs.Faults.{request_number}
-use Rattle.odb_doc.specs.LeastFault.{IsFirstBroken}
-use Rattle.odb_doc.specs.Records.{Says, record_of}
+use Rattle.odb_doc.specs.batch.LeastFault.{IsFirstBroken}
+use Rattle.odb_doc.specs.batch.Records.{Says, record_of}
 use Rattle.odb_doc.proofs.LeastLemmas.{AreRead-none}
 use Rattle.odb_doc.proofs.RequestLemmas.{Breaks, AreReadUpTo-more, first_up_to, get_or-view}
 use Rattle.odb_doc.proofs.batch.requests_from.Goals as goal

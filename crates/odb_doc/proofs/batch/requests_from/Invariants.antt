@@ -1,6 +1,6 @@
 use Rattle.std.proofs.Common.{◌≡◌, length, map}
 use Rattle.serde_json.specs.View.{view}
-use Rattle.odb_doc.specs.Records.{record_of}
+use Rattle.odb_doc.specs.batch.Records.{record_of}
 use Rattle.odb_doc.proofs.RequestLemmas.{AreReadUpTo}
 use Rattle.odb_doc.proofs.batch.requests_from.Given as goal
 

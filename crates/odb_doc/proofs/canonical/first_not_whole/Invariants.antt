@@ -1,8 +1,8 @@
 use Rattle.std.proofs.Common.{ℕ, ◌<◌}
 use Rattle.std.specs.Prelude.{IfSome}
-use Rattle.odb_doc.specs.Batches.{records}
-use Rattle.odb_doc.specs.Canonical.{body_at}
-use Rattle.odb_doc.specs.HeldValues.{IsHeld}
+use Rattle.odb_doc.specs.batch.Batches.{records}
+use Rattle.odb_doc.specs.canonical.Canonical.{body_at}
+use Rattle.odb_doc.specs.canonical.HeldValues.{IsHeld}
 use Rattle.odb_doc.specs.WholeNumbers.{HasWholeBody}
 use Rattle.odb_doc.proofs.canonical.first_not_whole.Given as goal
 

@@ -1,6 +1,6 @@
 use Rattle.std.proofs.Common.{◌∙◌, ◌≤◌, ◌++◌, sym, ap, length}
-use Rattle.odb_doc.specs.Batches.{records}
-use Rattle.odb_doc.specs.CanonicalParts.{requests_left}
+use Rattle.odb_doc.specs.batch.Batches.{records}
+use Rattle.odb_doc.specs.canonical.CanonicalParts.{requests_left}
 use Rattle.odb_doc.proofs.CanonicalLemmas.{canonical_text-front, requests_left-none}
 use Rattle.odb_doc.proofs.canonical.whole_text.Goals as goal
 

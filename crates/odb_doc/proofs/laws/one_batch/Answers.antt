@@ -1,4 +1,4 @@
-use Rattle.odb_doc.specs.Shapes.{elements}
+use Rattle.odb_doc.specs.batch.Shapes.{elements}
 use Rattle.odb_doc.proofs.BatchLemmas.{one_batch}
 use Rattle.odb_doc.proofs.laws.one_batch.Goals as goal
 

@@ -1,5 +1,5 @@
 use Rattle.std.proofs.Common.{refl}
-use Rattle.odb_doc.specs.Names.{texts_in}
+use Rattle.odb_doc.specs.batch.Names.{texts_in}
 use Rattle.odb_doc.proofs.NameLemmas.{fold-with_name-nil}
 use Rattle.odb_doc.proofs.repeats.first_places.Goals as goal
 

@@ -1,7 +1,7 @@
 use Rattle.std.proofs.Common.{◌≡◌, ◌∙◌, ℕ, List, true, false, not, ap, bytes_eq, Bor}
 use Rattle.std.specs.List.{list_any}
 use Rattle.std.proofs.lemmas.List.{map-append}
-use Rattle.odb_doc.specs.Names.{texts_in}
+use Rattle.odb_doc.specs.batch.Names.{texts_in}
 use Rattle.odb_doc.proofs.SetLemmas.{any_at, any_when_old, none_when_new, same_texts_more, put_new, put_old}
 use Rattle.odb_doc.proofs.repeats.keep.Goals as goal
 

@@ -1,6 +1,6 @@
 use Rattle.std.proofs.Common.{bytes_eq, take}
 use Rattle.std.specs.List.{IsDistinct}
-use Rattle.odb_doc.specs.Names.{texts_in}
+use Rattle.odb_doc.specs.batch.Names.{texts_in}
 use Rattle.odb_doc.proofs.repeats.repeats_among_few.Given as goal
 
 -- the texts so far are distinct

@@ -1,6 +1,6 @@
 use Rattle.std.proofs.Common.{bytes_eq, sym}
 use Rattle.std.specs.List.{IsDistinct}
-use Rattle.odb_doc.specs.Names.{texts_in}
+use Rattle.odb_doc.specs.batch.Names.{texts_in}
 use Rattle.odb_doc.proofs.RepeatLemmas.{distinct_same}
 use Rattle.odb_doc.proofs.repeats.without_repeats.Goals as goal
 

@@ -1,5 +1,5 @@
 use Rattle.std.proofs.Common.{◌≡◌, ◌++◌, false, map, string_bytes}
-use Rattle.odb_doc.specs.CanonicalParts.{headers_left}
+use Rattle.odb_doc.specs.canonical.CanonicalParts.{headers_left}
 use Rattle.odb_doc.specs.Headers.{header_of, headers_in}
 use Rattle.odb_doc.proofs.text.push_members.Given as goal
 

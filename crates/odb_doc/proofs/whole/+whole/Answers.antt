@@ -5,7 +5,7 @@ use Rattle.std.specs.Map.{keys_of}
 use Rattle.std.specs.String.{string_cmp}
 use Rattle.serde_json.specs.View.{members_view}
 use Rattle.serde_json.specs.declared.value.Value.{Value}
-use Rattle.odb_doc.specs.HeldValues.{IsBelow, AreOrdered, AreMembersHeld}
+use Rattle.odb_doc.specs.canonical.HeldValues.{IsBelow, AreOrdered, AreMembersHeld}
 use Rattle.odb_doc.proofs.whole.+whole.Goals as goal
 
 below : (name : String Global) (es : List (String Global × Value)) → AllByRecursion (λ other. string_cmp name other ≡ Less) (keys_of es) → IsBelow (string_bytes name) (members_view es)

@@ -1,7 +1,7 @@
 use Rattle.std.proofs.Common.{◌≡◌, drop}
 use Rattle.serde_json.specs.View.{items_view, members_view}
 use Rattle.serde_json.specs.Written.{items_have_float, members_have_float}
-use Rattle.odb_doc.specs.HeldValues.{AreItemsHeld, AreMembersHeld}
+use Rattle.odb_doc.specs.canonical.HeldValues.{AreItemsHeld, AreMembersHeld}
 use Rattle.odb_doc.proofs.whole.+whole.Given as goal
 
 -- the remaining values hold a float if and only if all of them do, and all of them are held if the remaining are

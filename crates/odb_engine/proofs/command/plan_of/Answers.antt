@@ -1,5 +1,5 @@
 use Rattle.std.proofs.Common.{refl, IfErr}
-use Rattle.odb_doc.specs.Batches.{records}
+use Rattle.odb_doc.specs.batch.Batches.{records}
 use Rattle.odb_engine.specs.Halts.{RefusesNamesOf, Halted}
 use Rattle.odb_engine.proofs.EngineLemmas.{at-exit, halted-by}
 use Rattle.odb_engine.proofs.command.plan_of.Goals as goal

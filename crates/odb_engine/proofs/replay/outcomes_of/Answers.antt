@@ -1,5 +1,5 @@
 use Rattle.std.proofs.Common.{refl, IfOk, IfErr}
-use Rattle.odb_doc.specs.OutcomeLists.{entries}
+use Rattle.odb_doc.specs.recorded.OutcomeLists.{entries}
 use Rattle.odb_engine.specs.Halts.{Halted}
 use Rattle.odb_engine.specs.Replays.{IsLeastOfOutcomes, IsRecordOf}
 use Rattle.odb_engine.specs.Cascade.IsLeastOf.{OfValue}

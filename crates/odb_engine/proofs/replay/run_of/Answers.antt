@@ -1,7 +1,7 @@
 -- An execution by recorded outcomes.
 use Rattle.std.proofs.Common.{◌≡◌, subst, refl, Some, Ok, ℕ, IfErr}
-use Rattle.odb_doc.specs.declared.outcome.Outcome.{Outcome}
-use Rattle.odb_doc.specs.OutcomeLists.{entries}
+use Rattle.odb_doc.specs.declared.recorded.outcome.Outcome.{Outcome}
+use Rattle.odb_doc.specs.recorded.OutcomeLists.{entries}
 use Rattle.odb_check.specs.Plans.{plan_records}
 use Rattle.odb_sched.specs.Answers.{reported}
 use Rattle.odb_sched.specs.Courses.{IsDue, IsCausedBy, IsFinishedBy}

@@ -1,7 +1,7 @@
 -- A run by recorded events.
 use Rattle.std.proofs.Common.{◌≡◌, ◌∙◌, Some, subst, refl, sym, ap, IfErr}
 use Rattle.serde_json.specs.Read.{read}
-use Rattle.odb_doc.specs.EventLists.{entries}
+use Rattle.odb_doc.specs.recorded.EventLists.{entries}
 use Rattle.odb_check.specs.Plans.{plan_records}
 use Rattle.odb_sched.specs.State.{State, at_first}
 use Rattle.odb_sched.specs.Steps.{is_finished}

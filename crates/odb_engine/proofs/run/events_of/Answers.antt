@@ -1,5 +1,5 @@
 use Rattle.std.proofs.Common.{refl, IfOk, IfErr}
-use Rattle.odb_doc.specs.EventLists.{entries}
+use Rattle.odb_doc.specs.recorded.EventLists.{entries}
 use Rattle.odb_engine.specs.Halts.{Halted}
 use Rattle.odb_engine.specs.Runs.{AreEventsIn, IsLeastOfEvents}
 use Rattle.odb_engine.specs.Cascade.IsLeastOf.{OfValue}

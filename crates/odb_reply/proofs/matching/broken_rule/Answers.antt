@@ -1,7 +1,7 @@
 use Rattle.std.proofs.Common.{◌≡◌, ◌∙◌, true, false, get_or, option_and_then, refl, sym, ap}
 use Rattle.std.proofs.lemmas.Bool.{true≢false}
 use Rattle.std.proofs.lemmas.Option.{get_or_from_slice_get}
-use Rattle.odb_doc.specs.Records.{Record, record_of}
+use Rattle.odb_doc.specs.batch.Records.{Record, record_of}
 use Rattle.odb_check.specs.Plans.{plan_records, shape}
 use Rattle.odb_check.specs.Positions.{group_at}
 use Rattle.odb_sched.specs.Statuses.{is_success}

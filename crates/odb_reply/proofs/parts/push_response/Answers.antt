@@ -1,6 +1,6 @@
 use Rattle.std.proofs.Common.{arith, ◌≡◌, Some, slice_get}
 use Rattle.std.proofs.lemmas.Grind.{common_steps}
-use Rattle.odb_doc.specs.Records.{record_of}
+use Rattle.odb_doc.specs.batch.Records.{record_of}
 use Rattle.odb_check.specs.Plans.{plan_records}
 use Rattle.odb_reply.proofs.RestLemmas.{rest_text-parts}
 use Rattle.odb_reply.proofs.parts.push_response.Goals as goal

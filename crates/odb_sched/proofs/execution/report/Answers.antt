@@ -1,6 +1,6 @@
 use Rattle.std.proofs.Common.{rules, refl}
 use Rattle.odb_check.specs.Plans.{plan_records}
-use Rattle.odb_doc.specs.Records.{record_of}
+use Rattle.odb_doc.specs.batch.Records.{record_of}
 use Rattle.odb_sched.proofs.CourseLemmas.{taken-report_by}
 use Rattle.odb_sched.proofs.execution.report.Goals as goal
 

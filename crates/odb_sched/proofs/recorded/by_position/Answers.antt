@@ -1,8 +1,8 @@
 -- Entry by entry from the last, each is noted at its position.
 use Rattle.std.proofs.Common.{◌≡◌, ◌∙◌, ap, sym, [], ◌∷◌, ◌++◌, length, map, replicate, List, Option, None, string_bytes}
 use Rattle.std.proofs.lemmas.List.{map-append, nil_from_length}
-use Rattle.odb_doc.specs.declared.outcome.Outcome.{Outcome}
-use Rattle.odb_doc.specs.Outcomes.{recorded}
+use Rattle.odb_doc.specs.declared.recorded.outcome.Outcome.{Outcome}
+use Rattle.odb_doc.specs.recorded.Outcomes.{recorded}
 use Rattle.odb_check.specs.Plans.{plan_records}
 use Rattle.odb_check.specs.Units.{position_of}
 use Rattle.odb_sched.specs.Recordings.{noted_at}

@@ -1,5 +1,5 @@
 use Rattle.std.proofs.Common.{map}
-use Rattle.odb_doc.specs.Outcomes.{recorded}
+use Rattle.odb_doc.specs.recorded.Outcomes.{recorded}
 use Rattle.odb_check.specs.Plans.{plan_records}
 use Rattle.odb_sched.proofs.RecordedLemmas.{AreNoted}
 use Rattle.odb_sched.proofs.recorded.by_position.Given as goal

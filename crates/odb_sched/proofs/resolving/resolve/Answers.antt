@@ -3,8 +3,8 @@ use Rattle.std.proofs.lemmas.List.{nil_from_length}
 use Rattle.std.specs.Vec.Iter.{into_iter_items}
 use Rattle.odb_check.specs.Plans.{plan_records}
 use Rattle.odb_check.specs.Units as units
-use Rattle.odb_doc.specs.EventLists.{entries}
-use Rattle.odb_doc.specs.Events.{event_value}
+use Rattle.odb_doc.specs.recorded.EventLists.{entries}
+use Rattle.odb_doc.specs.recorded.Events.{event_value}
 use Rattle.odb_sched.specs.Resolving.{named_id}
 use Rattle.odb_sched.proofs.RecordedLemmas.{position-is, position-none, position-within}
 use Rattle.odb_sched.proofs.ResolveLemmas.{resolved_none, resolved_more, resolved_all, resolved_as, unknown_next}

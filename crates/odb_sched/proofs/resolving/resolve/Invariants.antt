@@ -1,8 +1,8 @@
 use Rattle.std.proofs.Common.{◌≡◌, length, map}
 use Rattle.std.specs.Vec.Iter.{into_iter_items, into_iter_len}
 use Rattle.odb_check.specs.Plans.{plan_records}
-use Rattle.odb_doc.specs.EventLists.{entries}
-use Rattle.odb_doc.specs.Events.{event_value}
+use Rattle.odb_doc.specs.recorded.EventLists.{entries}
+use Rattle.odb_doc.specs.recorded.Events.{event_value}
 use Rattle.odb_sched.proofs.ResolveLemmas.{HasResolved}
 use Rattle.odb_sched.proofs.resolving.resolve.Given as goal
 

@@ -1,5 +1,5 @@
 use Rattle.std.proofs.Common.{◌∙◌, ap, length}
-use Rattle.odb_doc.specs.Batches.{records}
+use Rattle.odb_doc.specs.batch.Batches.{records}
 use Rattle.odb_check.proofs.GroupLemmas.{groups_below-all}
 use Rattle.odb_check.proofs.tables.Tables.group_count.Goals as goal
 

@@ -1,6 +1,6 @@
 use Rattle.std.proofs.Common.{◌∙◌, sym, subst, arith}
 use Rattle.std.proofs.lemmas.Grind.{get_or_default_zero}
-use Rattle.odb_doc.specs.Batches.{records}
+use Rattle.odb_doc.specs.batch.Batches.{records}
 use Rattle.odb_check.specs.Tables.{IsStartOf}
 use Rattle.odb_check.proofs.tables.Tables.start_of.Goals as goal
 

@@ -1,5 +1,5 @@
 use Rattle.std.proofs.Common.{◌≡◌, ◌<◌, ◌∙◌, ap, sym, subst, get_or, length, arith}
-use Rattle.odb_doc.specs.Batches.{records}
+use Rattle.odb_doc.specs.batch.Batches.{records}
 use Rattle.odb_check.specs.Units.{unit_at, unit_count}
 use Rattle.odb_check.proofs.BelowLemmas.{length-list_below, get_or-list_below}
 use Rattle.odb_check.proofs.UnitLemmas.{unit_before}

@@ -1,8 +1,8 @@
 use Rattle.std.proofs.Common.{◌≡◌, ◌∙◌, string_bytes, ap}
 use Rattle.std.proofs.lemmas.Str.{IsUtf8-string_bytes}
 use Rattle.serde_json.specs.Read.{read}
-use Rattle.odb_doc.specs.Batches.{records}
-use Rattle.odb_doc.specs.Canonical.{canonical_text}
+use Rattle.odb_doc.specs.batch.Batches.{records}
+use Rattle.odb_doc.specs.canonical.Canonical.{canonical_text}
 use Rattle.odb_doc.proofs.TextLemmas.{value_read}
 use Rattle.odb_doc.proofs.batch.Batch.canonical.Goals as goal
 

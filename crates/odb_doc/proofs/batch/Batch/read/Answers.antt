@@ -1,7 +1,7 @@
 use Rattle.std.proofs.Common.{◌<◌, length, rules, arith}
 use Rattle.std.proofs.lemmas.List.{length-map}
 use Rattle.serde_json.specs.View.{view}
-use Rattle.odb_doc.specs.Shapes.{elements}
+use Rattle.odb_doc.specs.batch.Shapes.{elements}
 use Rattle.odb_doc.proofs.batch.Batch.read.Goals as goal
 
 pub returns-clause-good : goal.returns-clause-good

@@ -1,5 +1,5 @@
 use Rattle.std.proofs.Common.{Err, ap, subst}
-use Rattle.odb_doc.specs.Batches.{records}
+use Rattle.odb_doc.specs.batch.Batches.{records}
 use Rattle.odb_engine.specs.Commands.{Canonical}
 use Rattle.odb_engine.specs.Halts.{Found}
 use Rattle.odb_engine.proofs.EngineLemmas.{at-exit}

@@ -1,5 +1,5 @@
 use Rattle.std.proofs.Common.{refl, inl, inr}
-use Rattle.odb_doc.specs.EventLists.{entries}
+use Rattle.odb_doc.specs.recorded.EventLists.{entries}
 use Rattle.odb_check.specs.Plans.{plan_records}
 use Rattle.odb_engine.specs.declared.ending.Ended.TheVariants.{Refused}
 use Rattle.odb_engine.specs.Cascade.{Prints, line_of}

@@ -1,6 +1,6 @@
 use Rattle.std.proofs.Common.{◌≡◌, ◌∙◌, List, sym}
-use Rattle.odb_doc.specs.Batches.{records}
-use Rattle.odb_doc.specs.Records.{Record}
+use Rattle.odb_doc.specs.batch.Batches.{records}
+use Rattle.odb_doc.specs.batch.Records.{Record}
 use Rattle.odb_check.specs.FaultTable.{IsNumbered}
 use Rattle.odb_check.specs.LeastNameFault.{HasGoodNames, RefusesNames}
 use Rattle.odb_check.specs.Plans.{plan_records}

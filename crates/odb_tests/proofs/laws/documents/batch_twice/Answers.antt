@@ -1,8 +1,8 @@
 use Rattle.serde_json.specs.View.{view}
-use Rattle.odb_doc.specs.Batches.{records}
+use Rattle.odb_doc.specs.batch.Batches.{records}
 use Rattle.odb_doc.specs.Faults.{IsNumbered}
-use Rattle.odb_doc.specs.LeastFault.{IsLeastFault, IsWellShaped}
-use Rattle.odb_doc.specs.Records.{IsBatchOf}
+use Rattle.odb_doc.specs.batch.LeastFault.{IsLeastFault, IsWellShaped}
+use Rattle.odb_doc.specs.batch.Records.{IsBatchOf}
 use Rattle.odb_tests.proofs.LawLemmas.{one_reading}
 use Rattle.odb_tests.proofs.laws.documents.batch_twice.Goals as goal
 

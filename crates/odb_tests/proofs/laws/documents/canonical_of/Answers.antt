@@ -1,5 +1,5 @@
 use Rattle.std.proofs.Common.{sym, subst}
-use Rattle.odb_doc.specs.CanonicalLaws.{IsDocumentOf}
+use Rattle.odb_doc.specs.canonical.CanonicalLaws.{IsDocumentOf}
 use Rattle.odb_tests.proofs.LawLemmas.{of_found}
 use Rattle.odb_tests.proofs.laws.documents.canonical_of.Goals as goal
 

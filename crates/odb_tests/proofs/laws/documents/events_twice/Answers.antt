@@ -1,7 +1,7 @@
-use Rattle.odb_doc.specs.EventFaults.{IsNumbered}
-use Rattle.odb_doc.specs.EventLists.{entries}
-use Rattle.odb_doc.specs.LeastEventFault.{IsEventsDocument, RefusesEvents}
-use Rattle.odb_doc.specs.Events.{AreEventsOf}
+use Rattle.odb_doc.specs.recorded.EventFaults.{IsNumbered}
+use Rattle.odb_doc.specs.recorded.EventLists.{entries}
+use Rattle.odb_doc.specs.recorded.LeastEventFault.{IsEventsDocument, RefusesEvents}
+use Rattle.odb_doc.specs.recorded.Events.{AreEventsOf}
 use Rattle.odb_tests.proofs.LawLemmas.{one_reading_of_bytes}
 use Rattle.odb_tests.proofs.laws.documents.events_twice.Goals as goal
 

@@ -1,7 +1,7 @@
-use Rattle.odb_doc.specs.OutcomeFaults.{IsNumbered}
-use Rattle.odb_doc.specs.OutcomeLists.{entries}
-use Rattle.odb_doc.specs.LeastOutcomeFault.{IsOutcomesDocument, RefusesOutcomes}
-use Rattle.odb_doc.specs.Outcomes.{AreOutcomesOf}
+use Rattle.odb_doc.specs.recorded.OutcomeFaults.{IsNumbered}
+use Rattle.odb_doc.specs.recorded.OutcomeLists.{entries}
+use Rattle.odb_doc.specs.recorded.LeastOutcomeFault.{IsOutcomesDocument, RefusesOutcomes}
+use Rattle.odb_doc.specs.recorded.Outcomes.{AreOutcomesOf}
 use Rattle.odb_tests.proofs.LawLemmas.{one_reading_of_bytes}
 use Rattle.odb_tests.proofs.laws.documents.outcomes_twice.Goals as goal
 

@@ -1,4 +1,4 @@
-use Rattle.odb_doc.specs.MediaTypes.{is_in_type}
+use Rattle.odb_doc.specs.batch.MediaTypes.{is_in_type}
 use Rattle.odb_tests.proofs.laws.documents.type_twice.Goals as goal
 
 pub returns : goal.returns

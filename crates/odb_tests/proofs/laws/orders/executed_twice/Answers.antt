@@ -1,6 +1,6 @@
 use Rattle.std.proofs.Common.{◌≡◌, List, Option, Some, None, Result, Ok, Err, IfSome, IfOk, subst}
-use Rattle.odb_doc.specs.OutcomeLists.{entries}
-use Rattle.odb_doc.specs.declared.outcome.Outcome.{Outcome}
+use Rattle.odb_doc.specs.recorded.OutcomeLists.{entries}
+use Rattle.odb_doc.specs.declared.recorded.outcome.Outcome.{Outcome}
 use Rattle.odb_check.specs.Plans.{plan_records}
 use Rattle.odb_sched.specs.declared.order.Order.TheVariants as orders
 use Rattle.odb_sched.specs.declared.execution.Trace.{Trace}

@@ -1,0 +1,12 @@
+-- What public clauses cite, and has to be believed.
+pub mod Batches
+pub mod Bodies
+pub mod LeastFault
+pub mod MediaTypes
+pub mod Names
+pub mod Records
+pub mod References
+pub mod Shapes
+-- What invariants, private clauses and proofs cite: nothing to believe.
+pub mod BodyKinds
+pub mod Lines

@@ -1,0 +1,100 @@
+ghost use Rattle.std.specs.Prelude.{◌≡◌, ◌≤◌, ◌<◌, ◌-◌, ℕ, true, false, List, length, slice_index, IfOk};
+ghost use Rattle.std.specs.Str.{str_to_ascii_lowercase};
+ghost use Rattle.odb_names.specs.Runs.{SplitsRun};
+ghost use Rattle.odb_doc.specs.batch.MediaTypes.{HasType, IsEndOf, IsTrimmed, is_blank, is_in_type};
+ghost use Rattle.odb_doc.specs.batch.BodyKinds.{AsksFor, HasKind};
+
+use std::alloc::{AllocError, Global};
+
+/// The kind of body that a media type asks for (OData JSON Format 4.01, section 19.1).
+#[derive(Clone, Copy)]
+pub(crate) enum BodyKind {
+    /// Any JSON value.
+    Any,
+    /// A string.
+    Text,
+    /// A string that is base64url.
+    Base64Url,
+}
+
+fn is_blank(byte: u8) -> bool
+    ensures { result ≡ is_blank byte }
+{
+    matches!(byte, b' ' | b'\t')
+}
+
+/// Returns the text before the first `;`, with which the parameters begin.
+fn without_parameters(value: &[u8]) -> &[u8]
+    ensures { (rest : List ℕ) × SplitsRun is_in_type value.now result.now rest }
+{
+    let place = value.iter().position(|byte| *byte == b';');
+    value.split_at(place.unwrap_or(value.len())).0
+}
+
+/// Returns the text after the spaces and tabs that it begins with.
+fn without_leading_blanks(text: &[u8]) -> &[u8]
+    ensures { (before : List ℕ) × SplitsRun is_blank text.now before result.now }
+{
+    let place = text.iter().position(|byte| !is_blank(*byte));
+    text.split_at(place.unwrap_or(text.len())).1
+}
+
+/// Returns where the spaces and tabs begin that the text ends with.
+fn trailing_blanks_at(text: &[u8]) -> usize
+    ensures bound { result ≤ length text.now }
+    ensures after { (k : ℕ) → result ≤ k → k < length text.now
+        → is_blank (slice_index text.now k) ≡ true }
+    ensures stops { 0 < result → is_blank (slice_index text.now (result - 1)) ≡ false }
+{
+    match text.iter().rposition(|byte| !is_blank(*byte)) {
+        Some(last) => last + 1,
+        None => 0,
+    }
+}
+
+/// Returns the text before the spaces and tabs that it ends with.
+fn without_trailing_blanks(text: &[u8]) -> &[u8]
+    ensures { IsEndOf text.now result.now }
+{
+    text.split_at(trailing_blanks_at(text)).0
+}
+
+/// Returns the text without the spaces and tabs at its ends.
+fn trimmed(text: &[u8]) -> &[u8]
+    ensures { IsTrimmed text.now result.now }
+{
+    without_trailing_blanks(without_leading_blanks(text))
+}
+
+/// Returns the media type of a `content-type`, in lower case.
+fn media_type(alloc: Global, value: &str) -> Result<Vec<u8>, AllocError>
+    ensures { IfOk result (λ found. (name : List ℕ) × HasType value.now name
+        × (found.items ≡ str_to_ascii_lowercase name)) }
+{
+    let mut name = Vec::from_slice(alloc, trimmed(without_parameters(value.as_bytes())))?;
+    name.make_ascii_lowercase();
+    Ok(name)
+}
+
+impl BodyKind {
+    /// Returns the kind that the media type asks for, which is in lower case.
+    fn asked_by(name: &[u8]) -> BodyKind
+        ensures { AsksFor name.now result }
+    {
+        if name.is_empty() || name == b"application/json".as_slice() || name.ends_with(b"+json") {
+            BodyKind::Any
+        } else if name.starts_with(b"text/") {
+            BodyKind::Text
+        } else {
+            BodyKind::Base64Url
+        }
+    }
+
+    /// Returns the kind that a `content-type` asks for. An empty one asks for any JSON value.
+    pub(crate) fn of(alloc: Global, content_type: &str) -> Result<BodyKind, AllocError>
+        ensures { IfOk result (HasKind content_type.now) }
+    {
+        let name = media_type(alloc, content_type)?;
+        Ok(BodyKind::asked_by(name.as_slice()))
+    }
+}

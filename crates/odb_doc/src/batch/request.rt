@@ -1,0 +1,74 @@
+ghost use Rattle.std.specs.Prelude.{IfOk, IfErr, OnOk, bytes_eq};
+ghost use Rattle.std.specs.List.{IsDistinct};
+ghost use Rattle.std.specs.Option.{ForSome};
+ghost use Rattle.std.proofs.Props.{props};
+ghost use Rattle.serde_json.specs.View.{view};
+ghost use Rattle.odb_names.specs.Identifiers.{IsRequestId};
+ghost use Rattle.odb_doc.specs.BrokenRules.{OnRule, IsRequestObject, IsLeastRequestRule};
+ghost use Rattle.odb_doc.specs.batch.Names.{texts_in};
+
+use crate::batch::body::body_of;
+use crate::batch::depends_on::read_names;
+use crate::batch::line::RequestLine;
+use crate::batch::reference::reference_of;
+use crate::broken::Broken;
+use crate::fault::RequestRule;
+use crate::headers::headers_of;
+use odb_names::Method;
+use serde_json::Value;
+use std::alloc::Global;
+use std::collections::BTreeMap;
+
+/// One request of a batch (OData JSON Format 4.01, section 19.1).
+///
+/// Its texts and its body are borrowed from the value of the document, but for the headers, whose
+/// names are folded, and the reference, which is percent-decoded.
+#[derive(Debug, Drop)]
+pub struct Request<'a> {
+    /// The identifier of the request.
+    pub id: &'a str,
+    /// The method of the request.
+    pub method: Method,
+    /// The URL as the document has it, also the empty text.
+    pub url: &'a str,
+    /// The atomicity group that the request is in, if any. `null` is treated as absent.
+    pub group: Option<&'a str>,
+    /// The identifiers and groups in `dependsOn`, each at its first place.
+    pub names: Vec<&'a str>,
+    /// The identifier of the request to whose response the URL is relative, if it refers to one.
+    pub reference: Option<String>,
+    /// The values of the headers by their names, which are in lower case.
+    pub headers: BTreeMap<String, String>,
+    /// The body, if any. `null` is treated as absent.
+    pub body: Option<&'a Value>,
+    ghost id_form: { IsRequestId id.now },
+    ghost group_form: { ForSome group (λ text. IsRequestId text.now) },
+    ghost names_apart: { IsDistinct bytes_eq (texts_in names.items) } by { Prim.hlevel props },
+}
+
+impl<'a> Request<'a> {
+    ghost use Rattle.odb_doc.specs.batch.Records.{Says, record_of};
+
+    /// Reads an element of `requests`, or returns the first rule that it breaks.
+    pub(crate) fn read(alloc: Global, element: &'a Value) -> Result<Self, Broken<RequestRule>>
+        ensures sound { OnOk result (IsRequestObject (view element.now)) }
+        ensures says { IfOk result (λ r. Says (view element.now) (record_of r)) }
+        ensures first { IfErr result (OnRule (IsLeastRequestRule (view element.now))) }
+    {
+        let line = RequestLine::read(element)?;
+        let names = read_names(alloc, element)?;
+        let headers = headers_of(alloc, element)?;
+        let body = body_of(alloc, element, line.method, &headers)?;
+        let reference = reference_of(alloc, line.url)?;
+        Ok(Request {
+            id: line.id,
+            method: line.method,
+            url: line.url,
+            group: line.group,
+            names,
+            reference,
+            headers,
+            body,
+        })
+    }
+}

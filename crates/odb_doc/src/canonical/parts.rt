@@ -1,0 +1,83 @@
+ghost use Rattle.std.specs.Prelude.{◌≡◌, ◌<◌, ◌+◌, ◌++◌, ◌∷◌, false, codes, length, option_map, string_bytes, Some, IfSome, OnOk};
+ghost use Rattle.serde_json.specs.Data.{string};
+ghost use Rattle.serde_json.specs.View.{view};
+ghost use Rattle.serde_json.specs.Written.{compact_text, comma_if};
+ghost use Rattle.odb_doc.specs.batch.Batches.{records};
+ghost use Rattle.odb_doc.specs.canonical.Canonical.{HasWholeBodies, headers_value, names_value};
+ghost use Rattle.odb_doc.specs.canonical.CanonicalParts as parts;
+ghost use Rattle.odb_doc.specs.Texts.{member_part};
+ghost use Rattle.odb_doc.specs.Headers.{headers_in};
+ghost use Rattle.odb_doc.specs.batch.Names.{texts_in};
+ghost use Rattle.odb_doc.specs.WholeNumbers.{IsWhole};
+
+use crate::batch::Batch;
+use crate::text::{push_body, push_group, push_headers, push_if, push_quoted};
+use odb_names::Method;
+use std::alloc::{AllocError, Global};
+
+/// Appends the texts as the elements of an array, and the end of the array.
+fn push_elements(alloc: Global, text: &mut String, elements: &[&str]) -> Result<(), AllocError>
+    ensures { OnOk result (string_bytes text.new ≡ string_bytes text.old
+        ++ parts.names_left false (texts_in elements.now)) }
+{
+    for k in 0..elements.len() {
+        push_if(text, k > 0, ",")?;
+        push_quoted(alloc, text, elements[k])?;
+    }
+    text.push_str("]")
+}
+
+/// Appends the member `dependsOn`, if there are names.
+fn push_names(alloc: Global, text: &mut String, names: &[&str]) -> Result<(), AllocError>
+    ensures { OnOk result (string_bytes text.new ≡ string_bytes text.old
+        ++ member_part (codes "\"dependsOn\":") (names_value (texts_in names.now))) }
+{
+    if names.is_empty() {
+        return Ok(());
+    }
+    text.push_str("\"dependsOn\":[")?;
+    push_elements(alloc, text, names)?;
+    text.push_str(",")
+}
+
+/// Appends the members `id`, `method` and `url`, and the end of the request.
+fn push_end(
+    alloc: Global,
+    text: &mut String,
+    id: &str,
+    method: Method,
+    url: &str,
+) -> Result<(), AllocError>
+    ensures { OnOk result (string_bytes text.new ≡ string_bytes text.old
+        ++ parts.end_part id.now method url.now) }
+{
+    text.push_str("\"id\":")?;
+    push_quoted(alloc, text, id)?;
+    text.push_str(",\"method\":\"")?;
+    text.push_str(method.name())?;
+    text.push_str("\",\"url\":")?;
+    push_quoted(alloc, text, url)?;
+    text.push_str("}")
+}
+
+/// Appends request `i`, with a comma first unless it is the first request.
+pub(crate) fn push_request(
+    alloc: Global,
+    text: &mut String,
+    batch: &Batch<'_>,
+    i: u32,
+) -> Result<(), AllocError>
+    requires request { i < length (records batch.now) }
+    requires whole { HasWholeBodies (records batch.now) }
+    ensures { OnOk result (string_bytes text.old ++ parts.requests_left (records batch.now) i
+        ≡ string_bytes text.new ++ parts.requests_left (records batch.now) (i + 1)) }
+{
+    let request = batch.request(i);
+    push_if(text, i > 0, ",")?;
+    text.push_str("{")?;
+    push_group(alloc, text, request.group)?;
+    push_body(alloc, text, request.body)?;
+    push_names(alloc, text, request.names.as_slice())?;
+    push_headers(alloc, text, &request.headers)?;
+    push_end(alloc, text, request.id, request.method, request.url)
+}

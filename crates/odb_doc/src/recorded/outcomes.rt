@@ -1,0 +1,224 @@
+ghost use Rattle.std.specs.Prelude.{◌≡◌, ◌++◌, ◌∷◌, ◌↔◌, ◌<◌, ℕ, List, length, slice_get, Some, [], false, not, map, option_map, string_bytes, bytes_eq, IsTrue, IfSome, IfNone, OnSome, MatchOption, IfOk, IfErr, OnOk, OnErr, All};
+ghost use Rattle.std.specs.List.{AllZip, IsDistinct, list_any};
+ghost use Rattle.std.specs.Map.{keys_of};
+ghost use Rattle.std.proofs.Props.{props};
+ghost use Rattle.serde_json.specs.Data.{Data, unsigned};
+ghost use Rattle.serde_json.specs.View.{view, number_view};
+ghost use Rattle.odb_doc.specs.declared.recorded.outcome_fault.OutcomeRule.{OutcomeRule};
+ghost use Rattle.odb_doc.specs.declared.recorded.outcome_fault.OutcomeFault.TheVariants as faults;
+ghost use Rattle.odb_doc.specs.BrokenRules.{OnPlace, OnRule};
+ghost use Rattle.odb_doc.specs.recorded.LeastOutcomeFault.{AreOutcomes, BreaksOutcome, IsLeastOutcomeRule, IsOutcomesDocument, RefusesOutcomes};
+ghost use Rattle.odb_doc.specs.recorded.RawOutcomes.{IsLeastBroken, IsRawOutcomeOf, outcome_fault};
+ghost use Rattle.odb_doc.specs.recorded.Outcomes.{AreOutcomesOf, IsOutcomesObject, IsStatus, IsSoundOutcome, Says, elements, ids, recorded};
+ghost use Rattle.odb_doc.specs.recorded.Watched.{IsWatched};
+ghost use Rattle.odb_doc.specs.WholeNumbers.{IsWhole};
+
+use crate::broken::Broken;
+use crate::member::Object;
+use crate::recorded::outcome::{Outcome, RawOutcome, raw_outcome_of};
+use crate::recorded::outcome_fault::{OutcomeFault, OutcomeRule};
+use crate::recorded::seen::SeenIds;
+use crate::whole::has_whole_body;
+use serde_json::{Number, Value};
+use std::alloc::Global;
+
+/// Recorded outcomes of requests, in the order of their document. No two have one id, each status is
+/// from 200 to 599, and each body holds whole numbers alone.
+#[derive(Debug, Drop)]
+pub struct Outcomes {
+    entries: Vec<(String, Outcome)>,
+    ghost apart: { IsDistinct bytes_eq (keys_of (map recorded entries.items)) } by { Prim.hlevel props },
+    ghost sound: { All IsSoundOutcome (map recorded entries.items) } by { Prim.hlevel props },
+}
+
+/// The hollowed-out JSON that remains after reading. Dropping it is slow for large documents; a
+/// program about to exit can leak it instead.
+#[derive(Drop)]
+pub struct Leftovers {
+    pub(crate) elements: Vec<Value>,
+}
+
+/// Returns the status, or `None` if it is not a whole number from 200 to 599.
+fn status_of(status: Number) -> Option<u16>
+    ensures { MatchOption result (¬ IsStatus (number_view status))
+        (λ code. IsStatus (number_view status) × (number_view status ≡ unsigned code)) }
+{
+    let code = status.as_u64()?;
+    if (200..=599).contains(&code) {
+        Some(code as u16)
+    } else {
+        None
+    }
+}
+
+/// Returns the status of the outcome, or the first of the rules F61 to F63 that it breaks.
+fn status_in(seen: &mut SeenIds, raw: &RawOutcome) -> Result<u16, Broken<OutcomeRule>>
+    ensures sound { OnOk result ((d : Data) (before rest : List (List ℕ)) → IsRawOutcomeOf d raw.now
+        → IsWatched seen.old before (string_bytes raw.now.id ∷ rest)
+        → (rule : OutcomeRule) → ¬ BreaksOutcome rule before d) }
+    ensures status { IfOk result (λ code. IsStatus (number_view raw.now.status)
+        × (number_view raw.now.status ≡ unsigned code)) }
+    ensures whole { OnOk result (IfSome (option_map view raw.now.body) IsWhole) }
+    ensures is_new { OnOk result ((before rest : List (List ℕ))
+        → IsWatched seen.old before (string_bytes raw.now.id ∷ rest)
+        → list_any (bytes_eq (string_bytes raw.now.id)) before ≡ false) }
+    ensures noted { OnOk result ((before rest : List (List ℕ))
+        → IsWatched seen.old before (string_bytes raw.now.id ∷ rest)
+        → IsWatched seen.new (before ++ string_bytes raw.now.id ∷ []) rest) }
+    ensures first { IfErr result (λ broken. (d : Data) (before rest : List (List ℕ))
+        → IsRawOutcomeOf d raw.now → IsWatched seen.old before (string_bytes raw.now.id ∷ rest)
+        → OnRule (IsLeastBroken before d) broken) }
+{
+    if !seen.note(&raw.id)? {
+        return Err(Broken::Rule(OutcomeRule::OutcomeTwice));
+    }
+    let Some(status) = status_of(raw.status) else {
+        return Err(Broken::Rule(OutcomeRule::BadStatus));
+    };
+    if !has_whole_body(&raw.body) {
+        return Err(Broken::Rule(OutcomeRule::NotWhole));
+    }
+    Ok(status)
+}
+
+/// Reads one element, moving its values out, or returns the first rule that it breaks. `seen` has the
+/// ids of the elements before it.
+fn read_outcome(
+    alloc: Global,
+    seen: &mut SeenIds,
+    element: &mut Value,
+) -> Result<(String, Outcome), Broken<OutcomeRule>>
+    ensures sound { OnOk result ((before : List (List ℕ)) (rest : List Data)
+        → IsWatched seen.old before (ids (view element.old ∷ rest))
+        → (rule : OutcomeRule) → ¬ BreaksOutcome rule before (view element.old)) }
+    ensures says { IfOk result (λ entry. Says (view element.old) (recorded entry)) }
+    ensures fit { IfOk result (λ entry. IsSoundOutcome (recorded entry)) }
+    ensures is_new { IfOk result (λ entry. (before : List (List ℕ)) (rest : List Data)
+        → IsWatched seen.old before (ids (view element.old ∷ rest))
+        → list_any (bytes_eq (string_bytes entry.0)) before ≡ false) }
+    ensures noted { IfOk result (λ entry. (before : List (List ℕ)) (rest : List Data)
+        → IsWatched seen.old before (ids (view element.old ∷ rest))
+        → IsWatched seen.new (before ++ string_bytes entry.0 ∷ []) (ids rest)) }
+    ensures first { IfErr result (λ broken. (before : List (List ℕ)) (rest : List Data)
+        → IsWatched seen.old before (ids (view element.old ∷ rest))
+        → OnRule (IsLeastBroken before (view element.old)) broken) }
+{
+    let bad = OutcomeRule::BadOutcomes;
+    let raw = raw_outcome_of(alloc, Object::Outcome, "id", element, bad)?;
+    let status = status_in(seen, &raw)?;
+    Ok(raw.with_status(status))
+}
+
+impl From<Broken<(usize, OutcomeRule)>> for OutcomeFault {
+    ghost from_gives = { λ broken fault. fault ≡ outcome_fault broken };
+
+    fn from(broken: Broken<(usize, OutcomeRule)>) -> Self {
+        match broken {
+            Broken::Rule((at, rule)) => OutcomeFault::Outcome { at, rule },
+            Broken::OutOfMemory => OutcomeFault::OutOfMemory,
+        }
+    }
+}
+
+/// Reads the elements, moving their values out, or returns the first rule that one of them breaks.
+fn outcomes_from(
+    alloc: Global,
+    elements: &mut Vec<Value>,
+) -> Result<Vec<(String, Outcome)>, Broken<(usize, OutcomeRule)>>
+    ensures sound { OnOk result (AreOutcomes (map view elements.old.items)) }
+    ensures says { IfOk result (λ found. AllZip Says (map view elements.old.items)
+        (map recorded found.items)) }
+    ensures apart { IfOk result (λ found. IsDistinct bytes_eq
+        (keys_of (map recorded found.items))) }
+    ensures fit { IfOk result (λ found. All IsSoundOutcome (map recorded found.items)) }
+    ensures first { IfErr result (OnPlace (IsLeastOutcomeRule (map view elements.old.items))) }
+    ensures some { OnErr result (0 < length elements.old.items) }
+{
+    let mut seen = SeenIds::before(alloc, elements.as_slice())?;
+    let mut entries = Vec::with_capacity(alloc, elements.len())?;
+    for element in elements {
+        match read_outcome(alloc, &mut seen, element) {
+            Ok(entry) => entries.push(entry)?,
+            Err(broken) => return Err(broken.at(entries.len())),
+        }
+    }
+    Ok(entries)
+}
+
+impl Outcomes {
+    ghost use Rattle.odb_doc.specs.recorded.OutcomeLists.{entries};
+
+    /// Reads the outcomes of a document: an object whose one member is `outcomes`, an array of objects
+    /// with an `id`, a `status`, maybe `headers` and a `body`.
+    ///
+    /// `document` is the value that [`crate::parse`] made. Its ids, headers and bodies are moved out of
+    /// it. Allocates the list of outcomes, lists of their ids and the maps of their headers. The ids need
+    /// not be identifiers of requests.
+    ///
+    /// It takes O(n log n) for a document of n bytes, whatever its ids are: repeats are found by order
+    /// and not by hash, so no choice of ids makes it slow.
+    ///
+    /// # Errors
+    ///
+    /// `Document`, which is F60 of the whole, if the document is not such an object; else, at the first
+    /// element that has a fault, the least of F60 to F63 by number. `OutOfMemory` if an allocation fails,
+    /// in place of the fault of an element or of outcomes.
+    pub fn read(alloc: Global, document: Value) -> Result<Outcomes, OutcomeFault>
+        ensures good { OnOk result (IsOutcomesDocument (view document)) }
+        ensures outcomes { IfOk result (λ outcomes. AreOutcomesOf (view document) (entries outcomes)) }
+        ensures least { IfErr result (λ fault. RefusesOutcomes fault (view document)) }
+        ensures memory { IfErr result (λ fault. fault ≡ faults.OutOfMemory
+            → IsOutcomesObject (view document) × (0 < length (elements (view document)))) }
+    {
+        let (outcomes, _emptied) = Outcomes::split(alloc, document)?;
+        Ok(outcomes)
+    }
+
+    /// Reads the outcomes of a document, as [`Outcomes::read`] does, and returns what remains of it too.
+    ///
+    /// # Errors
+    ///
+    /// Those of [`Outcomes::read`]. Nothing remains of the document then.
+    pub fn split(alloc: Global, document: Value) -> Result<(Outcomes, Leftovers), OutcomeFault>
+        ensures good { OnOk result (IsOutcomesDocument (view document)) }
+        ensures outcomes { IfOk result (λ parts. AreOutcomesOf (view document) (entries parts.0)) }
+        ensures least { IfErr result (λ fault. RefusesOutcomes fault (view document)) }
+        ensures memory { IfErr result (λ fault. fault ≡ faults.OutOfMemory
+            → IsOutcomesObject (view document) × (0 < length (elements (view document)))) }
+    {
+        let Some(mut elements) = Object::Outcomes.elements_at(document, "outcomes") else {
+            return Err(OutcomeFault::Document);
+        };
+        let entries = outcomes_from(alloc, &mut elements)?;
+        Ok((Outcomes { entries }, Leftovers { elements }))
+    }
+
+    /// Returns how many outcomes there are.
+    pub fn len(&self) -> usize
+        ensures count { result ≡ length (entries self.now) }
+        ensures apart { IsDistinct bytes_eq (keys_of (entries self.now)) }
+        ensures sound { All IsSoundOutcome (entries self.now) }
+    {
+        self.entries.len()
+    }
+
+    /// Returns the id and the outcome at a position, counted from 0.
+    pub fn entry(&self, k: usize) -> (&str, &Outcome)
+        requires { k < length (entries self.now) }
+        ensures value { slice_get (entries self.now) k ≡ Some (result.0.now, result.1.now) }
+        ensures sound { IsSoundOutcome (result.0.now, result.1.now) }
+    {
+        let entry = &self.entries[k];
+        (entry.0.as_str(), &entry.1)
+    }
+
+    /// Returns the ids and the outcomes, in the order of the document. It takes no memory.
+    pub fn into_vec(self) -> Vec<(String, Outcome)>
+        ensures value { map recorded result.items ≡ entries self }
+        ensures apart { IsDistinct bytes_eq (keys_of (entries self)) }
+        ensures sound { All IsSoundOutcome (entries self) }
+    {
+        let Outcomes { entries } = self;
+        entries
+    }
+}
