@@ -25,7 +25,7 @@ use Rattle.odb_doc.specs.Refusals.{Printed}
 use Rattle.odb_engine.specs.Cascade.{Writes, Prints, line_of, Reports, RefusesBytes, IsLeast, Answers}
 use Rattle.odb_engine.specs.Cascade.IsLeast.{OfBytes, OfShape, OfNames}
 use Rattle.odb_engine.specs.Engines.{Ends, WritesPrefix}
-use Rattle.odb_engine.specs.Halts.{Found, Refuses, RefusesNamesOf, Sent, Halted, text_found, HaltsBy, halt_of}
+use Rattle.odb_engine.specs.Halts.{Found, Refuses, RefusesNamesOf, Halted, text_found, HaltsBy, halt_of}
 
 -- a result of the search for a text
 abbrev pub FoundText : Type 0

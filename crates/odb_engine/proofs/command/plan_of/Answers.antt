@@ -1,4 +1,4 @@
-use Rattle.std.proofs.Common.{refl, IfErr}
+use Rattle.std.proofs.Common.{IfErr}
 use Rattle.odb_doc.specs.batch.Batches.{records}
 use Rattle.odb_engine.specs.Halts.{RefusesNamesOf, Halted}
 use Rattle.odb_engine.proofs.EngineLemmas.{at-exit, halted-by}

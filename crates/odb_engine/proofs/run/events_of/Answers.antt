@@ -1,4 +1,4 @@
-use Rattle.std.proofs.Common.{refl, IfOk, IfErr}
+use Rattle.std.proofs.Common.{IfOk, IfErr}
 use Rattle.odb_doc.specs.recorded.EventLists.{entries}
 use Rattle.odb_engine.specs.Halts.{Halted}
 use Rattle.odb_engine.specs.Runs.{AreEventsIn, IsLeastOfEvents}
