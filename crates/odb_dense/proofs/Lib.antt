@@ -1,3 +1,4 @@
+pub mod BitLemmas
 pub mod CountLemmas
 pub mod PlacedLemmas
 pub mod QueuedLemmas

@@ -4,8 +4,8 @@ pub mod Extremes
 pub mod Lists
 pub mod Marks
 -- What invariants and private clauses cite: nothing to believe.
+pub mod Bits
 pub mod Places
 pub mod Queue
 pub mod Split
 pub mod Starts
-pub mod Watermarks

@@ -1,9 +1,11 @@
 //! Sets, lists by key and worklists over the numbers below a bound.
 //!
-//! Only `new` and `of` allocate. After that `least` and `greatest` take a step for each number that
-//! they pass, and every other call takes constant time: `as_slice` and `row` borrow what is there.
+//! Only `new` and `of` allocate. After that `least` and `greatest` look at one word for each 4,096
+//! numbers of the bound and at one word more, whatever the set holds, and every other call takes
+//! constant time: `as_slice` and `row` borrow what is there.
 #![tactic(auto)]
 
+mod bits;
 mod ordered;
 mod positions;
 mod rows;

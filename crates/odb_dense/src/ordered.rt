@@ -2,20 +2,20 @@ ghost use Rattle.std.specs.Prelude.{◌≡◌, ◌<◌, ◌≤◌, ◌==◌, ℕ
 ghost use Rattle.odb_dense.specs.Extremes.{IsLeastOf, IsGreatestOf};
 ghost use Rattle.odb_dense.specs.Lists.{ListsOnce};
 
+use crate::bits;
 use crate::positions::Positions;
 use std::alloc::{AllocError, Global};
 use std::marker::Model;
 
 /// A set of the numbers below a bound, which returns its least and its greatest number.
 ///
-/// `low` and `high` are watermarks: no number of the set is below `low`, and none is at `high` or
-/// above. They move towards each other only when an end is asked for, so a walk through the set from
-/// one end takes a step for each number that it passes.
+/// Beside the set there is a bit for each of its numbers, 64 to a word, and a summary with a bit for
+/// each word that is not 0. An end is found by the summary and one word.
 #[derive(Drop)]
 pub struct OrderedPositions {
     set: Positions,
-    low: u32,
-    high: u32,
+    words: Vec<u64>,
+    summary: Vec<u64>,
 }
 
 impl Model for OrderedPositions {
@@ -23,40 +23,11 @@ impl Model for OrderedPositions {
 
     ghost Value = { List Bool };
 
-    ghost use Rattle.odb_dense.specs.Watermarks.{members, IsBetween};
+    ghost use Rattle.odb_dense.specs.Bits.{members, HasBits};
 
     ghost view = { members };
 
-    ghost invariant = { IsBetween };
-}
-
-/// Returns the least number of a set that has none below `low`, or `None` if it is empty.
-fn walk_up(set: &Positions, low: u32) -> Option<u32>
-    requires lower { (i : ℕ) → i < low → slice_index_or set.now i false ≡ false }
-    ensures none { result ≡ None → (i : ℕ) → slice_index_or set.now i false ≡ false }
-    ensures some { IfSome result (IsLeastOf set.now) }
-{
-    for i in low..set.bound() {
-        if set.contains(i) {
-            return Some(i);
-        }
-    }
-    None
-}
-
-/// Returns the greatest number of a set that has none at `high` or above, or `None` if it is empty.
-fn walk_down(set: &Positions, high: u32) -> Option<u32>
-    requires bound { high ≤ length set.now }
-    requires upper { (i : ℕ) → high ≤ i → slice_index_or set.now i false ≡ false }
-    ensures none { result ≡ None → (i : ℕ) → slice_index_or set.now i false ≡ false }
-    ensures some { IfSome result (IsGreatestOf set.now) }
-{
-    for i in (0..high).rev() {
-        if set.contains(i) {
-            return Some(i);
-        }
-    }
-    None
+    ghost invariant = { HasBits };
 }
 
 impl OrderedPositions {
@@ -68,10 +39,11 @@ impl OrderedPositions {
     pub fn new(alloc: Global, bound: u32) -> Result<OrderedPositions, AllocError>
         ensures { IfOk result (λ s. s ≡ replicate bound false) }
     {
+        let count = bound as usize / 64 + 1;
         Ok(OrderedPositions {
             set: Positions::new(alloc, bound)?,
-            low: 0,
-            high: 0,
+            words: vec![in alloc; 0_u64; count]?,
+            summary: vec![in alloc; 0_u64; count / 64 + 1]?,
         })
     }
 
@@ -104,8 +76,9 @@ impl OrderedPositions {
         ensures { self.new ≡ slice_set self.old i true }
     {
         self.set.insert(i);
-        self.low = self.low.min(i);
-        self.high = self.high.max(i + 1);
+        let at = i / 64;
+        self.words[at as usize] |= 1 << (i % 64);
+        self.summary[(at / 64) as usize] |= 1 << (at % 64);
     }
 
     /// Removes a number below the bound from the set, if it is in it.
@@ -114,35 +87,30 @@ impl OrderedPositions {
         ensures { self.new ≡ slice_set self.old i false }
     {
         self.set.remove(i);
+        let at = i / 64;
+        self.words[at as usize] &= !(1 << (i % 64));
+        if self.words[at as usize] == 0 {
+            self.summary[(at / 64) as usize] &= !(1 << (at % 64));
+        }
     }
 
-    /// Returns the least number of the set, or `None` if it is empty. It takes a step for each number
-    /// that it passes.
+    /// Returns the least number of the set, or `None` if it is empty.
     pub fn least(&mut self) -> Option<u32>
         ensures same { self.new ≡ self.old }
         ensures none { result ≡ None → (i : ℕ) → slice_index_or self.old i false ≡ false }
         ensures some { IfSome result (IsLeastOf self.old) }
     {
-        if self.set.is_empty() {
-            return None;
-        }
-        let least = walk_up(&self.set, self.low)?;
-        self.low = least;
-        Some(least)
+        let at = bits::first(&self.summary)?;
+        Some(bits::first_at(&self.words, at))
     }
 
-    /// Returns the greatest number of the set, or `None` if it is empty. It takes a step for each
-    /// number that it passes.
+    /// Returns the greatest number of the set, or `None` if it is empty.
     pub fn greatest(&mut self) -> Option<u32>
         ensures same { self.new ≡ self.old }
         ensures none { result ≡ None → (i : ℕ) → slice_index_or self.old i false ≡ false }
         ensures some { IfSome result (IsGreatestOf self.old) }
     {
-        if self.set.is_empty() {
-            return None;
-        }
-        let greatest = walk_down(&self.set, self.high)?;
-        self.high = greatest + 1;
-        Some(greatest)
+        let at = bits::last(&self.summary)?;
+        Some(bits::last_at(&self.words, at))
     }
 }

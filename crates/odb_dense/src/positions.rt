@@ -52,13 +52,6 @@ impl Positions {
         })
     }
 
-    /// Returns the bound that the numbers of the set are below.
-    pub(crate) fn bound(&self) -> u32
-        ensures { result ≡ length self.now }
-    {
-        self.places.len() as u32
-    }
-
     /// Returns the numbers of the set, each once, in no particular order.
     pub(crate) fn as_slice(&self) -> &[u32]
         ensures len { length result.now ≡ count_by (λ b. b) self.now }
@@ -80,14 +73,6 @@ impl Positions {
         ensures { result ≡ (count_by (λ b. b) self.now == 0) }
     {
         self.count == 0
-    }
-
-    /// Returns whether a number below the bound is in the set.
-    pub(crate) fn contains(&self, i: u32) -> bool
-        requires { i < length self.now }
-        ensures { result ≡ slice_index_or self.now i false }
-    {
-        self.places[i as usize].is_some()
     }
 
     /// Adds a number below the bound to the set, if it is not in it.

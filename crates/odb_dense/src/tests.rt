@@ -131,37 +131,17 @@ fn lists(alloc: Global, set: &Positions, wanted: &[u32]) -> Result<bool, AllocEr
     Ok(items.as_slice() == wanted)
 }
 
-/// Whether the set answers of each number, and of their count, what these numbers ask for.
-fn has_just(set: &Positions, wanted: &[u32]) -> bool
-    requires { length set.now ≡ 6 }
-{
-    let mut right = set.len() == wanted.len() && set.is_empty() == wanted.is_empty();
-    for i in 0..BOUND {
-        right &= set.contains(i) == wanted.contains(&i);
-    }
-    right
-}
-
 /// Whether an empty set has just these numbers after the changes.
 fn has_after(rt: &impl Abort, alloc: Global, changed: &Changed) -> Result<bool, AllocError> {
     let mut set = Positions::new(alloc, BOUND)?;
     make_changes(rt, &mut set, changed.changes);
-    Ok(has_just(&set, changed.wanted) && lists(alloc, &set, changed.wanted)?)
+    Ok(set.is_empty() == changed.wanted.is_empty() && lists(alloc, &set, changed.wanted)?)
 }
 
 #[test]
 fn has_what_was_put_in_and_not_taken_out(rt: HostRuntime) -> Result<(), Fail> {
     for (at, changed) in SETS.iter().enumerate() {
         assert!(rt; has_after(&rt, rt.alloc(), changed)?, "changes {at}");
-    }
-    Ok(())
-}
-
-#[test]
-fn has_its_bound(rt: HostRuntime) -> Result<(), Fail> {
-    for bound in [0, 1, BOUND] {
-        let set = Positions::new(rt.alloc(), bound)?;
-        assert_eq!(rt; set.bound(), bound);
     }
     Ok(())
 }

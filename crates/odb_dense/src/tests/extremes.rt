@@ -211,7 +211,7 @@ fn returns_the_least_and_the_greatest(rt: HostRuntime) -> Result<(), Fail> {
     Ok(())
 }
 
-/// Puts a number into an empty set, asks for both ends, and takes it out.
+/// Puts a number in, asks for both ends, and takes it out.
 fn is_alone(rt: &impl Abort, set: &mut OrderedPositions, i: u32)
     requires { i < length set.old }
     ensures { length set.new ≡ length set.old }
@@ -220,24 +220,31 @@ fn is_alone(rt: &impl Abort, set: &mut OrderedPositions, i: u32)
     assert_eq!(rt; set.least(), Some(i));
     assert_eq!(rt; set.greatest(), Some(i));
     set.remove(i);
+    assert!(rt; set.least().is_none() && set.greatest().is_none());
 }
 
-/// Goes through the numbers below a bound, up and then down, with one at a time in the set.
-fn goes_up_and_down(rt: &impl Abort, alloc: Global, bound: u32) -> Result<(), AllocError> {
+/// Goes through the numbers below a bound, from both ends in turn, with one at a time in the set.
+fn goes_to_and_fro(rt: &impl Abort, alloc: Global, bound: u32) -> Result<(), AllocError> {
     let mut set = OrderedPositions::new(alloc, bound)?;
     for i in 0..bound {
         is_alone(rt, &mut set, i);
-    }
-    for i in (0..bound).rev() {
-        is_alone(rt, &mut set, i);
+        is_alone(rt, &mut set, bound - 1 - i);
     }
     Ok(())
 }
 
-// Where a step of the set forgot how far the walks came, this would take longer than a test may.
 #[test]
-fn visits_no_number_again(rt: HostRuntime) -> Result<(), Fail> {
-    goes_up_and_down(&rt, rt.alloc(), 1_000_000)?;
+fn has_each_number_alone(rt: HostRuntime) -> Result<(), Fail> {
+    for bound in [1, 63, 64, 65, 4_095, 4_096, 4_097] {
+        goes_to_and_fro(&rt, rt.alloc(), bound)?;
+    }
+    Ok(())
+}
+
+// If an end were found by a walk through the numbers, this would take longer than a test may.
+#[test]
+fn walks_through_no_numbers(rt: HostRuntime) -> Result<(), Fail> {
+    goes_to_and_fro(&rt, rt.alloc(), 200_000)?;
     Ok(())
 }
 
