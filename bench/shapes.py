@@ -92,6 +92,21 @@ def dense(size):
     return requests, [found(i) for i in range(size)]
 
 
+def halves(size):
+    """Requests of which each in the second half needs one of the first half, in the same order."""
+    half = size // 2
+    requests = [get(i, [str(i - half)] if i >= half else []) for i in range(size)]
+    return requests, [found(i) for i in range(size)]
+
+
+def pairs(size):
+    """Pairs of requests of which the second needs the first, and after them half as many requests
+    that need nothing."""
+    paired = 2 * (size // 3)
+    requests = [get(i, [str(i - 1)] if i < paired and i % 2 == 1 else []) for i in range(size)]
+    return requests, [found(i) for i in range(size)]
+
+
 def group(size):
     """One atomicity group of requests."""
     return [patch(i, "all") for i in range(size)], [changed(i) for i in range(size)]

@@ -37,6 +37,7 @@ def case_jobs(program, case):
     second = {"replay": case.outcomes, "match": case.responses, "run": case.events}
     words = {command: (command, case.batch) for command in COMMANDS}
     words |= {command: (command, case.batch, path) for command, path in second.items()}
+    words["replay"] = ("replay", *case.options, case.batch, case.outcomes)
     words |= {SECONDS[command]: ("check", path) for command, path in second.items()}
     words[READ_BATCH] = ("check", case.unread)
     return [

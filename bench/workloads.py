@@ -20,13 +20,24 @@ UNREAD_MEMBER = "messages"
 
 @dataclass(frozen=True)
 class Shape:
-    """A shape: what makes its lists, its whole size, whether smaller sizes show how time grows, and
-    what it is in words."""
+    """A shape: what makes its lists, its whole size, whether smaller sizes show how time grows, what
+    it is in words, and the options of its replay at a size."""
 
     make: Callable
     size: int
     grows: bool
     words: str
+    options: Callable = lambda size: ()
+
+
+def backwards(size):
+    """The options of a replay that goes from the last request to the first."""
+    return ("--order", "last")
+
+
+def wide_third(size):
+    """The options of a replay that runs up to a third of the requests at once."""
+    return ("--order", "wide", "--width", str(size // 3))
 
 
 SHAPES = {
@@ -34,6 +45,20 @@ SHAPES = {
     "chain": Shape(shapes.chain, 10_000, True, "each needs the one before it"),
     "fan": Shape(shapes.fan, 10_000, True, "all need the first"),
     "dense": Shape(shapes.dense, 2_000, True, "each needs the 50 before it"),
+    "halves": Shape(
+        shapes.halves,
+        10_000,
+        True,
+        "each of the second half needs one of the first, and `replay` goes from the last to the first",
+        backwards,
+    ),
+    "pairs": Shape(
+        shapes.pairs,
+        10_000,
+        True,
+        "pairs, then requests alone, and `replay` runs a third of them at once",
+        wide_third,
+    ),
     "group": Shape(shapes.group, 10_000, True, "one atomicity group"),
     "groups": Shape(shapes.groups, 10_000, True, "groups of 10, each request needs the group before"),
     "posts": Shape(shapes.posts, 1_000, False, "a body of 15 KB of JSON each"),
@@ -49,11 +74,13 @@ NAMES = (*SHAPES, USUAL)
 @dataclass(frozen=True)
 class Case:
     """The documents of a workload at one size: paths of the batch, of the same batch under another
-    member than `requests`, and of the outcomes, the responses and the events."""
+    member than `requests`, and of the outcomes, the responses and the events; and the options of
+    its replay."""
 
     name: str
     part: int
     words: str
+    options: tuple
     requests: int
     batch: str
     unread: str
@@ -97,7 +124,7 @@ def events_of(content):
     return events
 
 
-def write_case(folder, name, part, words, texts, content):
+def write_case(folder, name, part, words, options, texts, content):
     """Writes the documents of a case, and the batch under another member."""
     batch, outcomes = texts
     documents = {
@@ -110,7 +137,7 @@ def write_case(folder, name, part, words, texts, content):
     paths = {kind: os.path.join(folder, f"{name}_{part}_{kind}.json") for kind in documents}
     for kind, text in documents.items():
         write_document(paths[kind], text)
-    return Case(name, part, words, len(content.requests), **paths)
+    return Case(name, part, words, options, len(content.requests), **paths)
 
 
 def shape_cases(folder, name, short):
@@ -119,8 +146,9 @@ def shape_cases(folder, name, short):
     size = shape.size // SHORT_DIVISOR if short else shape.size
     for part in PARTS if shape.grows else PARTS[-1:]:
         requests, outcomes = shape.make(size // part)
+        options = shape.options(size // part)
         texts, content = (compact("requests", requests), compact("outcomes", outcomes)), Content(requests, outcomes)
-        yield write_case(folder, name, part, shape.words, texts, content), content
+        yield write_case(folder, name, part, shape.words, options, texts, content), content
 
 
 def usual_case(folder, root):
@@ -130,7 +158,7 @@ def usual_case(folder, root):
         with open(os.path.join(root, "examples", name), encoding="utf-8") as file:
             texts.append(file.read())
     content = Content(json.loads(texts[0])["requests"], json.loads(texts[1])["outcomes"])
-    return write_case(folder, USUAL, 1, USUAL_WORDS, texts, content), content
+    return write_case(folder, USUAL, 1, USUAL_WORDS, (), texts, content), content
 
 
 def cases(folder, root, names, short):
