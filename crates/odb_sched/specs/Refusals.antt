@@ -9,33 +9,28 @@ use Rattle.odb_sched.specs.declared.refusal.ReportRefusal.TheVariants as report
 use Rattle.odb_sched.specs.declared.refusal.RunRefusal.{RunRefusal}
 use Rattle.odb_sched.specs.declared.refusal.RunRefusal.TheVariants as refusal
 
-abbrev pub start_code : StartRefusal → List ℕ
-start_code start.AlreadyStarted = codes "S1"
-start_code start.Stopped = codes "S2"
-start_code start.UnitFailed = codes "S3"
-start_code (start.Waiting need) = codes "S4"
-start_code start.WidthReached = codes "S5"
+-- the code and the name of a cause against a start
+abbrev pub start_row : StartRefusal → List ℕ × List ℕ
+start_row start.AlreadyStarted = (codes "S1", codes "AlreadyStarted")
+start_row start.Stopped = (codes "S2", codes "Stopped")
+start_row start.UnitFailed = (codes "S3", codes "UnitFailed")
+start_row (start.Waiting need) = (codes "S4", codes "Waiting")
+start_row start.WidthReached = (codes "S5", codes "WidthReached")
 
-abbrev pub start_name : StartRefusal → List ℕ
-start_name start.AlreadyStarted = codes "AlreadyStarted"
-start_name start.Stopped = codes "Stopped"
-start_name start.UnitFailed = codes "UnitFailed"
-start_name (start.Waiting need) = codes "Waiting"
-start_name start.WidthReached = codes "WidthReached"
+-- the code and the name of a cause against a report
+abbrev pub report_row : ReportRefusal → List ℕ × List ℕ
+report_row report.NotRunning = (codes "P1", codes "NotRunning")
+report_row report.BadStatus = (codes "P2", codes "BadStatus")
 
-abbrev pub report_code : ReportRefusal → List ℕ
-report_code report.NotRunning = codes "P1"
-report_code report.BadStatus = codes "P2"
-
-abbrev pub report_name : ReportRefusal → List ℕ
-report_name report.NotRunning = codes "NotRunning"
-report_name report.BadStatus = codes "BadStatus"
+-- what is printed of a cause against the event at this place
+abbrev pub row_at : List ℕ × List ℕ → ℕ → Printed
+row_at row at = record { code = row.0; name = row.1; place = places.Event at }
 
 -- any refusal but out of memory
 abbrev pub IsNumbered : RunRefusal → Type 0
 IsNumbered cause = cause ≢ refusal.OutOfMemory
 
 abbrev pub run_row : RunRefusal → Option Printed
-run_row (refusal.Start at cause) = Some (record { code = start_code cause; name = start_name cause; place = places.Event at })
-run_row (refusal.Report at cause) = Some (record { code = report_code cause; name = report_name cause; place = places.Event at })
+run_row (refusal.Start at cause) = Some (row_at (start_row cause) at)
+run_row (refusal.Report at cause) = Some (row_at (report_row cause) at)
 run_row refusal.OutOfMemory = None

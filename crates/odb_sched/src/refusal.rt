@@ -54,12 +54,12 @@ pub enum RunRefusal {
 }
 
 impl StartRefusal {
-    ghost use Rattle.odb_sched.specs.Refusals.{start_code, start_name};
+    ghost use Rattle.odb_sched.specs.Refusals.{start_row};
 
     /// Returns the code, from `S1` to `S5`, and the name, such as `Waiting`.
     fn row(&self) -> (&'static str, &'static str)
-        ensures code { result.0.now ≡ start_code self.now }
-        ensures name { result.1.now ≡ start_name self.now }
+        ensures code { result.0.now ≡ (start_row self.now).0 }
+        ensures name { result.1.now ≡ (start_row self.now).1 }
     {
         match self {
             StartRefusal::AlreadyStarted => ("S1", "AlreadyStarted"),
@@ -72,26 +72,26 @@ impl StartRefusal {
 
     /// Returns the code, from `S1` to `S5`.
     pub fn code(&self) -> &'static str
-        ensures { result.now ≡ start_code self.now }
+        ensures { result.now ≡ (start_row self.now).0 }
     {
         self.row().0
     }
 
     /// Returns the name, such as `Waiting`.
     pub fn name(&self) -> &'static str
-        ensures { result.now ≡ start_name self.now }
+        ensures { result.now ≡ (start_row self.now).1 }
     {
         self.row().1
     }
 }
 
 impl ReportRefusal {
-    ghost use Rattle.odb_sched.specs.Refusals.{report_code, report_name};
+    ghost use Rattle.odb_sched.specs.Refusals.{report_row};
 
     /// Returns the code, `P1` or `P2`, and the name, such as `NotRunning`.
     fn row(&self) -> (&'static str, &'static str)
-        ensures code { result.0.now ≡ report_code self.now }
-        ensures name { result.1.now ≡ report_name self.now }
+        ensures code { result.0.now ≡ (report_row self.now).0 }
+        ensures name { result.1.now ≡ (report_row self.now).1 }
     {
         match self {
             ReportRefusal::NotRunning => ("P1", "NotRunning"),
@@ -101,14 +101,14 @@ impl ReportRefusal {
 
     /// Returns the code, `P1` or `P2`.
     pub fn code(&self) -> &'static str
-        ensures { result.now ≡ report_code self.now }
+        ensures { result.now ≡ (report_row self.now).0 }
     {
         self.row().0
     }
 
     /// Returns the name, such as `NotRunning`.
     pub fn name(&self) -> &'static str
-        ensures { result.now ≡ report_name self.now }
+        ensures { result.now ≡ (report_row self.now).1 }
     {
         self.row().1
     }
