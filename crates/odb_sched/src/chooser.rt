@@ -12,7 +12,7 @@ pub enum Choice {
     Report(usize),
 }
 
-/// Decides in which order a plan is executed, as far as its dependencies complete that open.
+/// Decides in which order a plan is executed, as far as the dependencies leave it open.
 ///
 /// Each chooser defines which steps it allows, given the sets of ready and running positions: the
 /// order of the two slices carries no meaning. It defines by `names` the order that it follows, if
