@@ -1,6 +1,6 @@
--- The tests of a start and of a report find the first cause, and an event may come if none applies.
-use Rattle.std.proofs.Common.{◌≡◌, ◌↔◌, ◌∙◌, ℕ, ◌<◌, ◌≤◌, ap, sym, refl, subst, arith, Bool, true, false, not, nat_le, Option, Some, None, is_none, is_some, unwrap_or, find, IfSome, IsTrue, if◌then◌else◌}
-use Rattle.std.proofs.lemmas.Bool.{both_ways, true≢false, true_from_ne_false, false_from_ne_true, le-leb, leb-true, and_parts}
+-- The first cause against a start or a report. An event may come if and only if there is none.
+use Rattle.std.proofs.Common.{◌≡◌, ◌↔◌, ◌∙◌, ℕ, ◌<◌, ◌≤◌, ap, sym, refl, arith, true, false, not, length, Option, Some, None, is_none, is_some, unwrap_or, find, IsTrue, inl, inr, ◌⊎◌}
+use Rattle.std.proofs.lemmas.Bool.{both_ways, true≢false, true_from_ne_false, false_from_ne_true, and_from, and_parts, cases_lt, cases_order}
 use Rattle.odb_doc.specs.declared.recorded.outcome.Outcome.{Outcome}
 use Rattle.odb_doc.specs.LeastRules.{IsLeast}
 use Rattle.odb_check.specs.declared.need.Need.{Need}
@@ -11,196 +11,134 @@ use Rattle.odb_sched.specs.declared.refusal.ReportRefusal.{ReportRefusal}
 use Rattle.odb_sched.specs.declared.refusal.ReportRefusal.TheVariants as report
 use Rattle.odb_sched.specs.Statuses.{is_status}
 use Rattle.odb_sched.specs.Phases.{is_unstarted, is_running}
-use Rattle.odb_sched.specs.State.{State, phase_at}
+use Rattle.odb_sched.specs.State.{State, size, phase_at}
 use Rattle.odb_sched.specs.Steps.{is_stopped, unit_failed, is_satisfied, all_satisfied, running_count, may_start, may_report}
 use Rattle.odb_sched.specs.Causes.{start_number, BarsStart, IsStartCause, report_number, BarsReport, IsReportCause}
-use Rattle.odb_sched.specs.CauseTests.{waiting_refusal, start_refusal, report_refusal}
 use Rattle.odb_sched.proofs.BelowLemmas.{find-all}
-use Rattle.odb_sched.proofs.StartLemmas.{MayStart, may_start-parts}
-use Rattle.odb_sched.proofs.KeptLemmas.{may_start-none, may_report-none}
+use Rattle.odb_sched.proofs.StartLemmas.{MayStart, may_start-from, may_start-parts, fewer_run, Unstarted-not_running}
+
+-- two first causes have the same number
+same_number : {R : Type 0} (number : R → ℕ) (Bars : R → Type 0) (cause other : R) → IsLeast number Bars cause → IsLeast number Bars other → number cause ≡ number other
+same_number number Bars cause other x y = at (cases_order (number cause) (number other))
+  where
+    at : (number cause ≡ number other) ⊎ ((number cause < number other) ⊎ (number other < number cause)) → number cause ≡ number other
+    at (inl same) = same
+    at (inr (inl less)) = absurd (y.least cause less x.broken)
+    at (inr (inr less)) = absurd (x.least other less y.broken)
 
 -- ---- starts
 
--- the tests in their order, and the cause of each
-abbrev first_of : Bool → Bool → Bool → Option Need → Bool → Option StartRefusal
-first_of fresh stopped failed unmet full =
-    if not fresh then Some start.AlreadyStarted else if stopped then Some start.Stopped else if failed then Some start.UnitFailed else waiting_refusal unmet full
-
-abbrev Applies : Bool → Bool → Bool → Option Need → Bool → StartRefusal → Type 0
-Applies fresh stopped failed unmet full start.AlreadyStarted = fresh ≡ false
-Applies fresh stopped failed unmet full start.Stopped = stopped ≡ true
-Applies fresh stopped failed unmet full start.UnitFailed = failed ≡ true
-Applies fresh stopped failed unmet full (start.Waiting need) = unmet ≡ Some need
-Applies fresh stopped failed unmet full start.WidthReached = full ≡ true
-
-no_need : (unmet : Option Need) → ((need : Need) → unmet ≡ Some need → ⊥) → unmet ≡ None
-no_need None none = refl
-no_need (Some need) none = absurd (none need refl)
-
--- none of the first causes applies if their tests are negative
-earlier : (fresh stopped failed : Bool) (unmet : Option Need) (full : Bool) (n : ℕ) → n ≤ 5 → (1 < n → fresh ≡ true) → (2 < n → stopped ≡ false) → (3 < n → failed ≡ false) → (4 < n → unmet ≡ None)
-    → (other : StartRefusal) → start_number other < n → ¬ Applies fresh stopped failed unmet full other
-earlier fresh stopped failed unmet full n most a b c d start.AlreadyStarted less applies = both_ways fresh applies (a less)
-earlier fresh stopped failed unmet full n most a b c d start.Stopped less applies = both_ways stopped (b less) applies
-earlier fresh stopped failed unmet full n most a b c d start.UnitFailed less applies = both_ways failed (c less) applies
-earlier fresh stopped failed unmet full n most a b c d (start.Waiting need) less applies = true≢false (sym (ap is_some (sym (d less) ∙ applies)))
-earlier fresh stopped failed unmet full n most a b c d start.WidthReached less applies = absurd (omega arith)
-
-found : (fresh stopped failed : Bool) (unmet : Option Need) (full : Bool) → IfSome (first_of fresh stopped failed unmet full) (IsLeast start_number (Applies fresh stopped failed unmet full))
-found false stopped failed unmet full = record {
-  broken = refl;
-  least = earlier false stopped failed unmet full 1 (omega arith) (λ l. absurd (omega arith)) (λ l. absurd (omega arith)) (λ l. absurd (omega arith)) (λ l. absurd (omega arith));
-}
-found true true failed unmet full = record {
-  broken = refl;
-  least = earlier true true failed unmet full 2 (omega arith) (λ l. refl) (λ l. absurd (omega arith)) (λ l. absurd (omega arith)) (λ l. absurd (omega arith));
-}
-found true false true unmet full = record {
-  broken = refl;
-  least = earlier true false true unmet full 3 (omega arith) (λ l. refl) (λ l. refl) (λ l. absurd (omega arith)) (λ l. absurd (omega arith));
-}
-found true false false (Some need) full = record {
-  broken = refl;
-  least = earlier true false false (Some need) full 4 (omega arith) (λ l. refl) (λ l. refl) (λ l. refl) (λ l. absurd (omega arith));
-}
-found true false false None true = record {
-  broken = refl;
-  least = earlier true false false None true 5 (omega arith) (λ l. refl) (λ l. refl) (λ l. refl) (λ l. refl);
-}
-found true false false None false = tt
-
--- the first cause is the one that the tests find
-is_found : (fresh stopped failed : Bool) (unmet : Option Need) (full : Bool) (cause : StartRefusal) → IsLeast start_number (Applies fresh stopped failed unmet full) cause → first_of fresh stopped failed unmet full ≡ Some cause
-is_found fresh stopped failed unmet full start.AlreadyStarted x = let e : fresh ≡ false = x.broken in rw e refl
-is_found fresh stopped failed unmet full start.Stopped x =
-    let a : fresh ≡ true = true_from_ne_false fresh (x.least start.AlreadyStarted (omega arith)) in
-    let e : stopped ≡ true = x.broken in
-    rw (a, e) refl
-is_found fresh stopped failed unmet full start.UnitFailed x =
-    let a : fresh ≡ true = true_from_ne_false fresh (x.least start.AlreadyStarted (omega arith)) in
-    let b : stopped ≡ false = false_from_ne_true stopped (x.least start.Stopped (omega arith)) in
-    let e : failed ≡ true = x.broken in
-    rw (a, b, e) refl
-is_found fresh stopped failed unmet full (start.Waiting need) x =
-    let a : fresh ≡ true = true_from_ne_false fresh (x.least start.AlreadyStarted (omega arith)) in
-    let b : stopped ≡ false = false_from_ne_true stopped (x.least start.Stopped (omega arith)) in
-    let c : failed ≡ false = false_from_ne_true failed (x.least start.UnitFailed (omega arith)) in
-    let e : unmet ≡ Some need = x.broken in
-    rw (a, b, c, e) refl
-is_found fresh stopped failed unmet full start.WidthReached x =
-    let a : fresh ≡ true = true_from_ne_false fresh (x.least start.AlreadyStarted (omega arith)) in
-    let b : stopped ≡ false = false_from_ne_true stopped (x.least start.Stopped (omega arith)) in
-    let c : failed ≡ false = false_from_ne_true failed (x.least start.UnitFailed (omega arith)) in
-    let d : unmet ≡ None = no_need unmet (λ need. x.least (start.Waiting need) (omega arith)) in
-    let e : full ≡ true = x.broken in
-    rw (a, b, c, d, e) refl
-
 module _ (state : State) (i : ℕ) where
   abbrev unmet : Option Need
-  unmet = find (λ other. not (is_satisfied state other)) (needs_of state.shape i)
+  unmet = find (λ need. not (is_satisfied state need)) (needs_of state.shape i)
 
-  abbrev AppliesHere : StartRefusal → Type 0
-  AppliesHere = Applies (is_unstarted (phase_at state i)) (is_stopped state) (unit_failed state (unit_of state.shape i)) unmet (nat_le state.policy.width (running_count state))
+  -- none of the causes before a number bars the start
+  none_before : (n : ℕ) → n ≤ 5 → (1 < n → is_unstarted (phase_at state i) ≡ true) → (2 < n → is_stopped state ≡ false) → (3 < n → unit_failed state (unit_of state.shape i) ≡ false) → (4 < n → unmet ≡ None)
+      → (other : StartRefusal) → start_number other < n → ¬ BarsStart other state i
+  none_before n most fresh going sound met start.AlreadyStarted less bars = both_ways _ bars (fresh less)
+  none_before n most fresh going sound met start.Stopped less bars = both_ways _ (going less) bars
+  none_before n most fresh going sound met start.UnitFailed less bars = both_ways _ (sound less) bars
+  none_before n most fresh going sound met (start.Waiting need) less bars = true≢false (sym (ap is_some (sym (met less) ∙ bars)))
+  none_before n most fresh going sound met start.WidthReached less bars = absurd (omega arith)
 
-  applies-bars : (cause : StartRefusal) → AppliesHere cause → BarsStart cause state i
-  applies-bars start.AlreadyStarted e = e
-  applies-bars start.Stopped e = e
-  applies-bars start.UnitFailed e = e
-  applies-bars (start.Waiting need) e = e
-  applies-bars start.WidthReached e = leb-true state.policy.width (running_count state) e
+  pub first_started : is_unstarted (phase_at state i) ≡ false → IsStartCause state i start.AlreadyStarted
+  first_started bars = record { broken = bars; least = none_before 1 (omega arith) (λ l. absurd (omega arith)) (λ l. absurd (omega arith)) (λ l. absurd (omega arith)) (λ l. absurd (omega arith)) }
 
-  bars-applies : (cause : StartRefusal) → BarsStart cause state i → AppliesHere cause
-  bars-applies start.AlreadyStarted e = e
-  bars-applies start.Stopped e = e
-  bars-applies start.UnitFailed e = e
-  bars-applies (start.Waiting need) e = e
-  bars-applies start.WidthReached e = le-leb state.policy.width (running_count state) e
+  module _ (fresh : is_unstarted (phase_at state i) ≡ true) where
+    pub first_stopped : is_stopped state ≡ true → IsStartCause state i start.Stopped
+    first_stopped bars = record { broken = bars; least = none_before 2 (omega arith) (λ l. fresh) (λ l. absurd (omega arith)) (λ l. absurd (omega arith)) (λ l. absurd (omega arith)) }
 
-  pub start_cause : (cause : StartRefusal) → start_refusal state i ≡ Some cause → IsStartCause state i cause
-  start_cause cause e =
-      let first : IsLeast start_number AppliesHere cause = subst (λ refused. IfSome refused (IsLeast start_number AppliesHere)) e
-      (found (is_unstarted (phase_at state i)) (is_stopped state) (unit_failed state (unit_of state.shape i)) unmet (nat_le state.policy.width (running_count state))) in
-      record { broken = applies-bars cause first.broken; least = λ other less bars. first.least other less (bars-applies other bars) }
+    module _ (going : is_stopped state ≡ false) where
+      pub first_failed : unit_failed state (unit_of state.shape i) ≡ true → IsStartCause state i start.UnitFailed
+      first_failed bars = record { broken = bars; least = none_before 3 (omega arith) (λ l. fresh) (λ l. going) (λ l. absurd (omega arith)) (λ l. absurd (omega arith)) }
 
-  pub start_caused : (cause : StartRefusal) → IsStartCause state i cause → start_refusal state i ≡ Some cause
-  start_caused cause x =
-      is_found (is_unstarted (phase_at state i)) (is_stopped state) (unit_failed state (unit_of state.shape i)) unmet (nat_le state.policy.width (running_count state)) cause
-      (record { broken = bars-applies cause x.broken; least = λ other less applies. x.least other less (applies-bars other applies) })
+      module _ (sound : unit_failed state (unit_of state.shape i) ≡ false) where
+        pub first_waiting : (need : Need) → unmet ≡ Some need → IsStartCause state i (start.Waiting need)
+        first_waiting need bars = record { broken = bars; least = none_before 4 (omega arith) (λ l. fresh) (λ l. going) (λ l. sound) (λ l. absurd (omega arith)) }
+
+        module _ (met : unmet ≡ None) where
+          pub first_full : state.policy.width ≤ running_count state → IsStartCause state i start.WidthReached
+          first_full bars = record { broken = bars; least = none_before 5 (omega arith) (λ l. fresh) (λ l. going) (λ l. sound) (λ l. met) }
+
+          pub none_bars : running_count state < state.policy.width → may_start state i ≡ true
+          none_bars room = may_start-from state i (record { fresh = fresh; unstopped = going; sound = sound; satisfied = sym (find-all (is_satisfied state) (needs_of state.shape i)) ∙ ap is_none met; room = room })
+
+  same_start : (cause other : StartRefusal) → BarsStart cause state i → BarsStart other state i → start_number cause ≡ start_number other → cause ≡ other
+  same_start start.AlreadyStarted start.AlreadyStarted a b same = refl
+  same_start start.Stopped start.Stopped a b same = refl
+  same_start start.UnitFailed start.UnitFailed a b same = refl
+  same_start (start.Waiting need) (start.Waiting other) a b same = ap (λ found. start.Waiting (unwrap_or found need)) (sym a ∙ b)
+  same_start start.WidthReached start.WidthReached a b same = refl
+  same_start cause other a b same = absurd (omega arith)
 
   pub one_start : (cause other : StartRefusal) → IsStartCause state i cause → IsStartCause state i other → cause ≡ other
-  one_start cause other x y = ap (λ refused. unwrap_or refused cause) (sym (start_caused cause x) ∙ start_caused other y)
+  one_start cause other x y = same_start cause other x.broken y.broken (same_number start_number (λ c. BarsStart c state i) cause other x y)
 
   unbarred : MayStart state i → (cause : StartRefusal) → ¬ BarsStart cause state i
-  unbarred may start.AlreadyStarted e = both_ways _ e may.fresh
-  unbarred may start.Stopped e = both_ways _ may.unstopped e
-  unbarred may start.UnitFailed e = both_ways _ may.sound e
-  unbarred may (start.Waiting need) e = both_ways (all_satisfied state i) (sym (find-all (is_satisfied state) (needs_of state.shape i)) ∙ ap is_none e) may.satisfied
-  unbarred may start.WidthReached e = let room = may.room in absurd (omega arith)
+  unbarred may start.AlreadyStarted bars = both_ways _ bars may.fresh
+  unbarred may start.Stopped bars = both_ways _ may.unstopped bars
+  unbarred may start.UnitFailed bars = both_ways _ may.sound bars
+  unbarred may (start.Waiting need) bars = both_ways (all_satisfied state i) (sym (find-all (is_satisfied state) (needs_of state.shape i)) ∙ ap is_none bars) may.satisfied
+  unbarred may start.WidthReached bars = let room = may.room in absurd (omega arith)
 
-  unless : (refused : Option StartRefusal) → start_refusal state i ≡ refused → ((cause : StartRefusal) → ¬ BarsStart cause state i) → may_start state i ≡ true
-  unless None e none = may_start-none state i e
-  unless (Some cause) e none = absurd (none cause (start_cause cause e).broken)
+  none_unmet : (found : Option Need) → ((need : Need) → found ≡ Some need → ⊥) → found ≡ None
+  none_unmet None none = refl
+  none_unmet (Some need) none = absurd (none need refl)
+
+  free : ((cause : StartRefusal) → ¬ BarsStart cause state i) → (running_count state < state.policy.width) ⊎ (state.policy.width ≤ running_count state) → may_start state i ≡ true
+  free none (inr full) = absurd (none start.WidthReached full)
+  free none (inl room) = none_bars (true_from_ne_false _ (none start.AlreadyStarted)) (false_from_ne_true _ (none start.Stopped)) (false_from_ne_true _ (none start.UnitFailed)) (none_unmet unmet (λ need. none (start.Waiting need))) room
 
   pub start_bars : IsTrue (may_start state i) ↔ ((cause : StartRefusal) → ¬ BarsStart cause state i)
-  start_bars = ((λ may. unbarred (may_start-parts state i may)), (λ none. unless (start_refusal state i) refl none))
+  start_bars = ((λ may. unbarred (may_start-parts state i may)), (λ none. free none (cases_lt (running_count state) state.policy.width)))
+
+  -- what a cause bars may not come
+  pub start_barred : (cause : StartRefusal) → IsStartCause state i cause → may_start state i ≡ false
+  start_barred cause first = false_from_ne_true _ (λ may. unbarred (may_start-parts state i may) cause first.broken)
+
+  -- a width for all requests holds none back
+  pub not_held_back : length state.phases ≡ size state → i < size state → size state ≤ state.policy.width → ¬ IsStartCause state i start.WidthReached
+  not_held_back each within wide first =
+      let fresh : is_unstarted (phase_at state i) ≡ true = true_from_ne_false _ (first.least start.AlreadyStarted (omega arith)) in
+      let fewer : running_count state < length state.phases = fewer_run state.phases i (omega arith) (Unstarted-not_running (phase_at state i) fresh) in
+      let full : state.policy.width ≤ running_count state = first.broken in
+      absurd (omega arith)
 
 -- ---- reports
 
 module _ (state : State) (i : ℕ) (outcome : Outcome) where
-  abbrev refusal_by : Bool → Bool → Option ReportRefusal
-  refusal_by runs sound = if not runs then Some report.NotRunning else if not sound then Some report.BadStatus else None
-
-  abbrev AppliesTo : Bool → Bool → ReportRefusal → Type 0
-  AppliesTo runs sound report.NotRunning = runs ≡ false
-  AppliesTo runs sound report.BadStatus = sound ≡ false
-
-  reported_first : (runs sound : Bool) → IfSome (refusal_by runs sound) (IsLeast report_number (AppliesTo runs sound))
-  reported_first false sound = record { broken = refl; least = none }
+  pub first_idle : is_running (phase_at state i) ≡ false → IsReportCause state i outcome report.NotRunning
+  first_idle bars = record { broken = bars; least = none }
     where
-      none : (other : ReportRefusal) → report_number other < 1 → ¬ AppliesTo false sound other
-      none report.NotRunning less e = absurd (omega arith)
-      none report.BadStatus less e = absurd (omega arith)
-  reported_first true false = record { broken = refl; least = none }
+      none : (other : ReportRefusal) → report_number other < 1 → ¬ BarsReport other state i outcome
+      none report.NotRunning less also = absurd (omega arith)
+      none report.BadStatus less also = absurd (omega arith)
+
+  pub first_bad : is_running (phase_at state i) ≡ true → is_status outcome.status ≡ false → IsReportCause state i outcome report.BadStatus
+  first_bad runs bars = record { broken = bars; least = none }
     where
-      none : (other : ReportRefusal) → report_number other < 2 → ¬ AppliesTo true false other
-      none report.NotRunning less e = true≢false e
-      none report.BadStatus less e = absurd (omega arith)
-  reported_first true true = tt
+      none : (other : ReportRefusal) → report_number other < 2 → ¬ BarsReport other state i outcome
+      none report.NotRunning less also = both_ways _ also runs
+      none report.BadStatus less also = absurd (omega arith)
 
-  applies-report : (cause : ReportRefusal) → AppliesTo (is_running (phase_at state i)) (is_status outcome.status) cause → BarsReport cause state i outcome
-  applies-report report.NotRunning e = e
-  applies-report report.BadStatus e = e
-
-  report-applies : (cause : ReportRefusal) → BarsReport cause state i outcome → AppliesTo (is_running (phase_at state i)) (is_status outcome.status) cause
-  report-applies report.NotRunning e = e
-  report-applies report.BadStatus e = e
-
-  pub report_cause : (cause : ReportRefusal) → report_refusal state i outcome ≡ Some cause → IsReportCause state i outcome cause
-  report_cause cause e =
-      let first = subst (λ refused. IfSome refused (IsLeast report_number (AppliesTo (is_running (phase_at state i)) (is_status outcome.status)))) e
-      (reported_first (is_running (phase_at state i)) (is_status outcome.status)) in
-      record { broken = applies-report cause first.broken; least = λ other less bars. first.least other less (report-applies other bars) }
-
-  pub report_caused : (cause : ReportRefusal) → IsReportCause state i outcome cause → report_refusal state i outcome ≡ Some cause
-  report_caused report.NotRunning x = let e : is_running (phase_at state i) ≡ false = x.broken in rw e refl
-  report_caused report.BadStatus x =
-      let a : is_running (phase_at state i) ≡ true = true_from_ne_false _ (x.least report.NotRunning (omega arith)) in
-      let e : is_status outcome.status ≡ false = x.broken in
-      rw (a, e) refl
+  same_report : (cause other : ReportRefusal) → report_number cause ≡ report_number other → cause ≡ other
+  same_report report.NotRunning report.NotRunning same = refl
+  same_report report.BadStatus report.BadStatus same = refl
+  same_report cause other same = absurd (omega arith)
 
   pub one_report : (cause other : ReportRefusal) → IsReportCause state i outcome cause → IsReportCause state i outcome other → cause ≡ other
-  one_report cause other x y = ap (λ refused. unwrap_or refused cause) (sym (report_caused cause x) ∙ report_caused other y)
+  one_report cause other x y = same_report cause other (same_number report_number (λ c. BarsReport c state i outcome) cause other x y)
 
   unbarred_report : (is_running (phase_at state i) ≡ true) × (is_status outcome.status ≡ true) → (cause : ReportRefusal) → ¬ BarsReport cause state i outcome
-  unbarred_report parts report.NotRunning e = both_ways _ e parts.0
-  unbarred_report parts report.BadStatus e = both_ways _ e parts.1
-
-  unless_report : (refused : Option ReportRefusal) → report_refusal state i outcome ≡ refused → ((cause : ReportRefusal) → ¬ BarsReport cause state i outcome) → may_report state i outcome ≡ true
-  unless_report None e none = may_report-none state i outcome e
-  unless_report (Some cause) e none = absurd (none cause (report_cause cause e).broken)
+  unbarred_report parts report.NotRunning bars = both_ways _ bars parts.0
+  unbarred_report parts report.BadStatus bars = both_ways _ bars parts.1
 
   pub report_bars : IsTrue (may_report state i outcome) ↔ ((cause : ReportRefusal) → ¬ BarsReport cause state i outcome)
   report_bars = (
     (λ may. unbarred_report (and_parts (is_running (phase_at state i)) (is_status outcome.status) may)),
-    (λ none. unless_report (report_refusal state i outcome) refl none),
+    (λ none. and_from _ _ (true_from_ne_false _ (none report.NotRunning)) (true_from_ne_false _ (none report.BadStatus))),
   )
+
+  -- what a cause bars may not come
+  pub report_barred : (cause : ReportRefusal) → IsReportCause state i outcome cause → may_report state i outcome ≡ false
+  report_barred cause first = false_from_ne_true _ (λ may. unbarred_report (and_parts (is_running (phase_at state i)) (is_status outcome.status) may) cause first.broken)

@@ -1,36 +1,19 @@
 -- What a scheduler keeps, after an event and at the end.
-use Rattle.std.proofs.Common.{◌≡◌, ◌↔◌, ◌⊎◌, inl, inr, ℕ, zero, suc, ◌<◌, refl, ◌∙◌, sym, ap, subst, true, false, List, [], ◌∷◌, length, get_or, set, Some, None, is_none, IsTrue}
+use Rattle.std.proofs.Common.{◌≡◌, ◌↔◌, ◌⊎◌, inl, inr, ℕ, zero, suc, ◌<◌, refl, ◌∙◌, sym, ap, subst, true, false, List, [], ◌∷◌, length, get_or, set, IsTrue}
 use Rattle.std.specs.Vec.{with_items}
 use Rattle.std.proofs.lemmas.Bool.{both_ways, true_from_ne_false}
 use Rattle.std.proofs.lemmas.List.{with_items_is}
-use Rattle.odb_doc.specs.declared.recorded.outcome.Outcome.{Outcome}
 use Rattle.odb_sched.specs.declared.phase.Phase.{Phase}
 use Rattle.odb_sched.specs.declared.phase.Phase.TheVariants.{Unstarted}
 use Rattle.odb_sched.specs.declared.tracker.Tracker.{Tracker}
 use Rattle.odb_sched.specs.declared.scheduler.Scheduler.TheInside.{Inside}
-use Rattle.odb_sched.specs.declared.refusal.StartRefusal.{StartRefusal}
-use Rattle.odb_sched.specs.declared.refusal.ReportRefusal.{ReportRefusal}
 use Rattle.odb_sched.specs.Phases.{is_running}
 use Rattle.odb_sched.specs.State.{State, size, phase_at}
-use Rattle.odb_sched.specs.Steps.{may_start, may_report, is_finished}
-use Rattle.odb_sched.specs.CauseTests.{start_refusal, report_refusal}
+use Rattle.odb_sched.specs.Steps.{may_start, is_finished}
 use Rattle.odb_sched.specs.Plans.{state_of}
 use Rattle.odb_sched.specs.Reached.{IsReached}
 use Rattle.odb_sched.specs.Kept.{IsTracked, IsKept}
-use Rattle.odb_sched.proofs.StartLemmas.{start_refusal-may_start, report_refusal-may_report}
 use Rattle.odb_sched.proofs.StuckLemmas.{never_stuck, none_runs, none_starts}
-
-pub may_start-none : (state : State) (i : ℕ) → start_refusal state i ≡ None → may_start state i ≡ true
-may_start-none state i e = sym (start_refusal-may_start state i) ∙ ap is_none e
-
-pub may_start-some : (state : State) (i : ℕ) (cause : StartRefusal) → start_refusal state i ≡ Some cause → may_start state i ≡ false
-may_start-some state i cause e = sym (start_refusal-may_start state i) ∙ ap is_none e
-
-pub may_report-none : (state : State) (i : ℕ) (outcome : Outcome) → report_refusal state i outcome ≡ None → may_report state i outcome ≡ true
-may_report-none state i outcome e = sym (report_refusal-may_report state i outcome) ∙ ap is_none e
-
-pub may_report-some : (state : State) (i : ℕ) (outcome : Outcome) (cause : ReportRefusal) → report_refusal state i outcome ≡ Some cause → may_report state i outcome ≡ false
-may_report-some state i outcome cause e = sym (report_refusal-may_report state i outcome) ∙ ap is_none e
 
 -- a second write restores the phase before the first
 pub set_back : (phases : List Phase) (i : ℕ) (before new : Phase) → get_or phases i Unstarted ≡ before → set (set phases i new) i before ≡ phases

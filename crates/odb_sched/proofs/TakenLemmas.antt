@@ -8,8 +8,7 @@ use Rattle.odb_sched.specs.declared.refusal.RunRefusal.TheVariants as refusal
 use Rattle.odb_sched.specs.State.{State, size, after}
 use Rattle.odb_sched.specs.Steps.{may_come}
 use Rattle.odb_sched.specs.Runs.{event_position, after_all, IsRunFrom, RefusesEvent, StopsAt, Refuses}
-use Rattle.odb_sched.proofs.CauseLemmas.{start_caused, report_caused}
-use Rattle.odb_sched.proofs.KeptLemmas.{may_start-some, may_report-some}
+use Rattle.odb_sched.proofs.CauseLemmas.{start_barred, report_barred}
 use Rattle.odb_sched.proofs.RunLemmas.{after_all-push, joined, shape-after_all}
 
 -- the events before the rest are a run that ends in this state
@@ -50,11 +49,11 @@ taken_all first events count now taken =
 
 -- an event with a cause against it may not come
 refused_barred : (state : State) (at : ℕ) (event : Event) (cause : RunRefusal) → RefusesEvent state at event cause → may_come state event ≡ false
-refused_barred state at (kinds.Start i) (refusal.Start place cause) refused = may_start-some state i cause (start_caused state i cause refused.1)
+refused_barred state at (kinds.Start i) (refusal.Start place cause) refused = start_barred state i cause refused.1
 refused_barred state at (kinds.Start i) (refusal.Report place cause) refused = absurd refused
 refused_barred state at (kinds.Start i) refusal.OutOfMemory refused = absurd refused
 refused_barred state at (kinds.Report i outcome) (refusal.Start place cause) refused = absurd refused
-refused_barred state at (kinds.Report i outcome) (refusal.Report place cause) refused = may_report-some state i outcome cause (report_caused state i outcome cause refused.1)
+refused_barred state at (kinds.Report i outcome) (refusal.Report place cause) refused = report_barred state i outcome cause refused.1
 refused_barred state at (kinds.Report i outcome) refusal.OutOfMemory refused = absurd refused
 
 -- the next event is refused, so the list is no run

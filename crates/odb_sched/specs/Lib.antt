@@ -22,7 +22,6 @@ pub mod ExecFaults
 -- What serves invariants and private clauses alone. A wrong definition here cannot make a public promise wrong.
 pub mod PlanCode
 pub mod Plans
-pub mod CauseTests
 pub mod Reached
 pub mod ProgressCounts
 pub mod NeedPairs

@@ -8,7 +8,6 @@ ghost use Rattle.odb_sched.specs.Phases as tests;
 ghost use Rattle.odb_sched.specs.State as states;
 ghost use Rattle.odb_sched.specs.Steps as steps;
 ghost use Rattle.odb_sched.specs.Causes.{IsStartCause, IsReportCause};
-ghost use Rattle.odb_sched.specs.CauseTests as causes;
 ghost use Rattle.odb_sched.specs.Advances.{IsNext};
 ghost use Rattle.odb_sched.specs.Choosing.{IsNone, AllowsOrder};
 ghost use Rattle.odb_sched.specs.Courses as courses;
@@ -104,7 +103,8 @@ impl<'p> Scheduler<'p> {
     /// Returns the first cause why a request may not start.
     fn start_refusal(&self, i: u32) -> Option<StartRefusal>
         requires { i < states.size self.now }
-        ensures { result ≡ causes.start_refusal self.now i }
+        ensures cause { IfSome result (IsStartCause self.now i) }
+        ensures none { result ≡ None → steps.may_start self.now i ≡ true }
     {
         if !self.phases[i as usize].is_unstarted() {
             return Some(StartRefusal::AlreadyStarted);
@@ -152,7 +152,8 @@ impl<'p> Scheduler<'p> {
     /// Returns the first cause why an outcome is not accepted.
     fn report_refusal(&self, i: u32, outcome: &Outcome) -> Option<ReportRefusal>
         requires { i < states.size self.now }
-        ensures { result ≡ causes.report_refusal self.now i outcome.now }
+        ensures cause { IfSome result (IsReportCause self.now i outcome.now) }
+        ensures none { result ≡ None → steps.may_report self.now i outcome.now ≡ true }
     {
         if !self.phases[i as usize].is_running() {
             return Some(ReportRefusal::NotRunning);

@@ -1,10 +1,9 @@
 -- The clauses are the laws of the lemmas, at the requests of the plan.
 use Rattle.std.proofs.Common.{◌≡◌, ◌≤◌, ap, arith, length}
 use Rattle.odb_sched.specs.State.{size, shape}
-use Rattle.odb_sched.specs.declared.refusal.StartRefusal.TheVariants.{WidthReached}
-use Rattle.odb_sched.proofs.CauseLemmas.{start_caused}
+use Rattle.odb_sched.proofs.CauseLemmas.{not_held_back}
 use Rattle.odb_sched.proofs.NameLemmas.{named-succeeded}
-use Rattle.odb_sched.proofs.StartLemmas.{may_start-parts, not_held_back}
+use Rattle.odb_sched.proofs.StartLemmas.{may_start-parts}
 use Rattle.odb_sched.proofs.laws.every_start.Goals as goal
 
 pub returns-clause-dependencies_first : goal.returns-clause-dependencies_first
@@ -14,4 +13,4 @@ pub returns-clause-free : goal.returns-clause-free
 returns-clause-free c = λ state i same each within wide.
     let few : length (shape c.args.plan.now).units ≤ 10000 = c.every_plan.ensures.order.few in
     let units : size state ≡ length (shape c.args.plan.now).units = ap (λ shape. length shape.units) same in
-    λ cause. not_held_back state i each within (omega arith) (start_caused state i WidthReached cause)
+    not_held_back state i each within (omega arith)

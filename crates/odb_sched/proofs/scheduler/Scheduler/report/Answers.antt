@@ -1,5 +1,5 @@
 -- A report that is not refused may come, and the tracker follows.
-use Rattle.std.proofs.Common.{◌≡◌, ◌<◌, ◌∙◌, sym, ap, subst, true, set, length-set, length}
+use Rattle.std.proofs.Common.{◌≡◌, ◌<◌, ◌∙◌, sym, ap, subst, true, set, length-set, length, IfSome}
 use Rattle.odb_sched.specs.declared.phase.Phase.TheVariants.{Running, Reported}
 use Rattle.std.proofs.lemmas.Bool.{and_parts}
 use Rattle.odb_sched.specs.Statuses.{is_status}
@@ -9,14 +9,14 @@ use Rattle.odb_sched.specs.Steps.{may_report}
 use Rattle.odb_sched.specs.Plans.{state_of}
 use Rattle.odb_sched.specs.Kept.{IsTracked, kept_state}
 use Rattle.odb_sched.proofs.PhaseLemmas.{Running-from}
-use Rattle.odb_sched.proofs.CauseLemmas.{report_cause}
+use Rattle.odb_sched.specs.Causes.{IsReportCause}
 use Rattle.odb_sched.proofs.ReachedLemmas.{reached_reported}
-use Rattle.odb_sched.proofs.KeptLemmas.{may_report-none, written_back, kept_written}
+use Rattle.odb_sched.proofs.KeptLemmas.{written_back, kept_written}
 use Rattle.odb_sched.proofs.scheduler.Scheduler.report.Goals as goal
 
 pub report-requires-clause-tracker : goal.report-requires-clause-tracker
 report-requires-clause-tracker c =
-    let may = subst (λ state. may_report state c.args.i c.args.outcome ≡ true) (sym c.self.view_is) (may_report-none c.args.self.now c.args.i c.args.outcome (sym c.report_refusal.ensures ∙ c.in_default.is)) in
+    let may = subst (λ state. may_report state c.args.i c.args.outcome ≡ true) (sym c.self.view_is) (c.report_refusal.ensures.none c.in_default.is) in
     subst (λ phases. IsTracked (state_of c.self.inside.plan.now c.self.inside.policy phases) c.self.inside.tracker)
     (sym (written_back c.self.inside c.args.i Running (Reported c.args.outcome) c.put.new.phases c.deref.result.now
     (c.put.ensures ∙ ap (λ phases. set phases c.args.i (Reported c.args.outcome)) c.deref_mut.ensures.value)
@@ -31,8 +31,8 @@ invariant_of-self c = kept_written c.self.inside c.args.i (Reported c.args.outco
     (ap length c.put.ensures ∙ length-set c.deref_mut.result.now c.args.i (Reported c.args.outcome) ∙ c.deref_mut.ensures.len)
     (reached_reported _ c.args.i c.args.outcome c.self.invariant.reached
     (subst (λ state. c.args.i < size state) (sym c.self.view_is) c.requires)
-    (subst (λ state. may_report state c.args.i c.args.outcome ≡ true) (sym c.self.view_is) (may_report-none c.args.self.now c.args.i c.args.outcome (sym c.report_refusal.ensures ∙ c.in_default.is))))
+    (subst (λ state. may_report state c.args.i c.args.outcome ≡ true) (sym c.self.view_is) (c.report_refusal.ensures.none c.in_default.is)))
     c.deref.ensures.value c.report.ensures
 
 pub returns-in-Some-clause-cause : goal.returns-in-Some-clause-cause
-returns-in-Some-clause-cause c = report_cause c.args.self.now c.args.i c.args.outcome c.in-Some.cause (sym c.report_refusal.ensures ∙ c.in-Some.is)
+returns-in-Some-clause-cause c = subst (λ found. IfSome found (IsReportCause c.args.self.now c.args.i c.args.outcome)) c.in-Some.is c.report_refusal.ensures.cause
