@@ -28,6 +28,5 @@ pub mod NeedPairs
 pub mod FirstCounts
 pub mod Propagation
 pub mod Kept
-pub mod Ended
 pub mod Ends
 pub mod Advances

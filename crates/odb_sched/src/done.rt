@@ -1,16 +1,12 @@
 ghost use Rattle.std.specs.Prelude.{All, option_map, ℕ, ◌≡◌, ◌<◌, true, length, IfOk};
-ghost use Rattle.odb_check.specs.Shape as shapes;
 ghost use Rattle.odb_check.specs.Plans.{plan_records};
 ghost use Rattle.odb_sched.specs.declared.policy.Mode.TheVariants.{Continue};
 ghost use Rattle.odb_sched.specs.State as states;
 ghost use Rattle.odb_sched.specs.Steps as steps;
 ghost use Rattle.odb_sched.specs.Laws as laws;
-ghost use Rattle.odb_sched.specs.Reached.{IsReached};
-ghost use Rattle.odb_sched.specs.Plans.{state_of};
-ghost use Rattle.odb_sched.specs.ProgressCounts.{ArePending};
 
 use crate::phase::{Phase, is_success};
-use crate::policy::Policy;
+use crate::scheduler::Scheduler;
 use odb_check::Plan;
 use odb_doc::Outcome;
 use std::alloc::{AllocError, Global};
@@ -44,10 +40,7 @@ impl Answer<'_> {
 /// A finished run, with its answers (OData JSON Format 4.01, section 19.5).
 #[derive(Drop)]
 pub struct Done<'p> {
-    plan: &'p Plan<'p>,
-    policy: Policy,
-    phases: Vec<Phase>,
-    pending: Vec<u32>,
+    pub(crate) run: Scheduler<'p>,
 }
 
 impl<'p> Model for Done<'p> {
@@ -62,11 +55,11 @@ impl<'p> Model for Done<'p> {
 
     ghost coded = { Prim.hlevel (codes, plan_code, policies.the_row.coded, phase.the_row.coded) };
 
-    ghost use Rattle.odb_sched.specs.Ended.{ended_state, IsEnded};
+    ghost use Rattle.odb_sched.specs.Kept.{last_state, HasFinished};
 
-    ghost view = { ended_state };
+    ghost view = { last_state };
 
-    ghost invariant = { IsEnded };
+    ghost invariant = { HasFinished };
 }
 
 impl<'p> Done<'p> {
@@ -74,43 +67,13 @@ impl<'p> Done<'p> {
     ghost use Rattle.odb_sched.specs.Answers as answers;
     ghost use Rattle.odb_sched.specs.Statuses.{is_status};
 
-    /// Returns the finished run with these phases. `pending` has for each unit how many of its
-    /// members have not reported a success.
-    pub(crate) fn new(
-        plan: &'p Plan<'p>,
-        policy: Policy,
-        phases: Vec<Phase>,
-        pending: Vec<u32>,
-    ) -> Done<'p>
-        requires reached { IsReached (state_of plan.now policy phases.items) }
-        requires finished { steps.is_finished (state_of plan.now policy phases.items) ≡ true }
-        requires members { length pending.items ≡ (states.shape plan.now).unit_count }
-        requires pending { ArePending (states.shape plan.now) phases.items pending.items }
-        ensures { result ≡ state_of plan.now policy phases.items }
-    {
-        Done {
-            plan,
-            policy,
-            phases,
-            pending,
-        }
-    }
-
-    /// Returns whether all members of the request's unit have succeeded.
-    fn unit_succeeded(&self, i: u32) -> bool
-        requires { i < states.size self.now }
-        ensures { result ≡ steps.unit_succeeded self.now (shapes.unit_of self.now.shape i) }
-    {
-        self.pending[self.plan.unit_of(i) as usize] == 0
-    }
-
     /// Returns the plan that was run.
     pub fn plan(&self) -> &'p Plan<'p>
         ensures plan { result.now ≡ self.now.plan }
         ensures shape { self.now.shape ≡ states.shape self.now.plan }
         ensures size { states.size self.now ≡ length (plan_records self.now.plan) }
     {
-        self.plan
+        self.run.plan()
     }
 
     /// What holds of the answers of every finished run, as [`crate::laws::every_result`] states it of
@@ -126,7 +89,7 @@ impl<'p> Done<'p> {
         ensures statuses { answers.HasStatuses self.now }
         ensures answered { (i : ℕ) → is_status (answers.status_of (answers.answer self.now i)) ≡ true }
     {
-        let _ = &self.plan;
+        self.run.reached();
     }
 
     /// Returns the answer to request `i`, counted from 0. Its status is from 200 to 599.
@@ -135,9 +98,10 @@ impl<'p> Done<'p> {
         ensures value { answers.shown result ≡ answers.answer self.now i }
         ensures status { IsTrue (is_status (answers.status_of (answers.shown result))) }
     {
-        match &self.phases[i as usize] {
+        self.run.reached();
+        match self.run.phase(i) {
             Phase::Reported(outcome) => {
-                if is_success(outcome.status) && !self.unit_succeeded(i) {
+                if is_success(outcome.status) && !self.run.unit_succeeded(i) {
                     Answer::FailedDependency
                 } else {
                     Answer::Reported(outcome)
@@ -152,7 +116,7 @@ impl<'p> Done<'p> {
         requires { i < states.size self.now }
         ensures { option_map (λ outcome. outcome.now) result ≡ answers.reported self.now i }
     {
-        match &self.phases[i as usize] {
+        match self.run.phase(i) {
             Phase::Reported(outcome) => Some(outcome),
             _ => None,
         }
@@ -163,7 +127,7 @@ impl<'p> Done<'p> {
         requires { i < states.size self.now }
         ensures { result ≡ answers.is_undone self.now i }
     {
-        self.phases[i as usize].has_succeeded() && !self.unit_succeeded(i)
+        self.run.phase(i).has_succeeded() && !self.run.unit_succeeded(i)
     }
 
     /// Returns the positions of the requests that reported a success but are answered 424, since
@@ -174,7 +138,7 @@ impl<'p> Done<'p> {
             All (λ i. i < states.size self.now) positions.items) }
     {
         let mut positions = Vec::new(alloc);
-        for i in (0..self.plan.len()).rev() {
+        for i in (0..self.plan().len()).rev() {
             if self.is_undone(i) {
                 positions.push(i)?;
             }

@@ -1,5 +1,6 @@
 ghost use Rattle.std.specs.Prelude.{◌≡◌, ◌≢◌, ◌<◌, ◌≤◌, ◌↔◌, ℕ, true, false, List, Some, length, slice_set, replicate, IsTrue, IsOk, IfOk, IfErr, IfSome, OnOk, OnErr, None, All};
 ghost use Rattle.odb_check.specs.Plans.{plan_records};
+ghost use Rattle.odb_check.specs.Shape.{unit_of};
 ghost use Rattle.odb_sched.specs.declared.policy.Mode.TheVariants as modes;
 ghost use Rattle.odb_sched.specs.declared.phase.Phase.TheVariants.{Unstarted};
 ghost use Rattle.odb_sched.specs.declared.refusal.StartRefusal.TheVariants.{WidthReached};
@@ -13,6 +14,7 @@ ghost use Rattle.odb_sched.specs.Choosing.{IsNone, AllowsOrder};
 ghost use Rattle.odb_sched.specs.Courses as courses;
 ghost use Rattle.odb_sched.specs.Ends.{IsAt, ReportsFirst, StartsFirst};
 ghost use Rattle.odb_sched.specs.Laws as laws;
+ghost use Rattle.odb_sched.specs.Reached.{IsReached};
 
 use crate::done::Done;
 use crate::laws::every_start;
@@ -293,12 +295,40 @@ impl<'p> Scheduler<'p> {
         ensures all_or_none { laws.IsAllOrNone result }
         ensures sound { laws.IsSound result }
     {
-        let Scheduler {
-            plan,
-            policy,
-            phases,
-            tracker,
-        } = self;
-        Done::new(plan, policy, phases, tracker.into_pending())
+        let done = Done { run: self };
+        done.laws();
+        done
+    }
+
+    /// Returns the plan of the run.
+    pub(crate) fn plan(&self) -> &'p Plan<'p>
+        ensures plan { result.now ≡ self.now.plan }
+        ensures shape { self.now.shape ≡ states.shape self.now.plan }
+        ensures size { states.size self.now ≡ length (plan_records self.now.plan) }
+    {
+        self.plan
+    }
+
+    /// Returns what has happened to a request.
+    pub(crate) fn phase(&self, i: u32) -> &Phase
+        requires { i < states.size self.now }
+        ensures { result.now ≡ states.phase_at self.now i }
+    {
+        &self.phases[i as usize]
+    }
+
+    /// Returns whether all members of the request's unit have succeeded.
+    pub(crate) fn unit_succeeded(&self, i: u32) -> bool
+        requires { i < states.size self.now }
+        ensures { result ≡ steps.unit_succeeded self.now (unit_of self.now.shape i) }
+    {
+        self.tracker.pending()[self.plan.unit_of(i) as usize] == 0
+    }
+
+    /// What holds of every state that a run comes to. It changes nothing.
+    pub(crate) fn reached(&self)
+        ensures { IsReached self.now }
+    {
+        let _ = &self.plan;
     }
 }

@@ -124,15 +124,6 @@ impl Tracker {
         &self.progress.pending
     }
 
-    /// Returns for each unit the number of its members that have not succeeded, at the end of a
-    /// run.
-    pub(crate) fn into_pending(self) -> Vec<u32>
-        ensures { result ≡ self.progress.pending }
-    {
-        let progress = self.progress;
-        progress.pending
-    }
-
     /// Returns whether nothing may start now: the run is stopped, or as many requests are running
     /// as the width allows.
     fn is_closed(&self, policy: Policy) -> bool

@@ -9,22 +9,22 @@ use Rattle.odb_sched.proofs.StatusLemmas.{status-answer}
 use Rattle.odb_sched.proofs.done.Done.laws.Goals as goal
 
 pub returns-clause-one_result : goal.returns-clause-one_result
-returns-clause-one_result c = subst (λ (state : State). state.policy.mode ≡ Continue → HasOneResult state) c.self.view_is (λ continues. one_result _ c.self.invariant.reached c.self.invariant.finished continues)
+returns-clause-one_result c = subst (λ (state : State). state.policy.mode ≡ Continue → HasOneResult state) c.self.view_is (λ continues. one_result _ c.reached.ensures c.self.invariant continues)
 
 pub returns-clause-by_statuses : goal.returns-clause-by_statuses
-returns-clause-by_statuses c = subst (λ (state : State). state.policy.mode ≡ Continue → HasResultByStatuses state) c.self.view_is (λ continues. result_by_statuses _ c.self.invariant.reached c.self.invariant.finished continues)
+returns-clause-by_statuses c = subst (λ (state : State). state.policy.mode ≡ Continue → HasResultByStatuses state) c.self.view_is (λ continues. result_by_statuses _ c.reached.ensures c.self.invariant continues)
 
 pub returns-clause-sound_result : goal.returns-clause-sound_result
-returns-clause-sound_result c = subst HasSoundResult c.self.view_is (sound_result _ c.self.invariant.reached)
+returns-clause-sound_result c = subst HasSoundResult c.self.view_is (sound_result _ c.reached.ensures)
 
 pub returns-clause-all_or_none : goal.returns-clause-all_or_none
 returns-clause-all_or_none c = all_or_none c.args.self.now
 
 pub returns-clause-sound : goal.returns-clause-sound
-returns-clause-sound c = subst IsSound c.self.view_is (sound_answers _ c.self.invariant.reached)
+returns-clause-sound c = subst IsSound c.self.view_is (sound_answers _ c.reached.ensures)
 
 pub returns-clause-statuses : goal.returns-clause-statuses
-returns-clause-statuses c = subst HasStatuses c.self.view_is c.self.invariant.reached.statuses
+returns-clause-statuses c = subst HasStatuses c.self.view_is c.reached.ensures.statuses
 
 pub returns-clause-answered : goal.returns-clause-answered
-returns-clause-answered c = λ i. status-answer c.args.self.now i (subst HasStatuses c.self.view_is c.self.invariant.reached.statuses)
+returns-clause-answered c = λ i. status-answer c.args.self.now i (subst HasStatuses c.self.view_is c.reached.ensures.statuses)
