@@ -13,9 +13,8 @@ use Rattle.std.proofs.lemmas.Slice.Eq.{bytes_eq-Decides}
 use Rattle.odb_doc.specs.batch.Names.{distinct, with_name}
 use Rattle.odb_doc.specs.batch.Records.{Record}
 use Rattle.odb_check.specs.Firsts.{or_else, is_text}
-use Rattle.odb_check.specs.Groups.{groups_of}
+use Rattle.odb_check.specs.Units.{groups_of, first_in_group}
 use Rattle.odb_check.specs.Positions.{group_at}
-use Rattle.odb_check.specs.Units.{first_in_group}
 use Rattle.odb_check.specs.Tables.{with_group, groups_below}
 use Rattle.odb_check.proofs.AnyLemmas.{any_more}
 

@@ -20,7 +20,7 @@ use Rattle.odb_check.specs.Laws.{HasPositions, NeedsGroups}
 use Rattle.odb_check.specs.Marks.{IsWithin}
 use Rattle.odb_check.specs.Walks.{HasSoundIds}
 use Rattle.odb_check.specs.Needs.{need_of, further_names, needed_names, needs_at}
-use Rattle.odb_check.specs.Plans.{plan_records, shape}
+use Rattle.odb_check.specs.Plans.{plan_records, shape, batch_shape}
 use Rattle.odb_check.specs.Positions.{id_at, group_at, names_at, reference_at, IsId, IsIdFrom, IsInGroupOf, NamesGroupOf}
 use Rattle.odb_check.specs.Shape.{unit_of, needs_of, shape_of, IsEarlier, IsAlone, IsNeed, IsPlan, IsShapeOf, IsSpan, HasNamesAsNeeds}
 use Rattle.odb_check.specs.Units.{begins_unit, unit_at, unit_count, HasMembers}
@@ -181,7 +181,7 @@ is_shape rs = record {
 }
 
 pub shaped : (plan : Plan) → IsShapeOf (plan_records plan) (shape plan)
-unfolding shape
+unfolding batch_shape
 shaped plan = is_shape (plan_records plan)
 
 unit_there : (rs : List Record) (i : ℕ) → i < length rs → unit_of (shape_of rs) i ≡ unit_at rs i
@@ -212,7 +212,7 @@ needs_within rs i k d h =
     need_within rs name.element need name.means
 
 pub needs_known : (plan : Plan) (i : ℕ) → All (IsNeed (shape plan)) (needs_at (plan_records plan) i)
-unfolding shape
+unfolding batch_shape
 needs_known plan i k d h = within_shape (plan_records plan) (get_or (needs_at (plan_records plan) i) k d) (needs_within (plan_records plan) i k d h)
 
 pub ruleset plan_needs = (shaped, needs_known)
@@ -258,7 +258,7 @@ reference_needed : (rs : List Record) (i : ℕ) (id : List ℕ) → reference_at
 reference_needed rs i id here = subst (λ o. Contains (names_at rs i ++ further_names (names_at rs i) o) id) (sym here) (further_there (names_at rs i) id (list_any (bytes_eq id) (names_at rs i)) refl)
 
 pub names_as_needs : (plan : Plan) → HasNamesAsNeeds (plan_records plan) (shape plan)
-unfolding shape
+unfolding batch_shape
 names_as_needs plan = let rs = plan_records plan in record {
   names_id = λ i name r listed here. subst (λ xs. Contains xs (One r)) (sym (needs_there rs i (name_inside rs i name listed))) (listed_need rs i name (One r) listed (id_need rs (plan.good IdTwice) name r here));
   names_group = λ i name j listed here.

@@ -7,6 +7,7 @@ use Rattle.std.proofs.lemmas.List.{get_or-map, length-map, map-append, take_more
 use Rattle.std.proofs.lemmas.Option.{slice_get_cases}
 use Rattle.std.proofs.lemmas.List.Elements.{filter_map-append, Contains-push_cases, Contains-get_or}
 use Rattle.odb_doc.specs.LeastRules.{IsFirst}
+use Rattle.odb_doc.proofs.OneLeast.{by_phase}
 use Rattle.odb_doc.specs.batch.Names.{texts_in}
 use Rattle.odb_doc.specs.batch.Records.{Record}
 use Rattle.odb_check.specs.declared.fault.CheckFault.{CheckFault}
@@ -15,12 +16,12 @@ use Rattle.odb_check.specs.declared.fault.NameRule.{NameRule}
 use Rattle.odb_check.specs.declared.fault.NameRule.TheVariants.{UnknownName}
 use Rattle.odb_check.specs.declared.need.Need.{Need}
 use Rattle.odb_check.specs.FaultTable.{number, phase}
-use Rattle.odb_check.specs.LeastNameFault.{BreaksIn, HasGoodNames, RefusesNames}
+use Rattle.odb_check.specs.LeastNameFault.{HasGoodNames, RefusesNames}
 use Rattle.odb_check.specs.Marks.{ones_with, groups_with, AreMarksOf}
 use Rattle.odb_check.specs.NameFaults.{IsBrokenAt}
 use Rattle.odb_check.specs.Needs.{need_of, further_names, needs_at}
 use Rattle.odb_check.specs.Positions.{names_at, reference_at}
-use Rattle.odb_check.specs.Walks.{BreaksFirst, FailsAt, HasSoundIds, further_needs, named_at}
+use Rattle.odb_check.specs.Walks.{BreaksIn, BreaksFirst, FailsAt, HasSoundIds, further_needs, named_at}
 use Rattle.odb_check.proofs.AnyLemmas.{Contains-none}
 use Rattle.odb_check.proofs.MarkLemmas.{marks_more}
 use Rattle.odb_check.proofs.NameLemmas.{meant_known, unknown}
@@ -94,15 +95,9 @@ unknown_least rs i broken_here = record { broken = (refl, broken_here); least = 
 pub names_refused : (rs : List Record) (i : ℕ) → HasSoundIds rs → ((rule : NameRule) (k : ℕ) → k < i → ¬ BreaksIn 4 rs rule k) → (fault : CheckFault) → FailsAt 4 rs i fault → RefusesNames fault rs
 names_refused rs i sound before faults.OutOfMemory fails = tt
 names_refused rs i sound before (faults.Request at_place rule) fails =
-    let fourth : phase rule ≡ 4 = fails.1.broken.0 in
-    let first : IsFirst number (BreaksIn 4 rs) i rule = record { here = fails.1; before = before } in
-    record {
-      earlier = λ ph less other j broken. elim (two_phases other) [
-        | inl third ↦ sound other j (third, broken.1)
-        | inr same ↦ omega (arith, less, fourth, same, broken.0)
-      ];
-      first = subst (λ ph. IsFirst number (BreaksIn ph rs) at_place rule) (sym fourth) (subst (λ k. IsFirst number (BreaksIn 4 rs) k rule) (sym fails.0) first);
-    }
+    by_phase phase number (λ r k. IsBrokenAt r rs k) 4 at_place rule
+    (λ ph less other j broken. elim (two_phases other) [ inl third ↦ sound other j (third, broken.1) | inr fourth ↦ omega (arith, less, fourth, broken.0) ])
+    (subst (λ k. IsFirst number (BreaksIn 4 rs) k rule) (sym fails.0) (record { here = fails.1; before = before }))
 
 pub all_good : (rs : List Record) → HasSoundIds rs → ((rule : NameRule) (k : ℕ) → k < length rs → ¬ BreaksIn 4 rs rule k) → HasGoodNames rs
 all_good rs sound none rule i broken_here = elim (two_phases rule) [ inl third ↦ sound rule i (third, broken_here) | inr fourth ↦ none rule i (broken_inside rs rule i broken_here) (fourth, broken_here) ]

@@ -1,5 +1,5 @@
 -- The rules on the names of a batch and their faults: numbers, phases and names, and what is printed of them.
-use Rattle.std.specs.Prelude.{◌≢◌, ◌/◌, ℕ, List, Option, Some, None, codes}
+use Rattle.std.specs.Prelude.{◌/◌, ℕ, List, Option, Some, None, codes}
 use Rattle.odb_doc.specs.Refusals.{Printed, fault_of}
 use Rattle.odb_doc.specs.declared.fault.Place.TheVariants as places
 use Rattle.odb_check.specs.declared.fault.CheckFault.{CheckFault}
@@ -26,10 +26,6 @@ number rule = (rule_label rule).0
 -- after the document and the shapes come identifiers and groups, and then names and references
 abbrev pub phase : NameRule → ℕ
 phase rule = number rule / 10
-
--- any fault but out of memory
-abbrev pub IsNumbered : CheckFault → Type 0
-IsNumbered fault = fault ≢ faults.OutOfMemory
 
 abbrev pub check_row : CheckFault → Option Printed
 check_row (faults.Request at rule) = Some (fault_of (rule_label rule) (places.Request at))

@@ -5,15 +5,14 @@ pub mod NameFaults
 pub mod LeastNameFault
 pub mod Firsts
 pub mod Units
-pub mod Groups
 pub mod Needs
 pub mod Levels
 pub mod Texts
 pub mod Requests
 pub mod Plans
 pub mod Shape
-pub mod Starts
 pub mod Seeds
+pub mod Starts
 pub mod Laws
 -- What serves invariants and private clauses: no public clause cites it.
 pub mod Tables

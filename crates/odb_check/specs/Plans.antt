@@ -9,6 +9,10 @@ use Rattle.odb_check.specs.Shape.{Shape, shape_of}
 abbrev pub plan_records : Plan → List Record
 plan_records plan = requests plan.tables
 
--- The units and needs of the requests. The word is closed, since a run asks for no more of them than the laws of a plan.
-unfoldable pub shape : Plan → Shape
-shape plan = shape_of (plan_records plan)
+-- The units and needs of these requests. The word is closed, since a run asks for no more of them than the laws of a plan.
+unfoldable pub batch_shape : List Record → Shape
+batch_shape requests = shape_of requests
+
+-- those of the requests of a plan
+abbrev pub shape : Plan → Shape
+shape plan = batch_shape (plan_records plan)

@@ -1,6 +1,8 @@
 -- The units of a batch: its atomicity groups, and its requests without a group (OData JSON Format 4.01,
 -- section 19.1, `atomicityGroup`).
 use Rattle.std.specs.Prelude.{◌≡◌, ◌↔◌, ◌≤◌, ◌<◌, ℕ, Bool, true, not, is_some, List, Option, Some, None, option_map, unwrap_or, length}
+use Rattle.std.specs.List.{filter_map}
+use Rattle.odb_doc.specs.batch.Names.{distinct}
 use Rattle.odb_doc.specs.batch.Records.{Record}
 use Rattle.odb_check.specs.Positions.{id_at, group_at}
 use Rattle.odb_check.specs.Firsts.{first_below, count_below, is_text}
@@ -60,3 +62,7 @@ pub record HasMembers (rs : List Record) (u from to : ℕ) : Type 0 where
   pub begins : from < to
   pub within : to ≤ length rs
   pub exact : (i : ℕ) → i < length rs → (unit_at rs i ≡ u) ↔ ((from ≤ i) × (i < to))
+
+-- the different groups, in the order of their first positions
+abbrev pub groups_of : List Record → List (List ℕ)
+groups_of batch = distinct (filter_map (λ request. request.group) batch)

@@ -3,17 +3,22 @@
 use Rattle.std.specs.Prelude.{◌≡◌, ℕ, suc, List, length}
 use Rattle.std.specs.List.{filter_map}
 use Rattle.odb_doc.specs.LeastRules.{AreSound, IsLeast}
+use Rattle.odb_doc.specs.LeastRules as phases
 use Rattle.odb_doc.specs.batch.Records.{Record}
 use Rattle.odb_check.specs.declared.fault.NameRule.{NameRule}
 use Rattle.odb_check.specs.declared.fault.CheckFault.{CheckFault}
 use Rattle.odb_check.specs.declared.fault.CheckFault.TheVariants as faults
 use Rattle.odb_check.specs.declared.need.Need.{Need}
 use Rattle.odb_check.specs.declared.needs.Needs.{Needs}
-use Rattle.odb_check.specs.FaultTable.{number}
+use Rattle.odb_check.specs.FaultTable.{number, phase}
 use Rattle.odb_check.specs.Firsts.{joined_below, list_below}
-use Rattle.odb_check.specs.LeastNameFault.{BreaksIn}
+use Rattle.odb_check.specs.NameFaults.{IsBrokenAt}
 use Rattle.odb_check.specs.Needs.{further_names, need_of, needs_at}
 use Rattle.odb_check.specs.Positions.{names_at, reference_at}
+
+-- the rule belongs to the phase, and is broken at i
+abbrev pub BreaksIn : ℕ → List Record → NameRule → ℕ → Type 0
+BreaksIn ph rs rule i = phases.BreaksIn phase (λ rule i. IsBrokenAt rule rs i) ph rule i
 
 -- no identifier and no group breaks a rule
 abbrev pub HasSoundIds : List Record → Type 0

@@ -1,6 +1,6 @@
-ghost use Rattle.std.specs.Prelude.{◌≡◌, ◌<◌, length, None, IfSome, OnOk, IfErr};
+ghost use Rattle.std.specs.Prelude.{◌≡◌, ◌<◌, length, None, IsSome, IfSome, OnOk, IfErr};
 ghost use Rattle.std.specs.Bool.{Decides};
-ghost use Rattle.odb_check.specs.FaultTable.{IsNumbered};
+ghost use Rattle.odb_check.specs.FaultTable.{check_row};
 ghost use Rattle.odb_check.specs.LeastNameFault.{RefusesNames};
 ghost use Rattle.odb_check.specs.NameFaults.{IsBrokenAt};
 ghost use Rattle.odb_check.specs.Requests.{requests};
@@ -59,7 +59,7 @@ fn broken_id(tables: &Tables<'_>, i: u32) -> Option<NameRule>
 pub(crate) fn check_ids(tables: &Tables<'_>) -> Result<(), CheckFault>
     ensures sound { OnOk result (HasSoundIds (requests tables.now)) }
     ensures least { IfErr result (λ fault. RefusesNames fault (requests tables.now)) }
-    ensures numbered { IfErr result IsNumbered }
+    ensures numbered { IfErr result (λ fault. IsSome (check_row fault)) }
 {
     for i in 0..tables.len() {
         if let Some(rule) = broken_id(tables, i) {

@@ -5,10 +5,10 @@
 //! [`crate::check`] and of [`Plan`] use, for callers that compare two readings of one batch, or that
 //! run a plan.
 
-ghost use Rattle.std.specs.Prelude.{◌≡◌, List};
+ghost use Rattle.std.specs.Prelude.{◌≡◌, List, IsSome};
 ghost use Rattle.odb_doc.specs.batch.Records.{Record};
 ghost use Rattle.odb_check.specs.declared.fault.CheckFault.{CheckFault};
-ghost use Rattle.odb_check.specs.FaultTable.{IsNumbered};
+ghost use Rattle.odb_check.specs.FaultTable.{check_row};
 ghost use Rattle.odb_check.specs.Laws.{HasPositions, HasUnits, NeedsGroups};
 ghost use Rattle.odb_check.specs.LeastNameFault.{HasGoodNames, RefusesNames};
 ghost use Rattle.odb_check.specs.Levels.{HasLevels};
@@ -20,10 +20,10 @@ use crate::plan::Plan;
 /// Requests have one least fault of names at most, and none where their names are good (OData JSON
 /// Format 4.01, sections 19.1 and 19.2).
 pub fn one_fault()
-    ensures one { (requests : List Record) (fault other : CheckFault) → IsNumbered fault
-        → IsNumbered other → RefusesNames fault requests → RefusesNames other requests
+    ensures one { (requests : List Record) (fault other : CheckFault) → IsSome (check_row fault)
+        → IsSome (check_row other) → RefusesNames fault requests → RefusesNames other requests
         → fault ≡ other }
-    ensures none { (requests : List Record) (fault : CheckFault) → IsNumbered fault
+    ensures none { (requests : List Record) (fault : CheckFault) → IsSome (check_row fault)
         → RefusesNames fault requests → ¬ HasGoodNames requests }
 {}
 

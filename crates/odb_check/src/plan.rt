@@ -29,7 +29,7 @@ pub struct Plan<'b> {
 }
 
 impl<'b> Plan<'b> {
-    ghost use Rattle.odb_check.specs.Groups.{groups_of};
+    ghost use Rattle.odb_check.specs.Units.{groups_of};
     ghost use Rattle.odb_check.specs.Needs.{needs_at};
     ghost use Rattle.odb_check.specs.Plans.{plan_records, shape};
     ghost use Rattle.odb_check.specs.Shape.{IsNeed, IsSpan};

@@ -1,8 +1,8 @@
 ghost use Rattle.std.specs.Prelude.{◌≡◌, ◌≤◌, ◌<◌, ◌==◌, ◌+◌, ◌∷◌, ◌++◌, [], ℕ, List, length, cond, Some, None, option_copied, option_map, OnOk, IfOk, slice_get};
 ghost use Rattle.std.proofs.Props.{props};
+ghost use Rattle.odb_doc.specs.batch.Records.{IsSoundRecord, record_of};
 ghost use Rattle.odb_doc.specs.batch.Batches.{records};
 ghost use Rattle.odb_doc.specs.batch.Names.{texts_in};
-ghost use Rattle.odb_doc.specs.batch.Records.{IsSoundRecord, record_of};
 ghost use Rattle.odb_check.specs.Firsts.{or_else, is_text};
 ghost use Rattle.odb_check.specs.Starts.{start_of, table_start};
 ghost use Rattle.odb_check.specs.Tables.{AreTablesOf, IsStartOf, at_text, more_with, table_len, unit_among};
@@ -149,7 +149,7 @@ pub(crate) fn tables_of<'b>(
 }
 
 impl<'b> Tables<'b> {
-    ghost use Rattle.odb_check.specs.Groups.{groups_of};
+    ghost use Rattle.odb_check.specs.Units.{groups_of};
     ghost use Rattle.odb_check.specs.Needs.{need_of};
     ghost use Rattle.odb_check.specs.Positions.{id_at, group_at, names_at, reference_at};
     ghost use Rattle.odb_check.specs.Requests.{requests};

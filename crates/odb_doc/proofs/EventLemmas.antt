@@ -10,7 +10,7 @@ use Rattle.odb_doc.specs.declared.member.Object.TheVariants as objects
 use Rattle.odb_doc.specs.declared.recorded.outcome.RawOutcome.{RawOutcome}
 use Rattle.odb_doc.specs.recorded.EventFaults.{rule_number}
 use Rattle.odb_doc.specs.recorded.Events.{IsEventBy, IsReport, IsReportedStatus, IsStart}
-use Rattle.odb_doc.specs.recorded.RawReports.{IsReportOf, IsLeastBroken}
+use Rattle.odb_doc.specs.recorded.RawOutcomes.{IsReportOf, IsLeastBrokenEvent}
 use Rattle.odb_doc.specs.recorded.LeastEventFault.{BreaksEvent, HasBrokenNumber}
 use Rattle.odb_doc.specs.Members.{HasOther, text_at}
 use Rattle.odb_doc.specs.WholeNumbers.{IsWhole}
@@ -49,7 +49,7 @@ pub start-sound : (d : Data) → is_some (get (codes "start") d) ≡ true → Is
 start-sound d there start NotWhole = λ broken. not_none (get (codes "start") d) there broken.reports
 start-sound d there start BadEvents = λ bad. bad ((event-start (get (codes "start") d) d there).1 start)
 
-pub start-bad : (d : Data) → is_some (get (codes "start") d) ≡ true → ¬ IsStart d → IsLeastBroken d BadEvents
+pub start-bad : (d : Data) → is_some (get (codes "start") d) ≡ true → ¬ IsStart d → IsLeastBrokenEvent d BadEvents
 start-bad d there none = record {
   broken = λ event. none ((event-start (get (codes "start") d) d there).0 event);
   least = λ other less broken. not_none (get (codes "start") d) there (number_before d other less broken).reports;
@@ -57,7 +57,7 @@ start-bad d there none = record {
 
 -- ---- reports
 
-pub not_report-bad : (d : Data) → get (codes "start") d ≡ None → ¬ IsReport d → IsLeastBroken d BadEvents
+pub not_report-bad : (d : Data) → get (codes "start") d ≡ None → ¬ IsReport d → IsLeastBrokenEvent d BadEvents
 not_report-bad d reports none = record {
   broken = rw reports none;
   least = λ other less broken. none (number_before d other less broken).report;
@@ -66,10 +66,10 @@ not_report-bad d reports none = record {
 pub report-of : (d : Data) (raw : RawOutcome) → IsReportOf d raw → IsReportedStatus (number_view raw.status) → IsReport d
 report-of d raw is status = record { outcome = is.says.object; status = rw is.says.status status }
 
-pub status-bad : (d : Data) (raw : RawOutcome) → IsReportOf d raw → ¬ IsReportedStatus (number_view raw.status) → IsLeastBroken d BadEvents
+pub status-bad : (d : Data) (raw : RawOutcome) → IsReportOf d raw → ¬ IsReportedStatus (number_view raw.status) → IsLeastBrokenEvent d BadEvents
 status-bad d raw is bad = not_report-bad d is.reports (λ report. bad (rw is.says.status at report.status))
 
-pub report-not_whole : (d : Data) (raw : RawOutcome) → IsReportOf d raw → IsReportedStatus (number_view raw.status) → ¬ IfSome (option_map view raw.body) IsWhole → IsLeastBroken d NotWhole
+pub report-not_whole : (d : Data) (raw : RawOutcome) → IsReportOf d raw → IsReportedStatus (number_view raw.status) → ¬ IfSome (option_map view raw.body) IsWhole → IsLeastBrokenEvent d NotWhole
 report-not_whole d raw is status body = record {
   broken = record { reports = rw is.reports refl; report = report-of d raw is status; body = BreaksOutcome-not_whole [] d (option_map view raw.body) is.says.body body };
   least = λ other less broken. none_before d other less broken;

@@ -14,6 +14,7 @@ mod QuoteLemmas
 mod MemberLemmas
 mod NameLemmas
 mod OneHeaders
+pub mod OneLeast
 mod OutcomeLemmas
 mod OutcomeListLemmas
 mod RecordingLemmas

@@ -1,5 +1,6 @@
 -- A document of outcomes, or of events, has one least fault, or else one list of what it records.
-use Rattle.std.proofs.Common.{◌≡◌, ◌∙◌, ℕ, ◌≤◌, List, [], ◌∷◌, All, Option, None, Some, IfSome, option_and_then, codes, refl, ap, sym, subst, rules}
+use Rattle.std.proofs.Common.{◌≡◌, ◌∙◌, ℕ, ◌≤◌, List, [], ◌∷◌, All, Option, None, Some, IsSome, IfSome, option_and_then, codes, refl, ap, sym, subst, rules}
+use Rattle.std.proofs.lemmas.Bool.{false≢true}
 use Rattle.std.specs.List.{AllZip, AllByRecursion}
 use Rattle.std.proofs.lemmas.List.Elements.{All-nil, All-cons}
 use Rattle.serde_json.specs.Data.{Data, depth}
@@ -21,7 +22,7 @@ use Rattle.odb_doc.specs.Headers.{Header, HasHeaders}
 use Rattle.odb_doc.specs.recorded.LeastEventFault.{BreaksEventAt, IsEventsDocument, RefusesEvents}
 use Rattle.odb_doc.specs.recorded.LeastOutcomeFault.{BreaksOutcomeAt, IsOutcomesDocument, RefusesOutcomes}
 use Rattle.odb_doc.specs.Members.{text_at}
-use Rattle.odb_doc.specs.OneLeast.{one_first, one_list}
+use Rattle.odb_doc.proofs.OneLeast.{one_first, one_list}
 use Rattle.odb_doc.specs.recorded.OutcomeFaults as outcome_faults
 use Rattle.odb_doc.specs.recorded.Outcomes.{Recorded, AreOutcomesOf, Says}
 use Rattle.odb_doc.specs.recorded.Outcomes as recorded_outcomes
@@ -33,40 +34,40 @@ use Rattle.odb_doc.proofs.OneHeaders.{one_headers}
 same_outcome_rule : (rule other : OutcomeRule) → outcome_faults.rule_number rule ≡ outcome_faults.rule_number other → rule ≡ other
 same_outcome_rule rule other same = search rules
 
-pub one_outcome_fault : (d : Data) (fault other : OutcomeFault) → outcome_faults.IsNumbered fault → outcome_faults.IsNumbered other → RefusesOutcomes fault d → RefusesOutcomes other d → fault ≡ other
+pub one_outcome_fault : (d : Data) (fault other : OutcomeFault) → IsSome (outcome_faults.outcome_row fault) → IsSome (outcome_faults.outcome_row other) → RefusesOutcomes fault d → RefusesOutcomes other d → fault ≡ other
 one_outcome_fault d outcomes.Document outcomes.Document numbered numbered' one two = refl
 one_outcome_fault d outcomes.Document (outcomes.Outcome at rule) numbered numbered' one two = absurd (one two.0)
 one_outcome_fault d (outcomes.Outcome at rule) outcomes.Document numbered numbered' one two = absurd (two one.0)
 one_outcome_fault d (outcomes.Outcome at rule) (outcomes.Outcome other_at other) numbered numbered' one two =
     let same = one_first outcome_faults.rule_number (BreaksOutcomeAt (recorded_outcomes.elements d)) same_outcome_rule at other_at rule other one.1 two.1 in
     cc (same.0, same.1)
-one_outcome_fault d outcomes.OutOfMemory other numbered numbered' one two = absurd (numbered refl)
-one_outcome_fault d fault outcomes.OutOfMemory numbered numbered' one two = absurd (numbered' refl)
+one_outcome_fault d outcomes.OutOfMemory other numbered numbered' one two = absurd (false≢true numbered)
+one_outcome_fault d fault outcomes.OutOfMemory numbered numbered' one two = absurd (false≢true numbered')
 
-pub no_outcome_fault : (d : Data) (fault : OutcomeFault) → outcome_faults.IsNumbered fault → RefusesOutcomes fault d → ¬ IsOutcomesDocument d
+pub no_outcome_fault : (d : Data) (fault : OutcomeFault) → IsSome (outcome_faults.outcome_row fault) → RefusesOutcomes fault d → ¬ IsOutcomesDocument d
 no_outcome_fault d outcomes.Document numbered refuses good = refuses good.0
 no_outcome_fault d (outcomes.Outcome at rule) numbered refuses good = good.1 rule at refuses.1.here.broken
-no_outcome_fault d outcomes.OutOfMemory numbered refuses good = numbered refl
+no_outcome_fault d outcomes.OutOfMemory numbered refuses good = false≢true numbered
 
 -- ---- the least fault of events
 
 same_event_rule : (rule other : EventRule) → event_faults.rule_number rule ≡ event_faults.rule_number other → rule ≡ other
 same_event_rule rule other same = search rules
 
-pub one_event_fault : (d : Data) (fault other : EventFault) → event_faults.IsNumbered fault → event_faults.IsNumbered other → RefusesEvents fault d → RefusesEvents other d → fault ≡ other
+pub one_event_fault : (d : Data) (fault other : EventFault) → IsSome (event_faults.event_row fault) → IsSome (event_faults.event_row other) → RefusesEvents fault d → RefusesEvents other d → fault ≡ other
 one_event_fault d events.Document events.Document numbered numbered' one two = refl
 one_event_fault d events.Document (events.Event at rule) numbered numbered' one two = absurd (one two.0)
 one_event_fault d (events.Event at rule) events.Document numbered numbered' one two = absurd (two one.0)
 one_event_fault d (events.Event at rule) (events.Event other_at other) numbered numbered' one two =
     let same = one_first event_faults.rule_number (BreaksEventAt (recorded_events.elements d)) same_event_rule at other_at rule other one.1 two.1 in
     cc (same.0, same.1)
-one_event_fault d events.OutOfMemory other numbered numbered' one two = absurd (numbered refl)
-one_event_fault d fault events.OutOfMemory numbered numbered' one two = absurd (numbered' refl)
+one_event_fault d events.OutOfMemory other numbered numbered' one two = absurd (false≢true numbered)
+one_event_fault d fault events.OutOfMemory numbered numbered' one two = absurd (false≢true numbered')
 
-pub no_event_fault : (d : Data) (fault : EventFault) → event_faults.IsNumbered fault → RefusesEvents fault d → ¬ IsEventsDocument d
+pub no_event_fault : (d : Data) (fault : EventFault) → IsSome (event_faults.event_row fault) → RefusesEvents fault d → ¬ IsEventsDocument d
 no_event_fault d events.Document numbered refuses good = refuses good.0
 no_event_fault d (events.Event at rule) numbered refuses good = good.1 rule at refuses.1.here.broken
-no_event_fault d events.OutOfMemory numbered refuses good = numbered refl
+no_event_fault d events.OutOfMemory numbered refuses good = false≢true numbered
 
 -- ---- what is recorded
 

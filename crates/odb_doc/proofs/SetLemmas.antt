@@ -12,7 +12,7 @@ use Rattle.std.proofs.lemmas.List.Folds.{list_any-append}
 use Rattle.std.proofs.lemmas.Map.Text.{is_eq-slice_cmp}
 use Rattle.std.proofs.lemmas.Slice.Eq.{bytes_eq-Decides}
 use Rattle.odb_doc.specs.batch.Names.{texts_in, with_name}
-use Rattle.odb_doc.specs.recorded.Watched.{AreSameTexts}
+use Rattle.odb_doc.specs.recorded.RawOutcomes.{AreSameTexts}
 
 or_same : (a c : Bool) → (a || c) ≡ (a || (a || c))
 or_same true c = refl

@@ -20,7 +20,7 @@ abbrev pub OnlyIf : {R : Type 0} → R → Type 0 → Broken R → Type 0
 OnlyIf bad reason (Rule rule) = (rule ≡ bad) × reason
 OnlyIf bad reason OutOfMemory = Unit {0}
 
--- the same of the element at a position
+-- the broken rule, with the position of its element
 abbrev pub broken_at : {R : Type 0} → ℕ → Broken R → Broken (ℕ × R)
 broken_at at (Rule rule) = Rule (at, rule)
 broken_at at OutOfMemory = OutOfMemory

@@ -1,7 +1,9 @@
--- How a proof distinguishes JSON values: for the model of an outcome, nothing to believe.
+-- How a proof distinguishes JSON values and methods: for the models of outcomes and of runs, nothing to believe.
 use Rattle.std.proofs.Common.{◌≡◌, ℕ, List, refl, ap, arith}
 use Rattle.std.specs.Coded.{Coded, coded_list, coded_ℕ, coded_ℤ, coded_bool}
 use base.Stored.{Gv, gnil, gnum, gcons, coded_float}
+use Rattle.odb_names.specs.contracts.method.Method as methods
+use Rattle.odb_names.specs.declared.method.Method.{Method}
 use Rattle.serde_json.specs.Data.{Num, unsigned, negative, float, Data, null, boolean, number, string, array, object, Items, no_items, item, Members, no_members, member}
 
 abbrev num_code : Num → Gv
@@ -87,3 +89,6 @@ mutual
 
 abbrev pub data_code : Coded Data
 data_code = record { code = code_of; inj = one_value }
+
+abbrev pub method_code : Coded Method
+method_code = methods.the_row.coded

@@ -1,5 +1,5 @@
 -- The rules of a document and of a request: their numbers and names; and what is printed of their faults.
-use Rattle.std.specs.Prelude.{ℕ, ◌≢◌, List, Option, Some, None, codes}
+use Rattle.std.specs.Prelude.{ℕ, List, Option, Some, None, codes}
 use Rattle.odb_doc.specs.declared.fault.DocFault.{DocFault}
 use Rattle.odb_doc.specs.declared.fault.DocFault.TheVariants as faults
 use Rattle.odb_doc.specs.declared.fault.DocumentRule.{DocumentRule}
@@ -42,10 +42,6 @@ request_label request.BadReference = (23, codes "BadReference")
 
 abbrev pub request_number : RequestRule → ℕ
 request_number rule = (request_label rule).0
-
--- any fault but out of memory
-abbrev pub IsNumbered : DocFault → Type 0
-IsNumbered fault = fault ≢ faults.OutOfMemory
 
 abbrev pub document_row : DocFault → Option Printed
 document_row (faults.Document rule) = Some (fault_of (document_label rule) places.Batch)

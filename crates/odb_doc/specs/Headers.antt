@@ -27,7 +27,7 @@ text_members no_members = Some []
 text_members (member name d ms) =
     option_and_then (λ text. option_map (λ headers. (name, text) ∷ headers) (text_members ms)) (as_str d)
 
--- the same of a value that need not be there
+-- the members of the value, if there is one: names and texts
 abbrev pub text_members_in : Option Data → Option (List Header)
 text_members_in None = Some []
 text_members_in (Some d) = option_and_then text_members (as_object d)
@@ -62,7 +62,7 @@ pub record HoldsHeaders (o : Option Data) (headers : List Header) : Type 0 where
   pub same : IsPermutation (map folded listed) headers
   pub ordered : IsInOrder headers
 
--- the same of the member `headers`
+-- the member `headers` holds these headers
 abbrev pub HasHeaders : Data → List Header → Type 0
 HasHeaders d headers = HoldsHeaders (get (codes "headers") d) headers
 

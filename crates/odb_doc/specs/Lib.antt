@@ -15,4 +15,3 @@ pub mod WholeNumbers
 pub mod BrokenRules
 pub mod DataCodes
 pub mod HeaderMaps
-pub mod OneLeast

@@ -20,6 +20,6 @@ code_of number = codes "F" ++ (48 + number / 10) ∷ (48 + number % 10) ∷ []
 abbrev pub fault_at : ℕ → List ℕ → Place → Printed
 fault_at number name place = record { code = code_of number; name = name; place = place }
 
--- the same, of a number and a name from a table
+-- the fault with the number and the name of this row of a table
 abbrev pub fault_of : ℕ × List ℕ → Place → Printed
 fault_of label place = fault_at label.0 label.1 place

@@ -11,11 +11,11 @@ IsWhole d = has_float d ≡ false
 abbrev pub HasWholeBody : Option Data → Type 0
 HasWholeBody body = IfSome body IsWhole
 
--- the same of the bodies at so many positions
+-- each of the first `count` bodies holds whole numbers alone
 abbrev pub HasWholeBodies : ℕ → (ℕ → Option Data) → Type 0
 HasWholeBodies count body_at = (i : ℕ) → i < count → HasWholeBody (body_at i)
 
--- the first of so many positions at which the body holds a number that is not whole
+-- the first of `count` positions at which the body holds a number that is not whole
 pub record IsFirstNotWhole (count : ℕ) (body_at : ℕ → Option Data) (at : ℕ) : Type 0 where
   pub within : at < count
   pub holds : ¬ HasWholeBody (body_at at)

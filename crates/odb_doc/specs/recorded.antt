@@ -10,5 +10,3 @@ pub mod OutcomeValues
 pub mod Outcomes
 -- What invariants, private clauses and proofs cite: nothing to believe.
 pub mod RawOutcomes
-pub mod RawReports
-pub mod Watched

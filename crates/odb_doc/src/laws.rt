@@ -5,7 +5,7 @@
 //! [`crate::Batch::read`], [`crate::Outcomes::read`] and [`crate::Events::read`] use, for callers that
 //! compare two readings of one value.
 
-ghost use Rattle.std.specs.Prelude.{◌≡◌, ◌≤◌, ◌↔◌, ◌++◌, ℕ, List, [], Some, All, codes, fold};
+ghost use Rattle.std.specs.Prelude.{◌≡◌, ◌≤◌, ◌↔◌, ◌++◌, ℕ, List, [], Some, IsSome, All, codes, fold};
 ghost use Rattle.serde_json.specs.Data.{Data, depth};
 ghost use Rattle.serde_json.specs.Read.{read};
 ghost use Rattle.serde_json.specs.Written.{compact_text};
@@ -18,7 +18,7 @@ ghost use Rattle.odb_doc.specs.canonical.Canonical.{HasWholeBodies, canonical_te
 ghost use Rattle.odb_doc.specs.canonical.CanonicalLaws.{HasCanonicalText, IsDocumentOf};
 ghost use Rattle.odb_doc.specs.recorded.EventFaults as event_faults;
 ghost use Rattle.odb_doc.specs.recorded.Events.{EventValue, AreEventsOf, IsRecordableEvent};
-ghost use Rattle.odb_doc.specs.Faults.{IsNumbered};
+ghost use Rattle.odb_doc.specs.Faults.{document_row};
 ghost use Rattle.odb_doc.specs.Headers.{IsInOrder};
 ghost use Rattle.odb_doc.specs.canonical.HeldValues.{IsHeld};
 ghost use Rattle.odb_doc.specs.recorded.LeastEventFault.{IsEventsDocument, RefusesEvents};
@@ -36,9 +36,9 @@ use crate::recorded::outcome::Outcome;
 /// A value has one least fault of shape at most, and none if it is well shaped (OData JSON Format
 /// 4.01, section 19.1).
 pub fn one_fault()
-    ensures one { (value : Data) (fault other : DocFault) → IsNumbered fault → IsNumbered other
+    ensures one { (value : Data) (fault other : DocFault) → IsSome (document_row fault) → IsSome (document_row other)
         → IsLeastFault fault value → IsLeastFault other value → fault ≡ other }
-    ensures none { (value : Data) (fault : DocFault) → IsNumbered fault
+    ensures none { (value : Data) (fault : DocFault) → IsSome (document_row fault)
         → IsLeastFault fault value → ¬ IsWellShaped value }
 {}
 
@@ -66,10 +66,10 @@ pub fn one_batch()
 /// is one list of outcomes at most: their ids, and their statuses, headers and bodies by value. Its
 /// bodies nest at most 124 deep if it nests at most 127 deep, as [`every_value`] says of what is read.
 pub fn one_record()
-    ensures one { (value : Data) (fault other : OutcomeFault) → outcome_faults.IsNumbered fault
-        → outcome_faults.IsNumbered other → RefusesOutcomes fault value
+    ensures one { (value : Data) (fault other : OutcomeFault) → IsSome (outcome_faults.outcome_row fault)
+        → IsSome (outcome_faults.outcome_row other) → RefusesOutcomes fault value
         → RefusesOutcomes other value → fault ≡ other }
-    ensures none { (value : Data) (fault : OutcomeFault) → outcome_faults.IsNumbered fault
+    ensures none { (value : Data) (fault : OutcomeFault) → IsSome (outcome_faults.outcome_row fault)
         → RefusesOutcomes fault value → ¬ IsOutcomesDocument value }
     ensures outcomes { (value : Data) (entries others : List Recorded)
         → AreOutcomesOf value entries → AreOutcomesOf value others → entries ≡ others }
@@ -81,10 +81,10 @@ pub fn one_record()
 /// A value has one least fault as a document of events at most, and none if it is a good one; and it
 /// is one list of events at most, by their ids and outcomes. The bodies nest as in [`one_record`].
 pub fn one_history()
-    ensures one { (value : Data) (fault other : EventFault) → event_faults.IsNumbered fault
-        → event_faults.IsNumbered other → RefusesEvents fault value
+    ensures one { (value : Data) (fault other : EventFault) → IsSome (event_faults.event_row fault)
+        → IsSome (event_faults.event_row other) → RefusesEvents fault value
         → RefusesEvents other value → fault ≡ other }
-    ensures none { (value : Data) (fault : EventFault) → event_faults.IsNumbered fault
+    ensures none { (value : Data) (fault : EventFault) → IsSome (event_faults.event_row fault)
         → RefusesEvents fault value → ¬ IsEventsDocument value }
     ensures events { (value : Data) (events others : List EventValue)
         → AreEventsOf value events → AreEventsOf value others → events ≡ others }

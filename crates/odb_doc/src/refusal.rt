@@ -18,7 +18,8 @@ pub struct Refusal {
 impl Refusal {
     /// Returns what is printed of a fault with this code and name, at this place.
     pub fn new(row: (&'static str, &'static str), place: Place) -> Refusal
-        ensures { printed result ≡ record { code = row.entry.0.now; name = row.entry.1.now; place = place } }
+        ensures { printed result
+            ≡ record { code = row.entry.0.now; name = row.entry.1.now; place = place } }
     {
         Refusal {
             code: row.0,

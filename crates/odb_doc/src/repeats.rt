@@ -3,7 +3,7 @@ ghost use Rattle.std.specs.Cmp.Lexicographic.{slice_cmp};
 ghost use Rattle.std.specs.List.{IsDistinct};
 ghost use Rattle.std.specs.Ordering.{is_lt, nat_cmp};
 ghost use Rattle.odb_doc.specs.batch.Names.{distinct, texts_in, with_name};
-ghost use Rattle.odb_doc.specs.recorded.Watched.{AreSameTexts};
+ghost use Rattle.odb_doc.specs.recorded.RawOutcomes.{AreSameTexts};
 
 use std::alloc::{AllocError, Global};
 use std::collections::BTreeSet;

@@ -1,5 +1,5 @@
 -- The rules of an event and the faults of a document of events: their numbers and names, and what is printed of them.
-use Rattle.std.specs.Prelude.{◌≢◌, ℕ, List, Option, Some, None, codes}
+use Rattle.std.specs.Prelude.{ℕ, List, Option, Some, None, codes}
 use Rattle.odb_doc.specs.declared.fault.Place.TheVariants as places
 use Rattle.odb_doc.specs.declared.recorded.event_fault.EventRule.{EventRule}
 use Rattle.odb_doc.specs.declared.recorded.event_fault.EventRule.TheVariants.{NotWhole, BadEvents}
@@ -14,10 +14,6 @@ rule_label BadEvents = (64, codes "BadEvents")
 
 abbrev pub rule_number : EventRule → ℕ
 rule_number rule = (rule_label rule).0
-
--- any fault but out of memory
-abbrev pub IsNumbered : EventFault → Type 0
-IsNumbered fault = fault ≢ faults.OutOfMemory
 
 -- the document as a whole and an event of a bad shape have one code
 abbrev pub event_row : EventFault → Option Printed

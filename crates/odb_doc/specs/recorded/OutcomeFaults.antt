@@ -1,5 +1,5 @@
 -- The rules of an outcome and the faults of a document of outcomes: their numbers and names, and what is printed of them.
-use Rattle.std.specs.Prelude.{◌≢◌, ℕ, List, Option, Some, None, codes}
+use Rattle.std.specs.Prelude.{ℕ, List, Option, Some, None, codes}
 use Rattle.odb_doc.specs.declared.fault.Place.TheVariants as places
 use Rattle.odb_doc.specs.declared.recorded.outcome_fault.OutcomeRule.{OutcomeRule}
 use Rattle.odb_doc.specs.declared.recorded.outcome_fault.OutcomeRule.TheVariants.{BadOutcomes, OutcomeTwice, BadStatus, NotWhole}
@@ -16,10 +16,6 @@ rule_label NotWhole = (63, codes "NotWhole")
 
 abbrev pub rule_number : OutcomeRule → ℕ
 rule_number rule = (rule_label rule).0
-
--- any fault but out of memory
-abbrev pub IsNumbered : OutcomeFault → Type 0
-IsNumbered fault = fault ≢ faults.OutOfMemory
 
 -- the document as a whole and an outcome of a bad shape have one code
 abbrev pub outcome_row : OutcomeFault → Option Printed

@@ -1,6 +1,9 @@
--- What is moved out of an element of `outcomes`, or out of a report of `events`, while it is read: for private clauses, nothing to believe.
-use Rattle.std.specs.Prelude.{◌≡◌, ℕ, List, Some, map, option_map, codes, string_bytes, String}
+-- What is moved out of an element of `outcomes`, or out of a report of `events`, while it is read, and the ids that are
+-- watched for a repeat: for private clauses, nothing to believe.
+use Rattle.std.specs.Prelude.{◌≡◌, ℕ, List, ◌++◌, Option, Some, None, map, option_map, codes, bytes_eq, string_bytes, String}
 use Rattle.std.specs.declared.alloc.Global.{Global}
+use Rattle.std.specs.BTreeSet.{BTreeSet}
+use Rattle.std.specs.List.{IsDistinct, list_any}
 use Rattle.serde_json.specs.Data.{Data}
 use Rattle.serde_json.specs.Find.{get}
 use Rattle.serde_json.specs.View.{view, number_view}
@@ -10,11 +13,17 @@ use Rattle.odb_doc.specs.declared.member.Object.{Object}
 use Rattle.odb_doc.specs.declared.member.Object.TheVariants as objects
 use Rattle.odb_doc.specs.declared.recorded.outcome.Parts.{Parts}
 use Rattle.odb_doc.specs.declared.recorded.outcome.RawOutcome.{RawOutcome}
+use Rattle.odb_doc.specs.declared.recorded.event_fault.EventRule.{EventRule}
+use Rattle.odb_doc.specs.declared.recorded.event_fault.EventFault.{EventFault}
+use Rattle.odb_doc.specs.declared.recorded.event_fault.EventFault.TheVariants as event_faults
 use Rattle.odb_doc.specs.declared.recorded.outcome_fault.OutcomeRule.{OutcomeRule}
 use Rattle.odb_doc.specs.declared.recorded.outcome_fault.OutcomeFault.{OutcomeFault}
 use Rattle.odb_doc.specs.declared.recorded.outcome_fault.OutcomeFault.TheVariants as faults
+use Rattle.odb_doc.specs.declared.recorded.seen.SeenIds.{SeenIds}
 use Rattle.odb_doc.specs.batch.Bodies.{body_of}
 use Rattle.odb_doc.specs.Headers.{HasHeaders, headers_in}
+use Rattle.odb_doc.specs.recorded.EventFaults as event_table
+use Rattle.odb_doc.specs.recorded.LeastEventFault.{BreaksEvent}
 use Rattle.odb_doc.specs.recorded.LeastOutcomeFault.{BreaksOutcome}
 use Rattle.odb_doc.specs.LeastRules.{IsLeast}
 use Rattle.odb_doc.specs.Members.{HasOther, text_at}
@@ -52,3 +61,29 @@ IsLeastBroken before d rule = IsLeast rule_number (λ other. BreaksOutcome other
 abbrev pub outcome_fault : Broken (ℕ × OutcomeRule) → OutcomeFault
 outcome_fault (broken.Rule place) = faults.Outcome place.0 place.1
 outcome_fault broken.OutOfMemory = faults.OutOfMemory
+
+-- the element is not a start, has the shape of a report, and these values
+pub record IsReportOf (d : Data) (raw : RawOutcome) : Type 0 where
+  pub reports : get (codes "start") d ≡ None
+  pub says : HasRawOutcome objects.Report (codes "report") d raw
+
+-- the rule is broken by the element, and none with a smaller number is
+abbrev pub IsLeastBrokenEvent : Data → EventRule → Type 0
+IsLeastBrokenEvent d rule = IsLeast event_table.rule_number (λ other. BreaksEvent other d) rule
+
+-- the fault of an event
+abbrev pub event_fault : Broken (ℕ × EventRule) → EventFault
+event_fault (broken.Rule place) = event_faults.Event place.0 place.1
+event_fault broken.OutOfMemory = event_faults.OutOfMemory
+
+-- the same texts, whatever their order and however often each is listed
+abbrev pub AreSameTexts : List (List ℕ) → List (List ℕ) → Type 0
+AreSameTexts xs ys = (q : List ℕ) → list_any (bytes_eq q) xs ≡ list_any (bytes_eq q) ys
+
+-- the set has the ids so far; without a set these and those to come are distinct
+abbrev pub Watches : Option (BTreeSet (String Global)) → List (List ℕ) → List (List ℕ) → Type 0
+Watches (Some set) before coming = AreSameTexts (texts set.keys) before
+Watches None before coming = IsDistinct bytes_eq (before ++ coming)
+
+abbrev pub IsWatched : SeenIds → List (List ℕ) → List (List ℕ) → Type 0
+IsWatched seen before coming = Watches seen.ids before coming

@@ -4,7 +4,7 @@ ghost use Rattle.serde_json.specs.Find.{get};
 ghost use Rattle.serde_json.specs.View.{view, number_view};
 ghost use Rattle.odb_doc.specs.declared.recorded.event_fault.EventRule.{EventRule};
 ghost use Rattle.odb_doc.specs.BrokenRules.{OnRule};
-ghost use Rattle.odb_doc.specs.recorded.RawReports.{IsReportOf, IsLeastBroken};
+ghost use Rattle.odb_doc.specs.recorded.RawOutcomes.{IsReportOf, IsLeastBrokenEvent};
 ghost use Rattle.odb_doc.specs.recorded.Events.{IsReportedStatus, IsSoundEvent, IsStart, Says, event_value};
 ghost use Rattle.odb_doc.specs.recorded.LeastEventFault.{BreaksEvent};
 ghost use Rattle.odb_doc.specs.Members as members;
@@ -59,7 +59,7 @@ fn status_in(raw: &RawOutcome) -> Result<u16, EventRule>
     ensures sound { OnOk result ((d : Data) → IsReportOf d raw.now
         → (rule : EventRule) → ¬ BreaksEvent rule d) }
     ensures first { IfErr result (λ rule. (d : Data) → IsReportOf d raw.now
-        → IsLeastBroken d rule) }
+        → IsLeastBrokenEvent d rule) }
 {
     let Some(status) = status_of(raw.status) else {
         return Err(EventRule::BadEvents);
@@ -77,7 +77,7 @@ fn read_report(alloc: Global, element: &mut Value) -> Result<NamedEvent, Broken<
     ensures sound { OnOk result ((rule : EventRule) → ¬ BreaksEvent rule (view element.old)) }
     ensures says { IfOk result (λ event. Says (view element.old) (event_value event)) }
     ensures fit { IfOk result (λ event. IsSoundEvent (event_value event)) }
-    ensures first { IfErr result (OnRule (IsLeastBroken (view element.old))) }
+    ensures first { IfErr result (OnRule (IsLeastBrokenEvent (view element.old))) }
 {
     let bad = EventRule::BadEvents;
     let raw = raw_outcome_of(alloc, Object::Report, "report", element, bad)?;
@@ -105,7 +105,7 @@ pub(crate) fn read_event(
     ensures sound { OnOk result ((rule : EventRule) → ¬ BreaksEvent rule (view element.old)) }
     ensures says { IfOk result (λ event. Says (view element.old) (event_value event)) }
     ensures fit { IfOk result (λ event. IsSoundEvent (event_value event)) }
-    ensures first { IfErr result (OnRule (IsLeastBroken (view element.old))) }
+    ensures first { IfErr result (OnRule (IsLeastBrokenEvent (view element.old))) }
 {
     if !has_start(element) {
         return read_report(alloc, element);

@@ -6,7 +6,7 @@ ghost use Rattle.odb_doc.specs.declared.recorded.event_fault.EventFault.TheVaria
 ghost use Rattle.odb_doc.specs.recorded.Events.{AreEventsOf, IsEventsObject, IsSoundEvent, Says, elements, event_value};
 ghost use Rattle.odb_doc.specs.BrokenRules.{OnPlace};
 ghost use Rattle.odb_doc.specs.recorded.LeastEventFault.{AreEvents, IsEventsDocument, IsLeastEventRule, RefusesEvents};
-ghost use Rattle.odb_doc.specs.recorded.RawReports.{event_fault};
+ghost use Rattle.odb_doc.specs.recorded.RawOutcomes.{event_fault};
 
 use crate::broken::Broken;
 use crate::member::Object;

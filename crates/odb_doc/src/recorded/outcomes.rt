@@ -8,9 +8,8 @@ ghost use Rattle.odb_doc.specs.declared.recorded.outcome_fault.OutcomeRule.{Outc
 ghost use Rattle.odb_doc.specs.declared.recorded.outcome_fault.OutcomeFault.TheVariants as faults;
 ghost use Rattle.odb_doc.specs.BrokenRules.{OnPlace, OnRule};
 ghost use Rattle.odb_doc.specs.recorded.LeastOutcomeFault.{AreOutcomes, BreaksOutcome, IsLeastOutcomeRule, IsOutcomesDocument, RefusesOutcomes};
-ghost use Rattle.odb_doc.specs.recorded.RawOutcomes.{IsLeastBroken, IsRawOutcomeOf, outcome_fault};
+ghost use Rattle.odb_doc.specs.recorded.RawOutcomes.{IsLeastBroken, IsRawOutcomeOf, outcome_fault, IsWatched};
 ghost use Rattle.odb_doc.specs.recorded.Outcomes.{AreOutcomesOf, IsOutcomesObject, IsStatus, IsSoundOutcome, Says, elements, ids, recorded};
-ghost use Rattle.odb_doc.specs.recorded.Watched.{IsWatched};
 ghost use Rattle.odb_doc.specs.WholeNumbers.{IsWhole};
 
 use crate::broken::Broken;

@@ -42,7 +42,7 @@ fn may_ids_repeat(alloc: Global, elements: &[Value]) -> Result<bool, AllocError>
 }
 
 impl SeenIds {
-    ghost use Rattle.odb_doc.specs.recorded.Watched.{IsWatched};
+    ghost use Rattle.odb_doc.specs.recorded.RawOutcomes.{IsWatched};
 
     /// No ids, before the elements are read.
     pub(crate) fn before(alloc: Global, elements: &[Value]) -> Result<Self, AllocError>

@@ -1,6 +1,6 @@
 use Rattle.std.proofs.Common.{◌<◌, ℕ}
 use Rattle.odb_check.specs.declared.fault.NameRule.{NameRule}
-use Rattle.odb_check.specs.LeastNameFault.{BreaksIn}
+use Rattle.odb_check.specs.Walks.{BreaksIn}
 use Rattle.odb_check.specs.Requests.{requests}
 use Rattle.odb_check.proofs.ids.check_ids.Given as goal
 

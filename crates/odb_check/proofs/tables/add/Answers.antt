@@ -1,6 +1,6 @@
 use Rattle.std.proofs.Common.{◌≡◌, ap, ◌∙◌, length, add-one, rules}
-use Rattle.odb_doc.specs.batch.Batches.{records}
 use Rattle.odb_doc.specs.batch.Records.{record_of}
+use Rattle.odb_doc.specs.batch.Batches.{records}
 use Rattle.odb_check.specs.Tables.{unit_among}
 use Rattle.odb_check.proofs.TableLemmas.{tables_more}
 use Rattle.odb_check.proofs.tables.add.Goals as goal

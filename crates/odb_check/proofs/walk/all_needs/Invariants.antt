@@ -1,10 +1,9 @@
 use Rattle.std.proofs.Common.{◌<◌, ℕ}
 use Rattle.odb_check.specs.declared.fault.NameRule.{NameRule}
-use Rattle.odb_check.specs.LeastNameFault.{BreaksIn}
+use Rattle.odb_check.specs.Walks.{BreaksIn, AreNeedsOf}
 use Rattle.odb_check.specs.Marks.{AreUpTo}
 use Rattle.odb_check.specs.Requests.{requests}
 use Rattle.odb_check.proofs.walk.all_needs.Given as goal
-use Rattle.odb_check.specs.Walks.{AreNeedsOf}
 
 -- the requests before i break no rule, and the list has their needs
 abbrev pub invariant-loop-i : goal.invariant-loop-i

@@ -1,6 +1,6 @@
 use Rattle.std.proofs.Common.{◌≡◌, drop, fold}
 use Rattle.odb_doc.specs.batch.Names.{distinct, texts_in, with_name}
-use Rattle.odb_doc.specs.recorded.Watched.{AreSameTexts}
+use Rattle.odb_doc.specs.recorded.RawOutcomes.{AreSameTexts}
 use Rattle.odb_doc.proofs.repeats.first_places.Given as goal
 
 -- the set has the texts that were kept, and those with the texts to come are the distinct ones

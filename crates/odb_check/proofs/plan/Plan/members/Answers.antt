@@ -1,13 +1,13 @@
 use Rattle.std.proofs.Common.{arith, length}
 use Rattle.odb_check.specs.declared.fault.NameRule.TheVariants.{GroupSplit}
-use Rattle.odb_check.specs.Plans.{plan_records, shape}
+use Rattle.odb_check.specs.Plans.{plan_records, batch_shape}
 use Rattle.odb_check.specs.Units.{HasMembers}
 use Rattle.odb_check.proofs.PlanLemmas.{span_of}
 use Rattle.odb_check.proofs.UnitLemmas.{has_members, in_order, unit_at_begin}
 use Rattle.odb_check.proofs.plan.Plan.members.Goals as goal
 
 pub returns-then-u-count : goal.returns-then-u-count
-unfolding shape
+unfolding batch_shape
 returns-then-u-count c =
     let rs = plan_records c.args.self.now in
     let start = c.start_of-start.result in
@@ -17,7 +17,7 @@ returns-then-u-count c =
     record { members = members; span = span_of rs c.args.u start end members }
 
 pub returns-else-u-count : goal.returns-else-u-count
-unfolding shape
+unfolding batch_shape
 returns-else-u-count c =
     let rs = plan_records c.args.self.now in
     let start = c.start_of-start.result in

@@ -1,7 +1,7 @@
 use Rattle.std.proofs.Common.{arith}
 use Rattle.std.proofs.lemmas.Grind.{common_steps}
-use Rattle.odb_doc.specs.batch.Batches.{records}
 use Rattle.odb_doc.specs.batch.Records.{record_of}
+use Rattle.odb_doc.specs.batch.Batches.{records}
 use Rattle.odb_doc.proofs.CanonicalLemmas.{requests_left-parts}
 use Rattle.odb_doc.proofs.canonical.parts.push_request.Goals as goal
 

@@ -14,8 +14,7 @@ use Rattle.odb_doc.specs.BrokenRules.{OnRule, OnPlace, broken_at}
 use Rattle.odb_doc.specs.recorded.LeastOutcomeFault.{BreaksOutcome, IsLeastOutcomeRule}
 use Rattle.odb_doc.specs.recorded.OutcomeFaults.{rule_number}
 use Rattle.odb_doc.specs.recorded.Outcomes.{Says, IsSoundOutcome, ids, recorded}
-use Rattle.odb_doc.specs.recorded.RawOutcomes.{IsLeastBroken}
-use Rattle.odb_doc.specs.recorded.Watched.{IsWatched}
+use Rattle.odb_doc.specs.recorded.RawOutcomes.{IsLeastBroken, IsWatched}
 use Rattle.odb_doc.proofs.LeastLemmas.{AreRead-none, AreRead-more, first_broken}
 use Rattle.odb_doc.proofs.OutcomeListLemmas.{Breaks, ids-says, keys_of-push}
 use Rattle.odb_doc.proofs.recorded.outcomes.outcomes_from.Goals as goal

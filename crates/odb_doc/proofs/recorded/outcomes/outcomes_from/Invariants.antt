@@ -4,7 +4,7 @@ use Rattle.std.specs.Map.{keys_of}
 use Rattle.std.specs.Slice.Iter.{iter_mut_rest}
 use Rattle.serde_json.specs.View.{view}
 use Rattle.odb_doc.specs.recorded.Outcomes.{Says, IsSoundOutcome, ids, recorded}
-use Rattle.odb_doc.specs.recorded.Watched.{IsWatched}
+use Rattle.odb_doc.specs.recorded.RawOutcomes.{IsWatched}
 use Rattle.odb_doc.proofs.LeastLemmas.{AreRead}
 use Rattle.odb_doc.proofs.OutcomeListLemmas.{Breaks}
 use Rattle.odb_doc.proofs.recorded.outcomes.outcomes_from.Given as goal

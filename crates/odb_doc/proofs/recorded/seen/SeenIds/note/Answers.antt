@@ -1,7 +1,6 @@
 use Rattle.std.proofs.Common.{◌∙◌, not, ap, String, string_bytes}
 use Rattle.std.specs.declared.alloc.Global.{Global}
-use Rattle.odb_doc.specs.recorded.Watched.{AreSameTexts}
-use Rattle.odb_doc.specs.recorded.RawOutcomes.{texts}
+use Rattle.odb_doc.specs.recorded.RawOutcomes.{AreSameTexts, texts}
 use Rattle.odb_doc.proofs.SetLemmas.{any_at, same_texts_more}
 use Rattle.odb_doc.proofs.WatchLemmas.{distinct_new}
 use Rattle.odb_doc.proofs.recorded.seen.SeenIds.note.Goals as goal

@@ -1,9 +1,9 @@
 -- The rule that is reported is one, and what elements read as is one list: proved of all rules with numbers of their own and
 -- of all readings, for the laws of this crate and of those above, since no clause can speak of all of them.
-use Rattle.std.proofs.Common.{◌≡◌, inl, inr, ℕ, List, [], ◌∷◌, refl, subst}
+use Rattle.std.proofs.Common.{◌≡◌, ◌<◌, inl, inr, ℕ, List, [], ◌∷◌, refl, sym, subst, arith}
 use Rattle.std.specs.List.{AllZip}
 use Rattle.std.proofs.lemmas.Bool.{cases_order}
-use Rattle.odb_doc.specs.LeastRules.{IsLeast, IsFirst}
+use Rattle.odb_doc.specs.LeastRules.{IsLeast, IsFirst, IsFirstByPhase, AreSound, BreaksIn}
 
 -- two least rules of one value are equal
 pub one_least : {R : Type 0} (number : R → ℕ) (Breaks : R → Type 0) → ((a b : R) → number a ≡ number b → a ≡ b) → (rule other : R) → IsLeast number Breaks rule → IsLeast number Breaks other
@@ -24,6 +24,23 @@ one_first number Breaks apart at other_at rule other one two =
       | inr (inl less) ↦ absurd (two.before rule at less one.here.broken)
       | inr (inr more) ↦ absurd (one.before other other_at more two.here.broken)
     ]
+
+-- two rules that are first by phase are equal, and at one position
+pub one_by_phase : {R : Type 0} (phase number : R → ℕ) (Breaks : R → ℕ → Type 0) → ((a b : R) → number a ≡ number b → a ≡ b) → (at other_at : ℕ) (rule other : R)
+    → IsFirstByPhase phase number Breaks at rule → IsFirstByPhase phase number Breaks other_at other → (at ≡ other_at) × (rule ≡ other)
+one_by_phase phase number Breaks apart at other_at rule other one two =
+    elim (cases_order (phase rule) (phase other)) [
+      | inl same ↦ one_first number (BreaksIn phase Breaks (phase other)) apart at other_at rule other (subst (λ ph. IsFirst number (BreaksIn phase Breaks ph) at rule) same one.first) two.first
+      | inr (inl less) ↦ absurd (two.earlier (phase rule) less rule at one.first.here.broken)
+      | inr (inr more) ↦ absurd (one.earlier (phase other) more other other_at two.first.here.broken)
+    ]
+
+-- the first rule of a phase comes first if no rule of an earlier phase is broken
+pub by_phase : {R : Type 0} (phase number : R → ℕ) (Breaks : R → ℕ → Type 0) (ph at : ℕ) (rule : R) → ((p : ℕ) → p < ph → AreSound (BreaksIn phase Breaks p)) → IsFirst number (BreaksIn phase Breaks ph) at rule
+    → IsFirstByPhase phase number Breaks at rule
+by_phase phase number Breaks ph at rule before first =
+    let own : phase rule ≡ ph = first.here.broken.0 in
+    record { earlier = λ p less. before p (omega (arith, less, own)); first = subst (λ p. IsFirst number (BreaksIn phase Breaks p) at rule) (sym own) first }
 
 -- if each element reads as one value at most, elements read as one list
 pub one_list : {X Y : Type 0} (Says : X → Y → Type 0) → ((x : X) (y z : Y) → Says x y → Says x z → y ≡ z) → (xs : List X) (ys zs : List Y) → AllZip Says xs ys → AllZip Says xs zs → ys ≡ zs
