@@ -41,7 +41,7 @@ use Rattle.odb_doc.specs.batch.Records.{Record}
 use Rattle.odb_sched.proofs.ChoiceLemmas.{positions-listed, listed-in}
 use Rattle.odb_sched.proofs.PlanLemmas.{length-shape}
 use Rattle.odb_sched.proofs.PhaseLemmas.{get_or-set_cases, get_or-replicate_Unstarted}
-use Rattle.odb_sched.proofs.RunLemmas.{reached_after_all, reached_at_first, joined, after_all-push, shape-after, shape-after_all, policy-after_all, plan-after_all}
+use Rattle.odb_sched.proofs.RunLemmas.{reached_after_all, reached_at_first, joined, after_all-push, shape-after, shape-after_all, policy-after_all, requests-after_all}
 use Rattle.odb_sched.proofs.EventLemmas.{left, move_start, move_report}
 
 -- what is picked from the two lists may come next
@@ -351,8 +351,8 @@ module _ (source : Plan) (policy : Policy) (allows : Allowance) (offers : Offer)
       (sym (ap size course.last_is ∙ ap (λ shape. length shape.units) (shape-after_all (at_first source policy) course.events)))
       (steps-within (at_first source policy) course.events course.course.run))
 
-  pub finished-plan : last.plan ≡ source
-  finished-plan = ap (λ s. s.plan) course.last_is ∙ plan-after_all (at_first source policy) course.events
+  pub finished-requests : last.requests ≡ plan_records source
+  finished-requests = ap (λ s. s.requests) course.last_is ∙ requests-after_all (at_first source policy) course.events
 
   -- each outcome that is reported was offered
   pub finished-offered : (i : ℕ) (outcome : Outcome) → reported_at last i ≡ Some outcome → offers i (Ok outcome)

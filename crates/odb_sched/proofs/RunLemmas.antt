@@ -60,10 +60,10 @@ pub policy-after_all : (state : State) (events : List Event) → (after_all stat
 policy-after_all state [] = refl
 policy-after_all state (e ∷ es) = policy-after_all (after state e) es ∙ policy-after state e
 
-plan-after : (state : State) (event : Event) → (after state event).plan ≡ state.plan
-plan-after state (Start i) = refl
-plan-after state (Report i outcome) = refl
+requests-after : (state : State) (event : Event) → (after state event).requests ≡ state.requests
+requests-after state (Start i) = refl
+requests-after state (Report i outcome) = refl
 
-pub plan-after_all : (state : State) (events : List Event) → (after_all state events).plan ≡ state.plan
-plan-after_all state [] = refl
-plan-after_all state (e ∷ es) = plan-after_all (after state e) es ∙ plan-after state e
+pub requests-after_all : (state : State) (events : List Event) → (after_all state events).requests ≡ state.requests
+requests-after_all state [] = refl
+requests-after_all state (e ∷ es) = requests-after_all (after state e) es ∙ requests-after state e

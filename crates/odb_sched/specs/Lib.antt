@@ -20,7 +20,6 @@ pub mod ResolveFaults
 pub mod Refusals
 pub mod ExecFaults
 -- What serves invariants and private clauses alone. A wrong definition here cannot make a public promise wrong.
-pub mod PlanCode
 pub mod Plans
 pub mod Reached
 pub mod ProgressCounts

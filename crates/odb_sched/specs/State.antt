@@ -1,8 +1,11 @@
--- The state of a run: its plan, its policy, and the phase of each request.
+-- The state of a run: its requests, its policy, and the phase of each request.
 use Rattle.std.specs.Prelude.{ℕ, List, length, replicate, slice_index_or, slice_set}
+use Rattle.odb_doc.specs.batch.Records.{Record}
 use Rattle.odb_doc.specs.declared.recorded.outcome.Outcome.{Outcome}
 use Rattle.odb_check.specs.declared.plan.Plan.{Plan}
-unfoldable pub use Rattle.odb_check.specs.Plans.{shape}
+use Rattle.odb_check.specs.Plans.{plan_records}
+unfoldable pub use Rattle.odb_check.specs.Plans.{batch_shape}
+pub use Rattle.odb_check.specs.Plans.{shape}
 use Rattle.odb_check.specs.Shape.{Shape}
 use Rattle.odb_sched.specs.declared.policy.Policy.{Policy}
 use Rattle.odb_sched.specs.declared.phase.Phase.{Phase}
@@ -10,9 +13,9 @@ use Rattle.odb_sched.specs.declared.phase.Phase.TheVariants.{Unstarted, Running,
 use Rattle.odb_sched.specs.declared.event.Event.{Event}
 use Rattle.odb_sched.specs.declared.event.Event.TheVariants.{Start, Report}
 
--- the shape is that of the plan; the phases are by position
+-- the shape is that of the requests; the phases are by position
 pub record State : Type 0 where
-  pub plan : Plan
+  pub requests : List Record
   pub shape : Shape
   pub policy : Policy
   pub phases : List Phase
@@ -25,9 +28,13 @@ size state = length state.shape.units
 abbrev pub phase_at : State → ℕ → Phase
 phase_at state i = slice_index_or state.phases i Unstarted
 
--- before any event
+-- before any event, of these requests
+abbrev pub first_state : List Record → Policy → State
+first_state requests policy = record { requests = requests; shape = batch_shape requests; policy = policy; phases = replicate (length (batch_shape requests).units) Unstarted }
+
+-- before any event, of the requests of a plan
 abbrev pub at_first : Plan → Policy → State
-at_first plan policy = record { plan = plan; shape = shape plan; policy = policy; phases = replicate (length (shape plan).units) Unstarted }
+at_first plan policy = first_state (plan_records plan) policy
 
 -- after a start
 abbrev pub started : State → ℕ → State

@@ -44,7 +44,7 @@ pub struct Done<'p> {
 }
 
 impl<'p> Model for Done<'p> {
-    ghost use Rattle.odb_sched.specs.PlanCode.{plan_code};
+    ghost use Rattle.odb_doc.specs.DataCodes.{data_code, method_code};
     ghost use Rattle.odb_sched.specs.State.{State};
 
     ghost Value = { State };
@@ -53,7 +53,7 @@ impl<'p> Model for Done<'p> {
     ghost use Rattle.odb_sched.specs.contracts.policy.Policy as policies;
     ghost use Rattle.std.specs.Coded.{codes};
 
-    ghost coded = { Prim.hlevel (codes, plan_code, policies.the_row.coded, phase.the_row.coded) };
+    ghost coded = { Prim.hlevel (codes, data_code, method_code, policies.the_row.coded, phase.the_row.coded) };
 
     ghost use Rattle.odb_sched.specs.Kept.{last_state, HasFinished};
 
@@ -69,9 +69,9 @@ impl<'p> Done<'p> {
 
     /// Returns the plan that was run.
     pub fn plan(&self) -> &'p Plan<'p>
-        ensures plan { result.now ≡ self.now.plan }
-        ensures shape { self.now.shape ≡ states.shape self.now.plan }
-        ensures size { states.size self.now ≡ length (plan_records self.now.plan) }
+        ensures plan { plan_records result.now ≡ self.now.requests }
+        ensures shape { states.shape result.now ≡ self.now.shape }
+        ensures size { states.size self.now ≡ length self.now.requests }
     {
         self.run.plan()
     }

@@ -232,7 +232,7 @@ pub fn execute<'a: 'p, 'p, S: Service>(
         S.performs (Behind chooses) names (plan_records plan.now) (at_first plan.now policy)
         service.old service.new chooser.old chooser.new) }
     ensures unasked { IsSome (names chooser.old) → chooser.new ≡ chooser.old }
-    ensures plan { IfOk result (λ trace. trace.done.plan ≡ plan.now) }
+    ensures plan { IfOk result (λ trace. trace.done.requests ≡ plan_records plan.now) }
     ensures within { IfOk result (λ trace.
         All (λ step. position_in step < size trace.done) trace.steps.items) }
     ensures offered { IfOk result (λ trace. (i : ℕ) (outcome : Outcome)

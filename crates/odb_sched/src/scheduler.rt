@@ -43,7 +43,7 @@ pub struct Scheduler<'p> {
 }
 
 impl<'p> Model for Scheduler<'p> {
-    ghost use Rattle.odb_sched.specs.PlanCode.{plan_code};
+    ghost use Rattle.odb_doc.specs.DataCodes.{data_code, method_code};
     ghost use Rattle.odb_sched.specs.State.{State};
 
     ghost Value = { State };
@@ -52,7 +52,7 @@ impl<'p> Model for Scheduler<'p> {
     ghost use Rattle.odb_sched.specs.contracts.policy.Policy as policies;
     ghost use Rattle.std.specs.Coded.{codes};
 
-    ghost coded = { Prim.hlevel (codes, plan_code, policies.the_row.coded, phase.the_row.coded) };
+    ghost coded = { Prim.hlevel (codes, data_code, method_code, policies.the_row.coded, phase.the_row.coded) };
 
     ghost use Rattle.odb_sched.specs.Kept.{kept_state, IsKept};
 
@@ -138,7 +138,7 @@ impl<'p> Scheduler<'p> {
         ensures cause { IfErr result (IsStartCause self.old i) }
         ensures err { OnErr result (self.new ≡ self.old) }
         ensures dependencies_first { OnOk result
-            (laws.HaveSucceeded (plan_records self.old.plan) self.old i) }
+            (laws.HaveSucceeded self.old.requests self.old i) }
         ensures free { 10000 ≤ self.old.policy.width
             → IfErr result (λ cause. cause ≢ WidthReached) }
     {
@@ -302,9 +302,9 @@ impl<'p> Scheduler<'p> {
 
     /// Returns the plan of the run.
     pub(crate) fn plan(&self) -> &'p Plan<'p>
-        ensures plan { result.now ≡ self.now.plan }
-        ensures shape { self.now.shape ≡ states.shape self.now.plan }
-        ensures size { states.size self.now ≡ length (plan_records self.now.plan) }
+        ensures plan { plan_records result.now ≡ self.now.requests }
+        ensures shape { states.shape result.now ≡ self.now.shape }
+        ensures size { states.size self.now ≡ length self.now.requests }
     {
         self.plan
     }

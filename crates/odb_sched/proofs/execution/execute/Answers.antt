@@ -4,7 +4,7 @@ use Rattle.odb_sched.specs.State.{at_first}
 use Rattle.odb_check.specs.Plans.{plan_records}
 use Rattle.odb_sched.specs.Calls.{IsExecution}
 use Rattle.odb_sched.specs.Choices.{Behind}
-use Rattle.odb_sched.proofs.CourseLemmas.{finished-within, finished-plan, finished-offered}
+use Rattle.odb_sched.proofs.CourseLemmas.{finished-within, finished-requests, finished-offered}
 use Rattle.odb_sched.proofs.PickLemmas.{unasked, cut-unasked}
 use Rattle.odb_sched.proofs.execution.execute.Goals as goal
 
@@ -30,7 +30,7 @@ returns-clause-offered g c =
 
 pub returns-clause-plan : goal.returns-clause-plan
 returns-clause-plan g c =
-    finished-plan c.args.plan.now c.args.policy ((goal.Chooser-dyn g c.args.chooser.now).allows c.args.chooser.now.1) (g.S.Service.offers c.args.service.now)
+    finished-requests c.args.plan.now c.args.policy ((goal.Chooser-dyn g c.args.chooser.now).allows c.args.chooser.now.1) (g.S.Service.offers c.args.service.now)
     c.take_all.new.steps.items c.close.result (returns-clause-execution g c).course
 
 pub returns-clause-unasked : goal.returns-clause-unasked

@@ -6,10 +6,10 @@ use Rattle.odb_sched.proofs.RunLemmas.{reached_run, reached_at_first}
 use Rattle.odb_sched.proofs.laws.every_run.Goals as goal
 
 pub returns-clause-dependencies_first : goal.returns-clause-dependencies_first
-returns-clause-dependencies_first c = λ policy events run. dependencies_first _ policy events c.every_plan.ensures.names run
+returns-clause-dependencies_first c = λ policy events run. dependencies_first c.args.plan.now policy events c.every_plan.ensures.names run
 
 pub returns-clause-never_stuck : goal.returns-clause-never_stuck
-returns-clause-never_stuck c = λ policy events run. never_stuck _ (reached_run _ policy events c.every_plan.ensures.order run)
+returns-clause-never_stuck c = λ policy events run. never_stuck _ (reached_run c.args.plan.now policy events c.every_plan.ensures.order run)
 
 pub returns-clause-few_events : goal.returns-clause-few_events
-returns-clause-few_events c = λ policy events run. few_events_first _ policy events (reached_at_first _ policy c.every_plan.ensures.order) run
+returns-clause-few_events c = λ policy events run. few_events_first c.args.plan.now policy events (reached_at_first c.args.plan.now policy c.every_plan.ensures.order) run

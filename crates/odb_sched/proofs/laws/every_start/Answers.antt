@@ -7,7 +7,7 @@ use Rattle.odb_sched.proofs.StartLemmas.{may_start-parts}
 use Rattle.odb_sched.proofs.laws.every_start.Goals as goal
 
 pub returns-clause-dependencies_first : goal.returns-clause-dependencies_first
-returns-clause-dependencies_first c = λ state i same may. named-succeeded _ state i c.every_plan.ensures.names same (may_start-parts state i may).satisfied
+returns-clause-dependencies_first c = λ state i same may. named-succeeded c.args.plan.now state i c.every_plan.ensures.names same (may_start-parts state i may).satisfied
 
 pub returns-clause-free : goal.returns-clause-free
 returns-clause-free c = λ state i same each within wide.

@@ -5,7 +5,7 @@ use Rattle.odb_sched.proofs.RunLemmas.{reached_at_first}
 use Rattle.odb_sched.proofs.laws.every_word.Goals as goal
 
 pub returns-clause-phases : goal.returns-clause-phases
-returns-clause-phases c = λ policy events i run. phases_first _ policy events i (reached_at_first _ policy c.every_plan.ensures.order) run
+returns-clause-phases c = λ policy events i run. phases_first c.args.plan.now policy events i (reached_at_first c.args.plan.now policy c.every_plan.ensures.order) run
 
 pub returns-clause-failing : goal.returns-clause-failing
 returns-clause-failing c = λ bad u. ((λ e. Fails-from_fails _ bad u e), (λ failing. fails-from_Fails _ bad u c.every_plan.ensures.order failing))

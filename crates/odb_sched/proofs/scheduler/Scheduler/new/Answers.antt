@@ -18,4 +18,4 @@ invariant_of-result c =
     }
 
 pub returns-clause-size : goal.returns-clause-size
-returns-clause-size c = length-shape _
+returns-clause-size c = length-shape c.args.plan.now

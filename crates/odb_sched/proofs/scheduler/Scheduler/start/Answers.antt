@@ -44,9 +44,9 @@ returns-clause-allowed c = ((λ _. c.start_refusal.ensures.none c.in_default.is)
 
 pub returns-clause-dependencies_first : goal.returns-clause-dependencies_first
 returns-clause-dependencies_first c =
-    let plan : c.self.inside.plan.now ≡ c.args.self.now.plan = ap (λ (s : State). s.plan) c.self.view_is in
+    let requests : plan_records c.self.inside.plan.now ≡ c.args.self.now.requests = ap (λ (s : State). s.requests) c.self.view_is in
     let same : c.args.self.now.shape ≡ shape c.self.inside.plan.now = ap (λ (s : State). s.shape) (sym c.self.view_is) in
-    subst (λ source. HaveSucceeded (plan_records source) c.args.self.now c.args.i) plan
+    subst (λ rs. HaveSucceeded rs c.args.self.now c.args.i) requests
     (c.every_start.ensures.dependencies_first c.args.self.now c.args.i same (c.start_refusal.ensures.none c.in_default.is))
 
 pub returns-in-Some-clause-free : goal.returns-in-Some-clause-free
