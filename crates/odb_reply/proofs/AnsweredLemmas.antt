@@ -1,18 +1,15 @@
 -- What the response to a finished run lists, and that it fits the batch.
-use Rattle.std.proofs.Common.{◌≡◌, ◌∙◌, ◌+◌, ◌<◌, ℕ, zero, suc, true, List, [], ◌∷◌, length, Option, Some, None, option_map, option_and_then, slice_get, codes, refl, ap, sym, subst, arith, ◌≤◌, nat_le, nat_lt, leb-true, ltb-true, Contains, IfSome, IsSome, All}
+use Rattle.std.proofs.Common.{◌≡◌, ◌∙◌, ◌+◌, ◌<◌, ℕ, zero, suc, true, List, [], ◌∷◌, length, Option, Some, None, option_map, option_and_then, slice_get, refl, ap, sym, subst, arith, ◌≤◌, nat_le, nat_lt, leb-true, ltb-true, Contains, IfSome, IsSome, All}
 use Rattle.std.proofs.lemmas.List.Elements.{All-nil, All-cons}
 use Rattle.serde_json.specs.Find.{as_str}
 use Rattle.std.specs.List.{AllZip}
 use Rattle.std.proofs.lemmas.Bool.{true≢false, and_parts}
-use Rattle.serde_json.specs.Data.{Data, string, number, unsigned, object, put, no_members}
+use Rattle.serde_json.specs.Data.{Data, string, unsigned}
 use Rattle.odb_doc.specs.declared.recorded.outcome.Outcome.{Outcome}
-use Rattle.odb_doc.specs.recorded.Outcomes as members
 use Rattle.odb_doc.specs.batch.Records.{Record}
 use Rattle.odb_check.specs.declared.need.Need.{Need}
 use Rattle.odb_check.specs.declared.need.Need.TheVariants.{One, Group}
-use Rattle.odb_check.specs.LeastNameFault.{HasGoodNames}
 use Rattle.odb_check.specs.Needs.{needs_at}
-use Rattle.odb_check.specs.Plans.{plan_records}
 use Rattle.odb_check.specs.Positions.{id_at, group_at}
 use Rattle.odb_check.specs.Shape.{IsShapeOf, needs_of, unit_of}
 use Rattle.odb_check.specs.Units.{unit_at}
@@ -21,47 +18,14 @@ use Rattle.odb_sched.specs.Laws.{IsSound}
 use Rattle.odb_sched.specs.State.{State, size}
 use Rattle.odb_sched.specs.Statuses.{is_success, is_status}
 use Rattle.odb_reply.specs.Fits.{id_in, Responds, Succeeds, IsSatisfied, Fits, ListsFit}
-use Rattle.odb_reply.specs.ResponseDocuments.{Entry, IsResponse, IsResponseDocument, IsStatus, Says, group_in}
-use Rattle.odb_doc.specs.canonical.Canonical.{with_some}
+use Rattle.odb_reply.specs.ResponseDocuments.{Entry, IsResponse, IsResponseDocument, IsStatus, Says}
 use Rattle.odb_reply.specs.Responses.{response, responses_from, response_value}
 use Rattle.odb_reply.proofs.IdLemmas.{id_within}
-use Rattle.odb_reply.proofs.OneLemmas.{IsOnce, once_in_plan, id_of_response, responses_in-value}
+use Rattle.odb_reply.specs.Places.{IsOnce}
+use Rattle.odb_reply.proofs.OneLemmas.{entry_for, says_entry, responses_in-value}
 use Rattle.odb_reply.proofs.SliceLemmas.{map_some}
 
--- ---- what a response has
-
-status_among : (group body headers : Option Data) (id : List ℕ) (status : ℕ)
-    → members.status_of (object (with_some (codes "atomicityGroup") group (with_some (codes "body") body (with_some (codes "headers") headers (put (codes "id") (string id) (put (codes "status") (number (unsigned status)) no_members)))))) ≡ Some (unsigned status)
-status_among None None None id status = refl
-status_among None None (Some headers) id status = refl
-status_among None (Some body) None id status = refl
-status_among None (Some body) (Some headers) id status = refl
-status_among (Some group) None None id status = refl
-status_among (Some group) None (Some headers) id status = refl
-status_among (Some group) (Some body) None id status = refl
-status_among (Some group) (Some body) (Some headers) id status = refl
-
-group_among : (group : Option (List ℕ)) (body headers : Option Data) (id : List ℕ) (status : Data)
-    → group_in (object (with_some (codes "atomicityGroup") (option_map string group) (with_some (codes "body") body (with_some (codes "headers") headers (put (codes "id") (string id) (put (codes "status") status no_members)))))) ≡ option_map string group
-group_among None None None id status = refl
-group_among None None (Some headers) id status = refl
-group_among None (Some body) None id status = refl
-group_among None (Some body) (Some headers) id status = refl
-group_among (Some group) None None id status = refl
-group_among (Some group) None (Some headers) id status = refl
-group_among (Some group) (Some body) None id status = refl
-group_among (Some group) (Some body) (Some headers) id status = refl
-
--- the entry of a request with this answer
-abbrev entry_for : Record → Option Outcome → Entry
-entry_for request answered = record { id = request.id; group = request.group; status = status_of answered }
-
-says_entry : (request : Record) (answered : Option Outcome) → Says (response request answered) (entry_for request answered)
-says_entry request answered = record {
-  id = id_of_response request answered;
-  status = status_among _ _ _ request.id (status_of answered);
-  group = group_among request.group _ _ request.id _;
-}
+-- ---- what the responses say
 
 -- the entries of these requests, of which the first is at a position
 abbrev entries_from : State → ℕ → List Record → List Entry
@@ -92,28 +56,28 @@ answered_success (Some outcome) success = success
 
 -- all entries
 abbrev listed : State → List Entry
-listed state = entries_from state 0 (plan_records state.plan)
+listed state = entries_from state 0 state.requests
 
 -- the entry at a place, by its request
 record IsEntryOf (state : State) (k : ℕ) (e : Entry) : Type 0 where
   request : Record
-  at_place : slice_get (plan_records state.plan) k ≡ Some request
+  at_place : slice_get state.requests k ≡ Some request
   same : entry_for request (answer state k) ≡ e
 
 entry_of_place : (state : State) (k : ℕ) (e : Entry) → slice_get (listed state) k ≡ Some e → IsEntryOf state k e
 entry_of_place state k e is =
-    let found = map_some (λ request. entry_for request (answer state (0 + k))) (slice_get (plan_records state.plan) k) e (sym (entry_at state 0 (plan_records state.plan) k) ∙ is) in
+    let found = map_some (λ request. entry_for request (answer state (0 + k))) (slice_get state.requests k) e (sym (entry_at state 0 state.requests k) ∙ is) in
     let place : 0 + k ≡ k = omega arith in
     record { request = found.0; at_place = found.1; same = ap (λ j. entry_for found.0 (answer state j)) (sym place) ∙ found.2 }
 
 -- a response to a request shows its answer, and its group
 record ShowsAnswer (state : State) (i : ℕ) (e : Entry) : Type 0 where
   status : e.status ≡ status_of (answer state i)
-  group : e.group ≡ group_at (plan_records state.plan) i
+  group : e.group ≡ group_at state.requests i
 
-shows_answer : (state : State) (i : ℕ) (e : Entry) → IsOnce (plan_records state.plan) → Responds (plan_records state.plan) (listed state) i e → ShowsAnswer state i e
+shows_answer : (state : State) (i : ℕ) (e : Entry) → IsOnce state.requests → Responds state.requests (listed state) i e → ShowsAnswer state i e
 shows_answer state i e once responds =
-    let rs = plan_records state.plan in
+    let rs = state.requests in
     let here = entry_of_place state responds.place e responds.given in
     let named : id_at rs responds.place ≡ Some e.id = ap (option_map (λ (r : Record). r.id)) here.at_place ∙ ap (λ (x : Entry). Some x.id) here.same in
     let same : responds.place ≡ i = once responds.place i e.id named responds.id in
@@ -122,61 +86,61 @@ shows_answer state i e once responds =
       group = ap (λ (x : Entry). x.group) (sym here.same) ∙ sym (ap (option_and_then (λ (r : Record). r.group)) here.at_place) ∙ ap (group_at rs) same;
     }
 
-id_of_place : (state : State) (k : ℕ) (id : List ℕ) → id_in (listed state) k ≡ Some id → id_at (plan_records state.plan) k ≡ Some id
+id_of_place : (state : State) (k : ℕ) (id : List ℕ) → id_in (listed state) k ≡ Some id → id_at state.requests k ≡ Some id
 id_of_place state k id is =
     let found = map_some (λ (e : Entry). e.id) (slice_get (listed state) k) id is in
     let here = entry_of_place state k found.0 found.1 in
     ap (option_map (λ (r : Record). r.id)) here.at_place ∙ ap (λ (x : Entry). Some x.id) here.same ∙ ap Some found.2
 
-place_of_id : (state : State) (i : ℕ) (id : List ℕ) → id_at (plan_records state.plan) i ≡ Some id → id_in (listed state) i ≡ Some id
+place_of_id : (state : State) (i : ℕ) (id : List ℕ) → id_at state.requests i ≡ Some id → id_in (listed state) i ≡ Some id
 place_of_id state i id is =
-    let found = map_some (λ (r : Record). r.id) (slice_get (plan_records state.plan) i) id is in
-    let entry = entry_at state 0 (plan_records state.plan) i in
+    let found = map_some (λ (r : Record). r.id) (slice_get state.requests i) id is in
+    let entry = entry_at state 0 state.requests i in
     ap (option_map (λ (e : Entry). e.id)) (entry ∙ ap (option_map (λ (request : Record). entry_for request (answer state (0 + i)))) found.1) ∙ ap Some found.2
 
 -- what is answered with a success succeeds
-succeeds_answered : (state : State) (r : ℕ) → IsOnce (plan_records state.plan) → is_answered_2xx (answer state r) ≡ true → Succeeds (plan_records state.plan) (listed state) r
+succeeds_answered : (state : State) (r : ℕ) → IsOnce state.requests → is_answered_2xx (answer state r) ≡ true → Succeeds state.requests (listed state) r
 succeeds_answered state r once answered e responds =
     let shows = shows_answer state r e once responds in
     ap is_success shows.status ∙ answered_success (answer state r) answered
 
 -- the needs and the units of the run are those of the requests
-needs_there : (state : State) (i : ℕ) (need : Need) → IsShapeOf (plan_records state.plan) state.shape → i < length (plan_records state.plan) → Contains (needs_at (plan_records state.plan) i) need → Contains (needs_of state.shape i) need
+needs_there : (state : State) (i : ℕ) (need : Need) → IsShapeOf state.requests state.shape → i < length state.requests → Contains (needs_at state.requests i) need → Contains (needs_of state.shape i) need
 needs_there state i need same within needed = subst (λ (needs : List Need). Contains needs need) (sym (same.needs i within)) needed
 
-unit_there : (state : State) (i : ℕ) → IsShapeOf (plan_records state.plan) state.shape → i < length (plan_records state.plan) → unit_of state.shape i ≡ unit_at (plan_records state.plan) i
+unit_there : (state : State) (i : ℕ) → IsShapeOf state.requests state.shape → i < length state.requests → unit_of state.shape i ≡ unit_at state.requests i
 unit_there state i same within = same.units i within
 
 -- a response to a member of the unit is to a request of the run
-satisfied_answered : (state : State) (i : ℕ) (need : Need) → IsOnce (plan_records state.plan) → IsSound state → IsShapeOf (plan_records state.plan) state.shape → size state ≡ length (plan_records state.plan)
-    → i < length (plan_records state.plan) → is_answered_2xx (answer state i) ≡ true → Contains (needs_at (plan_records state.plan) i) need → IsSatisfied (plan_records state.plan) (listed state) need
+satisfied_answered : (state : State) (i : ℕ) (need : Need) → IsOnce state.requests → IsSound state → IsShapeOf state.requests state.shape → size state ≡ length state.requests
+    → i < length state.requests → is_answered_2xx (answer state i) ≡ true → Contains (needs_at state.requests i) need → IsSatisfied state.requests (listed state) need
 satisfied_answered state i (One r) once sound same count within answered needed =
     let inside : i < size state = omega (arith, count) in
     succeeds_answered state r once ((sound i inside answered).0 r (needs_there state i (One r) same within needed))
 satisfied_answered state i (Group u) once sound same count within answered needed = λ r unit e responds.
     let inside : i < size state = omega (arith, count) in
-    let member : r < length (plan_records state.plan) = id_within (plan_records state.plan) r e.id responds.id in
+    let member : r < length state.requests = id_within state.requests r e.id responds.id in
     let here : r < size state = omega (arith, count) in
     succeeds_answered state r once ((sound i inside answered).1 u r (needs_there state i (Group u) same within needed) here (unit_there state r same member ∙ unit)) e responds
 
-fits_answered : (state : State) → IsOnce (plan_records state.plan) → IsSound state → IsShapeOf (plan_records state.plan) state.shape → size state ≡ length (plan_records state.plan) → Fits (plan_records state.plan) (listed state)
+fits_answered : (state : State) → IsOnce state.requests → IsSound state → IsShapeOf state.requests state.shape → size state ≡ length state.requests → Fits state.requests (listed state)
 fits_answered state once sound same count = record {
   one = λ i id is. (i, record { has = place_of_id state i id is; only = λ j has. once j i id (id_of_place state j id has) is });
   known = λ k id has. (k, id_of_place state k id has);
   groups = λ i e responds. (shows_answer state i e once responds).group;
   sound = λ i e need responds success needed.
-      let rs = plan_records state.plan in
+      let rs = state.requests in
       let shows = shows_answer state i e once responds in
       let answered = success_of (answer state i) (ap is_success (sym shows.status) ∙ success) in
       satisfied_answered state i need once sound same count (id_within rs i e.id responds.id) answered needed;
 }
 
-pub ListsFit-answered : (state : State) → HasGoodNames (plan_records state.plan) → IsSound state → IsShapeOf (plan_records state.plan) state.shape → size state ≡ length (plan_records state.plan)
-    → ListsFit (plan_records state.plan) (response_value state)
-ListsFit-answered state good sound same count = record {
+pub ListsFit-answered : (state : State) → IsOnce state.requests → IsSound state → IsShapeOf state.requests state.shape → size state ≡ length state.requests
+    → ListsFit state.requests (response_value state)
+ListsFit-answered state once sound same count = record {
   listed = listed state;
-  says = rw (responses_in-value state) (says_entries state 0 (plan_records state.plan));
-  fits = fits_answered state (once_in_plan (plan_records state.plan) good) sound same count;
+  says = rw (responses_in-value state) (says_entries state 0 state.requests);
+  fits = fits_answered state once sound same count;
 }
 
 -- ---- the response is a response document
@@ -214,5 +178,5 @@ in_range n e =
 pub IsResponseDocument-answered : (state : State) → ((i : ℕ) → is_status (status_of (answer state i)) ≡ true) → IsResponseDocument (response_value state)
 IsResponseDocument-answered state statuses = record {
   array = refl;
-  each = rw (responses_in-value state) (all_responses state 0 (plan_records state.plan) (λ k within. in_range (status_of (answer state (0 + k))) (statuses (0 + k))));
+  each = rw (responses_in-value state) (all_responses state 0 state.requests (λ k within. in_range (status_of (answer state (0 + k))) (statuses (0 + k))));
 }

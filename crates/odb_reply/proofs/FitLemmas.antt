@@ -1,23 +1,24 @@
 -- The responses fit if and only if no rule is broken, and a fault of the last phase is the least if none comes before it.
-use Rattle.std.proofs.Common.{◌≡◌, ◌≢◌, ◌∙◌, ◌⊎◌, ◌<◌, ◌≤◌, ℕ, zero, suc, Bool, true, false, List, [], ◌∷◌, length, Option, Some, None, bytes_eq, inl, inr, refl, ap, subst, arith}
-use Rattle.std.proofs.lemmas.Bool.{cases_lt, cases_order, both_ways}
+use Rattle.std.proofs.Common.{◌≡◌, ◌≢◌, ◌⊎◌, ◌<◌, ◌≤◌, ℕ, zero, suc, Bool, true, false, List, [], ◌∷◌, length, Option, Some, None, IsSome, option_map, slice_get, bytes_eq, inl, inr, refl, ap, arith}
+use Rattle.std.proofs.lemmas.Bool.{cases_lt, cases_order, both_ways, false≢true}
 use Rattle.std.proofs.lemmas.Slice.Eq.{bytes_eq-Decides}
+use Rattle.odb_doc.proofs.OneLeast.{by_phase}
 use Rattle.odb_doc.specs.batch.Records.{Record}
 use Rattle.odb_check.specs.declared.need.Need.{Need}
 use Rattle.odb_check.specs.declared.need.Need.TheVariants.{One, Group}
-use Rattle.odb_check.specs.Positions.{id_at, group_at, IsId}
-use Rattle.odb_check.specs.Units.{position_of}
+use Rattle.odb_check.specs.Positions.{id_at, group_at}
 use Rattle.odb_sched.specs.Statuses.{is_success}
-use Rattle.odb_reply.specs.declared.match_fault.MatchRule.{MatchRule}
 use Rattle.odb_reply.specs.declared.match_fault.MatchRule.TheVariants.{UnknownResponse, ResponseTwice, ResponseMissing, GroupDiffers, UnsoundSuccess}
 use Rattle.odb_reply.specs.declared.match_fault.MatchFault.{MatchFault}
 use Rattle.odb_reply.specs.declared.match_fault.MatchFault.TheVariants as faults
 use Rattle.odb_reply.specs.ResponseDocuments.{Entry}
 use Rattle.odb_reply.specs.Fits.{id_in, IsOnlyOne, IsSatisfied, Fits}
 use Rattle.odb_reply.specs.LeastMatchFault.{phase, HasNoMisfit, RefusesMatch}
-use Rattle.odb_reply.specs.MatchFaults.{BreaksAt, HasFailed, IsNumbered}
-use Rattle.odb_reply.specs.Places.{IsFirstOfLast, NoneIn}
-use Rattle.odb_reply.proofs.IdLemmas.{id_within, position_id, position_none}
+use Rattle.odb_reply.specs.MatchFaults.{Breaks, HasFailed, match_row, number}
+use Rattle.odb_reply.specs.Places.{HasAllPlaces, IsFirstOfLast, NoneIn}
+use Rattle.odb_reply.proofs.IdLemmas.{id_within}
+use Rattle.odb_reply.proofs.PlaceLemmas.{some_phase}
+use Rattle.odb_reply.proofs.SliceLemmas.{some_and}
 
 same_texts : (a b : List ℕ) → (a ≡ b) ⊎ (a ≢ b)
 same_texts a b = at_answer (bytes_eq a b) refl
@@ -36,20 +37,20 @@ same_groups (Some a) (Some b) = elim (same_texts a b) [
   | inr apart ↦ inr (λ same. apart (cc (same)))
 ]
 
--- some response has the id, or none has
-find_id : (es : List Entry) (id : List ℕ) → ((k : ℕ) × (id_in es k ≡ Some id)) ⊎ ((k : ℕ) → ¬ (id_in es k ≡ Some id))
-find_id [] id = inr (λ k is. absurd (cc (is)))
-find_id (e ∷ es) id = elim (same_texts e.id id) [
+-- some element has the id, or none has
+find_id : {X : Type 0} (name : X → List ℕ) (xs : List X) (id : List ℕ) → ((k : ℕ) × (option_map name (slice_get xs k) ≡ Some id)) ⊎ ((k : ℕ) → ¬ (option_map name (slice_get xs k) ≡ Some id))
+find_id name [] id = inr (λ k is. absurd (cc (is)))
+find_id {X = X} name (x ∷ xs) id = elim (same_texts (name x) id) [
   | inl same ↦ inl (0, ap Some same)
-  | inr apart ↦ elim (find_id es id) [
+  | inr apart ↦ elim (find_id name xs id) [
     | inl later ↦ inl (suc later.0, later.1)
-    | inr none ↦ inr (not_here e es id apart none)
+    | inr none ↦ inr (not_here apart none)
   ]
 ]
   where
-    not_here : (e : Entry) (es : List Entry) (id : List ℕ) → e.id ≢ id → ((k : ℕ) → ¬ (id_in es k ≡ Some id)) → (k : ℕ) → ¬ (id_in (e ∷ es) k ≡ Some id)
-    not_here e es id apart none zero is = apart (cc (is))
-    not_here e es id apart none (suc k) is = none k is
+    not_here : name x ≢ id → ((k : ℕ) → ¬ (option_map name (slice_get xs k) ≡ Some id)) → (k : ℕ) → ¬ (option_map name (slice_get (x ∷ xs) k) ≡ Some id)
+    not_here apart none zero is = apart (cc (is))
+    not_here apart none (suc k) is = none k is
 
 -- ---- if no rule is broken, the responses fit
 
@@ -74,20 +75,16 @@ satisfied_or_failed : (rs : List Record) (es : List Entry) (need : Need) → ¬ 
 satisfied_or_failed rs es (One r) never = λ e responds. succeeds_or_fails rs es r e (λ failed. never (e, responds, failed))
 satisfied_or_failed rs es (Group u) never = λ r unit e responds. succeeds_or_fails rs es r e (λ failed. never (r, unit, (e, responds, failed)))
 
-known_id : (rs : List Record) (es : List Entry) (k : ℕ) (id : List ℕ) → HasNoMisfit rs es → id_in es k ≡ Some id → IsId rs id
-known_id rs es k id none has = at_position (position_of rs id) refl
-  where
-    at_position : (o : Option ℕ) → position_of rs id ≡ o → IsId rs id
-    at_position None unknown = absurd (none UnknownResponse k (rw has (position_none rs id unknown)))
-    at_position (Some i) is = (i, (position_id rs id i is).1)
-
 pub Fits-from : (rs : List Record) (es : List Entry) → HasNoMisfit rs es → Fits rs es
 Fits-from rs es none = record {
-  one = λ i id is. elim (find_id es id) [
+  one = λ i id is. elim (find_id (λ (e : Entry). e.id) es id) [
     | inl found ↦ (found.0, only_one rs es id found.0 none found.1)
     | inr missing ↦ absurd (none ResponseMissing i (rw is missing))
   ];
-  known = λ k id has. known_id rs es k id none has;
+  known = λ k id has. elim (find_id (λ (r : Record). r.id) rs id) [
+    | inl known ↦ known
+    | inr unknown ↦ absurd (none UnknownResponse k (rw has (λ known. unknown known.0 known.1)))
+  ];
   groups = λ i e responds. elim (same_groups e.group (group_at rs i)) [
     | inl same ↦ same
     | inr differs ↦ absurd (none GroupDiffers i (record { response = e; responds = responds; differs = differs }))
@@ -102,82 +99,40 @@ satisfied_not_failed : (rs : List Record) (es : List Entry) (need : Need) → Is
 satisfied_not_failed rs es (One r) satisfied failing = failing.2 (satisfied failing.0 failing.1)
 satisfied_not_failed rs es (Group u) satisfied failing = let failed = failing.2 in failed.2 (satisfied failing.0 failing.1 failed.0 failed.1)
 
-none_of : (rs : List Record) (es : List Entry) → Fits rs es → (rule : MatchRule) (i : ℕ) (id : Option (List ℕ)) → (rule ≡ ResponseMissing → id_at rs i ≡ id) → (phase rule ≡ 1 → id_in es i ≡ id) → ¬ BreaksAt rule rs es i
-none_of rs es fits UnknownResponse k None request response broken = rw (response refl) at broken
-none_of rs es fits UnknownResponse k (Some id) request response broken = (rw (response refl) at broken) (fits.known k id (response refl))
-none_of rs es fits ResponseTwice k None request response broken = rw (response refl) at broken
-none_of rs es fits ResponseTwice k (Some id) request response broken =
-    let twice : (j : ℕ) × (j < k) × (id_in es j ≡ Some id) = rw (response refl) at broken in
-    let known = fits.known k id (response refl) in
+pub HasNoMisfit-Fits : (rs : List Record) (es : List Entry) → Fits rs es → HasNoMisfit rs es
+HasNoMisfit-Fits rs es fits UnknownResponse k broken = let (id, has, unknown) = some_and (id_in es k) _ broken in unknown (fits.known k id has)
+HasNoMisfit-Fits rs es fits ResponseTwice k broken =
+    let (id, has, twice) = some_and (id_in es k) _ broken in
+    let known = fits.known k id has in
     let one = fits.one known.0 id known.1 in
     let first : twice.0 ≡ one.0 = one.1.only twice.0 twice.2 in
-    let second : k ≡ one.0 = one.1.only k (response refl) in
-    absurd (omega (arith, twice.1, first, second))
-none_of rs es fits ResponseMissing i None request response broken = rw (request refl) at broken
-none_of rs es fits ResponseMissing i (Some id) request response broken =
-    let one = fits.one i id (request refl) in
-    (rw (request refl) at broken) one.0 one.1.has
-none_of rs es fits GroupDiffers i id request response broken = broken.differs (fits.groups i broken.response broken.responds)
-none_of rs es fits UnsoundSuccess i id request response broken =
+    let second : k ≡ one.0 = one.1.only k has in
+    omega (arith, twice.1, first, second)
+HasNoMisfit-Fits rs es fits ResponseMissing i broken = let (id, at, missing) = some_and (id_at rs i) _ broken in let one = fits.one i id at in missing one.0 one.1.has
+HasNoMisfit-Fits rs es fits GroupDiffers i broken = broken.differs (fits.groups i broken.response broken.responds)
+HasNoMisfit-Fits rs es fits UnsoundSuccess i broken =
     satisfied_not_failed rs es broken.need (fits.sound i broken.response broken.need broken.responds broken.success broken.needed) broken.fails
+
+-- if a fault is reported, the responses do not fit
+pub no_fit : (rs : List Record) (es : List Entry) (fault : MatchFault) → IsSome (match_row fault) → RefusesMatch fault rs es → ¬ Fits rs es
+no_fit rs es (faults.Misfit at_place rule) numbered refused fits = HasNoMisfit-Fits rs es fits rule at_place refused.first.here.broken.1
+no_fit rs es faults.OutOfMemory numbered refused fits = false≢true numbered
 
 -- ---- the last phase
 
 last_past : (rs : List Record) (es : List Entry) (i : ℕ) → length rs ≤ i → NoneIn 3 rs es i
-last_past rs es i past UnknownResponse of_phase broken = absurd (omega arith)
-last_past rs es i past ResponseTwice of_phase broken = absurd (omega arith)
-last_past rs es i past ResponseMissing of_phase broken = absurd (omega arith)
-last_past rs es i past GroupDiffers of_phase broken = absurd (omega (arith, id_within rs i broken.response.id broken.responds.id))
-last_past rs es i past UnsoundSuccess of_phase broken = absurd (omega (arith, id_within rs i broken.response.id broken.responds.id))
+last_past rs es i past GroupDiffers (of_phase, broken) = omega (arith, past, id_within rs i broken.response.id broken.responds.id)
+last_past rs es i past UnsoundSuccess (of_phase, broken) = omega (arith, past, id_within rs i broken.response.id broken.responds.id)
+last_past rs es i past rule (of_phase, broken) = omega (arith, of_phase)
 
-phase_three : (rule : MatchRule) → (phase rule < 3) ⊎ (phase rule ≡ 3)
-phase_three UnknownResponse = inl (omega arith)
-phase_three ResponseTwice = inl (omega arith)
-phase_three ResponseMissing = inl (omega arith)
-phase_three GroupDiffers = inr refl
-phase_three UnsoundSuccess = inr refl
-
-abbrev pub HasNoneBefore : List Record → List Entry → Type 0
-HasNoneBefore rs es = (rule : MatchRule) (i : ℕ) → phase rule < 3 → ¬ BreaksAt rule rs es i
-
-pub HasNoMisfit-from : (rs : List Record) (es : List Entry) → HasNoneBefore rs es → ((i : ℕ) → i < length rs → NoneIn 3 rs es i) → HasNoMisfit rs es
-HasNoMisfit-from rs es before last rule i = elim (phase_three rule) [
-  | inl early ↦ before rule i early
-  | inr late ↦ elim (cases_lt i (length rs)) [
-    | inl within ↦ last i within rule late
-    | inr past ↦ last_past rs es i past rule late
-  ]
+pub HasNoMisfit-from : (rs : List Record) (es : List Entry) → HasAllPlaces rs es → ((i : ℕ) → i < length rs → NoneIn 3 rs es i) → HasNoMisfit rs es
+HasNoMisfit-from rs es before last rule i broken = elim (cases_lt (phase rule) 3) [
+  | inl early ↦ before (phase rule) early rule i (refl, broken)
+  | inr late ↦
+      let third : phase rule ≡ 3 = grind (arith, some_phase rule, late) in
+      elim (cases_lt i (length rs)) [ inl within ↦ last i within rule (third, broken) | inr past ↦ last_past rs es i past rule (third, broken) ]
 ]
 
-pub RefusesMatch-last : (rs : List Record) (es : List Entry) (fault : MatchFault) → HasNoneBefore rs es → IsFirstOfLast rs es fault → RefusesMatch fault rs es
-RefusesMatch-last rs es (faults.Misfit at_place rule) before first = record {
-  broken = first.0.broken;
-  least = λ other j comes. elim comes [
-    | inl less ↦ before other j (omega (arith, less, first.0.of_phase))
-    | inr same ↦
-        let late : phase other ≡ 3 = same.0 ∙ first.0.of_phase in
-        elim same.1 [
-          | inl earlier ↦ first.1 j earlier other late
-          | inr here ↦ λ broken. first.0.first other late here.1 (subst (λ (m : ℕ). BreaksAt other rs es m) here.0 broken)
-        ]
-  ];
-}
+pub RefusesMatch-last : (rs : List Record) (es : List Entry) (fault : MatchFault) → HasAllPlaces rs es → IsFirstOfLast rs es fault → RefusesMatch fault rs es
+RefusesMatch-last rs es (faults.Misfit at_place rule) before first = by_phase phase number (Breaks rs es) 3 at_place rule before first
 RefusesMatch-last rs es faults.OutOfMemory before first = tt
-
-first_rule : (rule : MatchRule) → (phase rule ≡ 1) ⊎ (1 < phase rule)
-first_rule UnknownResponse = inl refl
-first_rule ResponseTwice = inl refl
-first_rule ResponseMissing = inr (omega arith)
-first_rule GroupDiffers = inr (omega arith)
-first_rule UnsoundSuccess = inr (omega arith)
-
-pub HasNoMisfit-Fits : (rs : List Record) (es : List Entry) → Fits rs es → HasNoMisfit rs es
-HasNoMisfit-Fits rs es fits rule i = elim (first_rule rule) [
-  | inl response ↦ none_of rs es fits rule i (id_in es i) (λ is. absurd (omega (arith, ap phase is, response))) (λ _. refl)
-  | inr request ↦ none_of rs es fits rule i (id_at rs i) (λ _. refl) (λ is. absurd (omega (arith, is, request)))
-]
-
--- if a fault is reported, the responses do not fit
-pub no_fit : (rs : List Record) (es : List Entry) (fault : MatchFault) → IsNumbered fault → RefusesMatch fault rs es → ¬ Fits rs es
-no_fit rs es (faults.Misfit at_place rule) numbered refused fits = HasNoMisfit-Fits rs es fits rule at_place refused.broken
-no_fit rs es faults.OutOfMemory numbered refused fits = numbered refl

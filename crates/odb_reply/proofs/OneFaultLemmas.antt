@@ -1,9 +1,10 @@
 -- A response document has one first fault and one list of responses at most, and a match one first fault or one table.
-use Rattle.std.proofs.Common.{arith, length, ◌<◌, ◌≡◌, ◌∙◌, ◌⊎◌, ℕ, List, [], ◌∷◌, Option, Some, None, option_map, slice_get, IsSomeAnd, inl, inr, refl, ap, sym, subst, All, suc, get_or, rules}
+use Rattle.std.proofs.Common.{arith, length, ◌<◌, ◌≡◌, ◌∙◌, ℕ, List, [], ◌∷◌, Option, Some, None, IsSome, option_map, slice_get, IsSomeAnd, inl, inr, refl, ap, sym, subst, All, suc, get_or, rules}
 use Rattle.std.specs.List.{AllZip}
-use Rattle.std.proofs.lemmas.Bool.{cases_order}
+use Rattle.std.proofs.lemmas.Bool.{cases_order, false≢true}
 use Rattle.std.proofs.lemmas.Option.{get_or_from_slice_get, slice_get_within, slice_get-get_or, same_Some}
 use Rattle.serde_json.specs.Data.{Data, string}
+use Rattle.odb_doc.proofs.OneLeast as one
 use Rattle.odb_doc.specs.batch.Records.{Record}
 use Rattle.odb_reply.specs.declared.match_fault.MatchFault.{MatchFault}
 use Rattle.odb_reply.specs.declared.match_fault.MatchFault.TheVariants as misfits
@@ -11,11 +12,11 @@ use Rattle.odb_reply.specs.declared.match_fault.MatchRule.{MatchRule}
 use Rattle.odb_reply.specs.declared.response_fault.ResponseFault.{ResponseFault}
 use Rattle.odb_reply.specs.declared.response_fault.ResponseFault.TheVariants as faults
 use Rattle.odb_reply.specs.Fits.{Fits, IsRow, IsTableOf}
-use Rattle.odb_reply.specs.LeastMatchFault.{ComesBefore, IsLeastAt, RefusesMatch, phase}
+use Rattle.odb_reply.specs.LeastMatchFault.{RefusesMatch, phase}
 use Rattle.odb_reply.specs.MatchFaults as matches
-use Rattle.odb_reply.specs.MatchFaults.{number}
+use Rattle.odb_reply.specs.MatchFaults.{Breaks, number}
 use Rattle.odb_reply.specs.ResponseDocuments.{Entry, Says, IsResponse, IsResponseDocument, IsFirstBad, RefusesResponses, responses_in}
-use Rattle.odb_reply.specs.ResponseFaults as documents
+use Rattle.odb_reply.specs.ResponseDocuments as documents
 
 -- ---- the fault of a document
 
@@ -30,14 +31,14 @@ one_bad ds at_place other one two = elim (cases_order at_place other) [
   | inr (inr after) ↦ absurd (bad_or_good (slice_get ds other) two.bad (one.before other after))
 ]
 
-pub one_document_fault : (d : Data) (fault other : ResponseFault) → documents.IsNumbered fault → documents.IsNumbered other → RefusesResponses fault d → RefusesResponses other d → fault ≡ other
+pub one_document_fault : (d : Data) (fault other : ResponseFault) → IsSome (documents.responses_row fault) → IsSome (documents.responses_row other) → RefusesResponses fault d → RefusesResponses other d → fault ≡ other
 one_document_fault d faults.Document faults.Document numbered also one two = refl
 one_document_fault d faults.Document (faults.Response at_place) numbered also one two = absurd (one two.0)
 one_document_fault d (faults.Response at_place) faults.Document numbered also one two = absurd (two one.0)
 one_document_fault d (faults.Response at_place) (faults.Response other) numbered also one two = ap faults.Response (one_bad (responses_in d) at_place other one.1 two.1)
-one_document_fault d faults.OutOfMemory other numbered also one two = absurd (numbered refl)
-one_document_fault d faults.Document faults.OutOfMemory numbered also one two = absurd (also refl)
-one_document_fault d (faults.Response at_place) faults.OutOfMemory numbered also one two = absurd (also refl)
+one_document_fault d faults.OutOfMemory other numbered also one two = absurd (false≢true numbered)
+one_document_fault d faults.Document faults.OutOfMemory numbered also one two = absurd (false≢true also)
+one_document_fault d (faults.Response at_place) faults.OutOfMemory numbered also one two = absurd (false≢true also)
 
 good_at : (ds : List Data) (i : ℕ) → All IsResponse ds → ¬ IsSomeAnd (slice_get ds i) (λ d. ¬ IsResponse d)
 good_at ds i all = at_element (slice_get ds i) refl
@@ -46,10 +47,10 @@ good_at ds i all = at_element (slice_get ds i) refl
     at_element None none bad = rw none at bad
     at_element (Some d) is bad = (rw is at bad) (subst IsResponse (get_or_from_slice_get ds i d d is) (all i d (slice_get_within ds i d is)))
 
-pub no_document_fault : (d : Data) (fault : ResponseFault) → documents.IsNumbered fault → RefusesResponses fault d → ¬ IsResponseDocument d
+pub no_document_fault : (d : Data) (fault : ResponseFault) → IsSome (documents.responses_row fault) → RefusesResponses fault d → ¬ IsResponseDocument d
 no_document_fault d faults.Document numbered refused good = refused good.array
 no_document_fault d (faults.Response at_place) numbered refused good = good_at (responses_in d) at_place good.each refused.1.bad
-no_document_fault d faults.OutOfMemory numbered refused good = numbered refl
+no_document_fault d faults.OutOfMemory numbered refused good = false≢true numbered
 
 -- ---- what a document has
 
@@ -70,45 +71,19 @@ one_entry d entry other one two =
     ap (λ x. made x entry.group entry.status) id ∙ ap (λ x. made other.id x entry.status) group ∙ ap (λ x. made other.id other.group x) status
 
 pub one_list : (ds : List Data) (entries others : List Entry) → AllZip Says ds entries → AllZip Says ds others → entries ≡ others
-one_list [] [] [] one two = refl
-one_list [] (e ∷ es) others one two = absurd one
-one_list [] [] (f ∷ fs) one two = absurd two
-one_list (d ∷ ds) [] others one two = absurd one
-one_list (d ∷ ds) (e ∷ es) [] one two = absurd two
-one_list (d ∷ ds) (e ∷ es) (f ∷ fs) one two = ap (λ x. x ∷ es) (one_entry d e f one.0 two.0) ∙ ap (λ xs. f ∷ xs) (one_list ds es fs one.1 two.1)
+one_list = one.one_list Says one_entry
 
 -- ---- the fault of a match
 
 same_rule : (rule other : MatchRule) → number rule ≡ number other → rule ≡ other
 same_rule rule other same = search rules
 
--- of two misfits one comes before the other, or they are one
-order : (rule other : MatchRule) (i j : ℕ) → ((rule ≡ other) × (i ≡ j)) ⊎ (ComesBefore rule i other j ⊎ ComesBefore other j rule i)
-order rule other i j = elim (cases_order (phase rule) (phase other)) [
-  | inr (inl before) ↦ inr (inl (inl before))
-  | inr (inr after) ↦ inr (inr (inl after))
-  | inl level ↦ elim (cases_order i j) [
-    | inr (inl before) ↦ inr (inl (inr (level, inl before)))
-    | inr (inr after) ↦ inr (inr (inr (sym level, inl after)))
-    | inl here ↦ elim (cases_order (number rule) (number other)) [
-      | inl same ↦ inl (same_rule rule other same, here)
-      | inr (inl before) ↦ inr (inl (inr (level, inr (here, before))))
-      | inr (inr after) ↦ inr (inr (inr (sym level, inr (sym here, after))))
-    ]
-  ]
-]
-
-one_least : (rs : List Record) (es : List Entry) (rule other : MatchRule) (i j : ℕ) → IsLeastAt rs es rule i → IsLeastAt rs es other j → misfits.Misfit i rule ≡ misfits.Misfit j other
-one_least rs es rule other i j one two = elim (order rule other i j) [
-  | inl same ↦ ap (λ r. misfits.Misfit i r) same.0 ∙ ap (λ k. misfits.Misfit k other) same.1
-  | inr (inl before) ↦ absurd (two.least rule i before one.broken)
-  | inr (inr after) ↦ absurd (one.least other j after two.broken)
-]
-
-pub one_match_fault : (rs : List Record) (es : List Entry) (fault other : MatchFault) → matches.IsNumbered fault → matches.IsNumbered other → RefusesMatch fault rs es → RefusesMatch other rs es → fault ≡ other
-one_match_fault rs es (misfits.Misfit i rule) (misfits.Misfit j other) numbered also one two = one_least rs es rule other i j one two
-one_match_fault rs es (misfits.Misfit i rule) misfits.OutOfMemory numbered also one two = absurd (also refl)
-one_match_fault rs es misfits.OutOfMemory other numbered also one two = absurd (numbered refl)
+pub one_match_fault : (rs : List Record) (es : List Entry) (fault other : MatchFault) → IsSome (matches.match_row fault) → IsSome (matches.match_row other) → RefusesMatch fault rs es → RefusesMatch other rs es → fault ≡ other
+one_match_fault rs es (misfits.Misfit i rule) (misfits.Misfit j other) numbered also first second =
+    let same : (i ≡ j) × (rule ≡ other) = one.one_by_phase phase number (Breaks rs es) same_rule i j rule other first second in
+    ap (λ r. misfits.Misfit i r) same.1 ∙ ap (λ k. misfits.Misfit k other) same.0
+one_match_fault rs es (misfits.Misfit i rule) misfits.OutOfMemory numbered also first second = absurd (false≢true also)
+one_match_fault rs es misfits.OutOfMemory other numbered also first second = absurd (false≢true numbered)
 
 -- ---- the table of a match
 

@@ -1,39 +1,44 @@
 -- Each id of a batch is that of exactly one response.
-use Rattle.std.proofs.Common.{◌≡◌, ◌∙◌, ◌≢◌, ℕ, zero, suc, ◌+◌, ◌<◌, List, [], ◌∷◌, length, Option, Some, None, option_map, Bool, true, false, cond, codes, refl, sym, ap, subst, arith, count_by, get_or, unwrap_or, bytes_eq, inl, inr}
-use Rattle.std.proofs.lemmas.Bool.{cases_order}
+use Rattle.std.proofs.Common.{◌≡◌, ◌∙◌, ◌≢◌, ℕ, zero, suc, ◌+◌, ◌<◌, List, [], ◌∷◌, length, Option, Some, None, option_map, Bool, true, false, cond, codes, refl, sym, ap, arith, count_by, get_or, unwrap_or, bytes_eq}
 use Rattle.std.specs.Option.{IsSomeAnd}
 use Rattle.std.proofs.lemmas.List.Sums.{sum_by-cons}
 use Rattle.std.proofs.lemmas.Slice.Eq.{bytes_eq-Decides}
-use Rattle.serde_json.specs.Data.{Data, string, object, put, no_members}
+use Rattle.serde_json.specs.Data.{Data, string, number, unsigned, object, put, no_members}
 use Rattle.odb_doc.specs.Members.{text_at}
 use Rattle.odb_doc.specs.batch.Records.{Record}
 use Rattle.odb_doc.specs.declared.recorded.outcome.Outcome.{Outcome}
-use Rattle.odb_check.specs.LeastNameFault.{HasGoodNames}
-use Rattle.odb_check.specs.Positions.{id_at, IsId, IsIdBefore}
-use Rattle.odb_check.specs.declared.fault.NameRule.TheVariants.{IdTwice}
-use Rattle.odb_check.specs.Plans.{plan_records}
-use Rattle.odb_sched.specs.Answers.{answer}
+use Rattle.odb_check.specs.Positions.{id_at, IsId}
+use Rattle.odb_sched.specs.Answers.{answer, status_of}
 use Rattle.odb_sched.specs.State.{State}
-use Rattle.odb_doc.specs.canonical.Canonical.{with_some}
-use Rattle.odb_reply.specs.Responses.{response, responses_from, responses, response_value}
+use Rattle.odb_doc.specs.canonical.Canonical.{headers_value, with_some}
+use Rattle.odb_reply.specs.Responses.{answer_body, answer_headers, response, responses_from, responses, response_value}
+use Rattle.odb_reply.specs.Places.{IsOnce}
 use Rattle.odb_reply.specs.OnePerId.{has_id, HasOnePerId}
-use Rattle.odb_reply.specs.ResponseDocuments.{responses_in}
+use Rattle.odb_reply.specs.ResponseDocuments.{Entry, Says, responses_in}
 use Rattle.odb_reply.proofs.DocumentLemmas.{list_of-items_of}
 
--- the member `id`, whatever other members there are
-id_among : (group body headers : Option Data) (id : List ℕ) (status : Data)
-    → text_at (codes "id") (object (with_some (codes "atomicityGroup") group (with_some (codes "body") body (with_some (codes "headers") headers (put (codes "id") (string id) (put (codes "status") status no_members)))))) ≡ Some id
-id_among None None None id status = refl
-id_among None None (Some headers) id status = refl
-id_among None (Some body) None id status = refl
-id_among None (Some body) (Some headers) id status = refl
-id_among (Some group) None None id status = refl
-id_among (Some group) None (Some headers) id status = refl
-id_among (Some group) (Some body) None id status = refl
-id_among (Some group) (Some body) (Some headers) id status = refl
+-- what a response says, whatever other members there are
+says_members : (group : Option (List ℕ)) (body headers : Option Data) (id : List ℕ) (status : ℕ)
+    → Says (object (with_some (codes "atomicityGroup") (option_map string group) (with_some (codes "body") body (with_some (codes "headers") headers (put (codes "id") (string id) (put (codes "status") (number (unsigned status)) no_members))))))
+    (record { id = id; group = group; status = status })
+says_members None None None id status = record { id = refl; status = refl; group = refl }
+says_members None None (Some headers) id status = record { id = refl; status = refl; group = refl }
+says_members None (Some body) None id status = record { id = refl; status = refl; group = refl }
+says_members None (Some body) (Some headers) id status = record { id = refl; status = refl; group = refl }
+says_members (Some group) None None id status = record { id = refl; status = refl; group = refl }
+says_members (Some group) None (Some headers) id status = record { id = refl; status = refl; group = refl }
+says_members (Some group) (Some body) None id status = record { id = refl; status = refl; group = refl }
+says_members (Some group) (Some body) (Some headers) id status = record { id = refl; status = refl; group = refl }
 
-pub id_of_response : (request : Record) (answer : Option Outcome) → text_at (codes "id") (response request answer) ≡ Some request.id
-id_of_response request answer = id_among _ _ _ request.id _
+-- the entry of a request with this answer
+abbrev pub entry_for : Record → Option Outcome → Entry
+entry_for request answered = record { id = request.id; group = request.group; status = status_of answered }
+
+pub says_entry : (request : Record) (answered : Option Outcome) → Says (response request answered) (entry_for request answered)
+says_entry request answered = says_members request.group (answer_body answered) (headers_value (answer_headers answered)) request.id (status_of answered)
+
+id_of_response : (request : Record) (answer : Option Outcome) → text_at (codes "id") (response request answer) ≡ Some request.id
+id_of_response request answer = (says_entry request answer).id
 
 pub responses_in-value : (state : State) → responses_in (response_value state) ≡ responses state
 responses_in-value state = list_of-items_of (responses state)
@@ -48,10 +53,6 @@ count_by-responses id state i (request ∷ requests) =
     let named : List ℕ → ℕ = λ other. cond (bytes_eq id other) 1 0 in
     sum_by-cons (λ d. cond (has_id id d) 1 0) (response request (answer state i)) (responses_from state (i + 1) requests)
     ∙ rw (has_id-response id request (answer state i), count_by-responses id state (i + 1) requests) (sym (sum_by-cons (λ (r : Record). named r.id) request requests))
-
--- no two positions have the same id
-abbrev pub IsOnce : List Record → Type 0
-IsOnce requests = (i j : ℕ) (id : List ℕ) → id_at requests i ≡ Some id → id_at requests j ≡ Some id → i ≡ j
 
 unlike : (id other : List ℕ) (same : Bool) → bytes_eq id other ≡ same → id ≢ other → same ≡ false
 unlike id other true is apart = absurd (apart ((bytes_eq-Decides id other).0 is))
@@ -75,16 +76,6 @@ count_one (request ∷ requests) (suc i) id once is =
     let later : IsOnce requests = λ j k name first second. omega (arith, once (suc j) (suc k) name first second) in
     sum_by-cons (λ (r : Record). cond (bytes_eq id r.id) 1 0) request requests ∙ rw (other, count_one requests i id later is) refl
 
--- the names of a plan are good, so no two positions have the same id
-pub once_in_plan : (requests : List Record) → HasGoodNames requests → IsOnce requests
-once_in_plan requests good i j id here there =
-    let twice : (k l : ℕ) → k < l → id_at requests k ≡ Some id → id_at requests l ≡ Some id → ⊥ =
-    λ k l less first second. good IdTwice l (subst (λ found. IsSomeAnd found (λ name. IsIdBefore requests name l)) (sym second) (k, less, first)) in
-    elim (cases_order i j) [
-      | inl same ↦ same
-      | inr less ↦ elim less [ inl i_less ↦ absurd (twice i j i_less here there) | inr j_less ↦ absurd (twice j i j_less there here) ]
-    ]
-
 some_further : (found : Option (List ℕ)) (request : Record) (requests : List Record) → IsSomeAnd found (IsId requests) → IsSomeAnd found (IsId (request ∷ requests))
 some_further None request requests known = known
 some_further (Some id) request requests known = (suc known.0, known.1)
@@ -97,10 +88,10 @@ known_from state i (request ∷ requests) zero d within is =
     rw named (0, refl)
 known_from state i (request ∷ requests) (suc k) d within is = some_further (text_at (codes "id") d) request requests (known_from state (i + 1) requests k d (omega arith) is)
 
-pub one_per_id : (state : State) → HasGoodNames (plan_records state.plan) → HasOnePerId (plan_records state.plan) (response_value state)
-one_per_id state good =
-    let requests = plan_records state.plan in
+pub one_per_id : (state : State) → IsOnce state.requests → HasOnePerId state.requests (response_value state)
+one_per_id state once =
+    let requests = state.requests in
     record {
-      one = λ i id is. rw (responses_in-value state, count_by-responses id state 0 requests) (count_one requests i id (once_in_plan requests good) is);
+      one = λ i id is. rw (responses_in-value state, count_by-responses id state 0 requests) (count_one requests i id once is);
       known = λ d among. let found = rw responses_in-value at among in known_from state 0 requests found.0 d found.1 found.2;
     }

@@ -9,7 +9,6 @@ use Rattle.odb_doc.specs.canonical.Canonical.{headers_value}
 use Rattle.odb_doc.specs.batch.Records.{Record}
 use Rattle.odb_doc.specs.WholeNumbers.{IsWhole}
 use Rattle.odb_doc.proofs.SafeLemmas.{IsSafe, AreSafe, AreItemsSafe, safe-put, safe-string, safe-none, safe-with_some, safe-group, safe-headers, safe-body}
-use Rattle.odb_check.specs.Plans.{plan_records}
 use Rattle.odb_sched.specs.Answers.{answer, status_of}
 use Rattle.odb_sched.specs.State.{State, size}
 use Rattle.odb_sched.specs.Statuses.{is_status}
@@ -63,11 +62,11 @@ by_answer state i None is each = tt
 by_answer state i (Some outcome) is each = each outcome refl
 
 -- the response is a value that is written without loss
-pub safe-value : (state : State) → size state ≡ length (plan_records state.plan) → ((i : ℕ) → is_status (status_of (answer state i)) ≡ true) → AnswersBy IsReadable state → IsSafe 127 (response_value state)
+pub safe-value : (state : State) → size state ≡ length state.requests → ((i : ℕ) → is_status (status_of (answer state i)) ≡ true) → AnswersBy IsReadable state → IsSafe 127 (response_value state)
 safe-value state count statuses readable =
-    let items = safe-responses state 0 (plan_records state.plan) (λ k within.
+    let items = safe-responses state 0 state.requests (λ k within.
     (by_answer state (0 + k) (answer state (0 + k)) refl (λ outcome is. readable (0 + k) outcome (omega (arith, within, count)) is), statuses (0 + k))) in
-    let all : IsSafe 126 (array (items_of (responses_from state 0 (plan_records state.plan)))) = record { held = items.held; whole = items.whole; shallow = omega (arith, items.shallow) } in
+    let all : IsSafe 126 (array (items_of (responses_from state 0 state.requests))) = record { held = items.held; whole = items.whole; shallow = omega (arith, items.shallow) } in
     let whole = safe-put 126 (codes "responses") _ no_members all (safe-none 126) in
     record { held = (whole.ordered, whole.held); whole = whole.whole; shallow = omega (arith, whole.shallow) }
 

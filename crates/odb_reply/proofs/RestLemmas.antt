@@ -8,7 +8,6 @@ use Rattle.serde_json.proofs.OnLiterals.{serde_json_on_literals}
 use Rattle.odb_doc.specs.batch.Records.{Record}
 use Rattle.odb_doc.specs.Texts.{member_part}
 use Rattle.serde_json.specs.Data.{string}
-use Rattle.odb_check.specs.Plans.{plan_records}
 use Rattle.odb_sched.specs.Answers.{answer, status_of}
 use Rattle.odb_sched.specs.State.{State}
 use Rattle.odb_doc.specs.canonical.Canonical.{headers_value}
@@ -26,12 +25,12 @@ pub response_text-begun : (state : State) (buffer : List ℕ) → buffer ≡ cod
 response_text-begun state buffer is = ap (λ text. text ++ rest_text state 0) is ∙ sym (response_text-prefix state)
 
 -- after the last response comes the end
-pub rest_text-none : (state : State) (i : ℕ) → length (plan_records state.plan) ≤ i → rest_text state i ≡ codes "]}"
+pub rest_text-none : (state : State) (i : ℕ) → length state.requests ≤ i → rest_text state i ≡ codes "]}"
 unfolding rest_text
-rest_text-none state i end = rw (drop_all i (plan_records state.plan) end) refl
+rest_text-none state i end = rw (drop_all i state.requests end) refl
 
 -- with the end, the buffer is the whole rest
-pub rest_text-last : (state : State) (i : ℕ) (buffer ended : List ℕ) → length (plan_records state.plan) ≤ i → ended ≡ buffer ++ codes "]}" → buffer ++ rest_text state i ≡ ended
+pub rest_text-last : (state : State) (i : ℕ) (buffer ended : List ℕ) → length state.requests ≤ i → ended ≡ buffer ++ codes "]}" → buffer ++ rest_text state i ≡ ended
 rest_text-last state i buffer ended end is = ap (λ text. buffer ++ text) (rest_text-none state i end) ∙ sym is
 
 drop_at : (requests : List Record) (i : ℕ) (request : Record) → slice_get requests i ≡ Some request → drop i requests ≡ request ∷ drop (i + 1) requests
@@ -39,15 +38,15 @@ drop_at requests i request is =
     drop_more requests i request (slice_get_within requests i request is) ∙ ap (λ r. r ∷ drop (i + 1) requests) (get_or_from_slice_get requests i request request is)
 
 -- the response to a request, and then the rest
-pub rest_text-more : (state : State) (i : ℕ) (request : Record) → slice_get (plan_records state.plan) i ≡ Some request
+pub rest_text-more : (state : State) (i : ℕ) (request : Record) → slice_get state.requests i ≡ Some request
     → rest_text state i ≡ (comma_if (nat_lt 0 i) ++ compact_text (response request (answer state i))) ++ rest_text state (i + 1)
 unfolding rest_text
 rest_text-more state i request is =
     let later : nat_lt 0 (i + 1) ≡ true = lt-ltb 0 (i + 1) (omega arith) in
-    rw (drop_at (plan_records state.plan) i request is, later) (simp append_assoc)
+    rw (drop_at state.requests i request is, later) (simp append_assoc)
 
 -- the parts of a response, and then the rest
-pub rest_text-parts : (state : State) (i : ℕ) (request : Record) → slice_get (plan_records state.plan) i ≡ Some request
+pub rest_text-parts : (state : State) (i : ℕ) (request : Record) → slice_get state.requests i ≡ Some request
     → rest_text state i
     ≡ (comma_if (nat_lt 0 i) ++ (codes "{" ++ (member_part (codes "\"atomicityGroup\":") (option_map string request.group) ++ (member_part (codes "\"body\":") (answer_body (answer state i)) ++ (member_part (codes "\"headers\":") (headers_value (answer_headers (answer state i))) ++ end_part request.id (status_of (answer state i))))))) ++ rest_text state (i + 1)
 rest_text-parts state i request is =

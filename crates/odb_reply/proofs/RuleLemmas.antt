@@ -1,22 +1,23 @@
 -- What the table and the units decide of one request: its group, and whether its success rests on a failure.
-use Rattle.std.proofs.Common.{◌≡◌, ◌∙◌, ◌||◌, ◌<◌, ℕ, zero, suc, Bool, true, false, not, List, [], ◌∷◌, length, get_or, Some, slice_get, refl, ap, sym, arith, Contains}
+use Rattle.std.proofs.Common.{◌≡◌, ◌∙◌, ◌<◌, ◌≤◌, ℕ, Bool, true, false, not, List, length, get_or, Some, slice_get, refl, ap, sym, arith, Contains}
 use Rattle.std.specs.List.{list_any}
 use Rattle.std.proofs.lemmas.Bool.{true≢false, both_ways}
+use Rattle.std.proofs.lemmas.List.Folds.{Any-from_list_any, list_any_at}
 use Rattle.std.proofs.lemmas.Option.{slice_get_within, slice_get-get_or, same_Some}
 use Rattle.odb_doc.specs.batch.Records.{Record}
 use Rattle.odb_check.specs.declared.need.Need.{Need}
 use Rattle.odb_check.specs.declared.need.Need.TheVariants.{One, Group}
 use Rattle.odb_check.specs.Needs.{needs_at}
 use Rattle.odb_check.specs.Positions.{group_at}
-use Rattle.odb_check.specs.Shape.{IsPlan, shape_of}
+use Rattle.odb_check.specs.Shape.{Shape, IsPlan, IsShapeOf}
 use Rattle.odb_check.specs.Units.{unit_count}
 use Rattle.odb_sched.specs.Statuses.{is_success}
 use Rattle.odb_reply.specs.declared.match_fault.MatchRule.{MatchRule}
-use Rattle.odb_reply.specs.declared.match_fault.MatchRule.TheVariants.{UnknownResponse, ResponseTwice, ResponseMissing, GroupDiffers, UnsoundSuccess}
+use Rattle.odb_reply.specs.declared.match_fault.MatchRule.TheVariants.{GroupDiffers, UnsoundSuccess}
 use Rattle.odb_reply.specs.ResponseDocuments.{Entry}
 use Rattle.odb_reply.specs.Fits.{Responds, IsRow}
 use Rattle.odb_reply.specs.LeastMatchFault.{phase}
-use Rattle.odb_reply.specs.MatchFaults.{BreaksAt, number, Fails, HasFailed}
+use Rattle.odb_reply.specs.MatchFaults.{Breaks, number, Fails, HasFailed}
 use Rattle.odb_reply.specs.Places.{HasRows, AreUnits, HasEntry, is_satisfied, NoneIn, IsFirstIn}
 use Rattle.odb_reply.proofs.IdLemmas.{id_within}
 use Rattle.odb_reply.proofs.SliceLemmas.{slice_get-some}
@@ -71,26 +72,17 @@ satisfied_from rs es places statuses units (Group u) rows known within satisfied
     let passes = known.succeeded u failing.0 (slice_get-get_or units u false inside ∙ ap Some satisfied) (id_within rs failing.0 failed.0.id failed.1.id) failing.1 in
     fails_not rs es places statuses failing.0 rows passes failed
 
-any_first : {X : Type 0} (test : X → Bool) (x : X) (xs : List X) (b : Bool) → test x ≡ b → (b || list_any test xs) ≡ true → (list_any test xs ≡ true → (y : X) × Contains xs y × (test y ≡ true))
-    → (y : X) × Contains (x ∷ xs) y × (test y ≡ true)
-any_first test x xs true here some rest = (x, (0, omega arith, refl), here)
-any_first test x xs false here some rest = let later = rest some in (later.0, (suc later.1.0, omega (arith, later.1.1), later.1.2), later.2)
-
 -- some element passes if `list_any` is true
 any_some : {X : Type 0} (test : X → Bool) (xs : List X) → list_any test xs ≡ true → (x : X) × Contains xs x × (test x ≡ true)
-any_some test [] some = absurd (true≢false (sym some))
-any_some test (x ∷ xs) some = any_first test x xs (test x) refl some (any_some test xs)
-
-none_first : {X : Type 0} (test : X → Bool) (y : X) (xs : List X) (x : X) (b : Bool) → test y ≡ b → (b || list_any test xs) ≡ false → (list_any test xs ≡ false → Contains xs x → test x ≡ false)
-    → (k : ℕ) → k < length (y ∷ xs) → get_or (y ∷ xs) k x ≡ x → test x ≡ false
-none_first test y xs x true here none rest k within is = absurd (true≢false none)
-none_first test y xs x false here none rest zero within is = ap test (sym is) ∙ here
-none_first test y xs x false here none rest (suc k) within is = rest none (k, omega arith, is)
+any_some test xs some = let (k, x, within, at, passes) = Any-from_list_any test xs some in (x, (k, within, at), passes)
 
 -- no element passes if `list_any` is false
 any_none : {X : Type 0} (test : X → Bool) (xs : List X) (x : X) → list_any test xs ≡ false → Contains xs x → test x ≡ false
-any_none test [] x none among = absurd (omega (arith, among.1))
-any_none test (y ∷ xs) x none among = none_first test y xs x (test y) refl none (any_none test xs x) among.0 among.1 among.2
+any_none test xs x none (k, within, at) = at_answer (test x) refl
+  where
+    at_answer : (b : Bool) → test x ≡ b → test x ≡ false
+    at_answer true passes = absurd (both_ways _ none (list_any_at test xs k x within (ap test at ∙ passes)))
+    at_answer false fails = fails
 
 not_false : (b : Bool) → not b ≡ true → b ≡ false
 not_false true is = absurd (true≢false (sym is))
@@ -102,26 +94,20 @@ not_true false is = absurd (true≢false is)
 
 -- ---- the two rules
 
-pub none_last : (rs : List Record) (es : List Entry) (i : ℕ) → ¬ BreaksAt GroupDiffers rs es i → ¬ BreaksAt UnsoundSuccess rs es i → NoneIn 3 rs es i
-none_last rs es i same sound UnknownResponse of_phase = absurd (omega arith)
-none_last rs es i same sound ResponseTwice of_phase = absurd (omega arith)
-none_last rs es i same sound ResponseMissing of_phase = absurd (omega arith)
-none_last rs es i same sound GroupDiffers of_phase = same
-none_last rs es i same sound UnsoundSuccess of_phase = sound
+pub none_last : (rs : List Record) (es : List Entry) (i : ℕ) → ¬ Breaks rs es GroupDiffers i → ¬ Breaks rs es UnsoundSuccess i → NoneIn 3 rs es i
+none_last rs es i same sound GroupDiffers (of_phase, broken) = same broken
+none_last rs es i same sound UnsoundSuccess (of_phase, broken) = sound broken
+none_last rs es i same sound rule (of_phase, broken) = omega (arith, of_phase)
 
-below_74 : (rule : MatchRule) → phase rule ≡ 3 → number rule < 74 → ⊥
-below_74 UnknownResponse of_phase less = absurd (omega arith)
-below_74 ResponseTwice of_phase less = absurd (omega arith)
-below_74 ResponseMissing of_phase less = absurd (omega arith)
-below_74 GroupDiffers of_phase less = absurd (omega arith)
-below_74 UnsoundSuccess of_phase less = absurd (omega arith)
+-- F74 is the first rule of the last phase
+number_74 : (rule : MatchRule) → phase rule ≡ 3 → 74 ≤ number rule
+number_74 GroupDiffers of_phase = omega arith
+number_74 UnsoundSuccess of_phase = omega arith
+number_74 rule of_phase = absurd (omega (arith, of_phase))
 
-below_75 : (rs : List Record) (es : List Entry) (i : ℕ) → ¬ BreaksAt GroupDiffers rs es i → (rule : MatchRule) → phase rule ≡ 3 → number rule < 75 → ¬ BreaksAt rule rs es i
-below_75 rs es i same UnknownResponse of_phase less = absurd (omega arith)
-below_75 rs es i same ResponseTwice of_phase less = absurd (omega arith)
-below_75 rs es i same ResponseMissing of_phase less = absurd (omega arith)
-below_75 rs es i same GroupDiffers of_phase less = same
-below_75 rs es i same UnsoundSuccess of_phase less = absurd (omega arith)
+below_75 : (rs : List Record) (es : List Entry) (i : ℕ) → ¬ Breaks rs es GroupDiffers i → (rule : MatchRule) → number rule < 75 → phase rule ≡ 3 → ¬ Breaks rs es rule i
+below_75 rs es i same GroupDiffers less of_phase broken = same broken
+below_75 rs es i same rule less of_phase broken = omega (arith, less, of_phase)
 
 -- the response has another group
 pub first_differs : (rs : List Record) (es : List Entry) (places statuses : List ℕ) (i k : ℕ) (e : Entry) → HasRows rs es places statuses → slice_get places i ≡ Some k → slice_get es k ≡ Some e
@@ -130,50 +116,48 @@ first_differs rs es places statuses i k e rows place given differs =
     let row = row_at rs es places statuses i k rows place in
     let same : row.entry ≡ e = same_Some row.entry e (sym row.given ∙ given) in
     record {
-      of_phase = refl;
-      broken = record {
+      broken = (refl, record {
         response = e;
         responds = record { place = k; given = given; id = row.id ∙ ap (λ (r : Entry). Some r.id) same };
         differs = differs;
-      };
-      first = λ other of_phase less. absurd (below_74 other of_phase less);
+      });
+      least = λ other less broken. omega (arith, less, number_74 other broken.0);
     }
 
 -- it has the same group
 pub not_differs : (rs : List Record) (es : List Entry) (places statuses : List ℕ) (i k : ℕ) (e : Entry) → HasRows rs es places statuses → slice_get places i ≡ Some k → slice_get es k ≡ Some e
-    → e.group ≡ group_at rs i → ¬ BreaksAt GroupDiffers rs es i
+    → e.group ≡ group_at rs i → ¬ Breaks rs es GroupDiffers i
 not_differs rs es places statuses i k e rows place given group broken =
     let same : e ≡ broken.response = same_Some e broken.response (sym given ∙ rows.only i k broken.response broken.responds place) in
     broken.differs (ap (λ (r : Entry). r.group) (sym same) ∙ group)
 
 -- the response is a success, and a dependency has failed
-pub first_unsound : (rs : List Record) (es : List Entry) (places statuses : List ℕ) (units : List Bool) (i : ℕ) → HasRows rs es places statuses → AreUnits rs statuses (length rs) units → IsPlan (shape_of rs)
-    → i < length rs → ¬ BreaksAt GroupDiffers rs es i → is_success (get_or statuses i 0) ≡ true → list_any (λ need. not (is_satisfied statuses units need)) (needs_at rs i) ≡ true → IsFirstIn 3 rs es i UnsoundSuccess
-first_unsound rs es places statuses units i rows known laws within group passes some =
+pub first_unsound : (rs : List Record) (es : List Entry) (places statuses : List ℕ) (units : List Bool) (plan : Shape) (i : ℕ) → HasRows rs es places statuses → AreUnits rs statuses (length rs) units → IsShapeOf rs plan → IsPlan plan
+    → i < length rs → ¬ Breaks rs es GroupDiffers i → is_success (get_or statuses i 0) ≡ true → list_any (λ need. not (is_satisfied statuses units need)) (needs_at rs i) ≡ true → IsFirstIn 3 rs es i UnsoundSuccess
+first_unsound rs es places statuses units plan i rows known same laws within group passes some =
     let place = slice_get-some places i (omega (arith, rows.table.places_count)) in
     let row = row_at rs es places statuses i place.0 rows place.1 in
     let failing = any_some (λ need. not (is_satisfied statuses units need)) (needs_at rs i) some in
     record {
-      of_phase = refl;
-      broken = record {
+      broken = (refl, record {
         response = row.entry;
         responds = record { place = place.0; given = row.given; id = row.id };
         success = ap is_success row.status_is ∙ passes;
         need = failing.0;
         needed = failing.1;
-        fails = failed_from rs es places statuses units failing.0 rows known (need_within rs i failing.0 laws within failing.1) (not_false (is_satisfied statuses units failing.0) failing.2);
-      };
-      first = below_75 rs es i group;
+        fails = failed_from rs es places statuses units failing.0 rows known (need_within rs plan i failing.0 same laws within failing.1) (not_false (is_satisfied statuses units failing.0) failing.2);
+      });
+      least = λ other less broken. below_75 rs es i group other less broken.0 broken.1;
     }
 
 -- the response is not a success
-pub not_success : (rs : List Record) (es : List Entry) (places statuses : List ℕ) (i : ℕ) → HasRows rs es places statuses → is_success (get_or statuses i 0) ≡ false → ¬ BreaksAt UnsoundSuccess rs es i
+pub not_success : (rs : List Record) (es : List Entry) (places statuses : List ℕ) (i : ℕ) → HasRows rs es places statuses → is_success (get_or statuses i 0) ≡ false → ¬ Breaks rs es UnsoundSuccess i
 not_success rs es places statuses i rows failed broken =
     both_ways (is_success (get_or statuses i 0)) failed (ap is_success (status_of rs es places statuses i broken.response rows broken.responds) ∙ broken.success)
 
 -- each dependency is satisfied
-pub not_failed : (rs : List Record) (es : List Entry) (places statuses : List ℕ) (units : List Bool) (i : ℕ) → HasRows rs es places statuses → AreUnits rs statuses (length rs) units → IsPlan (shape_of rs)
-    → i < length rs → list_any (λ need. not (is_satisfied statuses units need)) (needs_at rs i) ≡ false → ¬ BreaksAt UnsoundSuccess rs es i
-not_failed rs es places statuses units i rows known laws within none broken =
+pub not_failed : (rs : List Record) (es : List Entry) (places statuses : List ℕ) (units : List Bool) (plan : Shape) (i : ℕ) → HasRows rs es places statuses → AreUnits rs statuses (length rs) units → IsShapeOf rs plan → IsPlan plan
+    → i < length rs → list_any (λ need. not (is_satisfied statuses units need)) (needs_at rs i) ≡ false → ¬ Breaks rs es UnsoundSuccess i
+not_failed rs es places statuses units plan i rows known same laws within none broken =
     let satisfied = any_none (λ need. not (is_satisfied statuses units need)) (needs_at rs i) broken.need none broken.needed in
-    satisfied_from rs es places statuses units broken.need rows known (need_within rs i broken.need laws within broken.needed) (not_true (is_satisfied statuses units broken.need) satisfied) broken.fails
+    satisfied_from rs es places statuses units broken.need rows known (need_within rs plan i broken.need same laws within broken.needed) (not_true (is_satisfied statuses units broken.need) satisfied) broken.fails

@@ -1,5 +1,5 @@
 -- The elements of lists by their positions.
-use Rattle.std.proofs.Common.{◌≡◌, ◌≢◌, ◌∙◌, ◌⊎◌, ◌<◌, ℕ, zero, suc, List, [], ◌∷◌, ◌++◌, length, set, take, drop, append-nil, replicate, is_some, get_or, true, false, Option, Some, None, option_map, slice_get, inl, inr, refl, ap, sym, arith}
+use Rattle.std.proofs.Common.{◌≡◌, ◌≢◌, ◌∙◌, ◌⊎◌, ◌<◌, ℕ, zero, suc, List, [], ◌∷◌, ◌++◌, length, set, take, drop, append-nil, replicate, is_some, get_or, true, false, Option, Some, None, option_map, slice_get, IsSomeAnd, inl, inr, refl, ap, sym, arith}
 use Rattle.std.proofs.lemmas.Option.{slice_get-get_or}
 use Rattle.std.proofs.lemmas.List.{drop_all, take_all}
 use Rattle.std.proofs.lemmas.Bool.{true≢false}
@@ -14,6 +14,11 @@ slice_get-some (x ∷ xs) (suc i) within = slice_get-some xs i (omega arith)
 pub map_some : {X Y : Type 0} (f : X → Y) (o : Option X) (y : Y) → option_map f o ≡ Some y → (x : X) × (o ≡ Some x) × (f x ≡ y)
 map_some f None y is = absurd (cc (is))
 map_some f (Some x) y is = (x, refl, cc (is))
+
+-- an option with a property has something
+pub some_and : {X : Type 0} (o : Option X) (P : X → Type 0) → IsSomeAnd o P → (x : X) × (o ≡ Some x) × P x
+some_and None P none = absurd none
+some_and (Some x) P holds = (x, refl, holds)
 
 pub slice_get-set_same : {X : Type 0} (xs : List X) (i : ℕ) (x : X) → i < length xs → slice_get (set xs i x) i ≡ Some x
 slice_get-set_same [] i x within = absurd (omega arith)

@@ -9,6 +9,7 @@ use Rattle.odb_check.specs.Needs.{needs_at}
 use Rattle.odb_check.specs.Positions.{id_at, group_at, IsId}
 use Rattle.odb_check.specs.Units.{unit_at}
 use Rattle.odb_sched.specs.Statuses.{is_success}
+use Rattle.odb_reply.specs.declared.table.Table.{Table}
 use Rattle.odb_reply.specs.ResponseDocuments.{Entry, Says, responses_in}
 
 -- the id of the response at a place
@@ -42,6 +43,14 @@ pub record Fits (rs : List Record) (es : List Entry) : Type 0 where
   pub known : (k : ℕ) (id : List ℕ) → id_in es k ≡ Some id → IsId rs id
   pub groups : (i : ℕ) (e : Entry) → Responds rs es i e → e.group ≡ group_at rs i
   pub sound : (i : ℕ) (e : Entry) (need : Need) → Responds rs es i e → IsTrue (is_success e.status) → Contains (needs_at rs i) need → IsSatisfied rs es need
+
+-- the places of the responses in a table, by the positions of their requests
+abbrev pub places : Table → List ℕ
+places table = table.places.items
+
+-- their statuses
+abbrev pub statuses : Table → List ℕ
+statuses table = table.statuses.items
 
 -- the response at place k is to the request at i, and has the status
 pub record IsRow (rs : List Record) (es : List Entry) (i k status : ℕ) : Type 0 where

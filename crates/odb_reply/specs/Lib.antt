@@ -3,13 +3,10 @@ pub mod Readable
 pub mod Responses
 pub mod OnePerId
 pub mod NotWhole
-pub mod ReplyFaults
 pub mod ResponseDocuments
-pub mod ResponseFaults
 pub mod Fits
 pub mod MatchFaults
 pub mod LeastMatchFault
-pub mod Tables
 -- What serves invariants and private clauses: no public clause cites it.
 pub mod Parts
 pub mod Elements

@@ -1,6 +1,6 @@
 -- How responses do not fit a batch, over all pairs of responses and requests (OData JSON Format 4.01, section 19.5), and
 -- what is printed of it.
-use Rattle.std.specs.Prelude.{◌≡◌, ◌≢◌, ◌<◌, ℕ, List, Option, Some, None, Contains, IsSomeAnd, IsTrue, codes}
+use Rattle.std.specs.Prelude.{◌≡◌, ◌<◌, ℕ, List, Option, Some, None, Contains, IsSomeAnd, IsTrue, codes}
 use Rattle.odb_doc.specs.batch.Records.{Record}
 use Rattle.odb_doc.specs.Refusals.{Printed, fault_at}
 use Rattle.odb_doc.specs.declared.fault.Place.{Place}
@@ -43,12 +43,12 @@ pub record RestsOnFailure (rs : List Record) (es : List Entry) (i : ℕ) : Type 
   pub fails : HasFailed rs es need
 
 -- The rule is broken at a place of the responses (the first two), or at a position of the requests.
-abbrev pub BreaksAt : MatchRule → List Record → List Entry → ℕ → Type 0
-BreaksAt UnknownResponse rs es k = IsSomeAnd (id_in es k) (λ id. ¬ IsId rs id)
-BreaksAt ResponseTwice rs es k = IsSomeAnd (id_in es k) (λ id. (j : ℕ) × (j < k) × (id_in es j ≡ Some id))
-BreaksAt ResponseMissing rs es i = IsSomeAnd (id_at rs i) (λ id. (k : ℕ) → ¬ (id_in es k ≡ Some id))
-BreaksAt GroupDiffers rs es i = DiffersInGroup rs es i
-BreaksAt UnsoundSuccess rs es i = RestsOnFailure rs es i
+abbrev pub Breaks : List Record → List Entry → MatchRule → ℕ → Type 0
+Breaks rs es UnknownResponse k = IsSomeAnd (id_in es k) (λ id. ¬ IsId rs id)
+Breaks rs es ResponseTwice k = IsSomeAnd (id_in es k) (λ id. (j : ℕ) × (j < k) × (id_in es j ≡ Some id))
+Breaks rs es ResponseMissing i = IsSomeAnd (id_at rs i) (λ id. (k : ℕ) → ¬ (id_in es k ≡ Some id))
+Breaks rs es GroupDiffers i = DiffersInGroup rs es i
+Breaks rs es UnsoundSuccess i = RestsOnFailure rs es i
 
 -- the number in the code, the name, and what the position is one of
 abbrev pub rule_label : MatchRule → ℕ × List ℕ × (ℕ → Place)
@@ -64,10 +64,6 @@ number rule = (rule_label rule).0
 -- what is printed of the rule, broken at this position
 abbrev pub rule_row : MatchRule → ℕ → Printed
 rule_row rule at = fault_at (rule_label rule).0 (rule_label rule).1 ((rule_label rule).2 at)
-
--- any fault but out of memory
-abbrev pub IsNumbered : MatchFault → Type 0
-IsNumbered fault = fault ≢ faults.OutOfMemory
 
 abbrev pub match_row : MatchFault → Option Printed
 match_row (faults.Misfit at rule) = Some (rule_row rule at)

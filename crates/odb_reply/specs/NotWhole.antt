@@ -1,10 +1,15 @@
--- When a response has no text, since it holds a number that is not whole.
-use Rattle.std.specs.Prelude.{ℕ, Option}
+-- When a response has no text, since it holds a number that is not whole; and what is printed of that.
+use Rattle.std.specs.Prelude.{ℕ, Option, None}
 use Rattle.serde_json.specs.Data.{Data}
+use Rattle.odb_doc.specs.Faults.{text_row}
+use Rattle.odb_doc.specs.Refusals.{Printed}
 use Rattle.odb_doc.specs.WholeNumbers as whole
+use Rattle.odb_doc.specs.declared.fault.TextFault.TheVariants as texts
 use Rattle.odb_doc.specs.declared.recorded.outcome.Outcome.{Outcome}
 use Rattle.odb_sched.specs.Answers.{answer}
 use Rattle.odb_sched.specs.State.{State, size}
+use Rattle.odb_reply.specs.declared.reply.ReplyFault.{ReplyFault}
+use Rattle.odb_reply.specs.declared.reply.ReplyFault.TheVariants.{NotWhole, Write, OutOfMemory}
 use Rattle.odb_reply.specs.Responses.{answer_body}
 
 -- the body that answers the request at a position, if any
@@ -22,3 +27,9 @@ HasWholeBodies state = whole.HasWholeBodies (size state) (body_at state)
 -- the first request that is answered by a body with a number that is not whole
 abbrev pub IsFirstNotWhole : State → ℕ → Type 0
 IsFirstNotWhole state at = whole.IsFirstNotWhole (size state) (body_at state) at
+
+-- what is printed of a fault of a response: of F50 what odb_doc prints of it
+abbrev pub reply_row : ReplyFault → Option Printed
+reply_row (NotWhole at) = text_row (texts.NotWhole at)
+reply_row Write = None
+reply_row OutOfMemory = None

@@ -3,7 +3,6 @@ use Rattle.std.specs.Prelude.{ℕ, List, ◌++◌, nat_lt, decimal, drop, codes}
 use Rattle.serde_json.specs.Data.{string}
 use Rattle.serde_json.specs.View.{items_of}
 use Rattle.serde_json.specs.Written.{compact_text, items_text}
-use Rattle.odb_check.specs.Plans.{plan_records}
 use Rattle.odb_sched.specs.State.{State}
 use Rattle.odb_reply.specs.Responses.{responses_from}
 
@@ -13,4 +12,4 @@ end_part id status = codes "\"id\":" ++ (compact_text (string id) ++ (codes ",\"
 
 -- the text of the responses from a position on, to the end
 unfoldable pub rest_text : State → ℕ → List ℕ
-rest_text state i = items_text (nat_lt 0 i) (items_of (responses_from state i (drop i (plan_records state.plan)))) ++ codes "}"
+rest_text state i = items_text (nat_lt 0 i) (items_of (responses_from state i (drop i state.requests))) ++ codes "}"

@@ -1,8 +1,10 @@
 -- The response document of a service (OData JSON Format 4.01, section 19.5): which of its elements are responses, and what
--- they have.
-use Rattle.std.specs.Prelude.{◌≡◌, ◌≤◌, ◌<◌, ℕ, List, [], map, slice_get, Option, Some, IsSome, IfSome, IsSomeAnd, option_and_then, option_map, unwrap_or, codes, All}
+-- they have; its first fault, and what is printed of that.
+use Rattle.std.specs.Prelude.{◌≡◌, ◌≤◌, ◌<◌, ℕ, List, [], map, slice_get, Option, Some, None, IsSome, IfSome, IsSomeAnd, option_and_then, option_map, unwrap_or, codes, All}
 use Rattle.serde_json.specs.Data.{Data, Num, unsigned, negative, float, string, Items}
 use Rattle.serde_json.specs.Find.{get, as_array, as_str}
+use Rattle.odb_doc.specs.Refusals.{Printed, fault_at}
+use Rattle.odb_doc.specs.declared.fault.Place.TheVariants as places
 use Rattle.odb_doc.specs.Members.{list_of, given}
 use Rattle.odb_doc.specs.recorded.Outcomes.{id_of, status_of}
 use Rattle.odb_reply.specs.declared.responses.Response.{Response}
@@ -72,3 +74,9 @@ abbrev pub RefusesResponses : ResponseFault → Data → Type 0
 RefusesResponses faults.Document d = ¬ IsSome (array_in d)
 RefusesResponses (faults.Response at) d = IsSome (array_in d) × IsFirstBad (responses_in d) at
 RefusesResponses faults.OutOfMemory d = Unit {0}
+
+-- what is printed of a fault
+abbrev pub responses_row : ResponseFault → Option Printed
+responses_row faults.Document = Some (fault_at 70 (codes "BadResponses") places.Responses)
+responses_row (faults.Response at) = Some (fault_at 70 (codes "BadResponses") (places.Response at))
+responses_row faults.OutOfMemory = None

@@ -7,7 +7,6 @@ use Rattle.odb_doc.specs.canonical.Canonical.{headers_value, with_some}
 use Rattle.odb_doc.specs.Headers.{Header}
 use Rattle.odb_doc.specs.batch.Records.{Record}
 use Rattle.odb_doc.specs.declared.recorded.outcome.Outcome.{Outcome}
-use Rattle.odb_check.specs.Plans.{plan_records}
 use Rattle.odb_sched.specs.Answers.{answer, status_of}
 use Rattle.odb_sched.specs.State.{State}
 
@@ -40,7 +39,7 @@ responses_from state i (request ∷ requests) = response request (answer state i
 
 -- the responses to all requests, in their order
 abbrev pub responses : State → List Data
-responses state = responses_from state 0 (plan_records state.plan)
+responses state = responses_from state 0 state.requests
 
 -- the response to the batch
 abbrev pub response_value : State → Data

@@ -3,7 +3,7 @@
 //!
 //! The laws are clauses of functions that change nothing.
 
-ghost use Rattle.std.specs.Prelude.{◌≡◌, ◌↔◌, ◌++◌, ℕ, List, Some, codes};
+ghost use Rattle.std.specs.Prelude.{◌≡◌, ◌↔◌, ◌++◌, ℕ, List, Some, IsSome, codes};
 ghost use Rattle.std.specs.List.{AllZip};
 ghost use Rattle.serde_json.specs.Data.{Data};
 ghost use Rattle.serde_json.specs.Read.{read};
@@ -15,7 +15,7 @@ ghost use Rattle.odb_reply.specs.Fits.{Fits, IsTableOf, ListsFit};
 ghost use Rattle.odb_reply.specs.LeastMatchFault.{HasNoMisfit, RefusesMatch};
 ghost use Rattle.odb_reply.specs.MatchFaults as matches;
 ghost use Rattle.odb_reply.specs.ResponseDocuments.{Entry, IsResponseDocument, RefusesResponses, Says};
-ghost use Rattle.odb_reply.specs.ResponseFaults as documents;
+ghost use Rattle.odb_reply.specs.ResponseDocuments as documents;
 ghost use Rattle.odb_reply.specs.OnePerId.{HasOnePerId};
 ghost use Rattle.odb_reply.specs.Readable.{AnswersBy, IsReadable};
 ghost use Rattle.odb_reply.specs.Responses.{response_text, response_value};
@@ -24,10 +24,10 @@ use odb_sched::Done;
 
 /// A response document has one first fault at most, none if it is good, and one list of responses.
 pub fn one_document()
-    ensures one { (value : Data) (fault other : ResponseFault) → documents.IsNumbered fault
-        → documents.IsNumbered other → RefusesResponses fault value → RefusesResponses other value
+    ensures one { (value : Data) (fault other : ResponseFault) → IsSome (documents.responses_row fault)
+        → IsSome (documents.responses_row other) → RefusesResponses fault value → RefusesResponses other value
         → fault ≡ other }
-    ensures none { (value : Data) (fault : ResponseFault) → documents.IsNumbered fault
+    ensures none { (value : Data) (fault : ResponseFault) → IsSome (documents.responses_row fault)
         → RefusesResponses fault value → ¬ IsResponseDocument value }
     ensures entries { (elements : List Data) (entries others : List Entry)
         → AllZip Says elements entries → AllZip Says elements others → entries ≡ others }
@@ -39,11 +39,11 @@ pub fn one_match()
     ensures fits { (requests : List Record) (responses : List Entry)
         → Fits requests responses ↔ HasNoMisfit requests responses }
     ensures one { (requests : List Record) (responses : List Entry) (fault other : MatchFault)
-        → matches.IsNumbered fault → matches.IsNumbered other
+        → IsSome (matches.match_row fault) → IsSome (matches.match_row other)
         → RefusesMatch fault requests responses → RefusesMatch other requests responses
         → fault ≡ other }
     ensures none { (requests : List Record) (responses : List Entry) (fault : MatchFault)
-        → matches.IsNumbered fault → RefusesMatch fault requests responses
+        → IsSome (matches.match_row fault) → RefusesMatch fault requests responses
         → ¬ Fits requests responses }
     ensures table { (requests : List Record) (responses : List Entry)
         (places others statuses different : List ℕ) → Fits requests responses
@@ -58,8 +58,8 @@ pub fn one_match()
 /// a response document, as [`crate::Responses::read`] accepts it. If each answer can be read again,
 /// `serde_json` reads the text of the response as the response, also with a newline at its end.
 pub fn every_response(done: &Done<'_>)
-    ensures one_per_id { HasOnePerId (plan_records done.now.plan) (response_value done.now) }
-    ensures fits { ListsFit (plan_records done.now.plan) (response_value done.now) }
+    ensures one_per_id { HasOnePerId done.now.requests (response_value done.now) }
+    ensures fits { ListsFit done.now.requests (response_value done.now) }
     ensures document { IsResponseDocument (response_value done.now) }
     ensures reads_back { AnswersBy IsReadable done.now
         → read (response_text done.now) ≡ Some (response_value done.now) }

@@ -3,8 +3,7 @@
 //! [`response_text`] returns the response of a finished run (OData JSON Format 4.01, section 19.5),
 //! and [`write_responses`] writes it to an output through a buffer. Both refuse a run that answers a
 //! body with a number that is not whole, since only whole numbers are kept exactly. [`laws`] states
-//! what is true of every response. What runs, and what each request
-//! is answered, is decided by `odb_sched`.
+//! what is true of every response. Which requests run, and how each is answered, `odb_sched` decides.
 //!
 //! [`Responses::read`] reads the response document of a service, and [`match_responses`] checks that
 //! its responses fit the batch of a plan.

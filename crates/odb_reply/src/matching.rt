@@ -4,11 +4,10 @@ ghost use Rattle.odb_doc.specs.batch.Records.{record_of};
 ghost use Rattle.odb_check.specs.Needs.{needs_at};
 ghost use Rattle.odb_check.specs.Plans.{plan_records};
 ghost use Rattle.odb_sched.specs.Statuses as specs;
-ghost use Rattle.odb_reply.specs.Fits.{Fits, IsTableOf};
+ghost use Rattle.odb_reply.specs.Fits as fits;
 ghost use Rattle.odb_reply.specs.LeastMatchFault.{RefusesMatch};
 ghost use Rattle.odb_reply.specs.Places as known;
 ghost use Rattle.odb_reply.specs.ResponseDocuments.{entries, entry_of};
-ghost use Rattle.odb_reply.specs.Tables as tables;
 
 use crate::match_fault::{MatchFault, MatchRule};
 use crate::places::places_of;
@@ -27,9 +26,9 @@ fn is_success(status: u16) -> bool
 
 /// Returns, for each unit, whether the responses to all its members are successes.
 fn units_of(alloc: Global, plan: &Plan<'_>, table: &Table) -> Result<Vec<bool>, AllocError>
-    requires { length (tables.statuses table.now) ≡ length (plan_records plan.now) }
+    requires { length (fits.statuses table.now) ≡ length (plan_records plan.now) }
     ensures { IfOk result (λ units. known.AreUnits (plan_records plan.now)
-        (tables.statuses table.now) (length (plan_records plan.now)) units.items) }
+        (fits.statuses table.now) (length (plan_records plan.now)) units.items) }
 {
     let mut units = vec![in alloc; true; plan.unit_count() as usize]?;
     for i in 0..plan.len() {
@@ -42,8 +41,8 @@ fn units_of(alloc: Global, plan: &Plan<'_>, table: &Table) -> Result<Vec<bool>, 
 
 /// Returns whether a dependency has succeeded.
 fn is_satisfied(table: &Table, units: &[bool], need: Need) -> bool
-    requires { known.HasEntry need (length (tables.statuses table.now)) (length units.now) }
-    ensures { result ≡ known.is_satisfied (tables.statuses table.now) units.now need }
+    requires { known.HasEntry need (length (fits.statuses table.now)) (length units.now) }
+    ensures { result ≡ known.is_satisfied (fits.statuses table.now) units.now need }
 {
     match need {
         Need::One(r) => is_success(table.status(r)),
@@ -54,10 +53,10 @@ fn is_satisfied(table: &Table, units: &[bool], need: Need) -> bool
 /// Returns whether a dependency of the request has failed.
 fn has_failed_need(plan: &Plan<'_>, table: &Table, units: &[bool], i: u32) -> bool
     requires request { i < length (plan_records plan.now) }
-    requires statuses { length (tables.statuses table.now) ≡ length (plan_records plan.now) }
-    requires units { known.AreUnits (plan_records plan.now) (tables.statuses table.now)
+    requires statuses { length (fits.statuses table.now) ≡ length (plan_records plan.now) }
+    requires units { known.AreUnits (plan_records plan.now) (fits.statuses table.now)
         (length (plan_records plan.now)) units.now }
-    ensures { result ≡ list_any (λ need. not (known.is_satisfied (tables.statuses table.now) units.now need))
+    ensures { result ≡ list_any (λ need. not (known.is_satisfied (fits.statuses table.now) units.now need))
         (needs_at (plan_records plan.now) i) }
 {
     odb_check::laws::every_plan(plan);
@@ -86,8 +85,8 @@ fn broken_rule(
 ) -> Option<MatchRule>
     requires request { i < length (plan_records plan.now) }
     requires rows { known.HasRows (plan_records plan.now) (entries responses.now)
-        (tables.places table.now) (tables.statuses table.now) }
-    requires units { known.AreUnits (plan_records plan.now) (tables.statuses table.now)
+        (fits.places table.now) (fits.statuses table.now) }
+    requires units { known.AreUnits (plan_records plan.now) (fits.statuses table.now)
         (length (plan_records plan.now)) units.now }
     ensures none { IfNone result (known.NoneIn 3 (plan_records plan.now) (entries responses.now) i) }
     ensures first { IfSome result (known.IsFirstIn 3 (plan_records plan.now) (entries responses.now) i) }
@@ -111,8 +110,8 @@ fn check_requests(
     units: &[bool],
 ) -> Result<(), MatchFault>
     requires rows { known.HasRows (plan_records plan.now) (entries responses.now)
-        (tables.places table.now) (tables.statuses table.now) }
-    requires units { known.AreUnits (plan_records plan.now) (tables.statuses table.now)
+        (fits.places table.now) (fits.statuses table.now) }
+    requires units { known.AreUnits (plan_records plan.now) (fits.statuses table.now)
         (length (plan_records plan.now)) units.now }
     ensures none { OnOk result ((i : ℕ) → i < length (plan_records plan.now)
         → known.NoneIn 3 (plan_records plan.now) (entries responses.now) i) }
@@ -148,14 +147,14 @@ pub fn match_responses(
     plan: &Plan<'_>,
     responses: &Responses<'_>,
 ) -> Result<Table, MatchFault>
-    ensures fits { OnOk result (Fits (plan_records plan.now) (entries responses.now)) }
-    ensures table { IfOk result (λ table. IsTableOf (plan_records plan.now) (entries responses.now)
-        (tables.places table) (tables.statuses table)) }
+    ensures fits { OnOk result (fits.Fits (plan_records plan.now) (entries responses.now)) }
+    ensures table { IfOk result (λ table. fits.IsTableOf (plan_records plan.now) (entries responses.now)
+        (fits.places table) (fits.statuses table)) }
     ensures least { IfErr result (λ fault. RefusesMatch fault (plan_records plan.now)
         (entries responses.now)) }
 {
     let places = places_of(alloc, plan, responses)?;
-    let table = table_of(alloc, responses, &places)?;
+    let table = table_of(alloc, plan, responses, &places)?;
     let units = units_of(alloc, plan, &table)?;
     check_requests(plan, responses, &table, &units)?;
     Ok(table)

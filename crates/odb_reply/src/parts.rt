@@ -57,7 +57,7 @@ pub(crate) fn push_response(
     done: &Done<'_>,
     i: u32,
 ) -> Result<(), AllocError>
-    requires request { i < length (plan_records done.now.plan) }
+    requires request { i < length done.now.requests }
     requires whole { HasWholeBodies done.now }
     ensures { OnOk result (string_bytes text.old ++ parts.rest_text done.now i
         ≡ string_bytes text.new ++ parts.rest_text done.now (i + 1)) }

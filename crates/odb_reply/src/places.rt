@@ -1,8 +1,8 @@
 ghost use Rattle.std.specs.Prelude.{◌≡◌, None, length, replicate, IfOk, IfErr, OnOk};
-ghost use Rattle.odb_check.specs.LeastNameFault.{HasGoodNames};
+ghost use Rattle.odb_check.specs.Laws.{HasPositions};
 ghost use Rattle.odb_check.specs.Plans.{plan_records};
 ghost use Rattle.odb_reply.specs.LeastMatchFault.{RefusesMatch};
-ghost use Rattle.odb_reply.specs.Places.{AreNoted, IsMisplaced, IsNoted};
+ghost use Rattle.odb_reply.specs.Places.{AreNoted, IsMisplaced, IsNoted, IsOnce};
 ghost use Rattle.odb_reply.specs.ResponseDocuments.{entries};
 
 use crate::match_fault::{MatchFault, MatchRule};
@@ -10,7 +10,7 @@ use crate::responses::Responses;
 use odb_check::Plan;
 use std::alloc::{AllocError, Global};
 
-/// Returns no place for each of so many requests.
+/// Returns `count` empty places.
 fn no_places(alloc: Global, count: u32) -> Result<Vec<Option<usize>>, AllocError>
     ensures { IfOk result (λ places. places.items ≡ replicate count None) }
 {
@@ -28,7 +28,8 @@ fn note_place(
     id: &str,
     at: usize,
 ) -> Result<(), MatchRule>
-    requires { length places.old ≡ length (plan_records plan.now) }
+    requires count { length places.old ≡ length (plan_records plan.now) }
+    requires positions { HasPositions (plan_records plan.now) }
     ensures noted { OnOk result (IsNoted (plan_records plan.now) id.now at places.old places.new) }
     ensures misplaced { IfErr result (IsMisplaced (plan_records plan.now) id.now places.old) }
 {
@@ -53,7 +54,7 @@ pub(crate) fn places_of(
         (length (entries responses.now)) places.items) }
     ensures first { IfErr result (λ fault. RefusesMatch fault (plan_records plan.now)
         (entries responses.now)) }
-    ensures good { HasGoodNames (plan_records plan.now) }
+    ensures once { OnOk result (IsOnce (plan_records plan.now)) }
 {
     odb_check::laws::every_plan(plan);
     let mut places = no_places(alloc, plan.len())?;

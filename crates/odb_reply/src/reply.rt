@@ -4,12 +4,11 @@ ghost use Rattle.serde_json.specs.Read.{read};
 ghost use Rattle.odb_check.specs.Plans.{plan_records};
 ghost use Rattle.odb_reply.specs.declared.reply.ReplyFault.TheVariants as faults;
 ghost use Rattle.odb_reply.specs.Fits.{ListsFit};
-ghost use Rattle.odb_reply.specs.NotWhole.{HasWholeBodies, IsFirstNotWhole};
+ghost use Rattle.odb_reply.specs.NotWhole.{HasWholeBodies, IsFirstNotWhole, reply_row};
 ghost use Rattle.odb_reply.specs.OnePerId.{HasOnePerId};
 ghost use Rattle.odb_doc.specs.Devices.{HasWritten, AppendsPrefix};
 ghost use Rattle.odb_reply.specs.Parts.{rest_text};
 ghost use Rattle.odb_reply.specs.Readable.{HasShallowBodies};
-ghost use Rattle.odb_reply.specs.ReplyFaults.{reply_row};
 ghost use Rattle.odb_reply.specs.ResponseDocuments.{IsResponseDocument};
 ghost use Rattle.odb_reply.specs.Responses.{response_text, response_value};
 
@@ -134,8 +133,8 @@ pub fn write_responses<W: Write>(
     ensures not_whole { (at : ℕ)
         → (result ≡ Err (faults.NotWhole at)) ↔ IsFirstNotWhole done.now at }
     ensures unwritten { (at : ℕ) → result ≡ Err (faults.NotWhole at) → output.new ≡ output.old }
-    ensures one_per_id { HasOnePerId (plan_records done.now.plan) (response_value done.now) }
-    ensures fits { ListsFit (plan_records done.now.plan) (response_value done.now) }
+    ensures one_per_id { HasOnePerId done.now.requests (response_value done.now) }
+    ensures fits { ListsFit done.now.requests (response_value done.now) }
     ensures document { IsResponseDocument (response_value done.now) }
     ensures reads_back { OnOk result (HasShallowBodies done.now
         → read (response_text done.now) ≡ Some (response_value done.now)) }

@@ -1,5 +1,5 @@
 ghost use Rattle.std.specs.Prelude.{◌≡◌};
-ghost use Rattle.odb_reply.specs.ResponseFaults.{responses_row};
+ghost use Rattle.odb_reply.specs.ResponseDocuments.{responses_row};
 ghost use Rattle.odb_reply.specs.declared.response_fault.ResponseFault.TheVariants.{OutOfMemory};
 
 use odb_doc::{Fault, Place, Refusal};

@@ -1,9 +1,12 @@
-ghost use Rattle.std.specs.Prelude.{◌≡◌, ◌<◌, ℕ, length, slice_get, Some, IfOk, IfErr};
-ghost use Rattle.odb_reply.specs.Places.{AreListed, IsMissing};
+ghost use Rattle.std.specs.Prelude.{◌≡◌, ◌<◌, length, slice_get, Some, IfOk, IfErr, OnOk};
+ghost use Rattle.odb_check.specs.Plans.{plan_records};
+ghost use Rattle.odb_reply.specs.LeastMatchFault.{RefusesMatch};
+ghost use Rattle.odb_reply.specs.Places.{AreNoted, HasAllPlaces, HasRows, IsOnce};
 ghost use Rattle.odb_reply.specs.ResponseDocuments.{entries};
 
 use crate::match_fault::{MatchFault, MatchRule};
 use crate::responses::Responses;
+use odb_check::Plan;
 use std::alloc::Global;
 
 /// The place and the status of the response to each request of a batch.
@@ -14,7 +17,7 @@ pub struct Table {
 }
 
 impl Table {
-    ghost use Rattle.odb_reply.specs.Tables.{places, statuses};
+    ghost use Rattle.odb_reply.specs.Fits.{places, statuses};
 
     /// Returns the status of the response to the request at a position, counted from 0.
     pub fn status(&self, i: u32) -> u16
@@ -36,13 +39,18 @@ impl Table {
 /// Returns the table of the places that were found, or the first request without one.
 pub(crate) fn table_of(
     alloc: Global,
+    plan: &Plan<'_>,
     responses: &Responses<'_>,
     found: &[Option<usize>],
 ) -> Result<Table, MatchFault>
-    requires { (i k : ℕ) → slice_get found.now i ≡ Some (Some k) → k < length (entries responses.now) }
-    ensures listed { IfOk result (λ table. AreListed (entries responses.now) found.now
-        (length found.now) table.places.items table.statuses.items) }
-    ensures missing { IfErr result (IsMissing found.now) }
+    requires once { IsOnce (plan_records plan.now) }
+    requires noted { AreNoted (plan_records plan.now) (entries responses.now)
+        (length (entries responses.now)) found.now }
+    ensures rows { IfOk result (λ table. HasRows (plan_records plan.now) (entries responses.now)
+        table.places.items table.statuses.items) }
+    ensures sound { OnOk result (HasAllPlaces (plan_records plan.now) (entries responses.now)) }
+    ensures least { IfErr result (λ fault. RefusesMatch fault (plan_records plan.now)
+        (entries responses.now)) }
 {
     let mut places = Vec::with_capacity(alloc, found.len())?;
     let mut statuses = Vec::with_capacity(alloc, found.len())?;

@@ -49,9 +49,9 @@ fn whole_text(alloc: Global, done: &Done<'_>) -> Result<String, AllocError>
 pub fn response_text(alloc: Global, done: &Done<'_>) -> Result<String, TextFault>
     ensures text { IfOk result (λ text. string_bytes text ≡ responses.response_text done.now) }
     ensures not_whole { (at : ℕ) → (result ≡ Err (faults.NotWhole at)) ↔ IsFirstNotWhole done.now at }
-    ensures one_per_id { HasOnePerId (plan_records done.now.plan)
+    ensures one_per_id { HasOnePerId done.now.requests
         (responses.response_value done.now) }
-    ensures fits { ListsFit (plan_records done.now.plan) (responses.response_value done.now) }
+    ensures fits { ListsFit done.now.requests (responses.response_value done.now) }
     ensures document { IsResponseDocument (responses.response_value done.now) }
     ensures reads_back { IfOk result (λ text. HasShallowBodies done.now
         → read (string_bytes text) ≡ Some (responses.response_value done.now)) }

@@ -6,20 +6,8 @@ ghost use Rattle.odb_doc.specs.recorded.OutcomeValues.{IsHeldOutcome};
 ghost use Rattle.odb_reply.specs.Readable.{AnswersBy};
 
 use odb_doc::laws::every_outcome;
-use odb_doc::{Outcome, is_whole};
+use odb_doc::is_whole;
 use odb_sched::{Answer, Done};
-
-/// Returns whether each number in the body of an outcome is whole.
-fn is_whole_outcome(outcome: &Outcome) -> bool
-    ensures value { IsTrue result ↔ HasWholeBody (Some outcome.now) }
-    ensures held { IsTrue result → IsHeldOutcome outcome.now }
-{
-    every_outcome(outcome);
-    match &outcome.body {
-        Some(body) => is_whole(body),
-        None => true,
-    }
-}
 
 /// Returns whether each number in the body of an answer is whole.
 fn has_whole_body(answer: &Answer<'_>) -> bool
@@ -27,9 +15,13 @@ fn has_whole_body(answer: &Answer<'_>) -> bool
     ensures held { IsTrue result → (outcome : values.Outcome)
         → shown answer.now ≡ Some outcome → IsHeldOutcome outcome }
 {
-    match answer {
-        Answer::Reported(outcome) => is_whole_outcome(outcome),
-        Answer::FailedDependency => true,
+    let Answer::Reported(outcome) = answer else {
+        return true;
+    };
+    every_outcome(outcome);
+    match &outcome.body {
+        Some(body) => is_whole(body),
+        None => true,
     }
 }
 

@@ -6,7 +6,7 @@ use Rattle.odb_check.specs.Plans.{plan_records, shape}
 use Rattle.odb_check.specs.Positions.{group_at}
 use Rattle.odb_sched.specs.Statuses.{is_success}
 use Rattle.odb_reply.specs.ResponseDocuments.{entries, entry_of}
-use Rattle.odb_reply.specs.Tables.{places, statuses}
+use Rattle.odb_reply.specs.Fits.{places, statuses}
 use Rattle.odb_reply.proofs.RuleLemmas.{place_within, first_differs, not_differs, first_unsound, not_success, not_failed, none_last}
 use Rattle.odb_reply.proofs.matching.broken_rule.Goals as goal
 use Rattle.odb_reply.proofs.matching.broken_rule.Goals.{else-is_success-via-then-is_success+else-has_failed_need, else-is_success-via-else-is_success}
@@ -22,7 +22,6 @@ returns-then-not-has_group-clause-first c =
     (λ same. true≢false (sym (c.if-not-has_group.ensures.1 (same ∙ group))))
 
 pub returns-then-has_failed_need-clause-first : goal.returns-then-has_failed_need-clause-first
-unfolding shape
 returns-then-has_failed_need-clause-first c =
     let rs = plan_records c.args.plan.now in
     let es = entries c.args.responses.now in
@@ -30,10 +29,9 @@ returns-then-has_failed_need-clause-first c =
     let group : group_at rs c.args.i ≡ (record_of c.request.result.now).group = ap (option_and_then (λ (r : Record). r.group)) c.request.ensures.value in
     let same = not_differs rs es (places c.args.table.now) all c.args.i c.place.result (entry_of c.entry.result.now) c.requires.rows c.place.ensures c.entry.ensures (c.if-not-has_group.ensures.0 refl ∙ sym group) in
     let passes : is_success (get_or all c.args.i 0) ≡ true = ap is_success (get_or_from_slice_get all c.args.i c.status.result 0 c.status.ensures) ∙ sym c.if-is_success.ensures in
-    first_unsound rs es (places c.args.table.now) all c.args.units.now c.args.i c.requires.rows c.requires.units c.every_plan.ensures.order c.requires.request same passes (sym c.if-has_failed_need.ensures)
+    first_unsound rs es (places c.args.table.now) all c.args.units.now (shape c.args.plan.now) c.args.i c.requires.rows c.requires.units c.every_plan.ensures.shape c.every_plan.ensures.order c.requires.request same passes (sym c.if-has_failed_need.ensures)
 
 pub returns-clause-none : goal.returns-clause-none
-unfolding shape
 returns-clause-none c =
     let rs = plan_records c.args.plan.now in
     let es = entries c.args.responses.now in
@@ -43,7 +41,7 @@ returns-clause-none c =
     let status : get_or all c.args.i 0 ≡ c.status.result = get_or_from_slice_get all c.args.i c.status.result 0 c.status.ensures in
     elim c.else-is_success.branch [
       | else-is_success-via-then-is_success+else-has_failed_need w ↦
-          none_last rs es c.args.i same (not_failed rs es (places c.args.table.now) all c.args.units.now c.args.i c.requires.rows c.requires.units c.every_plan.ensures.order c.requires.request (sym w.if-has_failed_need.ensures))
+          none_last rs es c.args.i same (not_failed rs es (places c.args.table.now) all c.args.units.now (shape c.args.plan.now) c.args.i c.requires.rows c.requires.units c.every_plan.ensures.shape c.every_plan.ensures.order c.requires.request (sym w.if-has_failed_need.ensures))
       | else-is_success-via-else-is_success w ↦
           let failed : is_success (get_or all c.args.i 0) ≡ false = ap is_success status ∙ sym w.if-is_success.ensures in
           none_last rs es c.args.i same (not_success rs es (places c.args.table.now) all c.args.i c.requires.rows failed)

@@ -1,7 +1,7 @@
 use Rattle.std.proofs.Common.{◌≡◌, drop, not}
 use Rattle.std.specs.List.{list_any}
 use Rattle.odb_reply.specs.Places.{is_satisfied}
-use Rattle.odb_reply.specs.Tables.{statuses}
+use Rattle.odb_reply.specs.Fits.{statuses}
 use Rattle.odb_reply.proofs.matching.has_failed_need.Given as goal
 
 -- the result is that of the remaining needs

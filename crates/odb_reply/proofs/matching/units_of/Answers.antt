@@ -4,7 +4,7 @@ use Rattle.odb_check.specs.Plans.{plan_records}
 use Rattle.odb_check.specs.Units.{unit_count}
 use Rattle.odb_sched.specs.Statuses.{is_success}
 use Rattle.odb_reply.specs.Places.{AreUnits}
-use Rattle.odb_reply.specs.Tables.{statuses}
+use Rattle.odb_reply.specs.Fits.{statuses}
 use Rattle.odb_reply.proofs.UnitLemmas.{AreUnits-none, AreUnits-succeeded, AreUnits-failed}
 use Rattle.odb_reply.proofs.matching.units_of.Goals as goal
 use Rattle.odb_reply.proofs.matching.units_of.Goals.{then-not-is_success, else-not-is_success}

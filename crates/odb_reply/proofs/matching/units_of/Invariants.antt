@@ -1,6 +1,6 @@
 use Rattle.odb_check.specs.Plans.{plan_records}
 use Rattle.odb_reply.specs.Places.{AreUnits}
-use Rattle.odb_reply.specs.Tables.{statuses}
+use Rattle.odb_reply.specs.Fits.{statuses}
 use Rattle.odb_reply.proofs.matching.units_of.Given as goal
 
 abbrev pub invariant-loop-i : goal.invariant-loop-i

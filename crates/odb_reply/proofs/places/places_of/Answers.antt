@@ -3,7 +3,8 @@ use Rattle.odb_check.specs.Plans.{plan_records}
 use Rattle.odb_reply.specs.Fits.{id_in}
 use Rattle.odb_reply.specs.Places.{Places, AreNoted, IsNoted, IsMisplaced}
 use Rattle.odb_reply.specs.ResponseDocuments.{Entry, entries}
-use Rattle.odb_reply.proofs.PlaceLemmas.{AreNoted-none, AreNoted-more, IsLeastAt-misplaced, length-noted}
+use Rattle.odb_reply.proofs.IdLemmas.{one_position}
+use Rattle.odb_reply.proofs.PlaceLemmas.{AreNoted-none, AreNoted-more, RefusesMatch-misplaced, length-noted}
 use Rattle.odb_reply.proofs.SliceLemmas.{written_over}
 use Rattle.odb_reply.proofs.places.places_of.Goals as goal
 
@@ -33,7 +34,7 @@ returns-in-Err-clause-first c =
     let old : Places = c.loop-at.places.items in
     let has : id_in es c.loop-at.at ≡ Some id = ap (λ found. option_map (λ (e : Entry). e.id) found) c.entry.ensures in
     let misplaced : IsMisplaced rs id old c.in-Err.rule = subst (λ (xs : Places). IsMisplaced rs id xs c.in-Err.rule) c.deref_mut.ensures.value c.in-Err.ensures.misplaced in
-    IsLeastAt-misplaced rs es c.loop-at.at id old c.in-Err.rule c.loop-at.invariant has misplaced
+    RefusesMatch-misplaced rs es c.loop-at.at id old c.in-Err.rule (one_position rs c.every_plan.ensures.positions) c.loop-at.invariant has misplaced
 
 pub returns-clause-noted : goal.returns-clause-noted
 returns-clause-noted c =
@@ -41,3 +42,6 @@ returns-clause-noted c =
     let es = entries c.args.responses.now in
     let all : length es ≡ c.loop-at.at = omega (arith, c.loop-at.auto.at-end) in
     subst (λ (n : ℕ). AreNoted rs es n c.loop-at.places.items) (sym all) c.loop-at.invariant
+
+pub returns-clause-once : goal.returns-clause-once
+returns-clause-once c = one_position (plan_records c.args.plan.now) c.every_plan.ensures.positions

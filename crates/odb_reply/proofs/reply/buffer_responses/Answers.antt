@@ -1,5 +1,4 @@
 use Rattle.std.proofs.Common.{◌≡◌, ◌++◌, ◌+◌, ◌≤◌, rules, length, string_bytes}
-use Rattle.odb_check.specs.Plans.{plan_records}
 use Rattle.odb_doc.specs.Devices.{AppendsPrefix}
 use Rattle.odb_reply.specs.Parts.{rest_text}
 use Rattle.odb_reply.proofs.RestLemmas.{rest_text-last}
@@ -50,6 +49,6 @@ returns-in_err-push_str-clause-err g c =
 pub returns-clause-ok : goal.returns-clause-ok
 returns-clause-ok g c =
     let state = c.args.done.now in
-    let all : length (plan_records state.plan) ≤ c.loop-i.i = rw (← c.plan.ensures.plan, ← c.len-i-end.ensures.count) c.loop-i-test.false in
+    let all : length state.requests ≤ c.loop-i.i = rw (← c.plan.ensures.plan, ← c.len-i-end.ensures.count) c.loop-i-test.false in
     let rest : string_bytes c.loop-i.buffer ++ rest_text state c.loop-i.i ≡ string_bytes c.push_str.new.self = rest_text-last state c.loop-i.i (string_bytes c.loop-i.buffer) (string_bytes c.push_str.new.self) all c.in_ok-push_str.ensures.bytes in
     rw rest at c.loop-i.invariant.written

@@ -1,16 +1,22 @@
 use Rattle.std.proofs.Common.{◌≡◌, ◌∙◌, Some, None, slice_get, ap, subst, length, ℕ, arith}
 use Rattle.std.proofs.lemmas.Option.{slice_get-get_or}
+use Rattle.odb_check.specs.Plans.{plan_records}
 use Rattle.odb_reply.specs.Places.{AreListed}
 use Rattle.odb_reply.specs.ResponseDocuments.{entries, entry_of}
-use Rattle.odb_reply.proofs.RowLemmas.{AreListed-more, IsFirstFree-from}
+use Rattle.odb_reply.proofs.RowLemmas.{AreListed-more, HasAllPlaces-from, HasRows-from, RefusesMatch-missing}
 use Rattle.odb_reply.proofs.table.table_of.Goals as goal
 
-pub returns-in_default-clause-missing : goal.returns-in_default-clause-missing
-returns-in_default-clause-missing c =
+pub returns-in_default-clause-least : goal.returns-in_default-clause-least
+returns-in_default-clause-least c =
     let found = c.args.found.now in
-    let at = c.loop-at.at in
-    let none : slice_get found at ≡ Some None = slice_get-get_or found at None c.loop-at-test.true ∙ ap Some c.in_default.is in
-    IsFirstFree-from (entries c.args.responses.now) found at c.loop-at.places.items c.loop-at.statuses.items c.loop-at.invariant none
+    let none : slice_get found c.loop-at.at ≡ Some None = slice_get-get_or found c.loop-at.at None c.loop-at-test.true ∙ ap Some c.in_default.is in
+    RefusesMatch-missing (plan_records c.args.plan.now) (entries c.args.responses.now) found c.loop-at.at c.loop-at.places.items c.loop-at.statuses.items c.requires.once c.requires.noted c.loop-at.invariant none
+
+pub entry-requires : goal.entry-requires
+entry-requires c =
+    let found = c.args.found.now in
+    let here : slice_get found c.loop-at.at ≡ Some (Some c.in-Some.k) = slice_get-get_or found c.loop-at.at None c.loop-at-test.true ∙ ap Some c.in-Some.is in
+    (c.requires.noted.noted c.loop-at.at c.in-Some.k here).0
 
 pub loop-at-preserved : goal.loop-at-preserved
 loop-at-preserved c =
@@ -21,7 +27,16 @@ loop-at-preserved c =
     AreListed-more (entries c.args.responses.now) found at c.in-Some.k c.loop-at.places.items c.loop-at.statuses.items (entry_of c.entry.result.now) c.loop-at.invariant here c.entry.ensures
     )
 
-pub returns-clause-listed : goal.returns-clause-listed
-returns-clause-listed c =
-    let all : c.loop-at.at ≡ length c.args.found.now = omega (arith, c.loop-at.auto.at-end) in
-    subst (λ (n : ℕ). AreListed (entries c.args.responses.now) c.args.found.now n c.loop-at.places.items c.loop-at.statuses.items) all c.loop-at.invariant
+pub returns-clause-rows : goal.returns-clause-rows
+returns-clause-rows c =
+    let found = c.args.found.now in
+    let all : c.loop-at.at ≡ length found = omega (arith, c.loop-at.auto.at-end) in
+    HasRows-from (plan_records c.args.plan.now) (entries c.args.responses.now) found c.loop-at.places.items c.loop-at.statuses.items c.requires.once c.requires.noted
+    (subst (λ (n : ℕ). AreListed (entries c.args.responses.now) found n c.loop-at.places.items c.loop-at.statuses.items) all c.loop-at.invariant)
+
+pub returns-clause-sound : goal.returns-clause-sound
+returns-clause-sound c =
+    let found = c.args.found.now in
+    let all : c.loop-at.at ≡ length found = omega (arith, c.loop-at.auto.at-end) in
+    HasAllPlaces-from (plan_records c.args.plan.now) (entries c.args.responses.now) found c.loop-at.places.items c.loop-at.statuses.items c.requires.once c.requires.noted
+    (subst (λ (n : ℕ). AreListed (entries c.args.responses.now) found n c.loop-at.places.items c.loop-at.statuses.items) all c.loop-at.invariant)

@@ -1,5 +1,4 @@
 use Rattle.std.proofs.Common.{◌∙◌, ◌≤◌, ◌++◌, sym, ap, length}
-use Rattle.odb_check.specs.Plans.{plan_records}
 use Rattle.odb_reply.specs.Parts.{rest_text}
 use Rattle.odb_reply.proofs.RestLemmas.{response_text-prefix, rest_text-none}
 use Rattle.odb_reply.proofs.text.whole_text.Goals as goal
@@ -12,7 +11,7 @@ loop-i-init c =
 pub returns : goal.returns
 returns c =
     let state = c.args.done.now in
-    let all : length (plan_records state.plan) ≤ c.loop-i.i = rw (← c.plan.ensures.plan, ← c.len-count.ensures.count) c.loop-i-test.false in
+    let all : length state.requests ≤ c.loop-i.i = rw (← c.plan.ensures.plan, ← c.len-count.ensures.count) c.loop-i-test.false in
     let end = rest_text-none state c.loop-i.i all in
     let whole = rw end at c.loop-i.invariant in
     c.in_ok-push_str-2.ensures.bytes ∙ whole
