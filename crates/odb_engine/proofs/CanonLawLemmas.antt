@@ -5,11 +5,10 @@ use Rattle.odb_doc.specs.declared.fault.TextFault.TheVariants.{NotWhole}
 use Rattle.odb_doc.specs.canonical.Canonical.{HasWholeBodies, IsFirstNotWhole}
 use Rattle.odb_doc.specs.batch.Records.{Record}
 use Rattle.odb_doc.specs.Refusals.{Printed}
-use Rattle.odb_engine.specs.Cascade.{line_of}
+use Rattle.odb_engine.specs.Cascade.{line_of, IsOne}
 use Rattle.odb_engine.specs.Commands.{Canonical, IsNotWhole}
 use Rattle.odb_doc.specs.Faults.{text_row}
 use Rattle.std.proofs.lemmas.Option.{same_Some}
-use Rattle.odb_engine.specs.Laws.{IsOne}
 
 one_first : (batch : List Record) (at other : ℕ) → IsFirstNotWhole batch at → IsFirstNotWhole batch other → at ≡ other
 one_first batch at other one two =

@@ -1,5 +1,5 @@
 -- The exits of an engine: at each `?` the output is as the cascade states.
-use Rattle.std.proofs.Common.{◌≡◌, ◌⊎◌, ◌↔◌, ℕ, ◌≤◌, ◌<◌, ◌∙◌, List, [], length, take, drop, Option, None, Some, Result, Ok, Err, IfOk, IfErr, String, string_bytes, inl, inr, refl, sym, subst, ap, arith}
+use Rattle.std.proofs.Common.{◌≡◌, ◌⊎◌, ◌↔◌, ℕ, ◌≤◌, ◌<◌, List, [], length, take, drop, Option, None, Some, Result, Ok, Err, IfOk, IfErr, String, string_bytes, inl, inr, refl, sym, subst, arith}
 use Rattle.std.proofs.lemmas.List.{take-append-drop, length-take, drop_all}
 use Rattle.std.specs.Result.{IsErrAnd}
 use Rattle.std.proofs.lemmas.Result.{err_from_is_err_and, IfOk-weaker}
@@ -63,10 +63,6 @@ pub halted-by : (Is : Printed → Type 0) (row : Option Printed) → ((refusal :
 halted-by Is row may (halts.Refused refusal) by = may (refusals.printed refusal) by
 halted-by Is row may halts.Read by = absurd by
 halted-by Is row may halts.OutOfMemory by = tt
-
--- a fault with a row is another than one without
-pub has-row : {F : Type 0} (row : F → Option Printed) (none fault : F) (refusal : Printed) → row none ≡ None → row fault ≡ Some refusal → ¬ (fault ≡ none)
-has-row row none fault refusal without with_row same = absurd (cc (sym without ∙ sym (ap row same) ∙ with_row))
 
 pub Halted-weaker : (Is Js : Printed → Type 0) → ((refusal : Printed) → Is refusal → Js refusal) → (halt : Halt) → Halted Is halt → Halted Js halt
 Halted-weaker Is Js to (halts.Refused refusal) so = to _ so

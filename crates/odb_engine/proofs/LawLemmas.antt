@@ -1,6 +1,7 @@
 -- Two texts that the cascade allows for the same bytes are equal, if P allows one for each batch.
+use Rattle.std.proofs.lemmas.Bool.{false≢true}
 use Rattle.std.proofs.lemmas.Option.{same_Some}
-use Rattle.std.proofs.Common.{◌≡◌, ℕ, ◌≤◌, ◌<◌, ◌∙◌, List, Some, option_map, length, unwrap_or, inl, inr, refl, sym, subst, ap, arith}
+use Rattle.std.proofs.Common.{◌≡◌, ℕ, ◌≤◌, ◌<◌, ◌∙◌, List, Option, Some, None, IsSome, is_some, option_map, length, unwrap_or, inl, inr, refl, sym, subst, ap, arith}
 use Rattle.serde_json.specs.Data.{Data}
 use Rattle.odb_doc.specs.declared.fault.Place.{Place}
 use Rattle.odb_doc.specs.declared.fault.Place.TheVariants.{Batch}
@@ -8,29 +9,24 @@ use Rattle.odb_doc.specs.declared.fault.DocFault.{DocFault}
 use Rattle.odb_doc.specs.declared.fault.DocFault.TheVariants as faults
 use Rattle.odb_doc.specs.declared.fault.DocumentRule.TheVariants as rules
 use Rattle.odb_doc.specs.Documents.{most_bytes, IsDocument, RefusesDocument}
-use Rattle.odb_doc.specs.Faults as document
 use Rattle.odb_doc.specs.Faults.{document_row}
 use Rattle.odb_doc.specs.batch.LeastFault.{IsWellShaped, IsLeastFault}
 use Rattle.odb_doc.specs.batch.Records.{Record, IsBatchOf}
 use Rattle.odb_check.specs.declared.fault.CheckFault.{CheckFault}
-use Rattle.odb_check.specs.FaultTable as names
 use Rattle.odb_check.specs.FaultTable.{check_row}
-use Rattle.odb_check.specs.declared.fault.CheckFault.TheVariants as check_faults
 use Rattle.odb_check.specs.LeastNameFault.{HasGoodNames, RefusesNames}
-use Rattle.odb_engine.specs.Laws.{IsOne}
+use Rattle.odb_engine.specs.Cascade.{IsOne, Writes, line_of, RefusesBytes, IsLeast, Accepts, Answers, HasValue, at_place}
 use Rattle.odb_doc.specs.Refusals.{Printed}
-use Rattle.odb_engine.specs.Cascade.{Writes, line_of, RefusesBytes, IsLeast, Accepts, Answers, HasValue, at_place}
 use Rattle.odb_engine.specs.Cascade.IsLeast.{OfBytes, OfShape, OfNames}
-use Rattle.odb_engine.proofs.EngineLemmas.{has-row}
 
 -- the laws of the lower crates on their own relations
 pub record AreFunctional : Type 0 where
-  pub one_shape : (value : Data) (fault other : DocFault) → document.IsNumbered fault → document.IsNumbered other → IsLeastFault fault value → IsLeastFault other value → fault ≡ other
-  pub no_shape : (value : Data) (fault : DocFault) → document.IsNumbered fault → IsLeastFault fault value → ¬ IsWellShaped value
+  pub one_shape : (value : Data) (fault other : DocFault) → IsSome (document_row fault) → IsSome (document_row other) → IsLeastFault fault value → IsLeastFault other value → fault ≡ other
+  pub no_shape : (value : Data) (fault : DocFault) → IsSome (document_row fault) → IsLeastFault fault value → ¬ IsWellShaped value
   pub one_batch : (value : Data) (batch other : List Record) → IsBatchOf value batch → IsBatchOf value other → batch ≡ other
-  pub one_name : (requests : List Record) (fault other : CheckFault) → names.IsNumbered fault → names.IsNumbered other → RefusesNames fault requests → RefusesNames other requests
+  pub one_name : (requests : List Record) (fault other : CheckFault) → IsSome (check_row fault) → IsSome (check_row other) → RefusesNames fault requests → RefusesNames other requests
       → fault ≡ other
-  pub no_name : (requests : List Record) (fault : CheckFault) → names.IsNumbered fault → RefusesNames fault requests → ¬ HasGoodNames requests
+  pub no_name : (requests : List Record) (fault : CheckFault) → IsSome (check_row fault) → RefusesNames fault requests → ¬ HasGoodNames requests
 
 -- bytes have one value
 pub one_value : (bytes : List ℕ) (d e : Data) → IsDocument bytes d → IsDocument bytes e → d ≡ e
@@ -43,7 +39,7 @@ data Cause (bytes : List ℕ) : DocFault → Type 0 where
   Long : most_bytes < length bytes → Cause bytes (faults.Document rules.TooLong)
   NoJson : length bytes ≤ most_bytes → ((d : Data) → ¬ IsDocument bytes d) → Cause bytes (faults.Document rules.NotJson)
 
-cause : (bytes : List ℕ) (fault : DocFault) → document.IsNumbered fault → RefusesDocument fault bytes → Cause bytes fault
+cause : (bytes : List ℕ) (fault : DocFault) → IsSome (document_row fault) → RefusesDocument fault bytes → Cause bytes fault
 cause bytes (faults.Document rules.TooLong) numbered long = Long long
 cause bytes (faults.Document rules.NotJson) numbered refused = NoJson refused.0 (λ d is. refused.1 d is.1)
 cause bytes (faults.Document rules.NotObject) numbered none = absurd none
@@ -51,7 +47,7 @@ cause bytes (faults.Document rules.NoRequests) numbered none = absurd none
 cause bytes (faults.Document rules.UnknownMember) numbered none = absurd none
 cause bytes (faults.Document rules.TooMany) numbered none = absurd none
 cause bytes (faults.Request at rule) numbered none = absurd none
-cause bytes faults.OutOfMemory numbered none = absurd (numbered refl)
+cause bytes faults.OutOfMemory numbered none = absurd (false≢true numbered)
 
 one_cause : (bytes : List ℕ) (fault other : DocFault) → Cause bytes fault → Cause bytes other → fault ≡ other
 one_cause bytes _ _ (Long a) (Long b) = refl
@@ -63,15 +59,12 @@ no_value : (bytes : List ℕ) (fault : DocFault) (d : Data) → Cause bytes faul
 no_value bytes _ d (Long long) is = omega (arith, long, is.0)
 no_value bytes _ d (NoJson short none) is = none d is
 
+some-mapped : {X Y : Type 0} (f : X → Y) (o : Option X) (y : Y) → option_map f o ≡ Some y → IsSome o
+some-mapped f None y is = absurd (cc (is))
+some-mapped f (Some x) y is = refl
+
 bytes_cause : (place : Place) (bytes : List ℕ) (refusal : Printed) → (refused : RefusesBytes place bytes refusal) → Cause bytes refused.fault
-bytes_cause place bytes refusal refused =
-    cause bytes refused.fault (has-row (λ (fault : DocFault). option_map (at_place place) (document_row fault)) faults.OutOfMemory refused.fault refusal refl refused.is) refused.refuses
-
-numbered_shape : (fault : DocFault) (refusal : Printed) → document_row fault ≡ Some refusal → document.IsNumbered fault
-numbered_shape fault refusal is = has-row document_row faults.OutOfMemory fault refusal refl is
-
-numbered_names : (fault : CheckFault) (refusal : Printed) → check_row fault ≡ Some refusal → names.IsNumbered fault
-numbered_names fault refusal is = has-row check_row check_faults.OutOfMemory fault refusal refl is
+bytes_cause place bytes refusal refused = cause bytes refused.fault (some-mapped (at_place place) (document_row refused.fault) refusal refused.is) refused.refuses
 
 pub one_refusal : (place : Place) (bytes : List ℕ) (refusal other : Printed) → RefusesBytes place bytes refusal → RefusesBytes place bytes other → refusal ≡ other
 one_refusal place bytes refusal other one two =
@@ -90,26 +83,26 @@ least_one law bytes s t (OfBytes one) (OfShape g has d) = absurd (refused_no_val
 least_one law bytes s t (OfBytes one) (OfNames g has d) = absurd (refused_no_value Batch bytes s _ one has)
 least_one law bytes s t (OfShape f has e) (OfBytes two) = absurd (refused_no_value Batch bytes t (IsLeastFault f) two has)
 least_one law bytes s t (OfShape f has e) (OfShape g had d) =
-    same_Some s t (sym e ∙ ap document_row (law.one_shape had.value f g (numbered_shape f s e) (numbered_shape g t d) (subst (IsLeastFault f) (one_value bytes has.value had.value has.document had.document) has.holds) had.holds) ∙ d)
+    same_Some s t (sym e ∙ ap document_row (law.one_shape had.value f g (ap is_some e) (ap is_some d) (subst (IsLeastFault f) (one_value bytes has.value had.value has.document had.document) has.holds) had.holds) ∙ d)
 least_one law bytes s t (OfShape f has e) (OfNames g had d) =
-    absurd (law.no_shape had.value f (numbered_shape f s e) (subst (IsLeastFault f) (one_value bytes has.value had.value has.document had.document) has.holds) had.holds.shape)
+    absurd (law.no_shape had.value f (ap is_some e) (subst (IsLeastFault f) (one_value bytes has.value had.value has.document had.document) has.holds) had.holds.shape)
 least_one law bytes s t (OfNames f has e) (OfBytes two) = absurd (refused_no_value Batch bytes t _ two has)
 least_one law bytes s t (OfNames f has e) (OfShape g had d) =
-    absurd (law.no_shape has.value g (numbered_shape g t d) (subst (IsLeastFault g) (one_value bytes had.value has.value had.document has.document) had.holds) has.holds.shape)
+    absurd (law.no_shape has.value g (ap is_some d) (subst (IsLeastFault g) (one_value bytes had.value has.value had.document has.document) had.holds) has.holds.shape)
 least_one law bytes s t (OfNames f has e) (OfNames g had d) =
     let same = one_value bytes has.value had.value has.document had.document in
     let is_batch = subst (λ v. IsBatchOf v has.holds.batch) same has.holds.is_batch in
-    same_Some s t (sym e ∙ ap check_row (law.one_name had.holds.batch f g (numbered_names f s e) (numbered_names g t d) (subst (RefusesNames f) (law.one_batch had.value _ _ is_batch had.holds.is_batch) has.holds.holds) had.holds.holds) ∙ d)
+    same_Some s t (sym e ∙ ap check_row (law.one_name had.holds.batch f g (ap is_some e) (ap is_some d) (subst (RefusesNames f) (law.one_batch had.value _ _ is_batch had.holds.is_batch) has.holds.holds) had.holds.holds) ∙ d)
 
 least_not : AreFunctional → (bytes : List ℕ) (P : List Record → Type 0) (refusal : Printed) → IsLeast bytes refusal → Accepts bytes P → ⊥
 least_not law bytes P refusal (OfBytes one) is =
     no_value bytes one.fault is.value (bytes_cause Batch bytes refusal one) is.document
 least_not law bytes P refusal (OfShape f has e) is =
-    law.no_shape is.value f (numbered_shape f refusal e) (subst (IsLeastFault f) (one_value bytes has.value is.value has.document is.document) has.holds) is.shape
+    law.no_shape is.value f (ap is_some e) (subst (IsLeastFault f) (one_value bytes has.value is.value has.document is.document) has.holds) is.shape
 least_not law bytes P refusal (OfNames f has e) is =
     let same = one_value bytes has.value is.value has.document is.document in
     let is_batch = subst (λ v. IsBatchOf v has.holds.batch) same has.holds.is_batch in
-    law.no_name is.batch f (numbered_names f refusal e) (subst (RefusesNames f) (law.one_batch is.value _ _ is_batch is.is_batch) has.holds.holds) is.names
+    law.no_name is.batch f (ap is_some e) (subst (RefusesNames f) (law.one_batch is.value _ _ is_batch is.is_batch) has.holds.holds) is.names
 
 -- two readings of a batch that is accepted have the same requests
 same_batch : AreFunctional → (bytes : List ℕ) (P Q : List Record → Type 0) → (one : Accepts bytes P) (two : Accepts bytes Q) → one.batch ≡ two.batch

@@ -6,11 +6,9 @@ mod SendLemmas
 mod ReplayLemmas
 mod RunLemmas
 mod RunLawLemmas
-mod RunPlanLemmas
 mod LawLemmas
 mod ReadAgainLemmas
 mod SecondLemmas
-mod PlanLemmas
 mod CourseLemmas
 mod TextLemmas
 mod MatchLemmas

@@ -1,56 +1,48 @@
 -- What a match writes of a batch and the bytes of a response document is one text.
-use Rattle.std.proofs.Common.{◌≡◌, ◌∙◌, ℕ, List, Some, inl, inr, refl, sym, ap}
+use Rattle.std.proofs.Common.{◌≡◌, ◌∙◌, ℕ, List, Some, IsSome, is_some, inl, inr, sym, ap}
 use Rattle.std.proofs.lemmas.Option.{same_Some}
 use Rattle.std.specs.List.{AllZip}
 use Rattle.serde_json.specs.Data.{Data}
 use Rattle.odb_doc.specs.declared.fault.Place.TheVariants as places
 use Rattle.odb_doc.specs.batch.Records.{Record}
 use Rattle.odb_reply.specs.declared.match_fault.MatchFault.{MatchFault}
-use Rattle.odb_reply.specs.declared.match_fault.MatchFault.TheVariants as misfits
 use Rattle.odb_reply.specs.declared.response_fault.ResponseFault.{ResponseFault}
-use Rattle.odb_reply.specs.declared.response_fault.ResponseFault.TheVariants as response_faults
 use Rattle.odb_reply.specs.Fits.{Fits, IsTableOf}
 use Rattle.odb_reply.specs.LeastMatchFault.{RefusesMatch}
 use Rattle.odb_reply.specs.MatchFaults as matches
 use Rattle.odb_reply.specs.ResponseDocuments.{Entry, IsResponseDocument, RefusesResponses, Says, responses_in}
-use Rattle.odb_reply.specs.ResponseFaults as documents
+use Rattle.odb_reply.specs.ResponseDocuments as documents
 use Rattle.odb_doc.specs.Refusals.{Printed}
-use Rattle.odb_engine.specs.Cascade.{line_of}
-use Rattle.odb_engine.specs.Laws.{IsOne}
+use Rattle.odb_engine.specs.Cascade.{line_of, IsOne}
 use Rattle.odb_engine.specs.Matches.{Matches, MatchesEntries, Misfits, match_text}
 use Rattle.odb_engine.specs.Commands.{BySecond}
-use Rattle.odb_engine.proofs.EngineLemmas.{has-row}
 use Rattle.odb_engine.proofs.SecondLemmas.{second_one, some_document_one}
 
 -- the laws of odb_reply on its own relations
 pub record AreOneMatch : Type 0 where
-  pub one_fault : (value : Data) (fault other : ResponseFault) → documents.IsNumbered fault → documents.IsNumbered other → RefusesResponses fault value → RefusesResponses other value → fault ≡ other
-  pub no_fault : (value : Data) (fault : ResponseFault) → documents.IsNumbered fault → RefusesResponses fault value → ¬ IsResponseDocument value
+  pub one_fault : (value : Data) (fault other : ResponseFault) → IsSome (documents.responses_row fault) → IsSome (documents.responses_row other) → RefusesResponses fault value → RefusesResponses other value → fault ≡ other
+  pub no_fault : (value : Data) (fault : ResponseFault) → IsSome (documents.responses_row fault) → RefusesResponses fault value → ¬ IsResponseDocument value
   pub one_list : (elements : List Data) (entries others : List Entry) → AllZip Says elements entries → AllZip Says elements others → entries ≡ others
-  pub one_misfit : (requests : List Record) (responses : List Entry) (fault other : MatchFault) → matches.IsNumbered fault → matches.IsNumbered other
+  pub one_misfit : (requests : List Record) (responses : List Entry) (fault other : MatchFault) → IsSome (matches.match_row fault) → IsSome (matches.match_row other)
       → RefusesMatch fault requests responses → RefusesMatch other requests responses → fault ≡ other
-  pub no_misfit : (requests : List Record) (responses : List Entry) (fault : MatchFault) → matches.IsNumbered fault → RefusesMatch fault requests responses → ¬ Fits requests responses
+  pub no_misfit : (requests : List Record) (responses : List Entry) (fault : MatchFault) → IsSome (matches.match_row fault) → RefusesMatch fault requests responses → ¬ Fits requests responses
   pub one_table : (requests : List Record) (responses : List Entry) (places others statuses different : List ℕ) → Fits requests responses
       → IsTableOf requests responses places statuses → IsTableOf requests responses others different → (places ≡ others) × (statuses ≡ different)
 
-misfit-numbered : (fault : MatchFault) (refusal : Printed) → matches.match_row fault ≡ Some refusal → matches.IsNumbered fault
-misfit-numbered fault refusal is = has-row matches.match_row misfits.OutOfMemory fault refusal refl is
-
 one_misfits : AreOneMatch → (batch : List Record) (entries : List Entry) (s t : Printed) → Misfits batch entries s → Misfits batch entries t → s ≡ t
 one_misfits law batch entries s t one two =
-    same_Some s t (sym one.is ∙ ap matches.match_row (law.one_misfit batch entries one.fault two.fault (misfit-numbered one.fault s one.is) (misfit-numbered two.fault t two.is) one.least two.least) ∙ two.is)
+    same_Some s t (sym one.is ∙ ap matches.match_row (law.one_misfit batch entries one.fault two.fault (ap is_some one.is) (ap is_some two.is) one.least two.least) ∙ two.is)
 
 entries_one : AreOneMatch → (batch : List Record) (entries : List Entry) → IsOne (MatchesEntries batch entries)
 entries_one law batch entries a b s t (inl x) (inl y) = (x.ends ∙ sym y.ends, x.line ∙ ap line_of (one_misfits law batch entries x.refusal y.refusal x.is y.is) ∙ sym y.line)
-entries_one law batch entries a b s t (inl x) (inr y) = absurd (law.no_misfit batch entries x.is.fault (misfit-numbered x.is.fault x.refusal x.is.is) x.is.least y.fits)
-entries_one law batch entries a b s t (inr x) (inl y) = absurd (law.no_misfit batch entries y.is.fault (misfit-numbered y.is.fault y.refusal y.is.is) y.is.least x.fits)
+entries_one law batch entries a b s t (inl x) (inr y) = absurd (law.no_misfit batch entries x.is.fault (ap is_some x.is.is) x.is.least y.fits)
+entries_one law batch entries a b s t (inr x) (inl y) = absurd (law.no_misfit batch entries y.is.fault (ap is_some y.is.is) y.is.least x.fits)
 entries_one law batch entries a b s t (inr x) (inr y) =
     let same = law.one_table batch entries x.places y.places x.statuses y.statuses x.fits x.table y.table in
     (x.prints.0 ∙ sym y.prints.0, x.prints.1 ∙ ap (match_text batch) same.1 ∙ sym y.prints.1)
 
 pub matches_one : AreOneMatch → (batch : List Record) (bytes : List ℕ) → IsOne (Matches batch bytes)
-matches_one law batch bytes = second_one places.Responses documents.IsNumbered RefusesResponses documents.responses_row IsResponseDocument (λ value. AllZip Says (responses_in value))
-    (λ fault refusal is. has-row documents.responses_row response_faults.OutOfMemory fault refusal refl is)
+matches_one law batch bytes = second_one places.Responses documents.responses_row RefusesResponses IsResponseDocument (λ value. AllZip Says (responses_in value))
     (record { one_fault = law.one_fault; no_fault = law.no_fault; one_reading = λ value. law.one_list (responses_in value) }) bytes (MatchesEntries batch) (entries_one law batch)
 
 -- also by the reader of a response document

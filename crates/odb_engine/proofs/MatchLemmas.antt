@@ -8,7 +8,7 @@ use Rattle.odb_reply.specs.declared.response_fault.ResponseFault.{ResponseFault}
 use Rattle.odb_reply.specs.LeastMatchFault.{RefusesMatch}
 use Rattle.odb_reply.specs.MatchFaults as matches
 use Rattle.odb_reply.specs.ResponseDocuments.{Entry, RefusesResponses}
-use Rattle.odb_reply.specs.ResponseFaults as documents
+use Rattle.odb_reply.specs.ResponseDocuments as documents
 use Rattle.odb_engine.specs.declared.ending.Ended.TheVariants.{Refused}
 use Rattle.odb_engine.specs.declared.halt.Halt.{Halt}
 use Rattle.odb_engine.specs.Cascade.{line_of}

@@ -1,5 +1,5 @@
 -- What is written of a run by a document is read again: what the document records nests no deeper than a response may.
-use Rattle.std.proofs.Common.{◌≡◌, ◌≤◌, ℕ, false, List, All, Some, inl, inr, sym}
+use Rattle.std.proofs.Common.{◌≡◌, ◌≤◌, ℕ, false, List, All, Some, inl, inr, sym, subst}
 use Rattle.serde_json.specs.Data.{Data, depth}
 use Rattle.serde_json.specs.Read.{read}
 use Rattle.odb_doc.specs.recorded.Events.{EventValue, AreEventsOf, IsRecordableEvent}
@@ -7,7 +7,6 @@ use Rattle.odb_doc.specs.canonical.HeldValues.{IsHeld}
 use Rattle.odb_doc.specs.recorded.OutcomeValues.{IsRecordable}
 use Rattle.odb_doc.specs.recorded.Outcomes.{Recorded, AreOutcomesOf}
 use Rattle.odb_doc.specs.batch.Records.{Record}
-use Rattle.odb_check.specs.Plans.{plan_records}
 use Rattle.odb_sched.specs.declared.order.Order.{Order}
 use Rattle.odb_sched.specs.declared.policy.Policy.{Policy}
 use Rattle.odb_sched.specs.Choosing.{AllowsOrder}
@@ -16,7 +15,6 @@ use Rattle.odb_engine.specs.Cascade.{Writes, Accepts, Answers}
 use Rattle.odb_engine.specs.ReadAgain.{IsReadAgain}
 use Rattle.odb_engine.specs.Replays.{Replays}
 use Rattle.odb_engine.specs.Runs.{Runs}
-use Rattle.odb_engine.proofs.PlanLemmas.{read_again-plan}
 
 -- the laws of odb_doc on what is read from a text, and on what documents record
 pub record AreReadings : Type 0 where
@@ -31,20 +29,20 @@ answers-done P Q bytes text so (inl x) = absurd (cc (x.ends))
 answers-done P Q bytes text so (inr x) = record { value = x.value; document = x.document; shape = x.shape; batch = x.batch; is_batch = x.is_batch; names = x.names; holds = so x.batch x.holds }
 
 replays-again : AreReadings → (order : Order) (policy : Policy) (outcomes text : List ℕ) (batch : List Record) → Replays (AllowsOrder order) policy false (Some outcomes) batch Done text → IsReadAgain batch text
-replays-again law order policy outcomes text batch (document, gives, (plan, same, inl x)) = absurd (cc (x.ends))
-replays-again law order policy outcomes text batch (document, gives, (plan, same, inr (entries, is, inl result))) =
+replays-again law order policy outcomes text batch (document, gives, inl x) = absurd (cc (x.ends))
+replays-again law order policy outcomes text batch (document, gives, inr (entries, is, inl result)) =
     let reads = is.document.1.1 in
     let recordable = law.outcomes is.value entries (law.held document is.value reads) (law.nests document is.value reads) is.holds.1 in
-    read_again-plan (plan_records plan) batch _ text same (sym result.result) (result.read_again recordable)
-replays-again law order policy outcomes text batch (document, gives, (plan, same, inr (entries, is, inr lacks))) = absurd (cc (lacks.ends))
+    subst (IsReadAgain batch) (sym result.result) (result.read_again recordable)
+replays-again law order policy outcomes text batch (document, gives, inr (entries, is, inr lacks)) = absurd (cc (lacks.ends))
 
 runs-again : AreReadings → (policy : Policy) (events text : List ℕ) (batch : List Record) → Runs policy (Some events) batch Done text → IsReadAgain batch text
-runs-again law policy events text batch (document, gives, (plan, same, inl x)) = absurd (cc (x.ends))
-runs-again law policy events text batch (document, gives, (plan, same, inr (named, is, inl x))) = absurd (cc (x.ends))
-runs-again law policy events text batch (document, gives, (plan, same, inr (named, is, inr result))) =
+runs-again law policy events text batch (document, gives, inl x) = absurd (cc (x.ends))
+runs-again law policy events text batch (document, gives, inr (named, is, inl x)) = absurd (cc (x.ends))
+runs-again law policy events text batch (document, gives, inr (named, is, inr result)) =
     let reads = is.document.1.1 in
     let recordable = law.events is.value named (law.held document is.value reads) (law.nests document is.value reads) is.holds.1 in
-    read_again-plan (plan_records plan) batch _ text same (sym result.result) (result.read_again recordable)
+    subst (IsReadAgain batch) (sym result.result) (result.read_again recordable)
 
 pub replay-again : AreReadings → (order : Order) (policy : Policy) (bytes outcomes text : List ℕ) → Answers (Replays (AllowsOrder order) policy false (Some outcomes)) bytes Done text → Accepts bytes (λ batch. IsReadAgain batch text)
 replay-again law order policy bytes outcomes text = answers-done (Replays (AllowsOrder order) policy false (Some outcomes)) (λ batch. IsReadAgain batch text) bytes text (replays-again law order policy outcomes text)

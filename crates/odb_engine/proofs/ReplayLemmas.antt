@@ -8,8 +8,6 @@ use Rattle.odb_doc.specs.recorded.OutcomeValues.{IsRecordable}
 use Rattle.odb_doc.specs.recorded.Outcomes.{Recorded, IsSoundOutcome}
 use Rattle.odb_doc.specs.batch.Records.{Record}
 use Rattle.odb_doc.specs.WholeNumbers.{IsWhole}
-use Rattle.odb_check.specs.declared.plan.Plan.{Plan}
-use Rattle.odb_check.specs.Plans.{plan_records}
 use Rattle.odb_check.specs.Shape.{unit_of}
 use Rattle.odb_sched.specs.declared.phase.Phase.{Phase}
 use Rattle.odb_sched.specs.declared.phase.Phase.TheVariants.{Unstarted, Running, Reported}
@@ -24,7 +22,7 @@ use Rattle.odb_sched.specs.ExecFaults.{exec_row}
 use Rattle.odb_doc.specs.Refusals.{Printed}
 use Rattle.std.proofs.lemmas.Option.{same_Some}
 use Rattle.odb_sched.specs.Recordings.{outcome_for, recorded_for, offered, OffersRecorded}
-use Rattle.odb_sched.specs.State.{State, phase_at, at_first}
+use Rattle.odb_sched.specs.State.{State, phase_at, first_state}
 use Rattle.odb_sched.specs.Statuses.{is_status, is_success}
 use Rattle.odb_sched.specs.Steps.{unit_succeeded}
 use Rattle.odb_reply.specs.NotWhole.{HasWholeBody, HasWholeBodies}
@@ -120,12 +118,12 @@ in_range : (status : ℕ) → 200 ≤ status → status ≤ 599 → is_status st
 in_range status low high = grind (arith, nat_tests)
 
 -- an execution by recorded outcomes fails only if an outcome is missing
-pub lacks-outcome : (allows : Allowance) (policy : Policy) (plan : Plan) (entries : List Recorded) (cause : ExecFault) → All IsSoundOutcome entries
-    → IsCausedBy (offers_of plan entries) (IsDue allows (offers_of plan entries) (at_first plan policy)) cause
-    → (refusal : Printed) → exec_row cause ≡ Some refusal → LacksOutcome allows policy plan entries Refused (line_of refusal)
-lacks-outcome allows policy plan entries (fault.NoOutcome i) sound (due, none) refusal row = record { at = i; due = due; none = none; ends = refl; line = ap line_of (same_Some _ _ (sym row)) }
-lacks-outcome allows policy plan entries (fault.Service i) sound (due, failed) refusal row = absurd (not_failed (get_or (recorded_for (plan_records plan) entries) i None) failed)
-lacks-outcome allows policy plan entries (fault.BadStatus i) sound (due, (outcome, offer, bad)) refusal row =
-    let (entry, fit, same) = offered-entry IsSoundOutcome (plan_records plan) entries i outcome sound offer in
+pub lacks-outcome : (allows : Allowance) (policy : Policy) (batch : List Record) (entries : List Recorded) (cause : ExecFault) → All IsSoundOutcome entries
+    → IsCausedBy (offers_of batch entries) (IsDue allows (offers_of batch entries) (first_state batch policy)) cause
+    → (refusal : Printed) → exec_row cause ≡ Some refusal → LacksOutcome allows policy batch entries Refused (line_of refusal)
+lacks-outcome allows policy batch entries (fault.NoOutcome i) sound (due, none) refusal row = record { at = i; due = due; none = none; ends = refl; line = ap line_of (same_Some _ _ (sym row)) }
+lacks-outcome allows policy batch entries (fault.Service i) sound (due, failed) refusal row = absurd (not_failed (get_or (recorded_for batch entries) i None) failed)
+lacks-outcome allows policy batch entries (fault.BadStatus i) sound (due, (outcome, offer, bad)) refusal row =
+    let (entry, fit, same) = offered-entry IsSoundOutcome batch entries i outcome sound offer in
     absurd (both_ways _ bad (ap (λ o. is_status o.status) (sym same) ∙ in_range entry.1.status fit.low fit.high))
-lacks-outcome allows policy plan entries fault.OutOfMemory sound none refusal row = absurd (cc row)
+lacks-outcome allows policy batch entries fault.OutOfMemory sound none refusal row = absurd (cc row)

@@ -1,15 +1,16 @@
--- What recorded events may write of the same requests: one text.
+-- What recorded events may write of a batch: one text.
 use Rattle.std.proofs.Common.{◌≡◌, ◌⊎◌, ◌∙◌, ℕ, zero, suc, ◌<◌, true, List, [], ◌∷◌, ◌++◌, length, slice_get, IsSomeAnd, Some, inl, inr, refl, sym, ap, subst}
 use Rattle.std.specs.List.{AllZip}
 use Rattle.std.proofs.lemmas.Bool.{cases_order, both_ways}
 use Rattle.std.proofs.lemmas.Option.{same_Some}
-use Rattle.odb_doc.specs.recorded.Events.{EventValue}
+use Rattle.odb_doc.specs.declared.fault.Place.TheVariants as places
+use Rattle.odb_doc.specs.recorded.EventFaults as documents
+use Rattle.odb_doc.specs.recorded.Events.{EventValue, AreEventsOf}
+use Rattle.odb_doc.specs.recorded.LeastEventFault.{IsEventsDocument, RefusesEvents}
 use Rattle.odb_doc.specs.recorded.Events as named
 use Rattle.odb_doc.specs.batch.Records.{Record}
 use Rattle.odb_check.specs.declared.fault.NameRule.TheVariants as rules
-use Rattle.odb_check.specs.declared.plan.Plan.{Plan}
 use Rattle.odb_check.specs.LeastNameFault.{HasGoodNames}
-use Rattle.odb_check.specs.Plans.{plan_records}
 use Rattle.odb_check.specs.Positions.{id_at, IsIdBefore}
 use Rattle.odb_sched.specs.declared.event.Event.{Event}
 use Rattle.odb_sched.specs.declared.event.Event.TheVariants as event
@@ -22,15 +23,15 @@ use Rattle.odb_sched.specs.Refusals as refusals
 use Rattle.odb_sched.specs.ResolveFaults as resolving
 use Rattle.odb_sched.specs.Resolving.{IsFirstUnknown, IsKnown, IsResolved, RefusesNamed}
 use Rattle.odb_sched.specs.Runs.{IsRunFrom, RefusesEvent, Refuses, StopsAt, after_all}
-use Rattle.odb_sched.specs.State.{State, after, at_first}
+use Rattle.odb_sched.specs.State.{State, after, first_state}
 use Rattle.odb_sched.specs.Steps.{is_finished, may_come}
 use Rattle.odb_engine.specs.declared.ending.Ended.{Ended}
 use Rattle.odb_doc.specs.Refusals.{Printed}
-use Rattle.odb_engine.specs.Cascade.{line_of}
-use Rattle.odb_engine.specs.Laws.{IsOne}
+use Rattle.odb_engine.specs.Cascade.{line_of, IsOne}
 use Rattle.odb_engine.specs.Lines.{response_line}
-use Rattle.odb_engine.specs.Runs.{AreResolved, IsLeastOfRun, IsResult, RunsPlan, end_of}
+use Rattle.odb_engine.specs.Runs.{AreResolved, IsLeastOfRun, IsResult, Runs, RunsBatch, RunsEvents, end_of}
 use Rattle.odb_engine.specs.Runs.IsLeastOfRun.{OfIds, OfEvent, OfEnd}
+use Rattle.odb_engine.proofs.SecondLemmas.{IsOneKind, second_one, some_document_one}
 
 -- ---- events by positions
 
@@ -113,38 +114,47 @@ may-come state (x ∷ xs) e later run = may-come (after state x) xs e later run.
 not-stopped : (state : State) (events : List Event) (cause : RunRefusal) → StopsAt state events cause → IsRunFrom state events → ⊥
 not-stopped state events cause x run = both_ways _ x.barred (may-come state x.before x.event x.later (subst (IsRunFrom state) x.whole run))
 
--- ---- what is written of a plan
+-- ---- what is written of a batch
 
-module _ (causes : HaveOneCause) (policy : Policy) (plan : Plan) (good : HasGoodNames (plan_records plan)) (ns : List EventValue) where
+module _ (causes : HaveOneCause) (policy : Policy) (batch : List Record) (good : HasGoodNames batch) (ns : List EventValue) where
   abbrev first : State
-  first = at_first plan policy
+  first = first_state batch policy
 
-  same-events : (es fs : List Event) → AreResolved plan ns es → AreResolved plan ns fs → es ≡ fs
-  same-events es fs a b = one-list (plan_records plan) good ns es fs a b
+  same-events : (es fs : List Event) → AreResolved batch ns es → AreResolved batch ns fs → es ≡ fs
+  same-events es fs a b = one-list batch good ns es fs a b
 
-  one-least : (a b : Printed) → IsLeastOfRun policy plan ns a → IsLeastOfRun policy plan ns b → a ≡ b
-  one-least a b (OfIds i x same) (OfIds j y equal) = same_Some a b (sym same ∙ ap resolving.resolve_row (one-unknown causes (plan_records plan) ns i j x y) ∙ equal)
-  one-least a b (OfIds i x same) (OfEvent fs d r y equal) = absurd (not-unknown (plan_records plan) ns fs i r x.unknown)
-  one-least a b (OfIds i x same) (OfEnd fs r run barred equal) = absurd (not-unknown (plan_records plan) ns fs i r x.unknown)
-  one-least a b (OfEvent es c q x same) (OfIds j y equal) = absurd (not-unknown (plan_records plan) ns es j q y.unknown)
+  one-least : (a b : Printed) → IsLeastOfRun policy batch ns a → IsLeastOfRun policy batch ns b → a ≡ b
+  one-least a b (OfIds i x same) (OfIds j y equal) = same_Some a b (sym same ∙ ap resolving.resolve_row (one-unknown causes batch ns i j x y) ∙ equal)
+  one-least a b (OfIds i x same) (OfEvent fs d r y equal) = absurd (not-unknown batch ns fs i r x.unknown)
+  one-least a b (OfIds i x same) (OfEnd fs r run barred equal) = absurd (not-unknown batch ns fs i r x.unknown)
+  one-least a b (OfEvent es c q x same) (OfIds j y equal) = absurd (not-unknown batch ns es j q y.unknown)
   one-least a b (OfEvent es c q x same) (OfEvent fs d r y equal) =
       same_Some a b (sym same ∙ ap refusals.run_row (one-halt causes first fs c d (subst (λ (l : List Event). StopsAt first l c) (same-events es fs q r) x) y) ∙ equal)
   one-least a b (OfEvent es c q x same) (OfEnd fs r run barred equal) =
       absurd (not-stopped first fs c (subst (λ (l : List Event). StopsAt first l c) (same-events es fs q r) x) run)
-  one-least a b (OfEnd es q run barred same) (OfIds j y equal) = absurd (not-unknown (plan_records plan) ns es j q y.unknown)
+  one-least a b (OfEnd es q run barred same) (OfIds j y equal) = absurd (not-unknown batch ns es j q y.unknown)
   one-least a b (OfEnd es q run barred same) (OfEvent fs d r y equal) =
       absurd (not-stopped first es d (subst (λ (l : List Event). StopsAt first l d) (same-events fs es r q) y) run)
   one-least a b (OfEnd es q run barred same) (OfEnd fs r walk closed equal) = same ∙ sym equal
 
-  not-least : (a : Printed) (ended : Ended) (text : List ℕ) → IsLeastOfRun policy plan ns a → IsResult policy plan ns ended text → ⊥
-  not-least a ended text (OfIds i x same) y = not-unknown (plan_records plan) ns y.events i y.resolved x.unknown
+  not-least : (a : Printed) (ended : Ended) (text : List ℕ) → IsLeastOfRun policy batch ns a → IsResult policy batch ns ended text → ⊥
+  not-least a ended text (OfIds i x same) y = not-unknown batch ns y.events i y.resolved x.unknown
   not-least a ended text (OfEvent es c q x same) y = not-stopped first y.events c (subst (λ (l : List Event). StopsAt first l c) (same-events es y.events q y.resolved) x) y.run
   not-least a ended text (OfEnd es q run barred same) y =
-      both_ways _ barred (ap (λ (l : List Event). is_finished (end_of policy plan l)) (same-events es y.events q y.resolved) ∙ y.finished)
+      both_ways _ barred (ap (λ (l : List Event). is_finished (end_of policy batch l)) (same-events es y.events q y.resolved) ∙ y.finished)
 
-  pub one-run : IsOne (RunsPlan policy plan ns)
+  pub one-run : IsOne (RunsEvents policy batch ns)
   one-run a b s t (inl x) (inl y) = (x.ends ∙ sym y.ends, x.line ∙ ap line_of (one-least x.refusal y.refusal x.is y.is) ∙ sym y.line)
   one-run a b s t (inl x) (inr y) = absurd (not-least x.refusal b t x.is y)
   one-run a b s t (inr x) (inl y) = absurd (not-least y.refusal a s y.is x)
   one-run a b s t (inr x) (inr y) =
-      (x.ends ∙ sym y.ends, x.result ∙ ap (λ (l : List Event). response_line (end_of policy plan l)) (same-events x.events y.events x.resolved y.resolved) ∙ sym y.result)
+      (x.ends ∙ sym y.ends, x.result ∙ ap (λ (l : List Event). response_line (end_of policy batch l)) (same-events x.events y.events x.resolved y.resolved) ∙ sym y.result)
+
+-- the laws of odb_doc on documents of events
+abbrev pub AreOneHistory : Type 0
+AreOneHistory = IsOneKind documents.event_row RefusesEvents IsEventsDocument AreEventsOf
+
+-- a batch and the reader of events have one text
+pub runs_one : HaveOneCause → AreOneHistory → (policy : Policy) (events : List ℕ) (batch : List Record) → HasGoodNames batch → IsOne (Runs policy (Some events) batch)
+runs_one causes law policy events batch good = some_document_one events (RunsBatch policy batch) (λ bytes.
+    second_one places.Events documents.event_row RefusesEvents IsEventsDocument AreEventsOf law bytes (RunsEvents policy batch) (one-run causes policy batch good))

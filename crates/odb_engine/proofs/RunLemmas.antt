@@ -1,5 +1,5 @@
 -- Runs by recorded events: what is reported was recorded.
-use Rattle.std.proofs.Common.{◌≡◌, ℕ, zero, suc, Bool, true, false, not, ◌&&◌, get_or, List, [], ◌∷◌, All, Option, Some, None, IfSome, if◌then◌else◌, sym, subst}
+use Rattle.std.proofs.Common.{◌≡◌, ℕ, zero, suc, Bool, true, false, not, ◌&&◌, get_or, List, [], ◌∷◌, All, Option, Some, None, IfSome, if◌then◌else◌, sym, subst, refl}
 use Rattle.std.specs.List.{AllZip}
 use Rattle.std.proofs.lemmas.List.Elements.{All-nil, All-cons, All-head, All-tail, All-set, All-replicate}
 use Rattle.odb_doc.specs.declared.recorded.outcome.Outcome.{Outcome}
@@ -7,8 +7,6 @@ use Rattle.odb_doc.specs.recorded.Events.{EventValue, IsRecordableEvent, IsSound
 use Rattle.odb_doc.specs.recorded.Events as named
 use Rattle.odb_doc.specs.batch.Records.{Record}
 use Rattle.odb_doc.specs.WholeNumbers.{IsWhole}
-use Rattle.odb_check.specs.declared.plan.Plan.{Plan}
-use Rattle.odb_check.specs.Plans.{plan_records}
 use Rattle.odb_check.specs.Shape.{unit_of}
 use Rattle.odb_sched.specs.declared.event.Event.{Event}
 use Rattle.odb_sched.specs.declared.event.Event.TheVariants as event
@@ -25,7 +23,7 @@ use Rattle.odb_sched.specs.Refusals as refusals
 use Rattle.odb_sched.specs.ResolveFaults as ids
 use Rattle.odb_sched.specs.Resolving.{IsResolved, RefusesNamed}
 use Rattle.odb_sched.specs.Runs.{Refuses, after_all}
-use Rattle.odb_sched.specs.State.{State, phase_at, at_first}
+use Rattle.odb_sched.specs.State.{State, phase_at, first_state}
 use Rattle.odb_sched.specs.Statuses.{is_success}
 use Rattle.odb_sched.specs.Steps.{unit_succeeded}
 use Rattle.odb_reply.specs.NotWhole.{HasWholeBody, HasWholeBodies}
@@ -82,12 +80,12 @@ module _ (holds : Outcome → Type 0) where
       at true = tt
       at false = so
 
-  on-answers : (policy : Policy) (plan : Plan) (recorded : List EventValue) (events : List Event) → AreResolved plan recorded events → All OnNamed recorded
-      → (i : ℕ) → IfSome (answer (end_of policy plan events) i) holds
-  on-answers policy plan recorded events is so i =
-      let first = at_first plan policy in
-      let state = end_of policy plan events in
-      let each = on-after first events (all-resolved (plan_records plan) recorded events is so) (All-replicate OnPhase _ Unstarted tt) in
+  on-answers : (policy : Policy) (batch : List Record) (recorded : List EventValue) (events : List Event) → AreResolved batch recorded events → All OnNamed recorded
+      → (i : ℕ) → IfSome (answer (end_of policy batch events) i) holds
+  on-answers policy batch recorded events is so i =
+      let first = first_state batch policy in
+      let state = end_of policy batch events in
+      let each = on-after first events (all-resolved batch recorded events is so) (All-replicate OnPhase _ Unstarted tt) in
       on-answer (phase_at state i) (unit_succeeded state (unit_of state.shape i)) (at-or OnPhase state.phases i Unstarted tt each)
 
 abbrev IsWholeOutcome : Outcome → Type 0
@@ -106,26 +104,32 @@ whole-body None so = tt
 whole-body (Some outcome) so = so
 
 -- a run by recorded events answers whole bodies alone
-pub whole-bodies : (policy : Policy) (plan : Plan) (recorded : List EventValue) (events : List Event) → AreResolved plan recorded events → All IsSoundEvent recorded → HasWholeBodies (end_of policy plan events)
-whole-bodies policy plan recorded events is sound i within =
-    whole-body (answer (end_of policy plan events) i) (on-answers IsWholeOutcome policy plan recorded events is (λ k d less. whole-named (get_or recorded k d) (sound k d less)) i)
+pub whole-bodies : (policy : Policy) (batch : List Record) (recorded : List EventValue) (events : List Event) → AreResolved batch recorded events → All IsSoundEvent recorded → HasWholeBodies (end_of policy batch events)
+whole-bodies policy batch recorded events is sound i within =
+    whole-body (answer (end_of policy batch events) i) (on-answers IsWholeOutcome policy batch recorded events is (λ k d less. whole-named (get_or recorded k d) (sound k d less)) i)
 
 -- what a document can record is read again from a response
-pub readable-answers : (policy : Policy) (plan : Plan) (recorded : List EventValue) (events : List Event) → AreResolved plan recorded events → All IsSoundEvent recorded → All IsRecordableEvent recorded
-    → AnswersBy IsReadable (end_of policy plan events)
-readable-answers policy plan recorded events is sound can i outcome within answered =
+pub readable-answers : (policy : Policy) (batch : List Record) (recorded : List EventValue) (events : List Event) → AreResolved batch recorded events → All IsSoundEvent recorded → All IsRecordableEvent recorded
+    → AnswersBy IsReadable (end_of policy batch events)
+readable-answers policy batch recorded events is sound can i outcome within answered =
     subst (λ (found : Option Outcome). IfSome found IsReadable) answered
-    (on-answers IsReadable policy plan recorded events is (λ k d less. readable-named (get_or recorded k d) (sound k d less) (can k d less)) i)
+    (on-answers IsReadable policy batch recorded events is (λ k d less. readable-named (get_or recorded k d) (sound k d less) (can k d less)) i)
+
+-- events do not change the requests
+pub requests-kept : (state : State) (events : List Event) → (after_all state events).requests ≡ state.requests
+requests-kept state [] = refl
+requests-kept state (event.Start i ∷ events) = requests-kept _ events
+requests-kept state (event.Report i outcome ∷ events) = requests-kept _ events
 
 -- an event that names no request
-pub unknown-event : (policy : Policy) (plan : Plan) (recorded : List EventValue) (cause : ResolveFault) → RefusesNamed cause (plan_records plan) recorded
-    → (shown : Printed) → ids.resolve_row cause ≡ Some shown → IsLeastOfRun policy plan recorded shown
-unknown-event policy plan recorded (fault.UnknownEvent at) first shown row = OfIds at first row
-unknown-event policy plan recorded fault.OutOfMemory first shown row = absurd (cc row)
+pub unknown-event : (policy : Policy) (batch : List Record) (recorded : List EventValue) (cause : ResolveFault) → RefusesNamed cause batch recorded
+    → (shown : Printed) → ids.resolve_row cause ≡ Some shown → IsLeastOfRun policy batch recorded shown
+unknown-event policy batch recorded (fault.UnknownEvent at) first shown row = OfIds at first row
+unknown-event policy batch recorded fault.OutOfMemory first shown row = absurd (cc row)
 
 -- an event that may not come
-pub barred-event : (policy : Policy) (plan : Plan) (recorded : List EventValue) (events : List Event) (cause : RunRefusal) → AreResolved plan recorded events
-    → Refuses (at_first plan policy) events cause → (shown : Printed) → refusals.run_row cause ≡ Some shown → IsLeastOfRun policy plan recorded shown
-barred-event policy plan recorded events (refusal.Start at cause) resolved stops shown row = OfEvent events (refusal.Start at cause) resolved stops row
-barred-event policy plan recorded events (refusal.Report at cause) resolved stops shown row = OfEvent events (refusal.Report at cause) resolved stops row
-barred-event policy plan recorded events refusal.OutOfMemory resolved stops shown row = absurd (cc row)
+pub barred-event : (policy : Policy) (batch : List Record) (recorded : List EventValue) (events : List Event) (cause : RunRefusal) → AreResolved batch recorded events
+    → Refuses (first_state batch policy) events cause → (shown : Printed) → refusals.run_row cause ≡ Some shown → IsLeastOfRun policy batch recorded shown
+barred-event policy batch recorded events (refusal.Start at cause) resolved stops shown row = OfEvent events (refusal.Start at cause) resolved stops row
+barred-event policy batch recorded events (refusal.Report at cause) resolved stops shown row = OfEvent events (refusal.Report at cause) resolved stops row
+barred-event policy batch recorded events refusal.OutOfMemory resolved stops shown row = absurd (cc row)

@@ -1,15 +1,14 @@
 -- A reader gives one document, and a second document has one least fault or one reading: so what is written by it is one text.
-use Rattle.std.proofs.Common.{◌≡◌, ◌⊎◌, ◌∙◌, ℕ, ◌<◌, List, length, take, Option, Some, inl, inr, sym, ap, subst, arith, length-append}
+use Rattle.std.proofs.Common.{◌≡◌, ◌⊎◌, ◌∙◌, ℕ, ◌<◌, List, length, take, Option, Some, IsSome, is_some, inl, inr, sym, ap, subst, arith, length-append}
 use Rattle.std.proofs.lemmas.Bool.{cases_order}
 use Rattle.std.proofs.lemmas.Option.{same_Some}
 use Rattle.std.proofs.Math.Seq.{take-append_seam}
 use Rattle.serde_json.specs.Data.{Data}
 use Rattle.odb_doc.specs.declared.fault.Place.{Place}
 use Rattle.odb_doc.specs.Refusals.{Printed}
-use Rattle.odb_engine.specs.Cascade.{Writes, HasValue, IsLeastOf, Reports, line_of}
+use Rattle.odb_engine.specs.Cascade.{Writes, HasValue, IsLeastOf, Reports, line_of, IsOne}
 use Rattle.odb_engine.specs.Cascade.IsLeastOf.{OfBytes, OfValue}
 use Rattle.odb_engine.specs.Inputs.{IsDocumentOf, SomeDocument}
-use Rattle.odb_engine.specs.Laws.{IsOne}
 use Rattle.odb_engine.proofs.LawLemmas.{one_refusal, one_value, refused_no_value}
 
 -- ---- one document of a reader
@@ -34,12 +33,12 @@ some_document_one left W one a b s t (bytes, gives, x) (others, give, y) =
 -- ---- one reading of a document
 
 -- the laws of a kind of document: a value has one least fault, and none if it is good, and it reads as one thing
-pub record IsOneKind {F X : Type 0} (IsNumbered : F → Type 0) (Refuses : F → Data → Type 0) (IsGood : Data → Type 0) (Reads : Data → X → Type 0) : Type 0 where
-  pub one_fault : (value : Data) (fault other : F) → IsNumbered fault → IsNumbered other → Refuses fault value → Refuses other value → fault ≡ other
-  pub no_fault : (value : Data) (fault : F) → IsNumbered fault → Refuses fault value → ¬ IsGood value
+pub record IsOneKind {F X : Type 0} (row : F → Option Printed) (Refuses : F → Data → Type 0) (IsGood : Data → Type 0) (Reads : Data → X → Type 0) : Type 0 where
+  pub one_fault : (value : Data) (fault other : F) → IsSome (row fault) → IsSome (row other) → Refuses fault value → Refuses other value → fault ≡ other
+  pub no_fault : (value : Data) (fault : F) → IsSome (row fault) → Refuses fault value → ¬ IsGood value
   pub one_reading : (value : Data) (x y : X) → Reads value x → Reads value y → x ≡ y
 
-module _ {F X : Type 0} (place : Place) (IsNumbered : F → Type 0) (Refuses : F → Data → Type 0) (row : F → Option Printed) (IsGood : Data → Type 0) (Reads : Data → X → Type 0) (numbered : (fault : F) (refusal : Printed) → row fault ≡ Some refusal → IsNumbered fault) (law : IsOneKind IsNumbered Refuses IsGood Reads) where
+module _ {F X : Type 0} (place : Place) (row : F → Option Printed) (Refuses : F → Data → Type 0) (IsGood : Data → Type 0) (Reads : Data → X → Type 0) (law : IsOneKind row Refuses IsGood Reads) where
   abbrev IsFaulty : List ℕ → Printed → Type 0
   IsFaulty = IsLeastOf place Refuses row
 
@@ -51,12 +50,12 @@ module _ {F X : Type 0} (place : Place) (IsNumbered : F → Type 0) (Refuses : F
   least_one bytes s t (OfBytes one) (OfValue g has d) = absurd (refused_no_value place bytes s (Refuses g) one has)
   least_one bytes s t (OfValue f has e) (OfBytes two) = absurd (refused_no_value place bytes t (Refuses f) two has)
   least_one bytes s t (OfValue f has e) (OfValue g had d) =
-      same_Some s t (sym e ∙ ap row (law.one_fault had.value f g (numbered f s e) (numbered g t d) (subst (Refuses f) (one_value bytes has.value had.value has.document had.document) has.holds) had.holds) ∙ d)
+      same_Some s t (sym e ∙ ap row (law.one_fault had.value f g (ap is_some e) (ap is_some d) (subst (Refuses f) (one_value bytes has.value had.value has.document had.document) has.holds) had.holds) ∙ d)
 
   least_not : (bytes : List ℕ) (x : X) (refusal : Printed) → IsFaulty bytes refusal → ¬ IsReadAs bytes x
   least_not bytes x refusal (OfBytes one) is = refused_no_value place bytes refusal _ one is
   least_not bytes x refusal (OfValue f has e) is =
-      law.no_fault is.value f (numbered f refusal e) (subst (Refuses f) (one_value bytes has.value is.value has.document is.document) has.holds) is.holds.0
+      law.no_fault is.value f (ap is_some e) (subst (Refuses f) (one_value bytes has.value is.value has.document is.document) has.holds) is.holds.0
 
   one_reading : (bytes : List ℕ) (x y : X) → IsReadAs bytes x → IsReadAs bytes y → x ≡ y
   one_reading bytes x y one two =

@@ -1,16 +1,10 @@
 -- A text that is written in parts, one after another.
-use Rattle.std.proofs.Common.{◌≡◌, ◌∙◌, ℕ, false, List, [], ◌++◌, Option, Result, Ok, Err, refl, sym, ap, append_assoc, rules}
-use Rattle.std.proofs.KnownBytes.{Appends-trans, Appends-nil}
+use Rattle.std.proofs.Common.{◌∙◌, ℕ, List, ◌++◌, Option, Result, Ok, Err, sym, ap, append_assoc}
+use Rattle.std.proofs.KnownBytes.{Appends-trans}
 use Rattle.std.specs.Io.KnownBytes.{Appends}
-use Rattle.odb_doc.specs.Devices.{Writing}
-use Rattle.odb_doc.specs.Devices.{AppendsPrefix}
+use Rattle.odb_doc.specs.Devices.{Writing, AppendsPrefix}
 use Rattle.odb_engine.specs.declared.ending.EngineFault.{EngineFault}
-use Rattle.odb_engine.specs.declared.ending.EngineFault.TheVariants as faults
 use Rattle.odb_engine.specs.Halts.{Sends}
-
--- nothing is a prefix of each text
-pub AppendsPrefix-none : (old : Option (List ℕ)) (text : List ℕ) → AppendsPrefix old old text
-AppendsPrefix-none old text = (text, record { prefix = []; whole = refl; written = Appends-nil old })
 
 -- a prefix of a text is one of a longer text
 AppendsPrefix-longer : (old new : Option (List ℕ)) (text later : List ℕ) → AppendsPrefix old new text → AppendsPrefix old new (text ++ later)
@@ -51,7 +45,3 @@ module _ {W : Type 0} (contents : W → Option (List ℕ)) where
     write = then.write;
     unread = then.unread;
   }
-
-  -- nothing was written, since there was no memory for the text
-  pub Sends-none : (text : List ℕ) (old : Writing W) → old.failed ≡ false → Sends contents text old old (Err faults.OutOfMemory)
-  Sends-none text old works = record { whole = tt; part = AppendsPrefix-none (contents old.writer) text; write = search rules; unread = search rules }

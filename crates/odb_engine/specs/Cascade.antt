@@ -82,3 +82,7 @@ pub record Reports (Is : Printed → Type 0) (ended : Ended) (text : List ℕ) :
 -- The cascade of every command: the line of the least fault of the batch document, or what P writes of its requests.
 abbrev pub Answers : (List Record → Writes) → List ℕ → Writes
 Answers P bytes ended text = Reports (IsLeast bytes) ended text ⊎ Accepts bytes (λ batch. P batch ended text)
+
+-- two texts that may be written are equal, and so are the ends
+abbrev pub IsOne : Writes → Type 0
+IsOne writes = (ended other : Ended) (text different : List ℕ) → writes ended text → writes other different → (ended ≡ other) × (text ≡ different)

@@ -4,12 +4,11 @@ use Rattle.odb_doc.specs.declared.fault.TextFault.TheVariants.{NotWhole}
 use Rattle.odb_doc.specs.canonical.Canonical.{HasWholeBodies, IsFirstNotWhole, canonical_text}
 use Rattle.odb_doc.specs.batch.Records.{Record}
 use Rattle.odb_doc.specs.Faults.{text_row}
-use Rattle.odb_check.specs.Groups.{groups_of}
-use Rattle.odb_check.specs.Texts.{plan_text}
+use Rattle.odb_check.specs.Units.{groups_of}
+use Rattle.odb_check.specs.Texts.{plan_text, newline}
 use Rattle.odb_doc.specs.Refusals.{Printed}
 use Rattle.odb_engine.specs.Cascade.{Writes, Prints, Reports}
 use Rattle.odb_engine.specs.Inputs.{SomeDocument}
-use Rattle.odb_check.specs.Texts.{newline}
 use Rattle.odb_engine.specs.Lines.{accepted_line}
 
 -- how many requests and groups there are

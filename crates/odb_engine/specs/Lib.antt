@@ -9,6 +9,5 @@ pub mod ReadAgain
 pub mod Replays
 pub mod Runs
 pub mod Matches
-pub mod Laws
 -- What serves private clauses: no public clause cites it.
 pub mod Halts

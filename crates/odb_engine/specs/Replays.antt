@@ -6,12 +6,10 @@ use Rattle.odb_doc.specs.recorded.OutcomeFaults.{outcome_row}
 use Rattle.odb_doc.specs.recorded.OutcomeValues.{IsRecordable}
 use Rattle.odb_doc.specs.recorded.Outcomes.{Recorded, AreOutcomesOf}
 use Rattle.odb_doc.specs.batch.Records.{Record}
-use Rattle.odb_check.specs.declared.plan.Plan.{Plan}
-use Rattle.odb_check.specs.Plans.{plan_records}
 use Rattle.odb_sched.specs.declared.policy.Policy.{Policy}
 use Rattle.odb_sched.specs.declared.service.ServiceFault.TheVariants.{NoOutcome}
 use Rattle.odb_sched.specs.declared.step.Step.{Step}
-use Rattle.odb_sched.specs.State.{State, at_first}
+use Rattle.odb_sched.specs.State.{State, first_state}
 use Rattle.odb_sched.specs.Courses.{Allowance, Offer, IsDue, IsFinishedBy}
 use Rattle.odb_sched.specs.Recordings.{recorded_for, OffersRecorded}
 use Rattle.odb_reply.specs.Responses.{response_value}
@@ -35,33 +33,33 @@ abbrev pub result_text : Bool → State → List Step → List ℕ
 result_text traced state steps = trace_part traced state steps ++ response_line state
 
 -- what is offered by these recorded outcomes
-abbrev pub offers_of : Plan → List Recorded → Offer
-offers_of plan entries = OffersRecorded (recorded_for (plan_records plan) entries)
+abbrev pub offers_of : List Record → List Recorded → Offer
+offers_of batch entries = OffersRecorded (recorded_for batch entries)
 
--- The result of a finished course of the plan, under the policy, by the chooser and by the recorded outcomes. In it no
+-- The result of a finished course of the batch, under the policy, by the chooser and by the recorded outcomes. In it no
 -- request starts before all that it names has ended with 2xx, and the response has exactly one element per id. It is read
 -- again as such, if a document can record the outcomes.
-pub record IsResult (allows : Allowance) (policy : Policy) (traced : Bool) (plan : Plan) (entries : List Recorded) (ended : Ended) (text : List ℕ) : Type 0 where
+pub record IsResult (allows : Allowance) (policy : Policy) (traced : Bool) (batch : List Record) (entries : List Recorded) (ended : Ended) (text : List ℕ) : Type 0 where
   pub ends : ended ≡ Done
   pub steps : List Step
   pub last : State
-  pub course : IsFinishedBy allows (offers_of plan entries) (at_first plan policy) steps last
+  pub course : IsFinishedBy allows (offers_of batch entries) (first_state batch policy) steps last
   pub result : text ≡ result_text traced last steps
-  pub dependencies_first : StartsLast (plan_records plan) course.events
-  pub one_per_id : HasOnePerId (plan_records plan) (response_value last)
-  pub read_again : All (λ (entry : Recorded). IsRecordable entry.1) entries → IsReadAgain (plan_records plan) (response_line last)
+  pub dependencies_first : StartsLast batch course.events
+  pub one_per_id : HasOnePerId batch (response_value last)
+  pub read_again : All (λ (entry : Recorded). IsRecordable entry.1) entries → IsReadAgain batch (response_line last)
 
 -- a request whose report is due after some course has no outcome
-pub record LacksOutcome (allows : Allowance) (policy : Policy) (plan : Plan) (entries : List Recorded) (ended : Ended) (text : List ℕ) : Type 0 where
+pub record LacksOutcome (allows : Allowance) (policy : Policy) (batch : List Record) (entries : List Recorded) (ended : Ended) (text : List ℕ) : Type 0 where
   pub at : ℕ
-  pub due : IsDue allows (offers_of plan entries) (at_first plan policy) at
-  pub none : offers_of plan entries at (Err NoOutcome)
+  pub due : IsDue allows (offers_of batch entries) (first_state batch policy) at
+  pub none : offers_of batch entries at (Err NoOutcome)
   pub ends : ended ≡ Refused
   pub line : text ≡ line_of (record { code = codes "F80"; name = codes "NoOutcome"; place = places.Request at })
 
--- what is written of a plan by recorded outcomes
-abbrev pub ReplaysPlan : Allowance → Policy → Bool → Plan → List Recorded → Writes
-ReplaysPlan allows policy traced plan entries ended text = IsResult allows policy traced plan entries ended text ⊎ LacksOutcome allows policy plan entries ended text
+-- what is written of a batch by recorded outcomes
+abbrev pub ReplaysEntries : Allowance → Policy → Bool → List Record → List Recorded → Writes
+ReplaysEntries allows policy traced batch entries ended text = IsResult allows policy traced batch entries ended text ⊎ LacksOutcome allows policy batch entries ended text
 
 -- the least fault of an outcomes document
 abbrev pub IsLeastOfOutcomes : List ℕ → Printed → Type 0
@@ -71,14 +69,10 @@ IsLeastOfOutcomes bytes refusal = IsLeastOf places.Outcomes RefusesOutcomes outc
 abbrev pub IsRecordOf : List ℕ → List Recorded → Type 0
 IsRecordOf bytes entries = HasValue bytes (λ value. IsOutcomesDocument value × AreOutcomesOf value entries)
 
--- what is written of a plan and the bytes of an outcomes document
-abbrev pub ReplaysBy : Allowance → Policy → Bool → Plan → List ℕ → Writes
-ReplaysBy allows policy traced plan bytes ended text = Reports (IsLeastOfOutcomes bytes) ended text ⊎ ((entries : List Recorded) × IsRecordOf bytes entries × ReplaysPlan allows policy traced plan entries ended text)
-
--- what is written of the requests of a batch and the bytes of an outcomes document: what they give with a plan of the requests
+-- what is written of a batch and the bytes of an outcomes document
 abbrev pub ReplaysBatch : Allowance → Policy → Bool → List Record → List ℕ → Writes
-ReplaysBatch allows policy traced batch bytes ended text = (plan : Plan) × (plan_records plan ≡ batch) × ReplaysBy allows policy traced plan bytes ended text
+ReplaysBatch allows policy traced batch bytes ended text = Reports (IsLeastOfOutcomes bytes) ended text ⊎ ((entries : List Recorded) × IsRecordOf bytes entries × ReplaysEntries allows policy traced batch entries ended text)
 
--- what is written of the requests of a batch by the outcomes document of a reader
+-- what is written of a batch by the outcomes document of a reader
 abbrev pub Replays : Allowance → Policy → Bool → Option (List ℕ) → List Record → Writes
 Replays allows policy traced left = BySecond left (ReplaysBatch allows policy traced)

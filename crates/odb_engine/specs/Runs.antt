@@ -6,8 +6,6 @@ use Rattle.odb_doc.specs.recorded.EventFaults.{event_row}
 use Rattle.odb_doc.specs.recorded.Events.{EventValue, AreEventsOf, IsRecordableEvent}
 use Rattle.odb_doc.specs.recorded.LeastEventFault.{IsEventsDocument, RefusesEvents}
 use Rattle.odb_doc.specs.batch.Records.{Record}
-use Rattle.odb_check.specs.declared.plan.Plan.{Plan}
-use Rattle.odb_check.specs.Plans.{plan_records}
 use Rattle.odb_sched.specs.declared.event.Event.{Event}
 use Rattle.odb_sched.specs.declared.policy.Policy.{Policy}
 use Rattle.odb_sched.specs.declared.refusal.RunRefusal.{RunRefusal}
@@ -16,8 +14,8 @@ use Rattle.odb_sched.specs.Laws.{StartsLast}
 use Rattle.odb_sched.specs.Refusals.{run_row}
 use Rattle.odb_sched.specs.ResolveFaults.{resolve_row}
 use Rattle.odb_sched.specs.Resolving.{IsResolved, IsFirstUnknown}
-use Rattle.odb_sched.specs.Runs.{IsRun, StopsAt, state_after}
-use Rattle.odb_sched.specs.State.{State, at_first}
+use Rattle.odb_sched.specs.Runs.{IsRunFrom, StopsAt, after_all}
+use Rattle.odb_sched.specs.State.{State, first_state}
 use Rattle.odb_sched.specs.Steps.{is_finished}
 use Rattle.odb_reply.specs.OnePerId.{HasOnePerId}
 use Rattle.odb_reply.specs.Responses.{response_value}
@@ -42,46 +40,42 @@ abbrev pub AreEventsIn : List ℕ → List EventValue → Type 0
 AreEventsIn bytes named = HasValue bytes (λ value. IsEventsDocument value × AreEventsOf value named)
 
 -- the events by the positions of the requests that they name
-abbrev pub AreResolved : Plan → List EventValue → List Event → Type 0
-AreResolved plan named events = AllZip (IsResolved (plan_records plan)) named events
+abbrev pub AreResolved : List Record → List EventValue → List Event → Type 0
+AreResolved batch named events = AllZip (IsResolved batch) named events
 
 -- the state after these events
-abbrev pub end_of : Policy → Plan → List Event → State
-end_of policy plan events = state_after plan policy events
+abbrev pub end_of : Policy → List Record → List Event → State
+end_of policy batch events = after_all (first_state batch policy) events
 
--- The least fault of recorded events on a plan: the first that names no request; or else the first that may not come,
+-- The least fault of recorded events on a batch: the first that names no request; or else the first that may not come,
 -- with its first cause; or else that the run is not finished after all of them.
-pub data IsLeastOfRun (policy : Policy) (plan : Plan) (named : List EventValue) (refusal : Printed) : Type 0 where
-  OfIds : (at : ℕ) → IsFirstUnknown (plan_records plan) named at → resolve_row (UnknownEvent at) ≡ Some refusal → IsLeastOfRun policy plan named refusal
-  OfEvent : (events : List Event) (cause : RunRefusal) → AreResolved plan named events → StopsAt (at_first plan policy) events cause → run_row cause ≡ Some refusal → IsLeastOfRun policy plan named refusal
-  OfEnd : (events : List Event) → AreResolved plan named events → IsRun plan policy events → is_finished (end_of policy plan events) ≡ false → refusal ≡ unfinished → IsLeastOfRun policy plan named refusal
+pub data IsLeastOfRun (policy : Policy) (batch : List Record) (named : List EventValue) (refusal : Printed) : Type 0 where
+  OfIds : (at : ℕ) → IsFirstUnknown batch named at → resolve_row (UnknownEvent at) ≡ Some refusal → IsLeastOfRun policy batch named refusal
+  OfEvent : (events : List Event) (cause : RunRefusal) → AreResolved batch named events → StopsAt (first_state batch policy) events cause → run_row cause ≡ Some refusal → IsLeastOfRun policy batch named refusal
+  OfEnd : (events : List Event) → AreResolved batch named events → IsRunFrom (first_state batch policy) events → is_finished (end_of policy batch events) ≡ false → refusal ≡ unfinished → IsLeastOfRun policy batch named refusal
 
--- The response to a finished run of the plan, under the policy, by just these events. In it no request starts before all
+-- The response to a finished run of the batch, under the policy, by just these events. In it no request starts before all
 -- that it names has ended with 2xx, and the response has exactly one element per id. It is read again as such, if a document
 -- can record the events.
-pub record IsResult (policy : Policy) (plan : Plan) (named : List EventValue) (ended : Ended) (text : List ℕ) : Type 0 where
+pub record IsResult (policy : Policy) (batch : List Record) (named : List EventValue) (ended : Ended) (text : List ℕ) : Type 0 where
   pub ends : ended ≡ Done
   pub events : List Event
-  pub resolved : AreResolved plan named events
-  pub run : IsRun plan policy events
-  pub finished : is_finished (end_of policy plan events) ≡ true
-  pub result : text ≡ response_line (end_of policy plan events)
-  pub dependencies_first : StartsLast (plan_records plan) events
-  pub one_per_id : HasOnePerId (plan_records plan) (response_value (end_of policy plan events))
-  pub read_again : All IsRecordableEvent named → IsReadAgain (plan_records plan) (response_line (end_of policy plan events))
+  pub resolved : AreResolved batch named events
+  pub run : IsRunFrom (first_state batch policy) events
+  pub finished : is_finished (end_of policy batch events) ≡ true
+  pub result : text ≡ response_line (end_of policy batch events)
+  pub dependencies_first : StartsLast batch events
+  pub one_per_id : HasOnePerId batch (response_value (end_of policy batch events))
+  pub read_again : All IsRecordableEvent named → IsReadAgain batch (response_line (end_of policy batch events))
 
--- what is written of a plan by recorded events
-abbrev pub RunsPlan : Policy → Plan → List EventValue → Writes
-RunsPlan policy plan named ended text = Reports (IsLeastOfRun policy plan named) ended text ⊎ IsResult policy plan named ended text
+-- what is written of a batch by recorded events
+abbrev pub RunsEvents : Policy → List Record → List EventValue → Writes
+RunsEvents policy batch named ended text = Reports (IsLeastOfRun policy batch named) ended text ⊎ IsResult policy batch named ended text
 
--- what is written of a plan and the bytes of an events document
-abbrev pub RunsBy : Policy → Plan → List ℕ → Writes
-RunsBy policy plan bytes ended text = Reports (IsLeastOfEvents bytes) ended text ⊎ ((named : List EventValue) × AreEventsIn bytes named × RunsPlan policy plan named ended text)
-
--- what is written of the requests of a batch and the bytes of an events document: what they give with a plan of the requests
+-- what is written of a batch and the bytes of an events document
 abbrev pub RunsBatch : Policy → List Record → List ℕ → Writes
-RunsBatch policy batch bytes ended text = (plan : Plan) × (plan_records plan ≡ batch) × RunsBy policy plan bytes ended text
+RunsBatch policy batch bytes ended text = Reports (IsLeastOfEvents bytes) ended text ⊎ ((named : List EventValue) × AreEventsIn bytes named × RunsEvents policy batch named ended text)
 
--- what is written of the requests of a batch by the events document of a reader
+-- what is written of a batch by the events document of a reader
 abbrev pub Runs : Policy → Option (List ℕ) → List Record → Writes
 Runs policy left = BySecond left (RunsBatch policy)

@@ -1,5 +1,6 @@
 ghost use Rattle.std.specs.Prelude.{◌≡◌, ◌≢◌, ◌<◌, ◌↔◌, ◌⊎◌, Bool, All, false, Err, IsTrue, IfErr, IfOk};
 ghost use Rattle.odb_doc.specs.recorded.OutcomeLists.{entries};
+ghost use Rattle.odb_check.specs.Plans.{plan_records};
 ghost use Rattle.odb_sched.specs.State.{size};
 ghost use Rattle.odb_sched.specs.Courses.{position_in};
 ghost use Rattle.odb_reply.specs.NotWhole.{HasWholeBodies};
@@ -18,6 +19,7 @@ use crate::input::value_of;
 use crate::output::send;
 use crate::pair::{PairCommand, answer_pair};
 use crate::setup::Setup;
+use crate::trace::trace_part;
 use odb_check::Plan;
 use odb_doc::{Input, Outcomes, Output, Place};
 use odb_reply::laws::every_response;
@@ -66,14 +68,14 @@ fn run_of<'a: 'p, 'p>(
 ) -> Result<Trace<'p>, Halt>
     ensures result { IfOk result (λ trace. (traced : Bool) → replays.IsResult
         ((Chooser-dyn replay.old.chooser.now).allows replay.old.chooser.now.1) replay.old.policy
-        traced plan.now (entries outcomes) Done
+        traced (plan_records plan.now) (entries outcomes) Done
         (replays.result_text traced trace.done trace.steps.items)) }
     ensures within { IfOk result (λ trace.
         All (λ step. position_in step < size trace.done) trace.steps.items) }
     ensures whole { IfOk result (λ trace. HasWholeBodies trace.done) }
     ensures lacks { IfErr result (Refuses (replays.LacksOutcome
         ((Chooser-dyn replay.old.chooser.now).allows replay.old.chooser.now.1) replay.old.policy
-        plan.now (entries outcomes))) }
+        (plan_records plan.now) (entries outcomes))) }
     ensures read { result ≢ Err halts.Read }
 {
     // Only a call on the outcomes states that they are sound.
@@ -111,7 +113,8 @@ impl<'c> PairCommand for Replay<&'c mut dyn Chooser> {
             value: run_of(alloc, plan, outcomes, self)?,
             remains,
         };
-        Ok(send(alloc, output, &trace.value, traced))
+        let start = trace_part(alloc, &trace.value, traced)?;
+        Ok(send(alloc, output, &start, &trace.value.done))
     }
 }
 

@@ -1,5 +1,6 @@
 ghost use Rattle.std.specs.Prelude.{◌≡◌, ◌≢◌, ◌↔◌, ◌⊎◌, false, Err, IsTrue, IfErr, IfOk};
 ghost use Rattle.odb_doc.specs.recorded.EventLists.{entries};
+ghost use Rattle.odb_check.specs.Plans.{plan_records};
 ghost use Rattle.odb_reply.specs.NotWhole.{HasWholeBodies};
 ghost use Rattle.odb_engine.specs.declared.ending.Ended.TheVariants as ends;
 ghost use Rattle.odb_engine.specs.declared.halt.Halt.TheVariants as halts;
@@ -14,7 +15,7 @@ use crate::ending::{Ended, EngineFault, Sent};
 use crate::halt::Halt;
 use crate::held::{Held, Remains};
 use crate::input::value_of;
-use crate::output::send_done;
+use crate::output::send;
 use crate::pair::{PairCommand, answer_pair};
 use crate::setup::Setup;
 use odb_check::Plan;
@@ -57,11 +58,11 @@ fn done_of<'a: 'p, 'p>(
     policy: Policy,
     remains: Remains,
 ) -> Result<Done<'p>, Halt>
-    ensures result { IfOk result (λ done. runs.IsResult policy plan.now (entries events) ends.Done
+    ensures result { IfOk result (λ done. runs.IsResult policy (plan_records plan.now) (entries events) ends.Done
         (response_line done)) }
     ensures whole { IfOk result (λ done. HasWholeBodies done) }
     ensures least { IfErr result
-        (Halted (runs.IsLeastOfRun policy plan.now (entries events))) }
+        (Halted (runs.IsLeastOfRun policy (plan_records plan.now) (entries events))) }
     ensures read { result ≢ Err halts.Read }
 {
     // Only a call on the events states that they are sound.
@@ -109,7 +110,7 @@ impl PairCommand for Run {
             value: done_of(alloc, plan, events, self.policy, remains)?,
             remains,
         };
-        Ok(send_done(alloc, output, &done.value))
+        Ok(send(alloc, output, "", &done.value))
     }
 }
 

@@ -3,6 +3,7 @@ ghost use Rattle.odb_sched.specs.Answers.{reported, status_of};
 ghost use Rattle.std.specs.List.{flat_map};
 ghost use Rattle.odb_sched.specs.State.{size};
 ghost use Rattle.odb_sched.specs.Courses.{position_in};
+ghost use Rattle.odb_engine.specs.Replays as replays;
 ghost use Rattle.odb_engine.specs.Traces as traces;
 
 use odb_sched::{Done, Step, Trace};
@@ -76,7 +77,7 @@ fn undo_lines(alloc: Global, done: &Done<'_>, positions: &[u32]) -> Result<Strin
 }
 
 /// Returns the steps of an execution, a line each, and a line for each request that has to be undone.
-pub fn trace_text(alloc: Global, trace: &Trace<'_>) -> Result<String, AllocError>
+fn trace_text(alloc: Global, trace: &Trace<'_>) -> Result<String, AllocError>
     requires { All (λ step. position_in step < size trace.now.done) trace.now.steps.items }
     ensures { IfOk result (λ text. string_bytes text
         ≡ traces.trace_text trace.now.done trace.now.steps.items) }
@@ -85,4 +86,17 @@ pub fn trace_text(alloc: Global, trace: &Trace<'_>) -> Result<String, AllocError
     let mut text = step_lines(alloc, &trace.done, &trace.steps)?;
     text.push_str(&undo_lines(alloc, &trace.done, &undone)?)?;
     Ok(text)
+}
+
+/// Returns the trace of an execution if it is wanted, and else the empty text.
+pub fn trace_part(alloc: Global, trace: &Trace<'_>, traced: bool) -> Result<String, AllocError>
+    requires { All (λ step. position_in step < size trace.now.done) trace.now.steps.items }
+    ensures { IfOk result (λ text. string_bytes text
+        ≡ replays.trace_part traced trace.now.done trace.now.steps.items) }
+{
+    if traced {
+        trace_text(alloc, trace)
+    } else {
+        Ok(String::new(alloc))
+    }
 }

@@ -4,9 +4,8 @@ use Rattle.odb_engine.specs.declared.ending.Ended.{Ended}
 use Rattle.odb_engine.specs.declared.ending.Ended.TheVariants.{Done}
 use Rattle.serde_json.specs.Data.{Data}
 use Rattle.odb_doc.specs.Documents.{IsDocument}
-use Rattle.odb_engine.specs.Cascade.{Writes, HasValue}
+use Rattle.odb_engine.specs.Cascade.{Writes, HasValue, IsOne}
 use Rattle.odb_engine.specs.Inputs.{IsDocumentOf, SomeDocument}
-use Rattle.odb_engine.specs.Laws.{IsOne}
 use Rattle.odb_tests.specs.Readings.{IsReading, IsSame}
 
 -- ---- one text

@@ -1,8 +1,8 @@
 //! Checks of batches: two checks of one batch find the same, and what holds of every plan.
 
-ghost use Rattle.std.specs.Prelude.{◌≡◌, IfSome, IsTrue};
+ghost use Rattle.std.specs.Prelude.{◌≡◌, IfSome, IsTrue, IsSome};
 ghost use Rattle.odb_doc.specs.batch.Batches.{records};
-ghost use Rattle.odb_check.specs.FaultTable.{IsNumbered};
+ghost use Rattle.odb_check.specs.FaultTable.{check_row};
 ghost use Rattle.odb_check.specs.Laws.{HasPositions, HasUnits, NeedsGroups};
 ghost use Rattle.odb_check.specs.LeastNameFault.{HasGoodNames, RefusesNames};
 ghost use Rattle.odb_check.specs.Levels.{HasLevels};
@@ -19,7 +19,7 @@ use std::test::Fail;
 fn plan_of<'a: 'b, 'b>(alloc: Global, batch: &'b Batch<'a>) -> Option<Result<Plan<'b>, CheckFault>>
     ensures { IfSome result (IsReading
         (λ plan. HasGoodNames (records batch.now) × (plan_records plan ≡ records batch.now))
-        (λ fault. IsNumbered fault × RefusesNames fault (records batch.now))) }
+        (λ fault. IsSome (check_row fault) × RefusesNames fault (records batch.now))) }
 {
     match check(alloc, batch) {
         Ok(plan) => Some(Ok(plan)),

@@ -1,13 +1,14 @@
 //! Readings of documents: two readings of one value, or of the same bytes, are one; and what is
 //! written is read back.
 
-ghost use Rattle.std.specs.Prelude.{◌≡◌, ◌↔◌, List, Some, IfSome, IsTrue, string_bytes};
+ghost use Rattle.std.specs.Prelude.{◌≡◌, ◌↔◌, List, Some, IfSome, IsTrue, string_bytes, IsSome};
 ghost use Rattle.serde_json.specs.Data.{Data};
 ghost use Rattle.serde_json.specs.Read.{read};
 ghost use Rattle.serde_json.specs.View.{view};
 ghost use Rattle.odb_names.specs.Fronts.{HasFront, form};
 ghost use Rattle.odb_names.specs.Methods.{Names};
 ghost use Rattle.odb_names.specs.Runs.{SplitsRun};
+ghost use Rattle.odb_doc.specs.batch.Records.{Record, IsBatchOf};
 ghost use Rattle.odb_doc.specs.batch.Batches.{records};
 ghost use Rattle.odb_doc.specs.canonical.Canonical.{canonical_text};
 ghost use Rattle.odb_doc.specs.canonical.CanonicalLaws.{HasCanonicalText, IsDocumentOf};
@@ -23,7 +24,6 @@ ghost use Rattle.odb_doc.specs.recorded.OutcomeFaults as outcome_faults;
 ghost use Rattle.odb_doc.specs.recorded.OutcomeLists as outcomes;
 ghost use Rattle.odb_doc.specs.batch.MediaTypes.{is_in_type};
 ghost use Rattle.odb_doc.specs.recorded.Outcomes.{AreOutcomesOf};
-ghost use Rattle.odb_doc.specs.batch.Records.{Record, IsBatchOf};
 ghost use Rattle.odb_engine.specs.Cascade.{HasValue};
 ghost use Rattle.odb_tests.specs.Readings.{IsReading, IsSame};
 
@@ -87,7 +87,7 @@ fn type_twice(value: &[u8]) -> ((&[u8], &[u8]), (&[u8], &[u8]))
 fn batch_of<'a>(alloc: Global, value: &'a Value) -> Option<Result<Batch<'a>, DocFault>>
     ensures { IfSome result (IsReading
         (λ batch. IsWellShaped (view value.now) × IsBatchOf (view value.now) (records batch))
-        (λ fault. faults.IsNumbered fault × IsLeastFault fault (view value.now))) }
+        (λ fault. IsSome (faults.document_row fault) × IsLeastFault fault (view value.now))) }
 {
     match Batch::read(alloc, value) {
         Ok(batch) => Some(Ok(batch)),
@@ -115,7 +115,7 @@ fn batch_twice<'a>(alloc: Global, value: &'a Value) -> TwoBatches<'a>
 fn outcomes_of(alloc: Global, bytes: &[u8]) -> Option<Result<Outcomes, OutcomeFault>>
     ensures { IfSome result (λ read. HasValue bytes.now (λ value. IsReading
         (λ found. IsOutcomesDocument value × AreOutcomesOf value (outcomes.entries found))
-        (λ fault. outcome_faults.IsNumbered fault × RefusesOutcomes fault value) read)) }
+        (λ fault. IsSome (outcome_faults.outcome_row fault) × RefusesOutcomes fault value) read)) }
 {
     let Ok(value) = parse(alloc, bytes) else {
         return None;
@@ -145,7 +145,7 @@ fn outcomes_twice(alloc: Global, bytes: &[u8]) -> TwoRecords
 fn events_of(alloc: Global, bytes: &[u8]) -> Option<Result<Events, EventFault>>
     ensures { IfSome result (λ read. HasValue bytes.now (λ value. IsReading
         (λ found. IsEventsDocument value × AreEventsOf value (events.entries found))
-        (λ fault. event_faults.IsNumbered fault × RefusesEvents fault value) read)) }
+        (λ fault. IsSome (event_faults.event_row fault) × RefusesEvents fault value) read)) }
 {
     let Ok(value) = parse(alloc, bytes) else {
         return None;

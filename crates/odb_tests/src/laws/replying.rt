@@ -1,17 +1,16 @@
 //! Responses: what two readings of them find, and what a finished run answers.
 
-ghost use Rattle.std.specs.Prelude.{ℕ, List, IfSome};
+ghost use Rattle.std.specs.Prelude.{ℕ, List, IfSome, IsSome};
 ghost use Rattle.std.specs.List.{AllZip};
 ghost use Rattle.serde_json.specs.View.{view};
 ghost use Rattle.odb_check.specs.Plans.{plan_records};
-ghost use Rattle.odb_reply.specs.Fits.{Fits, IsTableOf, ListsFit};
+ghost use Rattle.odb_reply.specs.Fits.{Fits, IsTableOf, ListsFit, places, statuses};
 ghost use Rattle.odb_reply.specs.LeastMatchFault.{RefusesMatch};
 ghost use Rattle.odb_reply.specs.MatchFaults as match_faults;
 ghost use Rattle.odb_reply.specs.OnePerId.{HasOnePerId};
 ghost use Rattle.odb_reply.specs.ResponseDocuments.{IsResponseDocument, RefusesResponses, Says, entries, responses_in};
-ghost use Rattle.odb_reply.specs.ResponseFaults as response_faults;
+ghost use Rattle.odb_reply.specs.ResponseDocuments as response_faults;
 ghost use Rattle.odb_reply.specs.Responses.{response_value};
-ghost use Rattle.odb_reply.specs.Tables.{places, statuses};
 ghost use Rattle.odb_tests.specs.Readings.{IsReading, IsSame};
 
 use odb_check::Plan;
@@ -26,7 +25,7 @@ fn responses_of<'a>(alloc: Global, value: &'a Value) -> Option<Result<Responses<
     ensures { IfSome result (IsReading
         (λ found. IsResponseDocument (view value.now)
         × AllZip Says (responses_in (view value.now)) (entries found))
-        (λ fault. response_faults.IsNumbered fault × RefusesResponses fault (view value.now))) }
+        (λ fault. IsSome (response_faults.responses_row fault) × RefusesResponses fault (view value.now))) }
 {
     match Responses::read(alloc, value) {
         Ok(found) => Some(Ok(found)),
@@ -58,7 +57,7 @@ fn matched(
     ensures { IfSome result (IsReading
         (λ table. Fits (plan_records plan.now) (entries responses.now)
         × IsTableOf (plan_records plan.now) (entries responses.now) (places table) (statuses table))
-        (λ fault. match_faults.IsNumbered fault
+        (λ fault. IsSome (match_faults.match_row fault)
         × RefusesMatch fault (plan_records plan.now) (entries responses.now))) }
 {
     match match_responses(alloc, plan, responses) {
@@ -90,8 +89,8 @@ fn matched_twice(alloc: Global, plan: &Plan<'_>, responses: &Responses<'_>) -> T
 /// batch, with one response for each id.
 fn answered(done: &Done<'_>) -> u32
     ensures document { IsResponseDocument (response_value done.now) }
-    ensures fits { ListsFit (plan_records done.now.plan) (response_value done.now) }
-    ensures one_per_id { HasOnePerId (plan_records done.now.plan) (response_value done.now) }
+    ensures fits { ListsFit done.now.requests (response_value done.now) }
+    ensures one_per_id { HasOnePerId done.now.requests (response_value done.now) }
 {
     every_response(done);
     done.plan().len()

@@ -1,8 +1,7 @@
 use Rattle.std.proofs.Common.{Some}
 use Rattle.odb_engine.specs.Runs.{Runs}
 use Rattle.odb_engine.proofs.LawLemmas.{AreFunctional, answers_one}
-use Rattle.odb_engine.proofs.RunLawLemmas.{HaveOneCause}
-use Rattle.odb_engine.proofs.RunPlanLemmas.{AreOneHistory, runs_one}
+use Rattle.odb_engine.proofs.RunLawLemmas.{HaveOneCause, AreOneHistory, runs_one}
 use Rattle.odb_engine.proofs.laws.one_run.Goals as goal
 
 pub returns : goal.returns

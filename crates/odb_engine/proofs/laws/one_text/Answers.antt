@@ -6,41 +6,8 @@ use Rattle.odb_engine.proofs.LawLemmas.{AreFunctional, answers_one}
 use Rattle.odb_engine.proofs.MatchLawLemmas.{AreOneMatch, match_one}
 use Rattle.odb_engine.proofs.laws.one_text.Goals as goal
 
-pub returns-clause-check : goal.returns-clause-check
-returns-clause-check c =
-    let law : AreFunctional = record {
-      one_shape = c.one_fault.ensures.one;
-      no_shape = c.one_fault.ensures.none;
-      one_batch = c.one_batch.ensures;
-      one_name = c.one_fault-2.ensures.one;
-      no_name = c.one_fault-2.ensures.none;
-    } in
-    λ bytes. answers_one law Counts bytes (λ xs here a b s t x y. (x.0 ∙ sym y.0, x.1 ∙ sym y.1))
-
-pub returns-clause-plan : goal.returns-clause-plan
-returns-clause-plan c =
-    let law : AreFunctional = record {
-      one_shape = c.one_fault.ensures.one;
-      no_shape = c.one_fault.ensures.none;
-      one_batch = c.one_batch.ensures;
-      one_name = c.one_fault-2.ensures.one;
-      no_name = c.one_fault-2.ensures.none;
-    } in
-    λ bytes. answers_one law Plans bytes (λ xs here a b s t x y. (x.0 ∙ sym y.0, x.1 ∙ sym y.1))
-
-pub returns-clause-canon : goal.returns-clause-canon
-returns-clause-canon c =
-    let law : AreFunctional = record {
-      one_shape = c.one_fault.ensures.one;
-      no_shape = c.one_fault.ensures.none;
-      one_batch = c.one_batch.ensures;
-      one_name = c.one_fault-2.ensures.one;
-      no_name = c.one_fault-2.ensures.none;
-    } in
-    λ bytes. answers_one law Canonical bytes (λ xs here. canonical_one xs)
-
-pub returns-clause-matching : goal.returns-clause-matching
-returns-clause-matching c =
+pub returns : goal.returns
+returns c =
     let law : AreFunctional = record {
       one_shape = c.one_fault.ensures.one;
       no_shape = c.one_fault.ensures.none;
@@ -56,4 +23,9 @@ returns-clause-matching c =
       no_misfit = c.one_match.ensures.none;
       one_table = c.one_match.ensures.table;
     } in
-    λ bytes responses. answers_one law (BySecond (Some responses) Matches) bytes (λ batch good. match_one reply responses batch)
+    record {
+      check = λ bytes. answers_one law Counts bytes (λ batch good a b s t x y. (x.0 ∙ sym y.0, x.1 ∙ sym y.1));
+      plan = λ bytes. answers_one law Plans bytes (λ batch good a b s t x y. (x.0 ∙ sym y.0, x.1 ∙ sym y.1));
+      canon = λ bytes. answers_one law Canonical bytes (λ batch good. canonical_one batch);
+      matching = λ bytes responses. answers_one law (BySecond (Some responses) Matches) bytes (λ batch good. match_one reply responses batch);
+    }

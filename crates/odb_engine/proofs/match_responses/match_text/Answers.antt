@@ -1,6 +1,6 @@
 use Rattle.std.proofs.Common.{◌≡◌, ◌∙◌, ◌≤◌, ◌+◌, ◌++◌, string_bytes, append_assoc, append-nil, sym, ap, arith, length}
 use Rattle.odb_check.specs.Plans.{plan_records}
-use Rattle.odb_reply.specs.Tables.{statuses}
+use Rattle.odb_reply.specs.Fits.{statuses}
 use Rattle.odb_doc.specs.batch.Records.{record_of}
 use Rattle.odb_engine.specs.Lines.{fit_line}
 use Rattle.odb_engine.specs.Matches.{status_line}

@@ -1,6 +1,6 @@
 use Rattle.std.proofs.Common.{◌≡◌, ◌++◌, string_bytes}
 use Rattle.odb_check.specs.Plans.{plan_records}
-use Rattle.odb_reply.specs.Tables.{statuses}
+use Rattle.odb_reply.specs.Fits.{statuses}
 use Rattle.odb_engine.specs.Matches.{match_text}
 use Rattle.odb_engine.proofs.MatchLemmas.{lines_left}
 use Rattle.odb_engine.proofs.match_responses.match_text.Given as goal

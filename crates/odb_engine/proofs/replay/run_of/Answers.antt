@@ -7,7 +7,7 @@ use Rattle.odb_sched.specs.Answers.{reported}
 use Rattle.odb_sched.specs.Courses.{IsDue, IsCausedBy, IsFinishedBy}
 use Rattle.odb_sched.specs.Laws.{StartsLast}
 use Rattle.odb_sched.specs.Recordings.{OffersRecorded}
-use Rattle.odb_sched.specs.State.{at_first}
+use Rattle.odb_sched.specs.State.{first_state}
 use Rattle.odb_reply.specs.Fits.{ListsFit}
 use Rattle.odb_reply.specs.OnePerId.{HasOnePerId}
 use Rattle.odb_reply.specs.Responses.{response_value}
@@ -22,22 +22,22 @@ use Rattle.odb_engine.proofs.replay.run_of.Goals as goal
 pub returns-in_err-trace-clause-lacks : goal.returns-in_err-trace-clause-lacks
 returns-in_err-trace-clause-lacks g c =
     let allows = (goal.Chooser-dyn g c.args.replay.now.chooser.now).allows c.args.replay.now.chooser.now.1 in
-    let plan = c.args.plan.now in
+    let batch = plan_records c.args.plan.now in
     let recorded = entries c.args.outcomes in
     let cause = c.in_err-trace.field-0.0 in
-    let lacks = LacksOutcome allows c.args.replay.now.policy plan recorded in
-    let caused = subst (λ s. IsCausedBy (OffersRecorded s) (IsDue allows (OffersRecorded s) (at_first plan c.args.replay.now.policy)) cause) c.in_ok-new.ensures c.in_err-trace.ensures.fault in
+    let lacks = LacksOutcome allows c.args.replay.now.policy batch recorded in
+    let caused = subst (λ s. IsCausedBy (OffersRecorded s) (IsDue allows (OffersRecorded s) (first_state batch c.args.replay.now.policy)) cause) c.in_ok-new.ensures c.in_err-trace.ensures.fault in
     at-exit (λ r. IfErr r (Refuses lacks)) _ _ c.from_residual-in_err-trace.ensures.1
-    (halted-by (λ refusal. lacks Refused (line_of refusal)) _ (lacks-outcome allows c.args.replay.now.policy plan recorded cause c.len-count.ensures.sound caused))
+    (halted-by (λ refusal. lacks Refused (line_of refusal)) _ (lacks-outcome allows c.args.replay.now.policy batch recorded cause c.len-count.ensures.sound caused))
 
 pub returns-clause-result : goal.returns-clause-result
 returns-clause-result g c =
     let allows = (goal.Chooser-dyn g c.args.replay.now.chooser.now).allows c.args.replay.now.chooser.now.1 in
-    let plan = c.args.plan.now in
-    let first = at_first plan c.args.replay.now.policy in
+    let batch = plan_records c.args.plan.now in
+    let first = first_state batch c.args.replay.now.policy in
     let trace = c.in_ok-trace.trace in
     let execution = c.in_ok-trace.ensures.execution in
-    let (course, ended) = subst (λ s. (course : IsFinishedBy allows (OffersRecorded s) first trace.steps.items trace.done) × StartsLast (plan_records plan) course.events) c.in_ok-new.ensures
+    let (course, ended) = subst (λ s. (course : IsFinishedBy allows (OffersRecorded s) first trace.steps.items trace.done) × StartsLast batch course.events) c.in_ok-new.ensures
     (execution.course, execution.dependencies_first) in
     let offers = subst (λ s. (i : ℕ) (outcome : Outcome) → reported trace.done i ≡ Some outcome → OffersRecorded s i (Ok outcome)) c.in_ok-new.ensures c.in_ok-trace.ensures.offered in
     λ traced. record {
@@ -47,12 +47,12 @@ returns-clause-result g c =
       course = course;
       result = refl;
       dependencies_first = ended;
-      one_per_id = subst (λ p. HasOnePerId (plan_records p) (response_value trace.done)) c.in_ok-trace.ensures.plan c.every_response.ensures.one_per_id;
+      one_per_id = subst (λ rs. HasOnePerId rs (response_value trace.done)) c.in_ok-trace.ensures.plan c.every_response.ensures.one_per_id;
       read_again = λ recordable. record {
         value = response_value trace.done;
-        reads = c.every_response.ensures.line (readable-answers (plan_records plan) (entries c.args.outcomes) trace.done c.len-count.ensures.sound offers recordable);
+        reads = c.every_response.ensures.line (readable-answers batch (entries c.args.outcomes) trace.done c.len-count.ensures.sound offers recordable);
         document = c.every_response.ensures.document;
-        fits = subst (λ p. ListsFit (plan_records p) (response_value trace.done)) c.in_ok-trace.ensures.plan c.every_response.ensures.fits;
+        fits = subst (λ rs. ListsFit rs (response_value trace.done)) c.in_ok-trace.ensures.plan c.every_response.ensures.fits;
       };
     }
 

@@ -3,7 +3,7 @@ use Rattle.std.proofs.Common.{◌≡◌, ◌∙◌, Some, subst, refl, sym, ap, 
 use Rattle.serde_json.specs.Read.{read}
 use Rattle.odb_doc.specs.recorded.EventLists.{entries}
 use Rattle.odb_check.specs.Plans.{plan_records}
-use Rattle.odb_sched.specs.State.{State, at_first}
+use Rattle.odb_sched.specs.State.{State, first_state}
 use Rattle.odb_sched.specs.Steps.{is_finished}
 use Rattle.odb_reply.specs.NotWhole.{HasWholeBodies}
 use Rattle.odb_reply.specs.Fits.{ListsFit}
@@ -16,29 +16,28 @@ use Rattle.odb_engine.specs.Lines.{response_line}
 use Rattle.odb_engine.specs.Runs.{IsLeastOfRun, end_of}
 use Rattle.odb_engine.specs.Runs.IsLeastOfRun.{OfEnd}
 use Rattle.odb_engine.proofs.EngineLemmas.{at-exit, halted-by}
-use Rattle.odb_engine.proofs.PlanLemmas.{plan-kept}
-use Rattle.odb_engine.proofs.RunLemmas.{unknown-event, barred-event, readable-answers, whole-bodies}
+use Rattle.odb_engine.proofs.RunLemmas.{requests-kept, unknown-event, barred-event, readable-answers, whole-bodies}
 use Rattle.odb_engine.proofs.run.done_of.Goals as goal
 
 pub returns-in_err-resolved-clause-least : goal.returns-in_err-resolved-clause-least
 returns-in_err-resolved-clause-least c =
     let policy = c.args.policy in
-    let plan = c.args.plan.now in
+    let batch = plan_records c.args.plan.now in
     let named = entries c.args.events in
     let fault = c.in_err-resolved.field-0.0 in
-    let least = IsLeastOfRun policy plan named in
+    let least = IsLeastOfRun policy batch named in
     at-exit (λ r. IfErr r (Halted least)) _ _ c.from_residual.ensures.1
-    (halted-by least _ (unknown-event policy plan named fault c.in_err-resolved.ensures.least))
+    (halted-by least _ (unknown-event policy batch named fault c.in_err-resolved.ensures.least))
 
 pub returns-in_err-scheduler-clause-least : goal.returns-in_err-scheduler-clause-least
 returns-in_err-scheduler-clause-least c =
     let policy = c.args.policy in
-    let plan = c.args.plan.now in
+    let batch = plan_records c.args.plan.now in
     let named = entries c.args.events in
     let cause = c.in_err-scheduler.field-0.0 in
-    let least = IsLeastOfRun policy plan named in
+    let least = IsLeastOfRun policy batch named in
     at-exit (λ r. IfErr r (Halted least)) _ _ c.from_residual-in_err-scheduler.ensures.1
-    (halted-by least _ (barred-event policy plan named c.in_ok-resolved.resolved.items cause c.in_ok-resolved.ensures.events c.in_err-scheduler.ensures.refused))
+    (halted-by least _ (barred-event policy batch named c.in_ok-resolved.resolved.items cause c.in_ok-resolved.ensures.events c.in_err-scheduler.ensures.refused))
 
 pub returns-then-not-is_finished-clause-least : goal.returns-then-not-is_finished-clause-least
 returns-then-not-is_finished-clause-least c =
@@ -48,11 +47,11 @@ returns-then-not-is_finished-clause-least c =
 pub returns-clause-result : goal.returns-clause-result
 returns-clause-result c =
     let policy = c.args.policy in
-    let plan = c.args.plan.now in
+    let batch = plan_records c.args.plan.now in
     let events = c.in_ok-resolved.resolved.items in
-    let first = at_first plan policy in
+    let first = first_state batch policy in
     let done = c.close-done.result in
-    let same : done ≡ end_of policy plan events = c.close-done.ensures.state ∙ c.in_ok-scheduler.ensures.state in
+    let same : done ≡ end_of policy batch events = c.close-done.ensures.state ∙ c.in_ok-scheduler.ensures.state in
     record {
       ends = refl;
       events = events;
@@ -61,24 +60,24 @@ returns-clause-result c =
       finished = ap (λ (s : State). is_finished s) (sym c.in_ok-scheduler.ensures.state) ∙ sym c.if-not-is_finished.ensures.value;
       result = ap response_line same;
       dependencies_first = c.in_ok-scheduler.ensures.dependencies_first;
-      one_per_id = subst (λ p. HasOnePerId (plan_records p) (response_value (end_of policy plan events))) (plan-kept first events)
-          (subst (λ (s : State). HasOnePerId (plan_records s.plan) (response_value s)) same c.every_response.ensures.one_per_id);
+      one_per_id = subst (λ rs. HasOnePerId rs (response_value (end_of policy batch events))) (requests-kept first events)
+          (subst (λ (s : State). HasOnePerId s.requests (response_value s)) same c.every_response.ensures.one_per_id);
       read_again = λ recordable.
-          let readable = readable-answers policy plan (entries c.args.events) events c.in_ok-resolved.ensures.events c.len-count.ensures.sound recordable in
-          let fits = subst (λ (s : State). ListsFit (plan_records s.plan) (response_value s)) same c.every_response.ensures.fits in
+          let readable = readable-answers policy batch (entries c.args.events) events c.in_ok-resolved.ensures.events c.len-count.ensures.sound recordable in
+          let fits = subst (λ (s : State). ListsFit s.requests (response_value s)) same c.every_response.ensures.fits in
           record {
-            value = response_value (end_of policy plan events);
+            value = response_value (end_of policy batch events);
             reads = subst (λ (s : State). AnswersBy IsReadable s → read (response_line s) ≡ Some (response_value s)) same c.every_response.ensures.line readable;
             document = subst (λ (s : State). IsResponseDocument (response_value s)) same c.every_response.ensures.document;
-            fits = subst (λ p. ListsFit (plan_records p) (response_value (end_of policy plan events))) (plan-kept first events) fits;
+            fits = subst (λ rs. ListsFit rs (response_value (end_of policy batch events))) (requests-kept first events) fits;
           };
     }
 
 pub returns-clause-whole : goal.returns-clause-whole
 returns-clause-whole c =
     let policy = c.args.policy in
-    let plan = c.args.plan.now in
+    let batch = plan_records c.args.plan.now in
     let events = c.in_ok-resolved.resolved.items in
-    let same : c.close-done.result ≡ end_of policy plan events = c.close-done.ensures.state ∙ c.in_ok-scheduler.ensures.state in
+    let same : c.close-done.result ≡ end_of policy batch events = c.close-done.ensures.state ∙ c.in_ok-scheduler.ensures.state in
     subst (λ (s : State). HasWholeBodies s) (sym same)
-    (whole-bodies policy plan (entries c.args.events) events c.in_ok-resolved.ensures.events c.len-count.ensures.sound)
+    (whole-bodies policy batch (entries c.args.events) events c.in_ok-resolved.ensures.events c.len-count.ensures.sound)

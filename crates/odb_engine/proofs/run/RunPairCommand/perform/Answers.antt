@@ -11,39 +11,39 @@ use Rattle.odb_engine.proofs.run.RunPairCommand.perform.Goals as goal
 
 pub returns-in_err-events-clause-sent : goal.returns-in_err-events-clause-sent
 returns-in_err-events-clause-sent g c =
-    let plan = c.args.plan.now in
+    let batch = plan_records c.args.plan.now in
     let (bytes, gives, (_, least)) = c.in_err-events.ensures.events in
-    let writes = RunsBatch c.args.self.now.policy (plan_records plan) bytes in
+    let writes = RunsBatch c.args.self.now.policy batch bytes in
     let halt = c.in_err-events.field-0.0 in (
       bytes,
       gives,
       exit-error (Sent g.W.Write.contents writes ⊥ c.args.output.now c.args.output.now) halt _ c.from_residual.ensures.1
-          (refl, Halted-weaker (IsLeastOfEvents bytes) (λ refusal. writes Refused (line_of refusal)) (λ refusal is. (plan, refl, inl (reports (IsLeastOfEvents bytes) refusal is))) halt least),
+          (refl, Halted-weaker (IsLeastOfEvents bytes) (λ refusal. writes Refused (line_of refusal)) (λ refusal is. inl (reports (IsLeastOfEvents bytes) refusal is)) halt least),
     )
 
 pub returns-in_err-done_of-clause-sent : goal.returns-in_err-done_of-clause-sent
 returns-in_err-done_of-clause-sent g c =
     let policy = c.args.self.now.policy in
-    let plan = c.args.plan.now in
+    let batch = plan_records c.args.plan.now in
     let (bytes, gives, (are, _)) = c.in_ok-events.ensures.events in
     let named = entries c.in_ok-events.events in
-    let writes = RunsBatch policy (plan_records plan) bytes in
-    let least = IsLeastOfRun policy plan named in
+    let writes = RunsBatch policy batch bytes in
+    let least = IsLeastOfRun policy batch named in
     let halt = c.in_err-done_of.field-0.0 in (
       bytes,
       gives,
       exit-error (Sent g.W.Write.contents writes ⊥ c.args.output.now c.args.output.now) halt _ c.from_residual-in_err-done_of.ensures.1
-          (refl, Halted-weaker least (λ refusal. writes Refused (line_of refusal)) (λ refusal is. (plan, refl, inr (named, are, inl (reports least refusal is)))) halt c.in_err-done_of.ensures.least),
+          (refl, Halted-weaker least (λ refusal. writes Refused (line_of refusal)) (λ refusal is. inr (named, are, inl (reports least refusal is))) halt c.in_err-done_of.ensures.least),
     )
 
 pub returns-clause-sent : goal.returns-clause-sent
 returns-clause-sent g c =
-    let plan = c.args.plan.now in
+    let batch = plan_records c.args.plan.now in
     let (bytes, gives, (are, _)) = c.in_ok-events.ensures.events in
-    let writes = RunsBatch c.args.self.now.policy (plan_records plan) bytes in
+    let writes = RunsBatch c.args.self.now.policy batch bytes in
     let line = response_line c.in_ok-done_of.field-0 in (
       bytes,
       gives,
-      Ends-weaker g.W.Write.contents (Prints line) writes ⊥ ⊥ c.args.output.now c.send_done.new.output c.send_done.result
-          (printed writes line (plan, refl, inr (entries c.in_ok-events.events, are, inr c.in_ok-done_of.ensures.result))) (λ f. f, λ f. f) c.send_done.ensures,
+      Ends-weaker g.W.Write.contents (Prints line) writes ⊥ ⊥ c.args.output.now c.send.new.output c.send.result
+          (printed writes line (inr (entries c.in_ok-events.events, are, inr c.in_ok-done_of.ensures.result))) (λ f. f, λ f. f) c.send.ensures,
     )

@@ -1,4 +1,5 @@
-use Rattle.odb_doc.specs.recorded.EventFaults.{IsNumbered}
+use Rattle.std.proofs.Common.{IsSome}
+use Rattle.odb_doc.specs.recorded.EventFaults.{event_row}
 use Rattle.odb_doc.specs.recorded.EventLists.{entries}
 use Rattle.odb_doc.specs.recorded.LeastEventFault.{IsEventsDocument, RefusesEvents}
 use Rattle.odb_doc.specs.recorded.Events.{AreEventsOf}
@@ -6,4 +7,4 @@ use Rattle.odb_tests.proofs.LawLemmas.{one_reading_of_bytes}
 use Rattle.odb_tests.proofs.laws.documents.events_twice.Goals as goal
 
 pub returns : goal.returns
-returns c = one_reading_of_bytes entries IsEventsDocument AreEventsOf IsNumbered RefusesEvents c.one_history.ensures.events c.one_history.ensures.one c.one_history.ensures.none c.args.bytes.now c.events_of.result c.events_of-2.result c.events_of.ensures c.events_of-2.ensures
+returns c = one_reading_of_bytes entries IsEventsDocument AreEventsOf (λ f. IsSome (event_row f)) RefusesEvents c.one_history.ensures.events c.one_history.ensures.one c.one_history.ensures.none c.args.bytes.now c.events_of.result c.events_of-2.result c.events_of.ensures c.events_of-2.ensures
