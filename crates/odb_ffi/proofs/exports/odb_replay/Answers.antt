@@ -1,0 +1,5 @@
+use Rattle.odb_ffi.specs.Returns.ReturnsBy.{Named}
+use Rattle.odb_ffi.proofs.exports.odb_replay.Goals as goal
+
+pub returns-in-Some : goal.returns-in-Some
+returns-in-Some c = Named c.in-Some.replay c.in-Some.ensures.some c.replay_by.ensures

@@ -1,0 +1,3 @@
+-- What public clauses cite: it has to be believed.
+pub mod Returns
+pub mod Options

@@ -1,0 +1,13 @@
+//! The commands for programs in other languages: functions with the calling convention of C.
+//!
+//! A call takes documents as bytes and options as numbers, writes what its command prints to a buffer
+//! of the caller, and returns a status. Each export states this by the relation that the command's
+//! engine states. Nothing is kept between calls, so any number of threads may call at once.
+//! `include/odb_batch.h` declares the exports for C.
+#![tactic(auto)]
+
+mod answer;
+pub mod exports;
+mod options;
+mod over_one;
+mod over_two;
