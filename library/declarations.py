@@ -1,0 +1,147 @@
+#!/usr/bin/env python3
+"""Compares what is written twice of the library for C.
+
+- Each declaration of include/odb_batch.h is the one that follows from the export in crates/odb_ffi;
+  nothing else compares them. The bindings in python/ and node/ call just these functions.
+- Statuses and options have the same numbers in the header as in the source.
+- The version is the same everywhere.
+
+With a built library, `declarations.py FOLDER`, also that libodb_batch.so shows just these functions,
+has its name, and needs the C library alone; and that none is larger than it may be.
+"""
+
+import os
+import re
+import subprocess
+import sys
+
+ROOT = os.path.dirname(os.path.dirname(os.path.realpath(__file__)))
+HEADER = "include/odb_batch.h"
+SOURCES = "crates/odb_ffi/src"
+NAME = "libodb_batch.so.0"
+MOST_BYTES = 600_000
+
+# What a type of Rattle is for C; `alloc` is nothing.
+TYPES = {
+    "u32": ["uint32_t {}"],
+    "u64": ["uint64_t {}"],
+    "&mut usize": ["size_t *{}"],
+    "&[u8]": ["const uint8_t *{}", "size_t {}_size"],
+    "&mut [u8]": ["uint8_t *{}", "size_t {}_size"],
+    "Global": [],
+}
+
+# A number of the header, and the constant or the definition of the source that has it.
+NUMBERS = {
+    "ODB_DONE": r"const DONE: u32 = (\d+)",
+    "ODB_REFUSED": r"const REFUSED: u32 = (\d+)",
+    "ODB_WRONG_OPTION": r"const WRONG_OPTION: u32 = (\d+)",
+    "ODB_OUT_OF_MEMORY": r"const OUT_OF_MEMORY: u32 = (\d+)",
+    "ODB_SMALL_BUFFER": r"const SMALL_BUFFER: u32 = (\d+)",
+    "ODB_CONTINUE": r"(\d+) => Mode::Continue",
+    "ODB_STOP": r"(\d+) => Mode::Stop",
+    "ODB_FIRST": r"(\d+) => Some\(Order::First\)",
+    "ODB_LAST": r"(\d+) => Some\(Order::Last\)",
+    "ODB_WIDE": r"(\d+) => Some\(Order::Wide\)",
+}
+
+
+def text_of(path):
+    with open(os.path.join(ROOT, path), encoding="utf-8") as file:
+        return file.read()
+
+
+def source():
+    """The text of the crate."""
+    return "\n".join(text_of(f"{SOURCES}/{name}") for name in sorted(os.listdir(os.path.join(ROOT, SOURCES))))
+
+
+def exports():
+    """The declarations that follow from the source, by name."""
+    found = {}
+    pattern = r'#\[unsafe\(no_mangle\)\]\s*pub extern "C" fn (\w+)\((.*?)\)\s*->\s*(\w+)'
+    for name, parameters, result in re.findall(pattern, source(), re.DOTALL):
+        parts = [it.split(":", 1) for it in parameters.split(",") if it.strip()]
+        places = [form.format(word.strip()) for word, kind in parts for form in TYPES[kind.strip()]]
+        found[name] = TYPES[result][0].format(f"{name}({', '.join(places) or 'void'})")
+    return found
+
+
+def declarations():
+    """The declarations of the header, by name."""
+    found = re.findall(r"(?m)^(\w+ (odb_\w+)\([^)]*\));", text_of(HEADER))
+    return {name: re.sub(r"\s+", " ", text) for text, name in found}
+
+
+def one(pattern, text, what):
+    """The one place of a pattern."""
+    found = re.findall(pattern, text)
+    if len(found) != 1:
+        sys.exit(f"{what}: {pattern!r} is there {len(found)} times, not once")
+    return found[0]
+
+
+def versions():
+    """The version, by where it is written."""
+    header = text_of(HEADER)
+    parts = [one(rf"#define ODB_VERSION_{it} (\d+)", header, HEADER) for it in ("MAJOR", "MINOR", "PATCH")]
+    number = one(r"fn odb_version\(\) -> u32\s*ensures \{ result ≡ (\d+) \}", source(), SOURCES)
+    program = "crates/odb_batch/src/commands.rt"
+    found = {
+        HEADER: ".".join(parts),
+        f"{SOURCES}, odb_version": f"{int(number) // 10000}.{int(number) // 100 % 100}.{int(number) % 100}",
+        program: one(r'const VERSION: &str = "([^"]*)"', text_of(program), program),
+    }
+    for path, pattern in (("python/pyproject.toml", r'(?m)^version = "([^"]*)"'), ("node/package.json", r'"version": "([^"]*)"')):
+        if os.path.exists(os.path.join(ROOT, path)):
+            found[path] = one(pattern, text_of(path), path)
+    return found
+
+
+def differences():
+    """What differs, a line each."""
+    wanted, found = exports(), declarations()
+    for name in sorted({*wanted, *found}):
+        if wanted.get(name) != found.get(name):
+            yield f"{name}: the header declares {found.get(name)}, and the source exports {wanted.get(name)}"
+    header, code = text_of(HEADER), source()
+    for name, pattern in NUMBERS.items():
+        if one(rf"\b{name} = (\d+)", header, HEADER) != one(pattern, code, SOURCES):
+            yield f"{name}: the header and the source have different numbers"
+    if len(set(versions().values())) != 1:
+        yield f"the versions differ: {versions()}"
+
+
+def output(*words):
+    return subprocess.run(words, capture_output=True, text=True, check=True).stdout
+
+
+def built_differences(folder):
+    """What is otherwise than it has to be of the built library, a line each."""
+    shared = os.path.join(folder, NAME)
+    shown = {line.split()[-1] for line in output("nm", "-D", "--defined-only", shared).splitlines()}
+    if shown != set(exports()):
+        yield f"{NAME} shows {sorted(shown ^ set(exports()))} too, or lacks them"
+    archive = output("nm", "-g", "--defined-only", os.path.join(folder, "libodb_batch.a"))
+    if set(re.findall(r" [A-Z] (\w+)", archive)) != set(exports()):
+        yield "libodb_batch.a shows other names than the exports"
+    about = output("readelf", "-d", shared)
+    if re.findall(r"SONAME.*\[(.*)\]", about) != [NAME]:
+        yield f"{NAME} has another name in itself"
+    if re.findall(r"NEEDED.*\[(.*)\]", about) != ["libc.so.6"] or "TEXTREL" in about:
+        yield f"{NAME} needs more than the C library"
+    for name in (NAME, "libodb_batch.a"):
+        if os.path.getsize(os.path.join(folder, name)) > MOST_BYTES:
+            yield f"{name} has {os.path.getsize(os.path.join(folder, name))} bytes, more than {MOST_BYTES}"
+
+
+def main():
+    found = list(differences())
+    for folder in sys.argv[1:]:
+        found += built_differences(folder)
+    print(*found, f"{len(exports())} declarations, {len(found)} differences", sep="\n")
+    return 1 if found else 0
+
+
+if __name__ == "__main__":
+    sys.exit(main())
