@@ -1,0 +1,269 @@
+"""The commands: what they take and what they return."""
+
+import json
+from typing import Any, Dict, Iterator, List, Mapping, NamedTuple, Optional, Tuple, Union
+
+from . import _library
+from ._faults import fault_of
+
+#: A document: bytes or a text of JSON, or a mapping that ``json`` can write.
+Document = Union[bytes, bytearray, memoryview, str, Mapping[str, Any]]
+
+MODES = {"continue": 0, "stop": 1}
+ORDERS = {"first": 0, "last": 1, "wide": 2}
+MAX_WIDTH = 10_000
+
+# How much longer than its documents a text is thought to be; a longer one takes a second call.
+_MORE = 256
+
+
+class Counts(NamedTuple):
+    """How many requests and how many different atomicity groups a batch has."""
+
+    requests: int
+    groups: int
+
+
+class PlannedRequest(NamedTuple):
+    """A request of a plan.
+
+    Attributes:
+        position: Its position in the batch, counted from 0.
+        id: Its id.
+        level: 0 if it depends on nothing, else one more than the highest level that it depends on.
+            Requests of one level may run side by side.
+        group: Its atomicity group, or None.
+        needs: The ids and groups that it depends on, in order.
+    """
+
+    position: int
+    id: str
+    level: int
+    group: Optional[str]
+    needs: Tuple[str, ...]
+
+
+class Plan:
+    """The requests of a batch in order, with what each depends on. It is a sequence of them."""
+
+    __slots__ = ("requests", "_positions")
+
+    requests: Tuple[PlannedRequest, ...]
+
+    def __init__(self, requests: Tuple[PlannedRequest, ...]) -> None:
+        self.requests = requests
+        self._positions = {request.id: request.position for request in requests}
+
+    def __len__(self) -> int:
+        return len(self.requests)
+
+    def __iter__(self) -> Iterator[PlannedRequest]:
+        return iter(self.requests)
+
+    def __getitem__(self, position: int) -> PlannedRequest:
+        return self.requests[position]
+
+    def __eq__(self, other: object) -> bool:
+        return isinstance(other, Plan) and self.requests == other.requests
+
+    def __hash__(self) -> int:
+        return hash(self.requests)
+
+    def __repr__(self) -> str:
+        return f"Plan({self.requests!r})"
+
+    def request(self, id: str) -> PlannedRequest:
+        """Returns the request with this id; raises KeyError if there is none."""
+        return self.requests[self._positions[id]]
+
+
+class Start(NamedTuple):
+    """A step of a replay: the request starts."""
+
+    id: str
+
+
+class Report(NamedTuple):
+    """A step of a replay: the request ends with this status."""
+
+    id: str
+    status: int
+
+
+class Replay(NamedTuple):
+    """What a replay did.
+
+    Attributes:
+        response: The response document, as JSON without a newline.
+        steps: The starts and reports in order; empty if no trace was asked for.
+        undone: The ids of the requests that have to be undone, in this order; empty if no trace was
+            asked for.
+    """
+
+    response: bytes
+    steps: Tuple[Union[Start, Report], ...]
+    undone: Tuple[str, ...]
+
+
+def bytes_of(document: Document) -> bytes:
+    """The bytes of a document."""
+    if isinstance(document, bytes):
+        return document
+    if isinstance(document, str):
+        # A text that is not Unicode is refused as a document that is not UTF-8.
+        return document.encode("utf-8", "surrogatepass")
+    if isinstance(document, (bytearray, memoryview)):
+        return bytes(document)
+    if isinstance(document, Mapping):
+        return json.dumps(document, ensure_ascii=False, separators=(",", ":")).encode("utf-8", "surrogatepass")
+    raise TypeError(f"a document is bytes, a str or a mapping, not {type(document).__name__}")
+
+
+def _number(names: Dict[str, int], what: str, value: str) -> int:
+    """The number of a named option."""
+    if value not in names:
+        raise ValueError(f"{what} must be one of {', '.join(map(repr, names))}, not {value!r}")
+    return names[value]
+
+
+def _policy(mode: str, width: int) -> Tuple[int, int]:
+    """The numbers of a policy."""
+    if isinstance(width, bool) or not isinstance(width, int) or not 1 <= width <= MAX_WIDTH:
+        raise ValueError(f"width must be a whole number from 1 to {MAX_WIDTH}, not {width!r}")
+    return _number(MODES, "mode", mode), width
+
+
+def answer(name: str, *documents: Document, options: Tuple[int, ...] = ()) -> bytes:
+    """The text that a command writes; raises what else it returns."""
+    given = tuple(map(bytes_of, documents))
+    status, text = _library.call(name, given, options, sum(map(len, given)) + _MORE)
+    if status == _library.DONE:
+        return text
+    if status == _library.REFUSED:
+        raise fault_of(text)
+    if status == _library.OUT_OF_MEMORY:
+        raise MemoryError(f"{name} ran out of memory")
+    raise RuntimeError(f"{name} returned the status {status}")
+
+
+def check(batch: Document) -> Counts:
+    """Checks a batch, and returns its counts.
+
+    Raises:
+        Fault: The batch is refused.
+        MemoryError: An allocation failed.
+    """
+    words = answer("odb_check", batch).split()
+    return Counts(int(words[1]), int(words[3]))
+
+
+def _planned(line: str) -> PlannedRequest:
+    """The request of a line ``POS ID level L group G needs NAMES``."""
+    position, id, _, level, _, group, _, needs = line.split(" ")
+    return PlannedRequest(
+        int(position),
+        id,
+        int(level),
+        None if group == "*" else group,
+        () if needs == "*" else tuple(needs.split(",")),
+    )
+
+
+def plan(batch: Document) -> Plan:
+    """Plans a batch: returns its requests with their levels and dependencies.
+
+    Raises:
+        Fault: The batch is refused.
+        MemoryError: An allocation failed.
+    """
+    return Plan(tuple(map(_planned, answer("odb_plan", batch).decode().splitlines())))
+
+
+def canon(batch: Document) -> bytes:
+    """Returns the canonical text of a batch, without a newline.
+
+    Two documents have equal texts if and only if they are the same batch.
+
+    Raises:
+        Fault: The batch is refused, or a body has a number that is not whole.
+        MemoryError: An allocation failed.
+    """
+    return answer("odb_canon", batch)[:-1]
+
+
+def match(batch: Document, responses: Document) -> Dict[str, int]:
+    """Matches the response document of a service against a batch.
+
+    Returns:
+        The status of the response to each request, by its id, in the order of the batch.
+
+    Raises:
+        Fault: A document is refused, or the responses do not fit the batch.
+        MemoryError: An allocation failed.
+    """
+    lines = answer("odb_match", batch, responses).decode().splitlines()[1:]
+    return {id: int(status) for id, status in (line.split(" ") for line in lines)}
+
+
+def run(batch: Document, events: Document, *, mode: str = "continue", width: int = MAX_WIDTH) -> bytes:
+    """Runs a batch by recorded events.
+
+    Args:
+        batch: The batch.
+        events: The document of what happened, in order.
+        mode: ``"continue"``, or ``"stop"`` to start nothing more after a status from 400 to 599.
+        width: How many requests may run at once, from 1 to 10,000.
+
+    Returns:
+        The response document, as JSON without a newline.
+
+    Raises:
+        Fault: A document is refused, an event may not come, or the run is not finished.
+        ValueError: An option has a value that it may not have.
+        MemoryError: An allocation failed.
+    """
+    return answer("odb_run", batch, events, options=_policy(mode, width))[:-1]
+
+
+def _traced(lines: List[bytes]) -> Replay:
+    """The replay of the lines of a trace and its response."""
+    steps: List[Union[Start, Report]] = []
+    undone: List[str] = []
+    for line in lines[:-1]:
+        word, id, *status = line.decode().split(" ")
+        if word == "start":
+            steps.append(Start(id))
+        elif word == "report":
+            steps.append(Report(id, int(status[0])))
+        else:
+            undone.append(id)
+    return Replay(lines[-1], tuple(steps), tuple(undone))
+
+
+def replay(
+    batch: Document,
+    outcomes: Document,
+    *,
+    order: str = "first",
+    mode: str = "continue",
+    width: int = MAX_WIDTH,
+    trace: bool = False,
+) -> Replay:
+    """Replays a batch by recorded outcomes.
+
+    Args:
+        batch: The batch.
+        outcomes: The document of what each request was answered.
+        order: ``"first"`` and ``"last"`` finish each request before they start the next, by position
+            from either end; ``"wide"`` starts everything it can.
+        mode: ``"continue"``, or ``"stop"`` to start nothing more after a status from 400 to 599.
+        width: How many requests may run at once, from 1 to 10,000.
+        trace: Whether the steps are returned, and what has to be undone.
+
+    Raises:
+        Fault: A document is refused, or a request that ends has no outcome.
+        ValueError: An option has a value that it may not have.
+        MemoryError: An allocation failed.
+    """
+    options = (*_policy(mode, width), _number(ORDERS, "order", order), int(bool(trace)))
+    return _traced(answer("odb_replay", batch, outcomes, options=options)[:-1].split(b"\n"))

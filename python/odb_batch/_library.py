@@ -1,0 +1,87 @@
+"""The shared library: where it is found, and its functions as they are declared in odb_batch.h."""
+
+import ctypes
+import os
+import secrets
+from typing import Callable, List, Tuple
+
+NAME = "libodb_batch.so.0"
+VARIABLE = "ODB_BATCH_LIBRARY"
+
+DONE, REFUSED, WRONG_OPTION, OUT_OF_MEMORY, SMALL_BUFFER = 0, 1, 2, 4, 5
+
+# The version that this package is made for; the library may have another patch.
+MAJOR, MINOR = 0, 1
+
+_BYTES = [ctypes.c_char_p, ctypes.c_size_t]
+_NUMBER = [ctypes.c_uint32]
+_TEXT = [ctypes.c_void_p, ctypes.c_size_t, ctypes.POINTER(ctypes.c_size_t), ctypes.c_uint64]
+
+# The parameters of each function.
+_PARAMETERS = {
+    "odb_check": [*_BYTES, *_TEXT],
+    "odb_plan": [*_BYTES, *_TEXT],
+    "odb_canon": [*_BYTES, *_TEXT],
+    "odb_match": [*_BYTES, *_BYTES, *_TEXT],
+    "odb_run": [*_BYTES, *_BYTES, *_NUMBER * 2, *_TEXT],
+    "odb_replay": [*_BYTES, *_BYTES, *_NUMBER * 4, *_TEXT],
+}
+
+
+def _places() -> List[str]:
+    """Where the library may be: named by the environment, or beside the package, or known to the loader."""
+    named = os.environ.get(VARIABLE)
+    if named:
+        return [named]
+    beside = os.path.join(os.path.dirname(os.path.abspath(__file__)), NAME)
+    return [*([beside] if os.path.exists(beside) else []), NAME]
+
+
+def _load() -> ctypes.CDLL:
+    """Loads the library."""
+    failed = []
+    for place in _places():
+        try:
+            return ctypes.CDLL(place)
+        except OSError as error:
+            failed.append(str(error))
+    raise ImportError(
+        f"{NAME} cannot be loaded ({'; '.join(failed)}). bin/odb_library FOLDER of odb_batch builds it: "
+        f"put it beside this package, or set {VARIABLE} to its path"
+    )
+
+
+def _declare(library: ctypes.CDLL) -> str:
+    """Declares the functions, and returns the version of the library."""
+    try:
+        library.odb_version.argtypes, library.odb_version.restype = [], ctypes.c_uint32
+        number = library.odb_version()
+        for name, parameters in _PARAMETERS.items():
+            function = getattr(library, name)
+            function.argtypes, function.restype = parameters, ctypes.c_uint32
+    except AttributeError as error:
+        raise ImportError(f"{NAME} is not the library of odb_batch: {error}") from None
+    found = number // 10000, number // 100 % 100
+    if found != (MAJOR, MINOR):
+        raise ImportError(f"{NAME} has version {found[0]}.{found[1]}, and this package needs {MAJOR}.{MINOR}")
+    return f"{found[0]}.{found[1]}.{number % 100}"
+
+
+_LIBRARY = _load()
+VERSION = _declare(_LIBRARY)
+
+# Drawn once, and kept secret: nobody can choose names that make a call slow.
+_SEED = secrets.randbits(64)
+
+
+def call(name: str, documents: Tuple[bytes, ...], options: Tuple[int, ...], room: int) -> Tuple[int, bytes]:
+    """Calls a function; returns its status and its text. `room` is a guess of how long that is."""
+    function: Callable[..., int] = getattr(_LIBRARY, name)
+    length = ctypes.c_size_t()
+    sized = [part for document in documents for part in (document, len(document))]
+    while True:
+        text = ctypes.create_string_buffer(room)
+        status = function(*sized, *options, text, room, ctypes.byref(length), _SEED)
+        if status != SMALL_BUFFER:
+            return status, ctypes.string_at(text, length.value)
+        room = length.value

@@ -1,0 +1,188 @@
+"""What the functions take, return and raise."""
+
+import json
+import pickle
+import threading
+import unittest
+from unittest import mock
+
+import odb_batch
+from odb_batch import Counts, Fault, PlannedRequest, Report, Start, canon, check, match, plan, replay, run
+
+BATCH = {
+    "requests": [
+        {"id": "book", "method": "get", "url": "Books('dune')"},
+        {"id": "mark", "atomicityGroup": "lend", "dependsOn": ["book"], "method": "delete", "url": "Books('dune')"},
+        {"id": "loan", "atomicityGroup": "lend", "dependsOn": ["book"], "method": "post", "url": "Loans",
+         "headers": {"Content-Type": "application/json"}, "body": {"Book": "dune", "Größe": 1}},
+        {"id": "list", "dependsOn": ["lend"], "method": "get", "url": "Loans"},
+    ]
+}
+TEXT = json.dumps(BATCH)
+OUTCOMES = {"outcomes": [{"id": "book", "status": 200}, {"id": "mark", "status": 204}, {"id": "loan", "status": 409}]}
+RESPONSE = {
+    "responses": [
+        {"id": "book", "status": 200},
+        {"atomicityGroup": "lend", "id": "mark", "status": 424},
+        {"atomicityGroup": "lend", "id": "loan", "status": 409},
+        {"id": "list", "status": 424},
+    ]
+}
+EVENTS = {
+    "events": [
+        {"start": "book"},
+        {"report": "book", "status": 200},
+        {"start": "mark"},
+        {"start": "loan"},
+        {"report": "loan", "status": 409},
+        {"report": "mark", "status": 204},
+    ]
+}
+
+
+class Documents(unittest.TestCase):
+    def test_takes_each_kind_of_document(self):
+        for document in (BATCH, TEXT, TEXT.encode(), bytearray(TEXT.encode()), memoryview(TEXT.encode())):
+            with self.subTest(kind=type(document).__name__):
+                self.assertEqual(check(document), Counts(requests=4, groups=1))
+
+    def test_refuses_another_kind(self):
+        for document in (None, 7, [], {1}):
+            with self.subTest(document=document), self.assertRaises(TypeError):
+                check(document)
+
+    def test_reads_a_document_with_a_null_byte_to_its_end(self):
+        with self.assertRaises(Fault) as raised:
+            check(TEXT.encode() + b"\0")
+        self.assertEqual(raised.exception.code, "F02")
+
+    def test_refuses_a_text_that_is_not_unicode_as_a_document(self):
+        with self.assertRaises(Fault) as raised:
+            check(TEXT.replace("dune", "\ud800"))
+        self.assertEqual(str(raised.exception), "F02 NotJson batch")
+
+
+class Commands(unittest.TestCase):
+    def test_plans(self):
+        planned = plan(BATCH)
+        self.assertEqual(len(planned), 4)
+        self.assertEqual(planned[0], PlannedRequest(0, "book", 0, None, ()))
+        self.assertEqual(planned.request("loan"), PlannedRequest(2, "loan", 1, "lend", ("book",)))
+        self.assertEqual([it.level for it in planned], [0, 1, 1, 2])
+        self.assertEqual(planned, plan(TEXT))
+        self.assertEqual(hash(planned), hash(plan(TEXT)))
+        with self.assertRaises(KeyError):
+            planned.request("lend")
+
+    def test_plans_the_empty_batch(self):
+        self.assertEqual(plan({"requests": []}).requests, ())
+
+    def test_makes_the_canonical_text(self):
+        text = canon('{"requests": [{"url": "X", "method": "GET", "id": "1", "body": null}]}')
+        self.assertEqual(text, b'{"requests":[{"id":"1","method":"get","url":"X"}]}')
+
+    def test_matches(self):
+        self.assertEqual(
+            list(match(BATCH, RESPONSE).items()), [("book", 200), ("mark", 424), ("loan", 409), ("list", 424)]
+        )
+
+    def test_runs(self):
+        self.assertEqual(json.loads(run(BATCH, EVENTS)), RESPONSE)
+        self.assertEqual(json.loads(run(BATCH, EVENTS, mode="stop", width=2)), RESPONSE)
+
+    def test_replays(self):
+        found = replay(BATCH, OUTCOMES)
+        self.assertEqual(json.loads(found.response), RESPONSE)
+        self.assertEqual((found.steps, found.undone), ((), ()))
+
+    def test_replays_in_an_order_with_a_trace(self):
+        found = replay(BATCH, OUTCOMES, order="wide", trace=True)
+        steps = (Start("book"), Report("book", 200), Start("mark"), Start("loan"), Report("mark", 204), Report("loan", 409))
+        self.assertEqual((found.steps, found.undone), (steps, ("mark",)))
+
+    def test_returns_a_text_longer_than_its_documents(self):
+        ids = [f"r{i}" for i in range(1000)]
+        batch = {"requests": [{"id": id, "method": "get", "url": "X"} for id in ids]}
+        outcomes = {"outcomes": [{"id": ids[0], "status": 500}]}
+        found = replay(batch, outcomes, mode="stop", trace=True)
+        self.assertEqual([it["status"] for it in json.loads(found.response)["responses"]], [500] + [424] * 999)
+
+
+class Refusals(unittest.TestCase):
+    def test_raises_the_fault(self):
+        with self.assertRaises(Fault) as raised:
+            check('{"requests":[{"id":"1","method":"get","url":"A","dependsOn":["2"]},{"id":"2","method":"get","url":"B"}]}')
+        fault = raised.exception
+        self.assertEqual((fault.code, fault.name, fault.place), ("F41", "ForwardName", "/requests/0"))
+        self.assertEqual(str(fault), "F41 ForwardName /requests/0")
+        self.assertIn("dependsOn", fault.explanation)
+        self.assertIsInstance(fault, ValueError)
+
+    def test_a_fault_is_pickled(self):
+        fault = pickle.loads(pickle.dumps(Fault("F02", "NotJson", "batch")))
+        self.assertEqual((fault.code, fault.name, fault.place), ("F02", "NotJson", "batch"))
+
+    def test_explains_the_causes_of_events(self):
+        with self.assertRaises(Fault) as raised:
+            run(BATCH, {"events": [{"start": "list"}]})
+        self.assertEqual(str(raised.exception), "S4 Waiting /events/0")
+        self.assertTrue(raised.exception.explanation)
+
+    def test_refuses_wrong_options(self):
+        wrong = [{"mode": "half"}, {"width": 0}, {"width": 10_001}, {"width": True}, {"width": 1.5}]
+        for options in wrong:
+            with self.subTest(options=options), self.assertRaises(ValueError):
+                run(BATCH, EVENTS, **options)
+        for options in (*wrong, {"order": "middle"}):
+            with self.subTest(options=options), self.assertRaises(ValueError):
+                replay(BATCH, OUTCOMES, **options)
+
+    def test_an_option_is_no_fault(self):
+        with self.assertRaises(ValueError) as raised:
+            run(b"", b"", width=0)
+        self.assertNotIsInstance(raised.exception, Fault)
+
+
+class Statuses(unittest.TestCase):
+    def raised(self, status):
+        with mock.patch("odb_batch._library.call", return_value=(status, b"")), self.assertRaises(Exception) as raised:
+            check(BATCH)
+        return raised.exception
+
+    def test_out_of_memory_is_a_memory_error(self):
+        self.assertIsInstance(self.raised(4), MemoryError)
+
+    def test_a_status_that_cannot_be_is_an_error(self):
+        for status in (2, 5, 77):
+            self.assertIsInstance(self.raised(status), RuntimeError)
+
+
+class Threads(unittest.TestCase):
+    def test_eight_threads_call_at_once(self):
+        wrong = []
+
+        def work(count):
+            batch = {"requests": [{"id": f"r{i}", "method": "get", "url": "X"} for i in range(count)]}
+            for _ in range(50):
+                if check(batch).requests != count or len(plan(batch)) != count:
+                    wrong.append(count)
+
+        threads = [threading.Thread(target=work, args=(20 * i,)) for i in range(8)]
+        for thread in threads:
+            thread.start()
+        for thread in threads:
+            thread.join()
+        self.assertEqual(wrong, [])
+
+
+class Package(unittest.TestCase):
+    def test_has_the_version_of_the_library(self):
+        self.assertRegex(odb_batch.__version__, r"^\d+\.\d+\.\d+$")
+
+    def test_exports_what_it_lists(self):
+        for name in odb_batch.__all__:
+            self.assertTrue(hasattr(odb_batch, name), name)
+
+
+if __name__ == "__main__":
+    unittest.main()
