@@ -21,7 +21,7 @@ ROOT = os.path.dirname(os.path.dirname(os.path.realpath(__file__)))
 MOST = 130
 
 BLOCK = re.compile(r"(?:pub )?(?:unsafe )?(impl|trait)\b(.*)")
-CALL = re.compile(r"( *)(pub )?(?:final )?(?:const )?fn (\w+)")
+CALL = re.compile(r"( *)(pub )?(?:final )?(?:const )?(?:extern \"C\" )?fn (\w+)")
 CLAUSE = re.compile(r" +ensures\*? *(\w+)? *\{")
 
 

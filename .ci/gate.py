@@ -4,7 +4,7 @@ The parts are `rt ci` (the proofs, the tests, the must-fail edits), the question
 they ask, the commands of README.md against the output that it shows, the faults of docs/faults.md
 against the program, the worked cases, the manual page and the completions against the help,
 documents that are cut and documents as long as the program takes, random documents against plain
-rules, allocations that fail, names that crowd the tables of one seed, and the short form of the
+rules, the library for other languages and its bindings, allocations that fail, names that crowd the tables of one seed, and the short form of the
 benchmark, which compares answers and judges no time. The exit status is 0 where all of them pass.
 """
 
@@ -127,6 +127,7 @@ def main():
         ("documents as long as it takes", False, ["cases/sizes.py"]),
         ("random documents", False, ["cases/fuzz.py", "--mistakes"]),
         ("commands against each other", False, ["cases/agree.py"]),
+        ("library for other languages", False, ["library/run.py"]),
         ("allocations that fail", False, ["hostile/memory.py"]),
         ("names made for a seed", False, ["hostile/seeds.py"]),
         ("bench/bench.py --short", True, ["bench/bench.py", "--short"]),
