@@ -116,11 +116,14 @@ first_differs rs es places statuses i k e rows place given differs =
     let row = row_at rs es places statuses i k rows place in
     let same : row.entry ≡ e = same_Some row.entry e (sym row.given ∙ given) in
     record {
-      broken = (refl, record {
-        response = e;
-        responds = record { place = k; given = given; id = row.id ∙ ap (λ (r : Entry). Some r.id) same };
-        differs = differs;
-      });
+      broken = (
+        refl,
+        record {
+          response = e;
+          responds = record { place = k; given = given; id = row.id ∙ ap (λ (r : Entry). Some r.id) same };
+          differs = differs;
+        },
+      );
       least = λ other less broken. omega (arith, less, number_74 other broken.0);
     }
 
@@ -139,14 +142,17 @@ first_unsound rs es places statuses units plan i rows known same laws within gro
     let row = row_at rs es places statuses i place.0 rows place.1 in
     let failing = any_some (λ need. not (is_satisfied statuses units need)) (needs_at rs i) some in
     record {
-      broken = (refl, record {
-        response = row.entry;
-        responds = record { place = place.0; given = row.given; id = row.id };
-        success = ap is_success row.status_is ∙ passes;
-        need = failing.0;
-        needed = failing.1;
-        fails = failed_from rs es places statuses units failing.0 rows known (need_within rs plan i failing.0 same laws within failing.1) (not_false (is_satisfied statuses units failing.0) failing.2);
-      });
+      broken = (
+        refl,
+        record {
+          response = row.entry;
+          responds = record { place = place.0; given = row.given; id = row.id };
+          success = ap is_success row.status_is ∙ passes;
+          need = failing.0;
+          needed = failing.1;
+          fails = failed_from rs es places statuses units failing.0 rows known (need_within rs plan i failing.0 same laws within failing.1) (not_false (is_satisfied statuses units failing.0) failing.2);
+        },
+      );
       least = λ other less broken. below_75 rs es i group other less broken.0 broken.1;
     }
 

@@ -5,8 +5,8 @@ ghost use Rattle.odb_reply.specs.NotWhole.{HasWholeBody, HasWholeBodies, IsFirst
 ghost use Rattle.odb_doc.specs.recorded.OutcomeValues.{IsHeldOutcome};
 ghost use Rattle.odb_reply.specs.Readable.{AnswersBy};
 
-use odb_doc::laws::every_outcome;
 use odb_doc::is_whole;
+use odb_doc::laws::every_outcome;
 use odb_sched::{Answer, Done};
 
 /// Returns whether each number in the body of an answer is whole.
