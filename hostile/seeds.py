@@ -71,7 +71,7 @@ def content_of(names):
 def jobs_of(binary, folder, name, content):
     """The commands on a batch and what a run of it gave, by their names."""
     texts = [workloads.compact("requests", content.requests), workloads.compact("outcomes", content.outcomes)]
-    case = workloads.write_case(folder, name, 1, name, texts, content)
+    case = workloads.write_case(folder, name, 1, name, (), texts, content)
     return {job.command: job for job in turns.case_jobs(binary, case) if job.command in turns.COMMANDS}
 
 
