@@ -10,8 +10,8 @@ use Rattle.odb_check.specs.declared.need.Need.{Need}
 use Rattle.odb_check.specs.declared.need.Need.TheVariants.{One, Group}
 use Rattle.odb_check.specs.Levels.{greatest_of, greatest_below, unit_level, level_needed, next_level, levels_below, level_at, level_of_unit, HasLevels}
 use Rattle.odb_check.specs.Needs.{needs_at}
+use Rattle.odb_check.specs.Shape.{IsNeedAmong}
 use Rattle.odb_check.specs.Units.{unit_at, unit_count}
-use Rattle.odb_check.specs.Marks.{IsWithin}
 use Rattle.odb_check.proofs.AnyLemmas.{Contains-head, Contains-tail}
 use Rattle.odb_check.proofs.BelowLemmas.{set_cases}
 use Rattle.odb_check.proofs.UnitLemmas.{unit_before}
@@ -161,9 +161,9 @@ has_levels rs before = record {
 }
 
 -- the levels of what is needed are known
-pub levels_known : (rs : List Record) → HasNeedsBefore rs → (i : ℕ) → i < length rs → (levels units : ℕ) → levels ≡ i → units ≡ unit_count rs → All (λ need. IsWithin need levels units) (needs_at rs i)
+pub levels_known : (rs : List Record) → HasNeedsBefore rs → (i : ℕ) → i < length rs → (levels units : ℕ) → levels ≡ i → units ≡ unit_count rs → All (IsNeedAmong levels units) (needs_at rs i)
 levels_known rs before i h levels units levels_are units_are k d less = known (get_or (needs_at rs i) k d) (Contains-get_or (needs_at rs i) k d less)
   where
-    known : (need : Need) → Contains (needs_at rs i) need → IsWithin need levels units
+    known : (need : Need) → Contains (needs_at rs i) need → IsNeedAmong levels units need
     known (One r) inside = omega (arith, before.one i r inside)
     known (Group u) inside = omega (arith, before.group i u inside, unit_before rs i (length rs) h)

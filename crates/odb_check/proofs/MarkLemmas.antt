@@ -8,7 +8,8 @@ use Rattle.std.proofs.lemmas.Bool.{eq-eqb, ne_eqb, or_right}
 use Rattle.odb_doc.specs.batch.Records.{Record}
 use Rattle.odb_check.specs.declared.need.Need.{Need}
 use Rattle.odb_check.specs.declared.need.Need.TheVariants.{One, Group}
-use Rattle.odb_check.specs.Marks.{IsWithin, ones_with, groups_with, same_need, AreMarksOf}
+use Rattle.odb_check.specs.Marks.{ones_with, groups_with, same_need, AreMarksOf}
+use Rattle.odb_check.specs.Shape.{IsNeedAmong}
 use Rattle.odb_check.specs.Units.{unit_count}
 use Rattle.odb_check.proofs.AnyLemmas.{any_more}
 use Rattle.odb_check.proofs.BelowLemmas.{set_cases}
@@ -29,7 +30,7 @@ marked kind named marks stamp p within is are q =
 low_set : (marks : List ℕ) (p stamp : ℕ) → p < length marks → ((q : ℕ) → slice_index marks q ≤ stamp) → (q : ℕ) → slice_index (slice_set marks p stamp) q ≤ stamp
 low_set marks p stamp within low q = elim (set_cases marks p stamp q within) [ inl (same, set) ↦ omega arith | inr (other, kept) ↦ omega (arith, low q) ]
 
-pub marks_more : (rs : List Record) (named : List Need) (need : Need) (stamp : ℕ) (ones groups : List ℕ) → IsWithin need (length rs) (unit_count rs)
+pub marks_more : (rs : List Record) (named : List Need) (need : Need) (stamp : ℕ) (ones groups : List ℕ) → IsNeedAmong (length rs) (unit_count rs) need
     → AreMarksOf rs named stamp ones groups → AreMarksOf rs (named ++ need ∷ []) stamp (ones_with need stamp ones) (groups_with need stamp groups)
 marks_more rs named (One p) stamp ones groups within marks =
     let inside : p < length ones = omega (arith, marks.up_to.ones_count) in

@@ -9,10 +9,11 @@ use Rattle.odb_doc.specs.batch.Records.{Record}
 use Rattle.odb_check.specs.declared.fault.NameRule.TheVariants.{IdTwice, IdIsGroup}
 use Rattle.odb_check.specs.declared.need.Need.{Need}
 use Rattle.odb_check.specs.declared.need.Need.TheVariants.{One, Group}
-use Rattle.odb_check.specs.Marks.{IsWithin, same_need}
+use Rattle.odb_check.specs.Marks.{same_need}
 use Rattle.odb_check.specs.NameFaults.{IsBrokenAt}
 use Rattle.odb_check.specs.Needs.{need_at, need_of}
 use Rattle.odb_check.specs.Positions.{id_at, group_at, IsIdBefore, IsGroup}
+use Rattle.odb_check.specs.Shape.{IsNeedAmong}
 use Rattle.odb_check.specs.Units.{begins_unit, unit_at, unit_count, position_of, unit_of_group}
 use Rattle.odb_check.proofs.AnyLemmas.{Contains-Decides, Decides-none}
 use Rattle.odb_check.proofs.FirstLemmas.{count_less}
@@ -48,7 +49,7 @@ is_meant rs name need e = subst (Meaning rs name) e (meaning rs name)
 pub means_nothing : (rs : List Record) (name : List ℕ) → need_of rs name ≡ None → ((j : ℕ) → ¬ (id_at rs j ≡ Some name)) × ((j : ℕ) → ¬ (group_at rs j ≡ Some name))
 means_nothing rs name e = subst (Meaning rs name) e (meaning rs name)
 
-pub need_within : (rs : List Record) (name : List ℕ) (need : Need) → need_of rs name ≡ Some need → IsWithin need (length rs) (unit_count rs)
+pub need_within : (rs : List Record) (name : List ℕ) (need : Need) → need_of rs name ≡ Some need → IsNeedAmong (length rs) (unit_count rs) need
 need_within rs name (One p) e = (is_meant rs name (One p) e).0
 need_within rs name (Group u) e =
     let is : IsUnitOf rs name u = (is_meant rs name (Group u) e).unit in

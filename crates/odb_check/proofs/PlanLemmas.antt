@@ -1,5 +1,5 @@
 -- The laws of the plan of a batch whose names fit together.
-use Rattle.std.proofs.Common.{◌≡◌, ◌≢◌, ◌≤◌, ◌<◌, ◌⊎◌, ℕ, zero, suc, Bool, true, false, cond, List, [], ◌∷◌, ◌++◌, Option, Some, None, refl, sym, ap, ◌∙◌, subst, inl, inr, arith, length, get_or, append-nil}
+use Rattle.std.proofs.Common.{◌≡◌, ◌≢◌, ◌≤◌, ◌<◌, ◌⊎◌, ◌+◌, ℕ, zero, suc, Bool, true, false, cond, List, [], ◌∷◌, ◌++◌, Option, Some, None, refl, sym, ap, ◌∙◌, subst, inl, inr, arith, length, get_or, append-nil}
 use Rattle.std.specs.Prelude.{◌↔◌, All, Contains, IsSomeAnd, AllPairs, bytes_eq}
 use Rattle.std.specs.List.{list_any, filter_map, cons_option, IsDistinct}
 use Rattle.std.proofs.lemmas.Map.Made.{AllPairs-from_IsDistinct}
@@ -16,22 +16,23 @@ use Rattle.odb_check.specs.declared.need.Need.TheVariants.{One, Group}
 use Rattle.odb_check.specs.declared.plan.Plan.{Plan}
 use Rattle.odb_check.specs.Firsts.{list_below}
 use Rattle.odb_check.specs.LeastNameFault.{HasGoodNames}
+use Rattle.odb_check.specs.NameFaults.{IsBrokenAt}
 use Rattle.odb_check.specs.Laws.{HasPositions, NeedsGroups}
-use Rattle.odb_check.specs.Marks.{IsWithin}
 use Rattle.odb_check.specs.Walks.{HasSoundIds}
 use Rattle.odb_check.specs.Needs.{need_of, further_names, needed_names, needs_at}
 use Rattle.odb_check.specs.Plans.{plan_records, shape, batch_shape}
 use Rattle.odb_check.specs.Positions.{id_at, group_at, names_at, reference_at, IsId, IsIdFrom, IsInGroupOf, NamesGroupOf}
-use Rattle.odb_check.specs.Shape.{unit_of, needs_of, shape_of, IsEarlier, IsAlone, IsNeed, IsPlan, IsShapeOf, IsSpan, HasNamesAsNeeds}
-use Rattle.odb_check.specs.Units.{begins_unit, unit_at, unit_count, HasMembers}
+use Rattle.odb_check.specs.Shape.{unit_of, needs_of, shape_of, IsEarlier, IsAlone, IsNeed, IsNeedAmong, IsPlan, IsShapeOf, IsSpan, HasNamesAsNeeds}
+use Rattle.odb_check.specs.Tables.{IsStartOf}
+use Rattle.odb_check.specs.Units.{begins_unit, unit_at, unit_count, units_before}
 use Rattle.odb_check.proofs.AnyLemmas.{ElementMeaning, element_meaning, Contains-meaning, Contains-head, Contains-none, Contains-cases, text_listed, listed_cases}
 use Rattle.odb_check.proofs.BelowLemmas.{length-list_below, get_or-list_below}
-use Rattle.odb_check.proofs.FirstLemmas.{count_few}
+use Rattle.odb_check.proofs.FirstLemmas.{count_few, count_more}
 use Rattle.odb_check.proofs.LevelLemmas.{HasNeedsBefore, has_levels}
 use Rattle.odb_check.proofs.NameLemmas.{later_unit}
 use Rattle.odb_check.proofs.NeedLemmas.{IsMeant, is_meant, need_within, position_is, id_need, group_need}
 use Rattle.odb_check.proofs.PositionLemmas.{group_within, reference_within, position_first}
-use Rattle.odb_check.proofs.UnitLemmas.{IsUnitOf, unit_before, same_group, one_unit, has_units, in_group, in_unit, in_order, unit_at_start}
+use Rattle.odb_check.proofs.UnitLemmas.{IsUnitOf, unit_before, same_group, one_unit, has_units, in_group, in_unit, in_order, unit_at_begin, unit_at_start}
 
 pub good_ids : (rs : List Record) → HasGoodNames rs → HasSoundIds rs
 good_ids rs good rule i broken = good rule i broken.1
@@ -193,19 +194,23 @@ needs_there rs i h = (is_shape rs).needs i h
 pub in_shape : (rs : List Record) (i : ℕ) → i < length (list_below (length rs) (unit_at rs)) → i < length rs
 in_shape rs i h = omega (arith, length-list_below (length rs) (unit_at rs))
 
-pub span_of : (rs : List Record) (u from to : ℕ) → HasMembers rs u from to → IsSpan (shape_of rs) u from to
-span_of rs u from to is = record {
-  begins = is.begins;
-  within = omega (arith, is.within, length-list_below (length rs) (unit_at rs));
-  exact = λ i h. let inside : i < length rs = in_shape rs i h in subst (λ v. (v ≡ u) ↔ ((from ≤ i) × (i < to))) (sym (unit_there rs i inside)) (is.exact i inside);
+-- a unit reaches from its first position to where the next unit begins, or the batch ends
+pub has_span : (rs : List Record) → ((i : ℕ) → ¬ IsBrokenAt GroupSplit rs i) → (u start end : ℕ) → IsStartOf rs u start → end ≤ length rs → units_before rs end ≡ u + 1
+    → ((i : ℕ) → i < length rs → end ≤ i → u < unit_at rs i) → IsSpan (shape_of rs) u start end
+has_span rs adjacent u start end is within count past = record {
+  begins = elim (cases_lt start end) [ inl less ↦ less | inr more ↦ absurd (omega (arith, count_more (begins_unit rs) end start more, is.number)) ];
+  within = omega (arith, within, length-list_below (length rs) (unit_at rs));
+  exact = λ i h. let here : i < length rs = in_shape rs i h in subst (λ v. (v ≡ u) ↔ ((start ≤ i) × (i < end))) (sym (unit_there rs i here)) (
+    (λ e. (
+      elim (cases_lt i start) [ inl less ↦ absurd (omega (arith, unit_before rs i start less, is.number)) | inr more ↦ more ],
+      elim (cases_lt i end) [ inl less ↦ less | inr more ↦ absurd (omega (arith, past i here more)) ],
+    )),
+    (λ inside. omega (arith, in_order rs adjacent start i inside.0, unit_at_begin rs start is.begins, is.number, unit_before rs i end inside.1)),
+  );
 }
 
-within_shape : (rs : List Record) (need : Need) → IsWithin need (length rs) (unit_count rs) → IsNeed (shape_of rs) need
-within_shape rs (One r) h = omega (arith, h, length-list_below (length rs) (unit_at rs))
-within_shape rs (Group u) h = h
-
 -- the batch has all that is needed
-pub needs_within : (rs : List Record) (i : ℕ) → All (λ need. IsWithin need (length rs) (unit_count rs)) (needs_at rs i)
+needs_within : (rs : List Record) (i : ℕ) → All (IsNeedAmong (length rs) (unit_count rs)) (needs_at rs i)
 needs_within rs i k d h =
     let need = get_or (needs_at rs i) k d in
     let name : ElementMeaning (need_of rs) (needed_names rs i) need = element_meaning (need_of rs) (needed_names rs i) need (Contains-get_or (needs_at rs i) k d h) in
@@ -213,7 +218,9 @@ needs_within rs i k d h =
 
 pub needs_known : (plan : Plan) (i : ℕ) → All (IsNeed (shape plan)) (needs_at (plan_records plan) i)
 unfolding batch_shape
-needs_known plan i k d h = within_shape (plan_records plan) (get_or (needs_at (plan_records plan) i) k d) (needs_within (plan_records plan) i k d h)
+needs_known plan i =
+    let rs = plan_records plan in
+    subst (λ n. All (IsNeedAmong n (unit_count rs)) (needs_at rs i)) (sym (length-list_below (length rs) (unit_at rs))) (needs_within rs i)
 
 pub ruleset plan_needs = (shaped, needs_known)
 

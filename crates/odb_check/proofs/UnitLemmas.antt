@@ -9,9 +9,8 @@ use Rattle.odb_check.specs.Firsts.{is_text}
 use Rattle.odb_check.specs.Laws.{HasUnits}
 use Rattle.odb_check.specs.NameFaults.{IsBrokenAt}
 use Rattle.odb_check.specs.Positions.{group_at, IsGroupBefore, IsInGroupOf}
-use Rattle.odb_check.specs.Units.{first_in_group, is_new_group, begins_unit, units_before, begin_in, unit_begin, unit_at, group_begin, unit_of_group, HasMembers}
-use Rattle.odb_check.specs.Tables.{IsStartOf}
-use Rattle.odb_check.proofs.FirstLemmas.{count_less, count_more, count_same, first_alone}
+use Rattle.odb_check.specs.Units.{first_in_group, is_new_group, begins_unit, units_before, begin_in, unit_begin, unit_at, group_begin, unit_of_group}
+use Rattle.odb_check.proofs.FirstLemmas.{count_less, count_same, first_alone}
 use Rattle.odb_check.proofs.PositionLemmas.{IsFirstAt, text_Decides, text_first, text_none, text_absent, text_some, group_within}
 
 -- the unit of i begins at b
@@ -160,18 +159,3 @@ in_order rs adjacent i j h =
       | inl less ↦ omega (arith, unit_before rs i (unit_begin rs j) less)
       | inr begun ↦ omega (arith, in_order_case rs adjacent i j h begun (group_at rs j) refl)
     ]
-
--- a unit reaches from its first position to where the next unit begins, or the batch ends
-pub has_members : (rs : List Record) → ((i : ℕ) → ¬ IsBrokenAt GroupSplit rs i) → (u start end : ℕ) → IsStartOf rs u start → end ≤ length rs → units_before rs end ≡ u + 1
-    → ((i : ℕ) → i < length rs → end ≤ i → u < unit_at rs i) → HasMembers rs u start end
-has_members rs adjacent u start end is within count past = record {
-  begins = elim (cases_lt start end) [ inl less ↦ less | inr more ↦ absurd (omega (arith, count_more (begins_unit rs) end start more, is.number)) ];
-  within = within;
-  exact = λ i h. (
-    (λ e. (
-      elim (cases_lt i start) [ inl less ↦ absurd (omega (arith, unit_before rs i start less, is.number)) | inr more ↦ more ],
-      elim (cases_lt i end) [ inl less ↦ less | inr more ↦ absurd (omega (arith, past i h more)) ],
-    )),
-    (λ inside. omega (arith, in_order rs adjacent start i inside.0, unit_at_begin rs start is.begins, is.number, unit_before rs i end inside.1)),
-  );
-}

@@ -1,5 +1,20 @@
--- First positions, counts and lists of numbers, by the numbers below a bound.
-use Rattle.std.specs.Prelude.{ℕ, zero, suc, Bool, false, cond, List, [], ◌∷◌, ◌++◌, Option, Some, None, bytes_eq}
+-- The numbers below a bound: whether some or all pass a test, which do, the first, how many, and what functions give there.
+use Rattle.std.specs.Prelude.{ℕ, zero, suc, Bool, true, false, ◌&&◌, ◌||◌, cond, if◌then◌else◌, List, [], ◌∷◌, ◌++◌, Option, Some, None, bytes_eq}
+
+-- whether some number below n passes
+abbrev pub any_below : ℕ → (ℕ → Bool) → Bool
+any_below zero test = false
+any_below (suc n) test = test n || any_below n test
+
+-- whether each number below n passes
+abbrev pub all_below : ℕ → (ℕ → Bool) → Bool
+all_below zero test = true
+all_below (suc n) test = test n && all_below n test
+
+-- the numbers below n that pass, from the greatest down
+abbrev pub passing_below : ℕ → (ℕ → Bool) → List ℕ
+passing_below zero test = []
+passing_below (suc n) test = if test n then n ∷ passing_below n test else passing_below n test
 
 -- one, or else the other
 abbrev pub or_else : {X : Type 0} → Option X → Option X → Option X

@@ -1,16 +1,11 @@
 -- For invariants and private clauses: the marks of what a request names, a number for each request and each unit,
 -- which is the stamp of the last request that named it.
-use Rattle.std.specs.Prelude.{◌≡◌, ◌≤◌, ◌<◌, ◌==◌, ℕ, Bool, false, List, length, slice_index, slice_set}
+use Rattle.std.specs.Prelude.{◌≡◌, ◌≤◌, ◌==◌, ℕ, Bool, false, List, length, slice_index, slice_set}
 use Rattle.std.specs.List.{list_any}
 use Rattle.odb_doc.specs.batch.Records.{Record}
 use Rattle.odb_check.specs.declared.need.Need.{Need}
 use Rattle.odb_check.specs.declared.need.Need.TheVariants.{One, Group}
 use Rattle.odb_check.specs.Units.{unit_count}
-
--- the batch, of so many requests and units, has what is needed
-abbrev pub IsWithin : Need → ℕ → ℕ → Type 0
-IsWithin (One p) requests units = p < requests
-IsWithin (Group u) requests units = u < units
 
 -- the marks of the requests, with that of a need
 abbrev pub ones_with : Need → ℕ → List ℕ → List ℕ

@@ -39,10 +39,14 @@ pub record IsSpan (plan : Shape) (u from to : ℕ) : Type 0 where
   pub within : to ≤ length plan.units
   pub exact : (i : ℕ) → i < length plan.units → (unit_of plan i ≡ u) ↔ ((from ≤ i) × (i < to))
 
--- the plan has the request, or the unit, that is needed
+-- a batch of so many requests and units has the request, or the unit, that is needed
+abbrev pub IsNeedAmong : ℕ → ℕ → Need → Type 0
+IsNeedAmong requests units (One r) = r < requests
+IsNeedAmong requests units (Group u) = u < units
+
+-- the plan has what is needed
 abbrev pub IsNeed : Shape → Need → Type 0
-IsNeed plan (One r) = r < length plan.units
-IsNeed plan (Group u) = u < plan.unit_count
+IsNeed plan need = IsNeedAmong (length plan.units) plan.unit_count need
 
 -- what the request at i needs precedes it: an earlier position, or an earlier unit
 abbrev pub IsEarlier : Shape → ℕ → Need → Type 0

@@ -1,6 +1,6 @@
 -- The units of a batch: its atomicity groups, and its requests without a group (OData JSON Format 4.01,
 -- section 19.1, `atomicityGroup`).
-use Rattle.std.specs.Prelude.{◌≡◌, ◌↔◌, ◌≤◌, ◌<◌, ℕ, Bool, true, not, is_some, List, Option, Some, None, option_map, unwrap_or, length}
+use Rattle.std.specs.Prelude.{ℕ, Bool, true, not, is_some, List, Option, Some, None, option_map, unwrap_or, length}
 use Rattle.std.specs.List.{filter_map}
 use Rattle.odb_doc.specs.batch.Names.{distinct}
 use Rattle.odb_doc.specs.batch.Records.{Record}
@@ -56,12 +56,6 @@ group_begin rs group = first_in_group rs (length rs) group
 -- the unit of a group, none for any other text
 abbrev pub unit_of_group : List Record → List ℕ → Option ℕ
 unit_of_group rs group = option_map (units_before rs) (group_begin rs group)
-
--- the positions of the unit are those from one number up to another
-pub record HasMembers (rs : List Record) (u from to : ℕ) : Type 0 where
-  pub begins : from < to
-  pub within : to ≤ length rs
-  pub exact : (i : ℕ) → i < length rs → (unit_at rs i ≡ u) ↔ ((from ≤ i) × (i < to))
 
 -- the different groups, in the order of their first positions
 abbrev pub groups_of : List Record → List (List ℕ)

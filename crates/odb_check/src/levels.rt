@@ -1,8 +1,8 @@
 ghost use Rattle.std.specs.Prelude.{◌≡◌, ◌≤◌, ◌<◌, ◌+◌, ℕ, length, slice_index, All, IfOk};
 ghost use Rattle.odb_check.specs.LeastNameFault.{HasGoodNames};
 ghost use Rattle.odb_check.specs.Levels.{level_needed, levels_below, next_level};
-ghost use Rattle.odb_check.specs.Marks.{IsWithin};
 ghost use Rattle.odb_check.specs.Requests.{requests};
+ghost use Rattle.odb_check.specs.Shape.{IsNeedAmong};
 ghost use Rattle.odb_check.specs.Walks.{AreNeeds};
 
 use crate::need::Need;
@@ -12,7 +12,7 @@ use std::alloc::{AllocError, Global};
 
 /// The level of what is needed.
 fn level_needed(need: Need, levels: &[u32], unit_levels: &[u32]) -> u32
-    requires { IsWithin need (length levels.now) (length unit_levels.now) }
+    requires { IsNeedAmong (length levels.now) (length unit_levels.now) need }
     ensures { result ≡ level_needed (slice_index levels.now) (slice_index unit_levels.now) need }
 {
     match need {
@@ -24,8 +24,7 @@ fn level_needed(need: Need, levels: &[u32], unit_levels: &[u32]) -> u32
 /// The level of a request with these needs: one above the highest level among them, and 0 if there are
 /// none.
 fn next_level(needs: &[Need], levels: &[u32], unit_levels: &[u32]) -> u32
-    requires within { All (λ need. IsWithin need (length levels.now) (length unit_levels.now))
-        needs.now }
+    requires within { All (IsNeedAmong (length levels.now) (length unit_levels.now)) needs.now }
     requires low { (k : ℕ) → slice_index levels.now k ≤ 10000 }
     requires unit_low { (u : ℕ) → slice_index unit_levels.now u ≤ 10000 }
     ensures { result ≡ next_level (slice_index levels.now) (slice_index unit_levels.now)

@@ -1,6 +1,7 @@
 ghost use Rattle.std.specs.Prelude.{◌≡◌, ◌<◌, ◌==◌, length, slice_index, IfOk};
-ghost use Rattle.odb_check.specs.Marks.{AreUpTo, IsWithin, ones_with, groups_with};
+ghost use Rattle.odb_check.specs.Marks.{AreUpTo, ones_with, groups_with};
 ghost use Rattle.odb_check.specs.Requests.{requests};
+ghost use Rattle.odb_check.specs.Shape.{IsNeedAmong};
 
 use crate::need::Need;
 use crate::tables::Tables;
@@ -29,7 +30,7 @@ impl Marks {
 
     /// Marks what a name resolves to.
     pub(crate) fn mark(&mut self, need: Need, stamp: u32)
-        requires { IsWithin need (length self.old.ones.items) (length self.old.groups.items) }
+        requires { IsNeedAmong (length self.old.ones.items) (length self.old.groups.items) need }
         ensures ones { self.new.ones.items ≡ ones_with need stamp self.old.ones.items }
         ensures groups { self.new.groups.items ≡ groups_with need stamp self.old.groups.items }
     {

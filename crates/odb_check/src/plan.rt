@@ -85,7 +85,6 @@ impl<'b> Plan<'b> {
     /// Returns the positions of a unit, which are adjacent.
     pub fn members(&self, u: u32) -> Range<u32>
         requires { u < (shape self.now).unit_count }
-        ensures members { units.HasMembers (plan_records self.now) u result.start result.end }
         ensures span { IsSpan (shape self.now) u result.start result.end }
     {
         let count = self.unit_count();

@@ -1,4 +1,4 @@
-ghost use Rattle.std.specs.Prelude.{◌≡◌, ◌<◌, ◌∷◌, ◌++◌, [], length, All, Some, IfOk, OnOk, option_copied, string_bytes};
+ghost use Rattle.std.specs.Prelude.{◌≡◌, ◌<◌, ◌++◌, [], length, All, Some, IfOk, OnOk, option_copied, string_bytes};
 ghost use Rattle.odb_check.specs.Plans.{plan_records, shape};
 ghost use Rattle.odb_check.specs.Shape.{IsNeed};
 ghost use Rattle.odb_check.specs.Texts as texts;
@@ -27,9 +27,9 @@ fn push_head(text: &mut String, i: u32, id: &str, level: u32, group: &str) -> Re
 }
 
 impl Plan<'_> {
-    /// The name of what is needed: the identifier of a request, or the name of a group.
+    /// Returns the name of a dependency: the identifier of a request, or the name of a group.
     #[tactic(auto, using(crate::proofs::PlanLemmas::shaped))]
-    fn name_of(&self, need: Need) -> &str
+    pub fn name_of(&self, need: Need) -> &str
         requires { IsNeed (shape self.now) need }
         ensures { result.now ≡ texts.need_name (plan_records self.now) need }
     {

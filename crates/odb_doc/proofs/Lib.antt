@@ -3,7 +3,7 @@ mod CanonicalLemmas
 mod CanonicalReads
 mod CanonicalShapes
 mod DistinctLemmas
-mod ElementLemmas
+pub mod ElementLemmas
 mod FaultLemmas
 mod LeastLemmas
 mod LineLemmas

@@ -9,6 +9,7 @@ pub mod Headers
 pub mod LeastRules
 pub mod Members
 pub mod Refusals
+pub mod Statuses
 pub mod Texts
 pub mod WholeNumbers
 -- What invariants, private clauses and proofs cite: nothing to believe.

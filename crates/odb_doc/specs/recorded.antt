@@ -10,3 +10,4 @@ pub mod OutcomeValues
 pub mod Outcomes
 -- What invariants, private clauses and proofs cite: nothing to believe.
 pub mod RawOutcomes
+pub mod Parts

@@ -1,11 +1,11 @@
-ghost use Rattle.std.specs.Prelude.{◌≡◌, ◌≤◌, ◌<◌, List, length, map, vec_len, option_map, slice_get, Some, IsSome, IfSome, ◌↔◌, IfOk, IfErr, OnOk, OnErr};
+ghost use Rattle.std.specs.Prelude.{◌≡◌, ◌≤◌, ◌<◌, length, map, vec_len, slice_get, Some, IfOk, IfErr, OnOk, OnErr};
 ghost use Rattle.std.specs.List.{AllZip};
 ghost use Rattle.serde_json.specs.View.{view};
 ghost use Rattle.odb_doc.specs.declared.fault.DocFault.TheVariants as faults;
 ghost use Rattle.odb_doc.specs.batch.LeastFault.{IsWellShaped, IsLeastFault, IsBatchObject, IsFirstBroken, IsLeastDocumentRule, BreaksRequestAt};
 ghost use Rattle.odb_doc.specs.BrokenRules.{OnPlace, request_fault};
 ghost use Rattle.odb_doc.specs.LeastRules.{AreSound};
-ghost use Rattle.odb_doc.specs.batch.Shapes.{elements, requests_in};
+ghost use Rattle.odb_doc.specs.batch.Shapes.{elements};
 ghost use Rattle.odb_doc.specs.batch.Records.{Says, IsSoundRecord, IsBatchOf, record_of};
 
 mod body;
@@ -18,7 +18,7 @@ pub mod request;
 use crate::batch::request::Request;
 use crate::broken::Broken;
 use crate::fault::{DocFault, DocumentRule, RequestRule};
-use crate::member::Object;
+use crate::member::{Object, array_at};
 use serde_json::Value;
 use std::alloc::Global;
 
@@ -32,16 +32,6 @@ pub struct Batch<'a> {
     ghost small: { vec_len requests ≤ 10000 },
 }
 
-/// Returns the array at `requests`.
-fn requests_of(document: &Value) -> Option<&[Value]>
-    ensures array { IsSome result ↔ IsSome (requests_in (view document.now)) }
-    ensures elements { IfSome result (λ found. elements (view document.now) ≡ map view found.now) }
-    ensures len { IfSome result (λ found. length (elements (view document.now))
-        ≡ length found.now) }
-{
-    Some(document.get("requests")?.as_array()?.as_slice())
-}
-
 /// Returns the elements of `requests`, or the first rule that the document as a whole breaks.
 fn elements_of(document: &Value) -> Result<&[Value], DocumentRule>
     ensures whole { OnOk result (IsBatchObject (view document.now)) }
@@ -52,7 +42,7 @@ fn elements_of(document: &Value) -> Result<&[Value], DocumentRule>
     if !document.is_object() {
         return Err(DocumentRule::NotObject);
     }
-    let Some(elements) = requests_of(document) else {
+    let Some(elements) = array_at(document, "requests") else {
         return Err(DocumentRule::NoRequests);
     };
     if Object::Document.has_unknown(document) {

@@ -1,37 +1,20 @@
-ghost use Rattle.std.specs.Prelude.{◌≡◌, ◌≤◌, ◌↔◌, ℕ, length, None, option_map, string_bytes, IsTrue, IfOk, IfSome, OnOk};
-ghost use Rattle.serde_json.specs.View.{view};
+ghost use Rattle.std.specs.Prelude.{◌≡◌, ◌≤◌, ◌↔◌, ℕ, length, None, string_bytes, IfOk, IfSome, OnOk};
 ghost use Rattle.odb_doc.specs.declared.fault.TextFault.TheVariants as faults;
 ghost use Rattle.odb_doc.specs.batch.Batches.{records};
 ghost use Rattle.odb_doc.specs.canonical.Canonical.{HasHeldBodies, HasWholeBodies, IsFirstNotWhole, canonical_text, canonical_value};
 ghost use Rattle.odb_doc.specs.canonical.CanonicalLaws.{HasCanonicalText};
 ghost use Rattle.odb_doc.specs.Documents.{IsDocument, most_bytes};
-ghost use Rattle.odb_doc.specs.canonical.HeldValues.{IsHeld};
-ghost use Rattle.odb_doc.specs.WholeNumbers.{HasWholeBody};
 
 mod parts;
 
 use crate::batch::Batch;
-use crate::batch::request::Request;
 use crate::canonical::parts::push_request;
 use crate::fault::TextFault;
-use crate::whole::is_whole;
+use crate::whole::has_whole_body;
 use std::alloc::{AllocError, Global};
 
 /// The capacity for each request: enough for a short one.
 const REQUEST_BYTES: usize = 128;
-
-/// Returns whether each number in the body of a request is whole.
-fn has_whole_body(request: &Request<'_>) -> bool
-    ensures value { IsTrue result
-        ↔ HasWholeBody (option_map (λ body. view body.now) request.now.body) }
-    ensures held { IsTrue result
-        → IfSome (option_map (λ body. view body.now) request.now.body) IsHeld }
-{
-    match request.body {
-        Some(body) => is_whole(body),
-        None => true,
-    }
-}
 
 /// Returns the first request whose body holds a number that is not whole.
 fn first_not_whole(batch: &Batch<'_>) -> Option<u32>
@@ -40,7 +23,7 @@ fn first_not_whole(batch: &Batch<'_>) -> Option<u32>
     ensures held { result ≡ None → HasHeldBodies (records batch.now) }
 {
     for i in 0..batch.len() {
-        if !has_whole_body(batch.request(i)) {
+        if !has_whole_body(batch.request(i).body) {
             return Some(i);
         }
     }

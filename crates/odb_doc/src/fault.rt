@@ -4,7 +4,7 @@ ghost use Rattle.odb_doc.specs.declared.fault.TextFault.TheVariants as texts;
 ghost use Rattle.odb_doc.specs.Faults.{document_row, text_row};
 
 use crate::refusal::{Fault, Refusal};
-use std::alloc::{AllocError, AllocFailed};
+use std::alloc::AllocError;
 use thiserror::Error;
 
 /// Where a fault is.
@@ -212,14 +212,6 @@ impl From<AllocError> for TextFault {
     ghost from_gives = { λ _ fault. fault ≡ texts.OutOfMemory };
 
     fn from(_error: AllocError) -> Self {
-        TextFault::OutOfMemory
-    }
-}
-
-impl<T: Drop> From<AllocFailed<T>> for TextFault {
-    ghost from_gives = { λ _ fault. fault ≡ texts.OutOfMemory };
-
-    fn from(_error: AllocFailed<T>) -> Self {
         TextFault::OutOfMemory
     }
 }

@@ -8,7 +8,8 @@
 //! [`Outcomes::split`] returns what remains of it too; an [`Outcome`] is what a service answered.
 //! [`Events::read`] and [`Events::split`] do so for recorded events. [`is_whole`] returns whether a
 //! value can be written. [`Input`] and [`Output`] are a reader and a writer that remember whether they
-//! failed.
+//! failed. [`status`] says what a status means, [`member`] looks into objects, and [`text`] appends
+//! pieces of JSON text.
 #![tactic(auto)]
 
 mod batch;
@@ -19,10 +20,11 @@ mod document;
 mod fault;
 mod headers;
 pub mod laws;
-mod member;
+pub mod member;
 mod recorded;
 mod refusal;
 mod repeats;
+pub mod status;
 pub mod text;
 mod whole;
 
@@ -38,4 +40,4 @@ pub use recorded::outcome::Outcome;
 pub use recorded::outcome_fault::{OutcomeFault, OutcomeRule};
 pub use recorded::outcomes::{Leftovers, Outcomes};
 pub use refusal::{Fault, Refusal};
-pub use whole::is_whole;
+pub use whole::{has_whole_body, is_whole};

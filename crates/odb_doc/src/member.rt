@@ -1,12 +1,14 @@
-ghost use Rattle.std.specs.Prelude.{◌≡◌, ◌↔◌, ◌∷◌, [], codes, IsTrue, IfNone, IfSome, OnSome, map, option_map, string_bytes};
+//! Looking into the objects of documents.
+
+ghost use Rattle.std.specs.Prelude.{◌≡◌, ◌↔◌, ◌∷◌, [], codes, length, IsSome, IsTrue, IfNone, IfSome, OnSome, map, option_map, string_bytes};
 ghost use Rattle.std.specs.List.{list_any};
 ghost use Rattle.std.specs.BTreeMap.{keys};
-ghost use Rattle.serde_json.specs.Find.{get, as_str, as_number, as_array, as_object};
-ghost use Rattle.serde_json.specs.View.{view, number_view, items_view, members_view};
+ghost use Rattle.serde_json.specs.Find.{get, as_str, as_array, as_object};
+ghost use Rattle.serde_json.specs.View.{view, items_view, members_view};
 ghost use Rattle.odb_doc.specs.declared.member.Object.TheVariants as objects;
 ghost use Rattle.odb_doc.specs.Members as spec;
 
-use serde_json::{Map, Number, Value};
+use serde_json::{Map, Value};
 
 /// The objects in documents of batches, outcomes and events, each with members of its own.
 #[derive(Clone, Copy)]
@@ -115,8 +117,19 @@ fn is_annotation(name: &str) -> bool
     name.as_bytes().iter().any(|byte| *byte == b'@')
 }
 
-/// Returns the string at a member.
-pub(crate) fn text_at<'a>(value: &'a Value, name: &str) -> Option<&'a str>
+/// Returns the elements of the array at a member; `None` if there is no array.
+pub fn array_at<'a>(value: &'a Value, name: &str) -> Option<&'a [Value]>
+    ensures array { IsSome result ↔ IsSome (spec.array_at name.now (view value.now)) }
+    ensures elements { IfSome result (λ found. spec.elements_at name.now (view value.now)
+        ≡ map view found.now) }
+    ensures len { IfSome result (λ found. length (spec.elements_at name.now (view value.now))
+        ≡ length found.now) }
+{
+    Some(value.get(name)?.as_array()?.as_slice())
+}
+
+/// Returns the string at a member; `None` if there is no string.
+pub fn text_at<'a>(value: &'a Value, name: &str) -> Option<&'a str>
     ensures { option_map (λ text. text.now) result ≡ spec.text_at name.now (view value.now) }
 {
     value.get(name).and_then(Value::as_str)
@@ -137,13 +150,6 @@ pub(crate) fn text_of(value: Value) -> Option<String>
         Value::String(text) => Some(text),
         _ => None,
     }
-}
-
-/// Returns the number that the value is.
-pub(crate) fn number_of(value: &Value) -> Option<Number>
-    ensures { option_map number_view result ≡ as_number (view value.now) }
-{
-    value.as_number().copied()
 }
 
 /// Moves out the members of an object.

@@ -6,4 +6,5 @@ pub mod events;
 pub mod outcome;
 pub mod outcome_fault;
 pub mod outcomes;
+pub mod parts;
 pub mod seen;

@@ -71,6 +71,18 @@ pub fn push_if(text: &mut String, holds: bool, piece: &str) -> Result<(), AllocE
     if holds { text.push_str(piece) } else { Ok(()) }
 }
 
+/// Appends the start of an object in a list, with a comma first unless it is the first element.
+pub fn push_open(text: &mut String, later: bool) -> Result<(), AllocError>
+    ensures { OnOk result (string_bytes text.new
+        ≡ string_bytes text.old ++ (comma_if later ++ codes "{")) }
+{
+    if later {
+        text.push_str(",{")
+    } else {
+        text.push_str("{")
+    }
+}
+
 /// Appends `piece`, which is moved in. If it is longer than the capacity of `text`, it takes in what
 /// `text` has and replaces it, so that its bytes are not copied to a second buffer.
 fn push_owned(text: &mut String, mut piece: String) -> Result<(), AllocError>

@@ -61,9 +61,9 @@ fn are_members_whole(members: &Map<String, Value>) -> bool
 }
 
 /// Returns whether the body, if any, holds whole numbers alone.
-pub(crate) fn has_whole_body(body: &Option<Value>) -> bool
-    ensures value { IsTrue result ↔ IfSome (option_map view body.now) IsWhole }
-    ensures held { IsTrue result → IfSome (option_map view body.now) IsHeld }
+pub fn has_whole_body(body: Option<&Value>) -> bool
+    ensures value { IsTrue result ↔ IfSome (option_map (λ body. view body.now) body.entry) IsWhole }
+    ensures held { IsTrue result → IfSome (option_map (λ body. view body.now) body.entry) IsHeld }
 {
     match body {
         Some(value) => is_whole(value),

@@ -16,7 +16,7 @@ use Rattle.odb_check.specs.Units.{unit_at}
 use Rattle.odb_sched.specs.Answers.{answer, status_of, is_answered_2xx}
 use Rattle.odb_sched.specs.Laws.{IsSound}
 use Rattle.odb_sched.specs.State.{State, size}
-use Rattle.odb_sched.specs.Statuses.{is_success, is_status}
+use Rattle.odb_doc.specs.Statuses.{is_success, is_status}
 use Rattle.odb_reply.specs.Fits.{id_in, Responds, Succeeds, IsSatisfied, Fits, ListsFit}
 use Rattle.odb_reply.specs.ResponseDocuments.{Entry, IsResponse, IsResponseDocument, IsStatus, Says}
 use Rattle.odb_reply.specs.Responses.{response, responses_from, response_value}

@@ -1,23 +1,12 @@
 -- The responses that elements describe, one by one, and the first element that is not a response.
-use Rattle.std.proofs.Common.{◌≡◌, ◌+◌, ◌<◌, ◌≤◌, ℕ, List, [], ◌∷◌, ◌++◌, length, take, get_or, map, Some, ap, refl, subst, arith}
+use Rattle.std.proofs.Common.{◌≡◌, ◌+◌, ◌<◌, ◌≤◌, ℕ, List, [], ◌∷◌, ◌++◌, length, take, get_or, subst, arith}
 use Rattle.std.specs.List.{AllZip, All}
 use Rattle.std.proofs.lemmas.List.{take_more, take_all, length-take, get_or-take}
 use Rattle.std.proofs.lemmas.List.Elements.{All-more, All-nil}
 use Rattle.std.proofs.lemmas.Option.{slice_get-get_or}
 use Rattle.std.proofs.lemmas.Slice.Zip.{all_zipped_more}
 use Rattle.serde_json.specs.Data.{Data}
-use Rattle.serde_json.specs.View.{items_of, items_view, view}
-use Rattle.serde_json.specs.declared.value.Value.{Value}
-use Rattle.odb_doc.specs.Members.{list_of}
-use Rattle.odb_reply.specs.ResponseDocuments.{IsResponse, Entry, Says, IsFirstBad, array_in, responses_in}
-
-pub list_of-items_of : (ds : List Data) → list_of (items_of ds) ≡ ds
-list_of-items_of [] = refl
-list_of-items_of (d ∷ ds) = ap (λ rest. d ∷ rest) (list_of-items_of ds)
-
--- the document's elements are what the array holds
-pub responses_in-array : (d : Data) (vs : List Value) → array_in d ≡ Some (items_view vs) → responses_in d ≡ map view vs
-responses_in-array d vs is = rw is (list_of-items_of (map view vs))
+use Rattle.odb_reply.specs.ResponseDocuments.{IsResponse, Entry, Says, IsFirstBad}
 
 -- the first n elements describe these responses
 pub record AreReadUpTo (ds : List Data) (entries : List Entry) (n : ℕ) : Type 0 where

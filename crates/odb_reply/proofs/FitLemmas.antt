@@ -7,7 +7,7 @@ use Rattle.odb_doc.specs.batch.Records.{Record}
 use Rattle.odb_check.specs.declared.need.Need.{Need}
 use Rattle.odb_check.specs.declared.need.Need.TheVariants.{One, Group}
 use Rattle.odb_check.specs.Positions.{id_at, group_at}
-use Rattle.odb_sched.specs.Statuses.{is_success}
+use Rattle.odb_doc.specs.Statuses.{is_success}
 use Rattle.odb_reply.specs.declared.match_fault.MatchRule.TheVariants.{UnknownResponse, ResponseTwice, ResponseMissing, GroupDiffers, UnsoundSuccess}
 use Rattle.odb_reply.specs.declared.match_fault.MatchFault.{MatchFault}
 use Rattle.odb_reply.specs.declared.match_fault.MatchFault.TheVariants as faults

@@ -15,7 +15,7 @@ use Rattle.odb_reply.specs.Responses.{answer_body, answer_headers, response, res
 use Rattle.odb_reply.specs.Places.{IsOnce}
 use Rattle.odb_reply.specs.OnePerId.{has_id, HasOnePerId}
 use Rattle.odb_reply.specs.ResponseDocuments.{Entry, Says, responses_in}
-use Rattle.odb_reply.proofs.DocumentLemmas.{list_of-items_of}
+use Rattle.odb_doc.proofs.ElementLemmas.{list_of-items_of}
 
 -- what a response says, whatever other members there are
 says_members : (group : Option (List ℕ)) (body headers : Option Data) (id : List ℕ) (status : ℕ)

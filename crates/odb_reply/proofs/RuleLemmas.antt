@@ -9,16 +9,16 @@ use Rattle.odb_check.specs.declared.need.Need.{Need}
 use Rattle.odb_check.specs.declared.need.Need.TheVariants.{One, Group}
 use Rattle.odb_check.specs.Needs.{needs_at}
 use Rattle.odb_check.specs.Positions.{group_at}
-use Rattle.odb_check.specs.Shape.{Shape, IsPlan, IsShapeOf}
+use Rattle.odb_check.specs.Shape.{Shape, IsPlan, IsShapeOf, IsNeedAmong}
 use Rattle.odb_check.specs.Units.{unit_count}
-use Rattle.odb_sched.specs.Statuses.{is_success}
+use Rattle.odb_doc.specs.Statuses.{is_success}
 use Rattle.odb_reply.specs.declared.match_fault.MatchRule.{MatchRule}
 use Rattle.odb_reply.specs.declared.match_fault.MatchRule.TheVariants.{GroupDiffers, UnsoundSuccess}
 use Rattle.odb_reply.specs.ResponseDocuments.{Entry}
 use Rattle.odb_reply.specs.Fits.{Responds, IsRow}
 use Rattle.odb_reply.specs.LeastMatchFault.{phase}
 use Rattle.odb_reply.specs.MatchFaults.{Breaks, number, Fails, HasFailed}
-use Rattle.odb_reply.specs.Places.{HasRows, AreUnits, HasEntry, is_satisfied, NoneIn, IsFirstIn}
+use Rattle.odb_reply.specs.Places.{HasRows, AreUnits, is_satisfied, NoneIn, IsFirstIn}
 use Rattle.odb_reply.proofs.IdLemmas.{id_within}
 use Rattle.odb_reply.proofs.SliceLemmas.{slice_get-some}
 use Rattle.odb_reply.proofs.UnitLemmas.{need_within}
@@ -56,7 +56,7 @@ fails_not rs es places statuses r rows passes failed = failed.2 (ap is_success (
 -- ---- needs
 
 failed_from : (rs : List Record) (es : List Entry) (places statuses : List ℕ) (units : List Bool) (need : Need) → HasRows rs es places statuses → AreUnits rs statuses (length rs) units
-    → HasEntry need (length rs) (unit_count rs) → is_satisfied statuses units need ≡ false → HasFailed rs es need
+    → IsNeedAmong (length rs) (unit_count rs) need → is_satisfied statuses units need ≡ false → HasFailed rs es need
 failed_from rs es places statuses units (One r) rows known within failing = fails_from rs es places statuses r rows within failing
 failed_from rs es places statuses units (Group u) rows known within failing =
     let inside : u < length units = omega (arith, known.count) in
@@ -64,7 +64,7 @@ failed_from rs es places statuses units (Group u) rows known within failing =
     (member.0, member.2, fails_from rs es places statuses member.0 rows member.1 member.3)
 
 satisfied_from : (rs : List Record) (es : List Entry) (places statuses : List ℕ) (units : List Bool) (need : Need) → HasRows rs es places statuses → AreUnits rs statuses (length rs) units
-    → HasEntry need (length rs) (unit_count rs) → is_satisfied statuses units need ≡ true → ¬ HasFailed rs es need
+    → IsNeedAmong (length rs) (unit_count rs) need → is_satisfied statuses units need ≡ true → ¬ HasFailed rs es need
 satisfied_from rs es places statuses units (One r) rows known within satisfied failing = fails_not rs es places statuses r rows satisfied failing
 satisfied_from rs es places statuses units (Group u) rows known within satisfied failing =
     let inside : u < length units = omega (arith, known.count) in

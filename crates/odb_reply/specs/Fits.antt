@@ -8,7 +8,7 @@ use Rattle.odb_check.specs.declared.need.Need.TheVariants.{One, Group}
 use Rattle.odb_check.specs.Needs.{needs_at}
 use Rattle.odb_check.specs.Positions.{id_at, group_at, IsId}
 use Rattle.odb_check.specs.Units.{unit_at}
-use Rattle.odb_sched.specs.Statuses.{is_success}
+use Rattle.odb_doc.specs.Statuses.{is_success}
 use Rattle.odb_reply.specs.declared.table.Table.{Table}
 use Rattle.odb_reply.specs.ResponseDocuments.{Entry, Says, responses_in}
 

@@ -9,5 +9,4 @@ pub mod MatchFaults
 pub mod LeastMatchFault
 -- What serves invariants and private clauses: no public clause cites it.
 pub mod Parts
-pub mod Elements
 pub mod Places

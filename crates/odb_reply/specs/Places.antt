@@ -6,7 +6,7 @@ use Rattle.odb_check.specs.declared.need.Need.{Need}
 use Rattle.odb_check.specs.declared.need.Need.TheVariants.{One, Group}
 use Rattle.odb_check.specs.Positions.{id_at, IsId}
 use Rattle.odb_check.specs.Units.{unit_at, unit_count}
-use Rattle.odb_sched.specs.Statuses.{is_success}
+use Rattle.odb_doc.specs.Statuses.{is_success}
 use Rattle.odb_reply.specs.declared.match_fault.MatchRule.{MatchRule}
 use Rattle.odb_reply.specs.declared.match_fault.MatchRule.TheVariants.{UnknownResponse, ResponseTwice}
 use Rattle.odb_reply.specs.declared.match_fault.MatchFault.{MatchFault}
@@ -79,11 +79,6 @@ pub record AreUnits (rs : List Record) (statuses : List ℕ) (n : ℕ) (units : 
   pub count : length units ≡ unit_count rs
   pub succeeded : (u r : ℕ) → slice_get units u ≡ Some true → r < n → unit_at rs r ≡ u → is_success (slice_index statuses r) ≡ true
   pub failed : (u : ℕ) → slice_get units u ≡ Some false → (r : ℕ) × (r < length rs) × (unit_at rs r ≡ u) × (is_success (slice_index statuses r) ≡ false)
-
--- a batch of so many requests and units has the request or the unit of a dependency
-abbrev pub HasEntry : Need → ℕ → ℕ → Type 0
-HasEntry (One r) requests units = r < requests
-HasEntry (Group u) requests units = u < units
 
 -- whether a dependency is satisfied, by the statuses of the requests and by the results of the units
 abbrev pub is_satisfied : List ℕ → List Bool → Need → Bool

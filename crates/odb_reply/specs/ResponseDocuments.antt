@@ -1,11 +1,11 @@
 -- The response document of a service (OData JSON Format 4.01, section 19.5): which of its elements are responses, and what
 -- they have; its first fault, and what is printed of that.
-use Rattle.std.specs.Prelude.{◌≡◌, ◌≤◌, ◌<◌, ℕ, List, [], map, slice_get, Option, Some, None, IsSome, IfSome, IsSomeAnd, option_and_then, option_map, unwrap_or, codes, All}
+use Rattle.std.specs.Prelude.{◌≡◌, ◌≤◌, ◌<◌, ℕ, List, map, slice_get, Option, Some, None, IsSome, IfSome, IsSomeAnd, option_map, codes, All}
 use Rattle.serde_json.specs.Data.{Data, Num, unsigned, negative, float, string, Items}
-use Rattle.serde_json.specs.Find.{get, as_array, as_str}
+use Rattle.serde_json.specs.Find.{get, as_str}
 use Rattle.odb_doc.specs.Refusals.{Printed, fault_at}
 use Rattle.odb_doc.specs.declared.fault.Place.TheVariants as places
-use Rattle.odb_doc.specs.Members.{list_of, given}
+use Rattle.odb_doc.specs.Members.{array_at, elements_at, given}
 use Rattle.odb_doc.specs.recorded.Outcomes.{id_of, status_of}
 use Rattle.odb_reply.specs.declared.responses.Response.{Response}
 use Rattle.odb_reply.specs.declared.responses.Responses.{Responses}
@@ -14,11 +14,11 @@ use Rattle.odb_reply.specs.declared.response_fault.ResponseFault.TheVariants as 
 
 -- the array at `responses`
 abbrev pub array_in : Data → Option Items
-array_in d = option_and_then as_array (get (codes "responses") d)
+array_in d = array_at (codes "responses") d
 
 -- the elements of `responses`
 abbrev pub responses_in : Data → List Data
-responses_in d = unwrap_or (option_map list_of (array_in d)) []
+responses_in d = elements_at (codes "responses") d
 
 -- the value at `atomicityGroup`; null is treated as absent
 abbrev pub group_in : Data → Option Data

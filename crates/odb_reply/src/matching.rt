@@ -1,9 +1,9 @@
-ghost use Rattle.std.specs.Prelude.{◌≡◌, ◌<◌, ◌↔◌, ℕ, length, not, slice_index, IsTrue, IfOk, IfErr, IfNone, IfSome, OnOk};
+ghost use Rattle.std.specs.Prelude.{◌≡◌, ◌<◌, ◌↔◌, ℕ, length, not, IsTrue, IfOk, IfErr, IfNone, IfSome, OnOk};
 ghost use Rattle.std.specs.List.{list_any};
 ghost use Rattle.odb_doc.specs.batch.Records.{record_of};
 ghost use Rattle.odb_check.specs.Needs.{needs_at};
 ghost use Rattle.odb_check.specs.Plans.{plan_records};
-ghost use Rattle.odb_sched.specs.Statuses as specs;
+ghost use Rattle.odb_check.specs.Shape.{IsNeedAmong};
 ghost use Rattle.odb_reply.specs.Fits as fits;
 ghost use Rattle.odb_reply.specs.LeastMatchFault.{RefusesMatch};
 ghost use Rattle.odb_reply.specs.Places as known;
@@ -15,14 +15,8 @@ use crate::responses::{Response, Responses};
 use crate::table::{Table, table_of};
 use odb_check::{Need, Plan};
 use odb_doc::Request;
+use odb_doc::status::is_success;
 use std::alloc::{AllocError, Global};
-
-/// Returns whether a status is from 200 to 299.
-fn is_success(status: u16) -> bool
-    ensures { result ≡ specs.is_success status }
-{
-    (200..300).contains(&status)
-}
 
 /// Returns, for each unit, whether the responses to all its members are successes.
 fn units_of(alloc: Global, plan: &Plan<'_>, table: &Table) -> Result<Vec<bool>, AllocError>
@@ -41,7 +35,7 @@ fn units_of(alloc: Global, plan: &Plan<'_>, table: &Table) -> Result<Vec<bool>, 
 
 /// Returns whether a dependency has succeeded.
 fn is_satisfied(table: &Table, units: &[bool], need: Need) -> bool
-    requires { known.HasEntry need (length (fits.statuses table.now)) (length units.now) }
+    requires { IsNeedAmong (length (fits.statuses table.now)) (length units.now) need }
     ensures { result ≡ known.is_satisfied (fits.statuses table.now) units.now need }
 {
     match need {

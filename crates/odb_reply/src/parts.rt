@@ -2,13 +2,12 @@ ghost use Rattle.std.specs.Prelude.{◌≡◌, ◌<◌, ◌+◌, ◌++◌, codes
 ghost use Rattle.serde_json.specs.View.{view};
 ghost use Rattle.odb_doc.specs.canonical.Canonical.{headers_value};
 ghost use Rattle.odb_doc.specs.Texts.{member_part};
-ghost use Rattle.odb_check.specs.Plans.{plan_records};
 ghost use Rattle.odb_sched.specs.Answers.{shown};
 ghost use Rattle.odb_reply.specs.NotWhole.{HasWholeBodies};
 ghost use Rattle.odb_reply.specs.Parts as parts;
 ghost use Rattle.odb_reply.specs.Responses as responses;
 
-use odb_doc::text::{push_body, push_group, push_headers, push_if, push_quoted};
+use odb_doc::text::{push_body, push_group, push_headers, push_open, push_quoted};
 use odb_sched::{Answer, Done};
 use serde_json::Value;
 use std::alloc::{AllocError, Global};
@@ -64,8 +63,7 @@ pub(crate) fn push_response(
 {
     let request = done.plan().request(i);
     let answer = done.answer(i);
-    push_if(text, i > 0, ",")?;
-    text.push_str("{")?;
+    push_open(text, i > 0)?;
     push_group(alloc, text, request.group)?;
     push_body(alloc, text, body_of(&answer))?;
     push_answer_headers(alloc, text, &answer)?;

@@ -1,4 +1,4 @@
-ghost use Rattle.std.specs.Prelude.{◌≡◌, None, length, replicate, IfOk, IfErr, OnOk};
+ghost use Rattle.std.specs.Prelude.{◌≡◌, length, IfOk, IfErr, OnOk};
 ghost use Rattle.odb_check.specs.Laws.{HasPositions};
 ghost use Rattle.odb_check.specs.Plans.{plan_records};
 ghost use Rattle.odb_reply.specs.LeastMatchFault.{RefusesMatch};
@@ -8,18 +8,7 @@ ghost use Rattle.odb_reply.specs.ResponseDocuments.{entries};
 use crate::match_fault::{MatchFault, MatchRule};
 use crate::responses::Responses;
 use odb_check::Plan;
-use std::alloc::{AllocError, Global};
-
-/// Returns `count` empty places.
-fn no_places(alloc: Global, count: u32) -> Result<Vec<Option<usize>>, AllocError>
-    ensures { IfOk result (λ places. places.items ≡ replicate count None) }
-{
-    let mut places = Vec::with_capacity(alloc, count as usize)?;
-    for _ in 0..count {
-        places.push(None)?;
-    }
-    Ok(places)
-}
+use std::alloc::Global;
 
 /// Notes the place of the response with this id, or returns the rule that the response breaks.
 fn note_place(
@@ -57,7 +46,7 @@ pub(crate) fn places_of(
     ensures once { OnOk result (IsOnce (plan_records plan.now)) }
 {
     odb_check::laws::every_plan(plan);
-    let mut places = no_places(alloc, plan.len())?;
+    let mut places: Vec<Option<usize>> = vec![in alloc; None; plan.len() as usize]?;
     for at in 0..responses.len() {
         if let Err(rule) = note_place(plan, &mut places, responses.entry(at).id, at) {
             return Err(MatchFault::Misfit { at, rule });

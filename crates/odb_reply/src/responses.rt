@@ -1,14 +1,14 @@
-ghost use Rattle.std.specs.Prelude.{◌≡◌, ◌<◌, length, map, slice_get, Some, IsSomeAnd, MatchOption, IfOk, IfErr, OnOk, OnErr, IfSome, IfNone, OnSome, IsSome, option_map, All};
+ghost use Rattle.std.specs.Prelude.{◌≡◌, ◌<◌, length, map, slice_get, Some, IsSomeAnd, MatchOption, IfOk, IfErr, OnOk, OnErr, IfSome, IsSome, option_map, All};
 ghost use Rattle.std.specs.List.{AllZip};
-ghost use Rattle.serde_json.specs.Data.{string, unsigned};
+ghost use Rattle.serde_json.specs.Data.{Data, string, unsigned};
 ghost use Rattle.serde_json.specs.Find.{as_str};
 ghost use Rattle.serde_json.specs.View.{view};
 ghost use Rattle.odb_doc.specs.recorded.Outcomes as members;
 ghost use Rattle.odb_reply.specs.declared.response_fault.ResponseFault.TheVariants as faults;
-ghost use Rattle.odb_reply.specs.Elements.{RefusesElements};
 ghost use Rattle.odb_reply.specs.ResponseDocuments as documents;
 
 use crate::response_fault::ResponseFault;
+use odb_doc::member::{array_at, text_at};
 use serde_json::Value;
 use std::alloc::Global;
 
@@ -35,13 +35,6 @@ pub struct Responses<'a> {
 #[derive(Clone, Copy, Debug, PartialEq, Eq)]
 struct NotResponse;
 
-/// Returns the id of a response, or `None` if it is not a string.
-fn id_of(element: &Value) -> Option<&str>
-    ensures { members.id_of (view element.now) ≡ option_map (λ text. text.now) result }
-{
-    element.get("id")?.as_str()
-}
-
 /// Returns the status of a response, or `None` if it is not a whole number from 100 to 599.
 fn status_of(element: &Value) -> Option<u16>
     ensures { MatchOption result
@@ -49,12 +42,8 @@ fn status_of(element: &Value) -> Option<u16>
         (λ status. documents.IsStatus (unsigned status)
         × (members.status_of (view element.now) ≡ Some (unsigned status))) }
 {
-    let status = element.get("status")?.as_u64()?;
-    if (100..=599).contains(&status) {
-        Some(status as u16)
-    } else {
-        None
-    }
+    let status = u16::try_from(element.get("status")?.as_u64()?).ok()?;
+    (100..=599).contains(&status).then_some(status)
 }
 
 /// Returns the group of a response, if any, or F70 if it is neither absent, null nor a string.
@@ -81,20 +70,10 @@ fn read_response(element: &Value) -> Result<Response<'_>, NotResponse>
         (documents.entry_of response)) }
 {
     Ok(Response {
-        id: id_of(element).ok_or(NotResponse)?,
+        id: text_at(element, "id").ok_or(NotResponse)?,
         status: status_of(element).ok_or(NotResponse)?,
         group: group_of(element)?,
     })
-}
-
-/// Returns the elements of `responses`.
-fn elements_of(document: &Value) -> Option<&[Value]>
-    ensures none { IfNone result (¬ IsSome (documents.array_in (view document.now))) }
-    ensures array { OnSome result (IsSome (documents.array_in (view document.now))) }
-    ensures elements { IfSome result (λ found. documents.responses_in (view document.now)
-        ≡ map view found.now) }
-{
-    Some(document.get("responses")?.as_array()?.as_slice())
 }
 
 /// Reads all elements, or returns the first fault among them.
@@ -105,8 +84,8 @@ fn responses_from<'a>(
     ensures good { OnOk result (All documents.IsResponse (map view elements.now)) }
     ensures says { IfOk result (λ found. AllZip documents.Says (map view elements.now)
         (map documents.entry_of found.items)) }
-    ensures first { IfErr result (λ fault. RefusesElements fault
-        (map view elements.now)) }
+    ensures first { IfErr result (λ fault. (d : Data) → IsSome (documents.array_in d)
+        → documents.responses_in d ≡ map view elements.now → documents.RefusesResponses fault d) }
     ensures some { OnErr result (0 < length elements.now) }
 {
     let mut list = Vec::with_capacity(alloc, elements.len())?;
@@ -142,7 +121,7 @@ impl<'a> Responses<'a> {
         ensures memory { IfErr result (λ fault. fault ≡ faults.OutOfMemory
             → IsSome (array_in (view document.now)) × (0 < length (responses_in (view document.now)))) }
     {
-        let Some(elements) = elements_of(document) else {
+        let Some(elements) = array_at(document, "responses") else {
             return Err(ResponseFault::Document);
         };
         let list = responses_from(alloc, elements)?;

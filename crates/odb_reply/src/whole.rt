@@ -5,7 +5,6 @@ ghost use Rattle.odb_reply.specs.NotWhole.{HasWholeBody, HasWholeBodies, IsFirst
 ghost use Rattle.odb_doc.specs.recorded.OutcomeValues.{IsHeldOutcome};
 ghost use Rattle.odb_reply.specs.Readable.{AnswersBy};
 
-use odb_doc::is_whole;
 use odb_doc::laws::every_outcome;
 use odb_sched::{Answer, Done};
 
@@ -19,10 +18,7 @@ fn has_whole_body(answer: &Answer<'_>) -> bool
         return true;
     };
     every_outcome(outcome);
-    match &outcome.body {
-        Some(body) => is_whole(body),
-        None => true,
-    }
+    odb_doc::has_whole_body(outcome.body.as_ref())
 }
 
 /// Returns the first request that is answered by a body with a number that is not whole.

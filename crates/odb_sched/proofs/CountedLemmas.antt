@@ -7,7 +7,7 @@ use Rattle.std.proofs.lemmas.List.{get_or_default, get_or_past, length-map}
 use Rattle.std.proofs.lemmas.List.Sums.{sum_by-cons, get_or-le-sum_by}
 use Rattle.odb_check.specs.Shape.{unit_of, needs_of}
 use Rattle.odb_sched.specs.declared.phase.Phase.TheVariants.{Unstarted}
-use Rattle.odb_sched.specs.declared.tracker.Tracker.{Tracker}
+use Rattle.odb_sched.specs.declared.counts.Counts.{Counts}
 use Rattle.odb_dense.specs.Lists.{ListsOnce}
 use Rattle.odb_sched.specs.Below.{any_below}
 use Rattle.odb_sched.specs.Phases.{is_unstarted, is_running}
@@ -15,7 +15,7 @@ use Rattle.odb_sched.specs.State.{State, size, phase_at}
 use Rattle.odb_sched.specs.Steps.{satisfied_in, all_satisfied, unit_failed, is_stopped, running_count, may_start, is_finished}
 use Rattle.odb_sched.specs.Reached.{IsReached}
 use Rattle.odb_sched.specs.ProgressCounts.{is_skipped}
-use Rattle.odb_sched.specs.Kept.{IsTracked}
+use Rattle.odb_sched.specs.Kept.{IsCounted}
 use Rattle.odb_sched.proofs.BelowLemmas.{any_below-Decides, count_by-none}
 use Rattle.odb_sched.proofs.ListLemmas.{lists_alike}
 use Rattle.odb_sched.proofs.PropagateLemmas.{same_test}
@@ -48,15 +48,15 @@ none_pass test xs d = elim (cases_Bool (any_below (length xs) (λ i. test (get_o
         ne_eqb _ 0 (λ none. omega arith)
 
 -- how many run
-pub running_is : (state : State) (tracker : Tracker) → IsTracked state tracker → count_by (λ runs. runs) tracker.progress.running ≡ running_count state
-running_is state tracker are = ap (count_by (λ runs. runs)) are.counts.running ∙ count_map is_running state.phases
+pub running_is : (state : State) (counted : Counts) → IsCounted state counted → count_by (λ runs. runs) counted.progress.running ≡ running_count state
+running_is state counted are = ap (count_by (λ runs. runs)) are.counts.running ∙ count_map is_running state.phases
 
 -- whether the unit of a request has failed
-skipped_is : (state : State) (tracker : Tracker) (i : ℕ) → IsReached state → IsTracked state tracker → i < size state → is_skipped state.shape tracker.progress.units i ≡ unit_failed state (unit_of state.shape i)
-skipped_is state tracker i reached are within = are.counts.units.failed (unit_of state.shape i) (reached.laws.counted i within)
+skipped_is : (state : State) (counted : Counts) (i : ℕ) → IsReached state → IsCounted state counted → i < size state → is_skipped state.shape counted.progress.units i ≡ unit_failed state (unit_of state.shape i)
+skipped_is state counted i reached are within = are.counts.units.failed (unit_of state.shape i) (reached.laws.counted i within)
 
-unmet_is : (state : State) (tracker : Tracker) (i : ℕ) → IsTracked state tracker → i < size state → (get_or tracker.progress.unmet.items i 0 == 0) ≡ all_satisfied state i
-unmet_is state tracker i are within = ap (λ n. n == 0) (are.counts.unmet i within) ∙ none_unmet (satisfied_in state.shape state.phases) (needs_of state.shape i)
+unmet_is : (state : State) (counted : Counts) (i : ℕ) → IsCounted state counted → i < size state → (get_or counted.progress.unmet.items i 0 == 0) ≡ all_satisfied state i
+unmet_is state counted i are within = ap (λ n. n == 0) (are.counts.unmet i within) ∙ none_unmet (satisfied_in state.shape state.phases) (needs_of state.shape i)
 
 regroup : (fresh stopped failed satisfied room : Bool) → ((fresh && not failed && satisfied) && not stopped && room) ≡ (fresh && not stopped && not failed && satisfied && room)
 regroup true true true satisfied room = refl
@@ -68,26 +68,26 @@ regroup true false false false room = refl
 regroup false stopped failed satisfied room = refl
 
 -- which positions may start
-pub starts_is : (state : State) (tracker : Tracker) (i : ℕ) → IsReached state → IsTracked state tracker → i < size state
-    → (get_or tracker.progress.ready i false && not tracker.stopped && nat_lt (count_by (λ runs. runs) tracker.progress.running) state.policy.width) ≡ may_start state i
-starts_is state tracker i reached are within =
-    rw (are.counts.ready.exact i within, skipped_is state tracker i reached are within, unmet_is state tracker i are within, are.stopped, running_is state tracker are)
+pub starts_is : (state : State) (counted : Counts) (i : ℕ) → IsReached state → IsCounted state counted → i < size state
+    → (get_or counted.progress.ready i false && not counted.stopped && nat_lt (count_by (λ runs. runs) counted.progress.running) state.policy.width) ≡ may_start state i
+starts_is state counted i reached are within =
+    rw (are.counts.ready.exact i within, skipped_is state counted i reached are within, unmet_is state counted i are within, are.stopped, running_is state counted are)
     (regroup (is_unstarted (phase_at state i)) (is_stopped state) (unit_failed state (unit_of state.shape i)) (all_satisfied state i) (nat_lt (running_count state) state.policy.width))
 
 -- which positions run
-pub runs_is : (state : State) (tracker : Tracker) (i : ℕ) → IsTracked state tracker → get_or tracker.progress.running i false ≡ is_running (phase_at state i)
-runs_is state tracker i are = ap (λ running. get_or running i false) are.counts.running ∙ get_or-map is_running state.phases i Unstarted
+pub runs_is : (state : State) (counted : Counts) (i : ℕ) → IsCounted state counted → get_or counted.progress.running i false ≡ is_running (phase_at state i)
+runs_is state counted i are = ap (λ running. get_or running i false) are.counts.running ∙ get_or-map is_running state.phases i Unstarted
 
 -- the positions that may start are listed
-pub ready_listed : (state : State) (tracker : Tracker) (xs : List ℕ) → IsReached state → IsTracked state tracker
-    → ListsOnce (length tracker.progress.ready) (λ i. get_or tracker.progress.ready i false && not tracker.stopped && nat_lt (count_by (λ runs. runs) tracker.progress.running) state.policy.width) xs → ListsOnce (size state) (may_start state) xs
-ready_listed state tracker xs reached are listed = lists_alike (size state) _ (may_start state) xs (λ i within. starts_is state tracker i reached are within)
-    (subst (λ n. ListsOnce n (λ i. get_or tracker.progress.ready i false && not tracker.stopped && nat_lt (count_by (λ runs. runs) tracker.progress.running) state.policy.width) xs) are.counts.ready.each listed)
+pub ready_listed : (state : State) (counted : Counts) (xs : List ℕ) → IsReached state → IsCounted state counted
+    → ListsOnce (length counted.progress.ready) (λ i. get_or counted.progress.ready i false && not counted.stopped && nat_lt (count_by (λ runs. runs) counted.progress.running) state.policy.width) xs → ListsOnce (size state) (may_start state) xs
+ready_listed state counted xs reached are listed = lists_alike (size state) _ (may_start state) xs (λ i within. starts_is state counted i reached are within)
+    (subst (λ n. ListsOnce n (λ i. get_or counted.progress.ready i false && not counted.stopped && nat_lt (count_by (λ runs. runs) counted.progress.running) state.policy.width) xs) are.counts.ready.each listed)
 
 -- the positions that run are listed
-pub running_listed : (state : State) (tracker : Tracker) (xs : List ℕ) → IsReached state → IsTracked state tracker → ListsOnce (length tracker.progress.running) (λ i. get_or tracker.progress.running i false) xs → ListsOnce (size state) (λ i. is_running (phase_at state i)) xs
-running_listed state tracker xs reached are listed = lists_alike (size state) _ _ xs (λ i within. runs_is state tracker i are)
-    (subst (λ n. ListsOnce n (λ i. get_or tracker.progress.running i false) xs) (ap length are.counts.running ∙ length-map state.phases is_running ∙ reached.each) listed)
+pub running_listed : (state : State) (counted : Counts) (xs : List ℕ) → IsReached state → IsCounted state counted → ListsOnce (length counted.progress.running) (λ i. get_or counted.progress.running i false) xs → ListsOnce (size state) (λ i. is_running (phase_at state i)) xs
+running_listed state counted xs reached are listed = lists_alike (size state) _ _ xs (λ i within. runs_is state counted i are)
+    (subst (λ n. ListsOnce n (λ i. get_or counted.progress.running i false) xs) (ap length are.counts.running ∙ length-map state.phases is_running ∙ reached.each) listed)
 
 -- of an empty set no position is a member
 none_in : (members : List Bool) (i : ℕ) → (count_by (λ b. b) members == 0) ≡ true → get_or members i false ≡ false
@@ -101,22 +101,22 @@ empty_from : (members : List Bool) → ((i : ℕ) → i < length members → get
 empty_from members none = eq-eqb _ 0 (count_by-none (λ b. b) members (λ k d within. get_or_default members k d false within ∙ none k within))
 
 -- nothing runs, and the run was stopped or nothing is ready, exactly when the run is finished
-pub finished_is : (state : State) (tracker : Tracker) → IsReached state → IsTracked state tracker → ((count_by (λ runs. runs) tracker.progress.running == 0) && (tracker.stopped || (count_by (λ ready. ready) tracker.progress.ready == 0))) ≡ is_finished state
-finished_is state tracker reached are = same_test _ _
-    (λ over. let parts = and_parts (count_by (λ runs. runs) tracker.progress.running == 0) _ over in (finished_idle state reached).1 (λ i within. (bars i within parts.1, sym (runs_is state tracker i are) ∙ none_in tracker.progress.running i parts.0)))
-    (λ finished. let idle = (finished_idle state reached).0 finished in and_from _ _ (still idle) (waits idle (cases_Bool tracker.stopped)))
+pub finished_is : (state : State) (counted : Counts) → IsReached state → IsCounted state counted → ((count_by (λ runs. runs) counted.progress.running == 0) && (counted.stopped || (count_by (λ ready. ready) counted.progress.ready == 0))) ≡ is_finished state
+finished_is state counted reached are = same_test _ _
+    (λ over. let parts = and_parts (count_by (λ runs. runs) counted.progress.running == 0) _ over in (finished_idle state reached).1 (λ i within. (bars i within parts.1, sym (runs_is state counted i are) ∙ none_in counted.progress.running i parts.0)))
+    (λ finished. let idle = (finished_idle state reached).0 finished in and_from _ _ (still idle) (waits idle (cases_Bool counted.stopped)))
   where
-    bars : (i : ℕ) → i < size state → (tracker.stopped || (count_by (λ ready. ready) tracker.progress.ready == 0)) ≡ true → may_start state i ≡ false
-    bars i within over = sym (starts_is state tracker i reached are within) ∙ elim (or_cases tracker.stopped _ over) [
+    bars : (i : ℕ) → i < size state → (counted.stopped || (count_by (λ ready. ready) counted.progress.ready == 0)) ≡ true → may_start state i ≡ false
+    bars i within over = sym (starts_is state counted i reached are within) ∙ elim (or_cases counted.stopped _ over) [
       | inl stopped ↦ and_left _ _ (and_right _ _ (not_from_true _ stopped))
-      | inr none ↦ and_left _ _ (and_left _ _ (none_in tracker.progress.ready i none))
+      | inr none ↦ and_left _ _ (and_left _ _ (none_in counted.progress.ready i none))
     ]
 
-    still : ((i : ℕ) → i < size state → (may_start state i ≡ false) × (is_running (phase_at state i) ≡ false)) → (count_by (λ runs. runs) tracker.progress.running == 0) ≡ true
-    still idle = empty_from tracker.progress.running (λ i within. runs_is state tracker i are ∙ (idle i (subst (λ n. i < n) (ap length are.counts.running ∙ length-map state.phases is_running ∙ reached.each) within)).1)
+    still : ((i : ℕ) → i < size state → (may_start state i ≡ false) × (is_running (phase_at state i) ≡ false)) → (count_by (λ runs. runs) counted.progress.running == 0) ≡ true
+    still idle = empty_from counted.progress.running (λ i within. runs_is state counted i are ∙ (idle i (subst (λ n. i < n) (ap length are.counts.running ∙ length-map state.phases is_running ∙ reached.each) within)).1)
 
-    waits : ((i : ℕ) → i < size state → (may_start state i ≡ false) × (is_running (phase_at state i) ≡ false)) → (tracker.stopped ≡ true) ⊎ (tracker.stopped ≡ false) → (tracker.stopped || (count_by (λ ready. ready) tracker.progress.ready == 0)) ≡ true
+    waits : ((i : ℕ) → i < size state → (may_start state i ≡ false) × (is_running (phase_at state i) ≡ false)) → (counted.stopped ≡ true) ⊎ (counted.stopped ≡ false) → (counted.stopped || (count_by (λ ready. ready) counted.progress.ready == 0)) ≡ true
     waits idle (inl stopped) = or_left _ _ stopped
-    waits idle (inr unstopped) = or_right _ _ (empty_from tracker.progress.ready (λ i inside. false_from_ne_true _ (λ ready.
+    waits idle (inr unstopped) = or_right _ _ (empty_from counted.progress.ready (λ i inside. false_from_ne_true _ (λ ready.
         let within : i < size state = subst (λ n. i < n) are.counts.ready.each inside in
-        both_ways _ (idle i within).0 (sym (starts_is state tracker i reached are within) ∙ rw (ready, unstopped, eqb-true _ _ (still idle)) (lt-ltb 0 state.policy.width state.policy.wide)))))
+        both_ways _ (idle i within).0 (sym (starts_is state counted i reached are within) ∙ rw (ready, unstopped, eqb-true _ _ (still idle)) (lt-ltb 0 state.policy.width state.policy.wide)))))

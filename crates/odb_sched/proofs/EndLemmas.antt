@@ -7,14 +7,14 @@ use Rattle.odb_sched.specs.declared.order.End.{End}
 use Rattle.odb_sched.specs.declared.order.End.TheVariants.{Least, Greatest}
 use Rattle.odb_sched.specs.Below.{passing_below}
 use Rattle.odb_sched.specs.Choosing.{positions_of, IsNone}
-use Rattle.odb_sched.specs.declared.tracker.Tracker.{Tracker}
+use Rattle.odb_sched.specs.declared.counts.Counts.{Counts}
 use Rattle.odb_sched.specs.Ends.{IsNearer, IsEndOf, IsAt}
 use Rattle.odb_sched.specs.Phases.{is_running}
 use Rattle.odb_sched.specs.State.{State, size, phase_at}
 use Rattle.odb_sched.specs.Steps.{may_start, is_finished}
 use Rattle.odb_sched.specs.Reached.{IsReached}
 use Rattle.odb_sched.specs.Courses.{ready_set, running_set}
-use Rattle.odb_sched.specs.Kept.{IsTracked}
+use Rattle.odb_sched.specs.Kept.{IsCounted}
 use Rattle.odb_sched.proofs.KeptLemmas.{finished_idle}
 use Rattle.odb_sched.proofs.CountedLemmas.{starts_is, runs_is}
 use Rattle.odb_sched.proofs.ChoiceLemmas.{contains-passing}
@@ -62,29 +62,29 @@ pub finished_none : (state : State) → IsReached state → IsNone (ready_set st
 finished_none state reached ready running = (finished_idle state reached).1 (λ i within. (none_below (size state) (may_start state) i ready within, none_below (size state) (λ j. is_running (phase_at state j)) i running within))
 
 -- no position may start
-pub none_starts : (state : State) (tracker : Tracker) → IsReached state → IsTracked state tracker → ((i : ℕ) → (get_or tracker.progress.ready i false && not tracker.stopped && nat_lt (count_by (λ runs. runs) tracker.progress.running) state.policy.width) ≡ false) → IsNone (ready_set state)
-none_starts state tracker reached are none = none_at (size state) (may_start state) (λ i within. sym (starts_is state tracker i reached are within) ∙ none i)
+pub none_starts : (state : State) (counted : Counts) → IsReached state → IsCounted state counted → ((i : ℕ) → (get_or counted.progress.ready i false && not counted.stopped && nat_lt (count_by (λ runs. runs) counted.progress.running) state.policy.width) ≡ false) → IsNone (ready_set state)
+none_starts state counted reached are none = none_at (size state) (may_start state) (λ i within. sym (starts_is state counted i reached are within) ∙ none i)
 
 -- no position runs
-pub none_runs : (state : State) (tracker : Tracker) → IsTracked state tracker → ((i : ℕ) → get_or tracker.progress.running i false ≡ false) → IsNone (running_set state)
-none_runs state tracker are none = none_at (size state) (λ j. is_running (phase_at state j)) (λ i within. sym (runs_is state tracker i are) ∙ none i)
+pub none_runs : (state : State) (counted : Counts) → IsCounted state counted → ((i : ℕ) → get_or counted.progress.running i false ≡ false) → IsNone (running_set state)
+none_runs state counted are none = none_at (size state) (λ j. is_running (phase_at state j)) (λ i within. sym (runs_is state counted i are) ∙ none i)
 
 -- the position at the end of the ready ones may start, and is at the end of those that may
-pub starts_at : (state : State) (tracker : Tracker) (end : End) (found : Option ℕ) → IsReached state → IsTracked state tracker → IfSome found (IsEndOf end tracker.progress.ready)
-    → (IsSome found → (tracker.stopped ≡ false) × (nat_lt (count_by (λ runs. runs) tracker.progress.running) state.policy.width ≡ true))
+pub starts_at : (state : State) (counted : Counts) (end : End) (found : Option ℕ) → IsReached state → IsCounted state counted → IfSome found (IsEndOf end counted.progress.ready)
+    → (IsSome found → (counted.stopped ≡ false) × (nat_lt (count_by (λ runs. runs) counted.progress.running) state.policy.width ≡ true))
     → IfSome found (λ i. (i < size state) × (may_start state i ≡ true) × IsAt end (ready_set state) i)
-starts_at state tracker end None reached are at allowed = tt
-starts_at state tracker end (Some i) reached are at allowed =
+starts_at state counted end None reached are at allowed = tt
+starts_at state counted end (Some i) reached are at allowed =
     let within : i < size state = subst (λ n. i < n) are.counts.ready.each at.within in
     let open_run = allowed refl in
-    let may : may_start state i ≡ true = sym (starts_is state tracker i reached are within) ∙ rw (at.among, open_run.0, open_run.1) refl in
-    (within, may, end_at end (size state) (may_start state) i within may (λ j inside nearer. sym (starts_is state tracker j reached are inside) ∙ rw (at.nearest j nearer) refl))
+    let may : may_start state i ≡ true = sym (starts_is state counted i reached are within) ∙ rw (at.among, open_run.0, open_run.1) refl in
+    (within, may, end_at end (size state) (may_start state) i within may (λ j inside nearer. sym (starts_is state counted j reached are inside) ∙ rw (at.nearest j nearer) refl))
 
 -- the last or first of the running positions is running, and is the last or first in the order of positions
-pub runs_at : (state : State) (tracker : Tracker) (end : End) (found : Option ℕ) → IsReached state → IsTracked state tracker → IfSome found (IsEndOf end tracker.progress.running)
+pub runs_at : (state : State) (counted : Counts) (end : End) (found : Option ℕ) → IsReached state → IsCounted state counted → IfSome found (IsEndOf end counted.progress.running)
     → IfSome found (λ i. (i < size state) × (is_running (phase_at state i) ≡ true) × IsAt end (running_set state) i)
-runs_at state tracker end None reached are at = tt
-runs_at state tracker end (Some i) reached are at =
+runs_at state counted end None reached are at = tt
+runs_at state counted end (Some i) reached are at =
     let within : i < size state = subst (λ n. i < n) (ap length are.counts.running ∙ length-map state.phases is_running ∙ reached.each) at.within in
-    let runs : is_running (phase_at state i) ≡ true = sym (runs_is state tracker i are) ∙ at.among in
-    (within, runs, end_at end (size state) (λ j. is_running (phase_at state j)) i within runs (λ j inside nearer. sym (runs_is state tracker j are) ∙ at.nearest j nearer))
+    let runs : is_running (phase_at state i) ≡ true = sym (runs_is state counted i are) ∙ at.among in
+    (within, runs, end_at end (size state) (λ j. is_running (phase_at state j)) i within runs (λ j inside nearer. sym (runs_is state counted j are) ∙ at.nearest j nearer))

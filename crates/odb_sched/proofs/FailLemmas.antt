@@ -10,7 +10,7 @@ use Rattle.odb_dense.specs.declared.worklist.Mark.{Mark}
 use Rattle.odb_dense.specs.declared.worklist.Mark.TheVariants.{Unvisited, Queued, Visited}
 use Rattle.odb_sched.specs.declared.phase.Phase.{Phase}
 use Rattle.odb_sched.specs.declared.phase.Phase.TheVariants.{Unstarted, Running, Reported}
-use Rattle.odb_sched.specs.declared.progress.Progress.{Progress}
+use Rattle.odb_sched.specs.declared.counts.Progress.{Progress}
 use Rattle.odb_sched.specs.Below.{all_below}
 use Rattle.odb_sched.specs.Phases.{is_running, has_succeeded, has_failed}
 use Rattle.odb_sched.specs.Failing.{own}

@@ -12,7 +12,7 @@ use Rattle.odb_dense.specs.declared.worklist.Mark.TheVariants.{Unvisited}
 use Rattle.odb_dense.specs.Marks.{is_marked, is_visited}
 use Rattle.odb_sched.specs.declared.phase.Phase.{Phase}
 use Rattle.odb_sched.specs.declared.phase.Phase.TheVariants.{Unstarted}
-use Rattle.odb_sched.specs.declared.progress.Progress.{Progress}
+use Rattle.odb_sched.specs.declared.counts.Progress.{Progress}
 use Rattle.odb_sched.specs.Phases.{is_running, is_unstarted, has_succeeded, has_failed}
 use Rattle.odb_sched.specs.Failing.{Fails, own, propagated, unit_needed}
 use Rattle.odb_sched.specs.FirstCounts.{needs_in, members_in, need_counts, member_counts}

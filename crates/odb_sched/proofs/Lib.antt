@@ -19,6 +19,7 @@ pub mod CountLemmas
 pub mod PropagateLemmas
 pub mod DependentLemmas
 pub mod NeedPairLemmas
+pub mod GraphLemmas
 pub mod FirstLemmas
 pub mod SkippedLemmas
 pub mod FailLemmas
@@ -26,8 +27,9 @@ pub mod SatisfyingLemmas
 pub mod UnmetLemmas
 pub mod SucceedLemmas
 pub mod StartingLemmas
-pub mod TrackerLemmas
+pub mod StopLemmas
 pub mod KeptLemmas
+pub mod OwnedLemmas
 pub mod CountedLemmas
 pub mod EndLemmas
 pub mod TakenLemmas

@@ -11,7 +11,7 @@ use Rattle.odb_sched.specs.Phases.{has_failed}
 use Rattle.odb_sched.specs.Failing.{Fails, own, propagated, unit_needed}
 use Rattle.odb_sched.specs.Steps.{failed_in}
 use Rattle.odb_dense.specs.Marks.{is_marked, is_visited}
-use Rattle.odb_sched.specs.declared.progress.Progress.{Progress}
+use Rattle.odb_sched.specs.declared.counts.Progress.{Progress}
 use Rattle.odb_sched.specs.ProgressCounts.{is_skipped, ArePropagated}
 use Rattle.odb_sched.specs.Propagation.{NeedsUnit, HaveMarked, ArePropagating}
 use Rattle.odb_sched.proofs.CountLemmas.{count_same, count_less}

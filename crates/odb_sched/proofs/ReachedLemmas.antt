@@ -4,9 +4,9 @@ use Rattle.std.proofs.lemmas.Bool.{cases_eq, both_ways, and_parts}
 use Rattle.std.proofs.lemmas.List.{length-set, length-replicate}
 use Rattle.std.proofs.lemmas.List.Folds.{sum_by-replicate}
 use Rattle.std.proofs.lemmas.List.Sums.{sum_by-set}
-use Rattle.odb_check.specs.declared.plan.Plan.{Plan}
+use Rattle.odb_doc.specs.batch.Records.{Record}
 use Rattle.odb_doc.specs.declared.recorded.outcome.Outcome.{Outcome}
-use Rattle.odb_check.specs.Shape.{IsPlan}
+use Rattle.odb_check.specs.Shape.{Shape, IsPlan}
 use Rattle.odb_sched.specs.declared.policy.Policy.{Policy}
 use Rattle.odb_sched.specs.declared.phase.Phase.{Phase}
 use Rattle.odb_sched.specs.declared.phase.Phase.TheVariants.{Unstarted, Running, Reported}
@@ -14,9 +14,10 @@ use Rattle.odb_sched.specs.declared.event.Event.{Event}
 use Rattle.odb_sched.specs.declared.event.Event.TheVariants.{Start, Report}
 use Rattle.odb_sched.specs.Statuses.{is_status}
 use Rattle.odb_sched.specs.Phases.{is_unstarted, is_running, has_succeeded}
-use Rattle.odb_sched.specs.State.{State, size, phase_at, shape, at_first, started, reported, after}
+use Rattle.odb_sched.specs.State.{State, size, phase_at, with_requests, started, reported, after}
 use Rattle.odb_sched.specs.Steps.{all_satisfied, may_start, may_report, may_come}
 use Rattle.odb_sched.specs.Runs.{event_position}
+use Rattle.odb_sched.specs.Plans.{first_of}
 use Rattle.odb_sched.specs.Reached.{IsReached}
 use Rattle.odb_sched.specs.Answers.{outcome_of}
 use Rattle.odb_sched.proofs.PhaseLemmas.{Unstarted-from, Running-from, get_or-replicate_Unstarted}
@@ -28,14 +29,18 @@ use Rattle.odb_sched.proofs.StatusLemmas.{no_outcome, one_outcome, statuses-set}
 abbrev weight : Phase → ℕ
 weight phase = cond (is_running phase) 1 0
 
-pub reached_first : (source : Plan) (policy : Policy) → IsPlan (shape source) → IsReached (at_first source policy)
-reached_first source policy laws = record {
+pub reached_first : (plan : Shape) (policy : Policy) → IsPlan plan → IsReached (first_of plan policy)
+reached_first plan policy laws = record {
   laws = laws;
-  each = length-replicate (length (shape source).units) Unstarted;
-  narrow = let none : count_by is_running (replicate (length (shape source).units) Unstarted) ≡ length (shape source).units * 0 = sum_by-replicate weight (length (shape source).units) Unstarted in omega arith;
-  needs = λ i within begun. absurd (both_ways _ begun (ap is_unstarted (get_or-replicate_Unstarted (length (shape source).units) i)));
-  statuses = λ i. no_outcome _ (ap outcome_of (get_or-replicate_Unstarted (length (shape source).units) i));
+  each = length-replicate (length plan.units) Unstarted;
+  narrow = let none : count_by is_running (replicate (length plan.units) Unstarted) ≡ length plan.units * 0 = sum_by-replicate weight (length plan.units) Unstarted in omega arith;
+  needs = λ i within begun. absurd (both_ways _ begun (ap is_unstarted (get_or-replicate_Unstarted (length plan.units) i)));
+  statuses = λ i. no_outcome _ (ap outcome_of (get_or-replicate_Unstarted (length plan.units) i));
 }
+
+-- no event asks for the requests
+pub reached_with : (requests : List Record) (state : State) → IsReached state → IsReached (with_requests requests state)
+reached_with requests state reached = record { laws = reached.laws; each = reached.each; narrow = reached.narrow; needs = reached.needs; statuses = reached.statuses }
 
 -- how many run after a write over a phase
 count_after : (phases : List Phase) (i : ℕ) (new : Phase) → i < length phases → count_by is_running (set phases i new) + weight (get_or phases i Unstarted) ≡ count_by is_running phases + weight new

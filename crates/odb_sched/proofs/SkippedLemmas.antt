@@ -9,7 +9,7 @@ use Rattle.odb_sched.specs.declared.phase.Phase.{Phase}
 use Rattle.odb_sched.specs.declared.phase.Phase.TheVariants.{Unstarted}
 use Rattle.odb_sched.specs.Phases.{is_unstarted}
 use Rattle.odb_sched.specs.Plans.{IsSpan}
-use Rattle.odb_sched.specs.declared.progress.Progress.{Progress}
+use Rattle.odb_sched.specs.declared.counts.Progress.{Progress}
 use Rattle.odb_dense.specs.Marks.{is_visited}
 use Rattle.odb_sched.specs.ProgressCounts.{is_skipped, AreReady}
 use Rattle.odb_sched.specs.Propagation.{is_skipped_until}

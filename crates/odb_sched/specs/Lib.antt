@@ -24,6 +24,7 @@ pub mod Plans
 pub mod Reached
 pub mod ProgressCounts
 pub mod NeedPairs
+pub mod Graphs
 pub mod FirstCounts
 pub mod Propagation
 pub mod Kept

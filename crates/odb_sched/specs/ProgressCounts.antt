@@ -9,7 +9,7 @@ use Rattle.odb_check.specs.Firsts.{count_below}
 use Rattle.odb_check.specs.Shape.{Shape, unit_of, needs_of}
 use Rattle.odb_sched.specs.declared.phase.Phase.{Phase}
 use Rattle.odb_sched.specs.declared.phase.Phase.TheVariants.{Unstarted}
-use Rattle.odb_sched.specs.declared.progress.Progress.{Progress}
+use Rattle.odb_sched.specs.declared.counts.Progress.{Progress}
 use Rattle.odb_sched.specs.Phases.{is_unstarted, is_running, has_succeeded}
 use Rattle.odb_sched.specs.Steps.{succeeded_in, satisfied_in, failed_in}
 

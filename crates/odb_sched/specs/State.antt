@@ -1,5 +1,5 @@
 -- The state of a run: its requests, its policy, and the phase of each request.
-use Rattle.std.specs.Prelude.{ℕ, List, length, replicate, slice_index_or, slice_set}
+use Rattle.std.specs.Prelude.{ℕ, List, [], length, replicate, slice_index_or, slice_set}
 use Rattle.odb_doc.specs.batch.Records.{Record}
 use Rattle.odb_doc.specs.declared.recorded.outcome.Outcome.{Outcome}
 use Rattle.odb_check.specs.declared.plan.Plan.{Plan}
@@ -27,6 +27,14 @@ size state = length state.shape.units
 -- the phase of the request at a position
 abbrev pub phase_at : State → ℕ → Phase
 phase_at state i = slice_index_or state.phases i Unstarted
+
+-- the same state, of these requests
+abbrev pub with_requests : List Record → State → State
+with_requests requests state = record state { requests = requests }
+
+-- the same state, of no requests: what a run keeps of it that knows them by their positions alone
+abbrev pub without_requests : State → State
+without_requests state = with_requests [] state
 
 -- before any event, of these requests
 abbrev pub first_state : List Record → Policy → State

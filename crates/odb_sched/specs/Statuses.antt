@@ -1,10 +1,2 @@
--- What a status means (OData JSON Format 4.01, section 19.4; OData Protocol 4.01, section 11.7).
-use Rattle.std.specs.Prelude.{ℕ, Bool, ◌&&◌, nat_lt, nat_le}
-
--- a status from 200 to 299
-abbrev pub is_success : ℕ → Bool
-is_success status = nat_le 200 status && nat_lt status 300
-
--- a status that a report may have
-abbrev pub is_status : ℕ → Bool
-is_status status = nat_le 200 status && nat_lt status 600
+-- What a status means, as odb_doc defines it.
+pub use Rattle.odb_doc.specs.Statuses.{is_success, is_status}

@@ -67,6 +67,13 @@ impl<'p> Done<'p> {
     ghost use Rattle.odb_sched.specs.Answers as answers;
     ghost use Rattle.odb_sched.specs.Statuses.{is_status};
 
+    /// Returns the finished run, which a caller keeps that has read its answers.
+    pub fn into_scheduler(self) -> Scheduler<'p>
+        ensures { result ≡ self.entry }
+    {
+        self.run
+    }
+
     /// Returns the plan that was run.
     pub fn plan(&self) -> &'p Plan<'p>
         ensures plan { plan_records result.now ≡ self.now.requests }

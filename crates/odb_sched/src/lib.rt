@@ -11,27 +11,24 @@
 #![tactic(auto)]
 
 mod chooser;
-mod dependents;
+mod counts;
 mod done;
 mod event;
 mod execution;
 mod fault;
+mod graph;
 pub mod laws;
 mod order;
+mod owned;
 mod phase;
 mod policy;
-mod progress;
-mod propagating;
 mod recorded;
 mod refusal;
+mod report;
 mod resolving;
-mod satisfying;
 mod scheduler;
 mod service;
-mod starting;
 mod step;
-mod tracker;
-mod unmet;
 
 pub use chooser::{Choice, Chooser, First, Last, Wide};
 pub use done::{Answer, Done};
@@ -39,6 +36,7 @@ pub use event::{Event, run};
 pub use execution::{Trace, execute};
 pub use fault::ExecFault;
 pub use order::Order;
+pub use owned::OwnedRun;
 pub use policy::{MAX_WIDTH, Mode, Policy};
 pub use recorded::Recorded;
 pub use refusal::{ReportRefusal, RunRefusal, StartRefusal};

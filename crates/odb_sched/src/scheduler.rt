@@ -2,7 +2,6 @@ ghost use Rattle.std.specs.Prelude.{◌≡◌, ◌≢◌, ◌<◌, ◌≤◌, �
 ghost use Rattle.odb_check.specs.Plans.{plan_records};
 ghost use Rattle.odb_check.specs.Shape.{unit_of};
 ghost use Rattle.odb_sched.specs.declared.policy.Mode.TheVariants as modes;
-ghost use Rattle.odb_sched.specs.declared.phase.Phase.TheVariants.{Unstarted};
 ghost use Rattle.odb_sched.specs.declared.refusal.StartRefusal.TheVariants.{WidthReached};
 ghost use Rattle.odb_dense.specs.Lists.{ListsOnce};
 ghost use Rattle.odb_sched.specs.Phases as tests;
@@ -10,21 +9,18 @@ ghost use Rattle.odb_sched.specs.State as states;
 ghost use Rattle.odb_sched.specs.Steps as steps;
 ghost use Rattle.odb_sched.specs.Causes.{IsStartCause, IsReportCause};
 ghost use Rattle.odb_sched.specs.Advances.{IsNext};
-ghost use Rattle.odb_sched.specs.Choosing.{IsNone, AllowsOrder};
-ghost use Rattle.odb_sched.specs.Courses as courses;
-ghost use Rattle.odb_sched.specs.Ends.{IsAt, ReportsFirst, StartsFirst};
+ghost use Rattle.odb_sched.specs.Choosing.{AllowsOrder};
 ghost use Rattle.odb_sched.specs.Laws as laws;
 ghost use Rattle.odb_sched.specs.Reached.{IsReached};
 
 use crate::done::Done;
 use crate::laws::every_start;
-use crate::order::{End, Order};
-use crate::phase::{Phase, is_status};
+use crate::order::Order;
+use crate::owned::OwnedRun;
+use crate::phase::Phase;
 use crate::policy::Policy;
 use crate::refusal::{ReportRefusal, StartRefusal};
 use crate::step::Step;
-use crate::tracker::Tracker;
-use crate::unmet::first_unmet;
 use odb_check::Plan;
 use odb_doc::Outcome;
 use std::alloc::{AllocError, Global};
@@ -37,9 +33,7 @@ use std::marker::Model;
 #[derive(Drop)]
 pub struct Scheduler<'p> {
     plan: &'p Plan<'p>,
-    policy: Policy,
-    phases: Vec<Phase>,
-    tracker: Tracker,
+    run: OwnedRun,
 }
 
 impl<'p> Model for Scheduler<'p> {
@@ -54,30 +48,11 @@ impl<'p> Model for Scheduler<'p> {
 
     ghost coded = { Prim.hlevel (codes, data_code, method_code, policies.the_row.coded, phase.the_row.coded) };
 
-    ghost use Rattle.odb_sched.specs.Kept.{kept_state, IsKept};
+    ghost use Rattle.odb_sched.specs.Kept.{planned_state, IsOfPlan};
 
-    ghost view = { kept_state };
+    ghost view = { planned_state };
 
-    ghost invariant = { IsKept };
-}
-
-/// Returns the phases of so many requests that have not started.
-fn all_unstarted(alloc: Global, count: u32) -> Result<Vec<Phase>, AllocError>
-    ensures { IfOk result (λ phases. phases.items ≡ replicate count Unstarted) }
-{
-    let mut phases = Vec::with_capacity(alloc, count as usize)?;
-    for _ in 0..count {
-        phases.push(Phase::Unstarted)?;
-    }
-    Ok(phases)
-}
-
-/// Writes the phase of a request.
-fn put(phases: &mut [Phase], i: u32, phase: Phase)
-    requires { i < length phases.old }
-    ensures { phases.new ≡ slice_set phases.old i phase }
-{
-    phases[i as usize] = phase;
+    ghost invariant = { IsOfPlan };
 }
 
 impl<'p> Scheduler<'p> {
@@ -93,37 +68,36 @@ impl<'p> Scheduler<'p> {
         ensures size { IfOk result (λ scheduler. states.size scheduler
             ≡ length (plan_records plan.now)) }
     {
-        odb_check::laws::every_plan(plan);
-        Ok(Scheduler {
-            plan,
-            policy,
-            phases: all_unstarted(alloc, plan.len())?,
-            tracker: Tracker::new(alloc, plan, policy)?,
-        })
+        let run = OwnedRun::new(alloc, plan, policy)?;
+        Ok(Scheduler { plan, run })
     }
 
-    /// Returns the first cause why a request may not start.
-    fn start_refusal(&self, i: u32) -> Option<StartRefusal>
-        requires { i < states.size self.now }
-        ensures cause { IfSome result (IsStartCause self.now i) }
-        ensures none { result ≡ None → steps.may_start self.now i ≡ true }
+    /// Returns a run with the requests of a plan, if its numbers are those of the plan: which unit
+    /// each request belongs to, and what each needs, in order.
+    ///
+    /// Costs O(requests + dependencies).
+    ///
+    /// # Errors
+    ///
+    /// The run, unchanged, if its numbers are not those of the plan.
+    pub fn of<'a: 'p>(plan: &'p Plan<'a>, run: OwnedRun) -> Result<Scheduler<'p>, OwnedRun>
+        ensures allowed { IsOk result ↔ (run.shape ≡ states.shape plan.now) }
+        ensures state { IfOk result (λ scheduler. scheduler
+            ≡ states.with_requests (plan_records plan.now) run) }
+        ensures back { IfErr result (λ back. back ≡ run) }
     {
-        if !self.phases[i as usize].is_unstarted() {
-            return Some(StartRefusal::AlreadyStarted);
+        if !run.is_of(plan) {
+            return Err(run);
         }
-        if self.tracker.stopped() {
-            return Some(StartRefusal::Stopped);
-        }
-        if self.tracker.failed(self.plan.unit_of(i)) {
-            return Some(StartRefusal::UnitFailed);
-        }
-        if let Some(need) = first_unmet(self.plan, &self.phases, self.tracker.pending(), i) {
-            return Some(StartRefusal::Waiting(need));
-        }
-        if self.tracker.running().len() >= self.policy.width as usize {
-            return Some(StartRefusal::WidthReached);
-        }
-        None
+        Ok(Scheduler { plan, run })
+    }
+
+    /// Returns the run without its requests.
+    pub fn into_owned(self) -> OwnedRun
+        ensures { result ≡ states.without_requests self.entry }
+    {
+        self.run.reached();
+        self.run
     }
 
     /// Starts request `i`, counted from 0.
@@ -143,27 +117,7 @@ impl<'p> Scheduler<'p> {
             → IfErr result (λ cause. cause ≢ WidthReached) }
     {
         every_start(self.plan);
-        if let Some(cause) = self.start_refusal(i) {
-            return Err(cause);
-        }
-        put(&mut self.phases, i, Phase::Running);
-        self.tracker.start(self.plan, self.policy, &self.phases, i);
-        Ok(())
-    }
-
-    /// Returns the first cause why an outcome is not accepted.
-    fn report_refusal(&self, i: u32, outcome: &Outcome) -> Option<ReportRefusal>
-        requires { i < states.size self.now }
-        ensures cause { IfSome result (IsReportCause self.now i outcome.now) }
-        ensures none { result ≡ None → steps.may_report self.now i outcome.now ≡ true }
-    {
-        if !self.phases[i as usize].is_running() {
-            return Some(ReportRefusal::NotRunning);
-        }
-        if !is_status(outcome.status) {
-            return Some(ReportRefusal::BadStatus);
-        }
-        None
+        self.run.start(i)
     }
 
     /// Takes the outcome of a running request.
@@ -179,12 +133,7 @@ impl<'p> Scheduler<'p> {
         ensures back { IfErr result (λ e. e.1 ≡ outcome) }
         ensures err { OnErr result (self.new ≡ self.old) }
     {
-        if let Some(cause) = self.report_refusal(i, &outcome) {
-            return Err((cause, outcome));
-        }
-        put(&mut self.phases, i, Phase::Reported(outcome));
-        self.tracker.report(self.plan, self.policy, &self.phases, i);
-        Ok(())
+        self.run.report(i, outcome)
     }
 
     /// Returns the ready positions, each once, in no particular order.
@@ -192,7 +141,7 @@ impl<'p> Scheduler<'p> {
         ensures listed { ListsOnce (states.size self.now) (steps.may_start self.now) result.now }
         ensures within { All (λ i. i < states.size self.now) result.now }
     {
-        self.tracker.ready(self.policy)
+        self.run.ready()
     }
 
     /// Returns the running positions, each once, in no particular order.
@@ -202,64 +151,7 @@ impl<'p> Scheduler<'p> {
         ensures within { All (λ i. i < states.size self.now) result.now }
         ensures width { length result.now ≤ self.now.policy.width }
     {
-        self.tracker.running()
-    }
-
-    /// Returns the least or the greatest ready position, or `None` if there is none.
-    fn ready_at(&mut self, end: End) -> Option<u32>
-        ensures same { self.new ≡ self.old }
-        ensures none { result ≡ None → IsNone (courses.ready_set self.old) }
-        ensures finished { result ≡ None → IsNone (courses.running_set self.old)
-            → steps.is_finished self.old ≡ true }
-        ensures some { IfSome result (λ i. (i < states.size self.old)
-            × (steps.may_start self.old i ≡ true) × IsAt end (courses.ready_set self.old) i) }
-    {
-        self.tracker.ready_at(self.policy, end)
-    }
-
-    /// Returns the least or the greatest running position, or `None` if there is none.
-    fn running_at(&mut self, end: End) -> Option<u32>
-        ensures same { self.new ≡ self.old }
-        ensures none { result ≡ None → IsNone (courses.running_set self.old) }
-        ensures finished { result ≡ None → IsNone (courses.ready_set self.old)
-            → steps.is_finished self.old ≡ true }
-        ensures some { IfSome result (λ i. (i < states.size self.old)
-            × (tests.is_running (states.phase_at self.old i) ≡ true)
-            × IsAt end (courses.running_set self.old) i) }
-    {
-        self.tracker.running_at(end)
-    }
-
-    /// Returns the report of the least or the greatest running position, or else the start of that
-    /// ready one.
-    fn report_or_start(&mut self, end: End) -> Option<Step>
-        ensures same { self.new ≡ self.old }
-        ensures finished { result ≡ None → steps.is_finished self.old ≡ true }
-        ensures next { IfSome result (IsNext (ReportsFirst end) self.old) }
-    {
-        if let Some(i) = self.running_at(end) {
-            return Some(Step::Report(i));
-        }
-        match self.ready_at(end) {
-            Some(i) => Some(Step::Start(i)),
-            None => None,
-        }
-    }
-
-    /// Returns the start of the least or the greatest ready position, or else the report of that
-    /// running one.
-    fn start_or_report(&mut self, end: End) -> Option<Step>
-        ensures same { self.new ≡ self.old }
-        ensures finished { result ≡ None → steps.is_finished self.old ≡ true }
-        ensures next { IfSome result (IsNext (StartsFirst end) self.old) }
-    {
-        if let Some(i) = self.ready_at(end) {
-            return Some(Step::Start(i));
-        }
-        match self.running_at(end) {
-            Some(i) => Some(Step::Report(i)),
-            None => None,
-        }
+        self.run.running()
     }
 
     /// Returns the next step in an order, or `None` if the run is finished.
@@ -268,11 +160,7 @@ impl<'p> Scheduler<'p> {
         ensures finished { result ≡ None → steps.is_finished self.old ≡ true }
         ensures next { IfSome result (IsNext (AllowsOrder order) self.old) }
     {
-        match order {
-            Order::First => self.report_or_start(End::Least),
-            Order::Last => self.report_or_start(End::Greatest),
-            Order::Wide => self.start_or_report(End::Least),
-        }
+        self.run.next_in(order)
     }
 
     /// Returns whether no event may come any more: no request is running, and the run is stopped or
@@ -283,7 +171,7 @@ impl<'p> Scheduler<'p> {
             → (steps.may_start self.now i ≡ false)
             × (tests.is_running (states.phase_at self.now i) ≡ false)) }
     {
-        self.tracker.is_finished()
+        self.run.is_finished()
     }
 
     /// Ends a finished run and returns its answers.
@@ -314,7 +202,7 @@ impl<'p> Scheduler<'p> {
         requires { i < states.size self.now }
         ensures { result.now ≡ states.phase_at self.now i }
     {
-        &self.phases[i as usize]
+        self.run.phase(i)
     }
 
     /// Returns whether all members of the request's unit have succeeded.
@@ -322,13 +210,13 @@ impl<'p> Scheduler<'p> {
         requires { i < states.size self.now }
         ensures { result ≡ steps.unit_succeeded self.now (unit_of self.now.shape i) }
     {
-        self.tracker.pending()[self.plan.unit_of(i) as usize] == 0
+        self.run.unit_succeeded(i)
     }
 
     /// What holds of every state that a run comes to. It changes nothing.
     pub(crate) fn reached(&self)
         ensures { IsReached self.now }
     {
-        let _ = &self.plan;
+        self.run.reached();
     }
 }

@@ -1,6 +1,6 @@
 -- Recorded outcomes: what the elements of `outcomes` are, and what they mean. An outcome is what a service
 -- answered to a request (OData JSON Format 4.01, section 19.5); the document of many is this product's own.
-use Rattle.std.specs.Prelude.{◌≡◌, ◌≤◌, ℕ, List, Option, Some, IsSome, IfSome, option_and_then, codes, string_bytes, String}
+use Rattle.std.specs.Prelude.{◌≡◌, ℕ, List, Option, Some, IsSome, IfSome, IsTrue, option_and_then, codes, string_bytes, String}
 use Rattle.std.specs.declared.alloc.Global.{Global}
 use Rattle.std.specs.List.{AllZip, filter_map}
 use Rattle.serde_json.specs.Data.{Data, Num, unsigned, negative, float}
@@ -11,6 +11,7 @@ use Rattle.odb_doc.specs.declared.recorded.outcome.Outcome.{Outcome}
 use Rattle.odb_doc.specs.batch.Bodies.{body_of}
 use Rattle.odb_doc.specs.Headers.{HasHeaders, IsHeaders}
 use Rattle.odb_doc.specs.Members.{elements_at, text_at, HasOther, IsListObject}
+use Rattle.odb_doc.specs.Statuses.{is_status}
 use Rattle.odb_doc.specs.WholeNumbers.{IsWhole}
 
 -- the elements of `outcomes`
@@ -43,7 +44,7 @@ IsOutcomeObject d = HasOutcome objects.Outcome (codes "id") d
 
 -- a status that an outcome may have: a whole number from 200 to 599
 abbrev pub IsStatus : Num → Type 0
-IsStatus (unsigned n) = (200 ≤ n) × (n ≤ 599)
+IsStatus (unsigned n) = IsTrue (is_status n)
 IsStatus (negative z) = ⊥
 IsStatus (float x) = ⊥
 
@@ -71,6 +72,5 @@ AreOutcomesOf d entries = AllZip Says (elements d) entries
 
 -- what holds of each outcome that was read: its status is from 200 to 599, and its body holds whole numbers alone
 pub record IsSoundOutcome (entry : Recorded) : Type 0 where
-  pub low : 200 ≤ entry.1.status
-  pub high : entry.1.status ≤ 599
+  pub status : IsTrue (is_status entry.1.status)
   pub whole : IfSome entry.1.body IsWhole

@@ -30,9 +30,6 @@ use Rattle.odb_doc.specs.Members.{HasOther, text_at}
 use Rattle.odb_doc.specs.recorded.OutcomeFaults.{rule_number}
 use Rattle.odb_doc.specs.recorded.Outcomes.{HasOutcome, status_of}
 
-abbrev pub texts : List (String Global) → List (List ℕ)
-texts strings = map string_bytes strings
-
 -- the values at the four members, as far as they have the right types, and there are no other members
 pub record ArePartsOf (kind : Object) (name : List ℕ) (d : Data) (parts : Parts) : Type 0 where
   pub known : ¬ HasOther kind d
@@ -82,7 +79,7 @@ AreSameTexts xs ys = (q : List ℕ) → list_any (bytes_eq q) xs ≡ list_any (b
 
 -- the set has the ids so far; without a set these and those to come are distinct
 abbrev pub Watches : Option (BTreeSet (String Global)) → List (List ℕ) → List (List ℕ) → Type 0
-Watches (Some set) before coming = AreSameTexts (texts set.keys) before
+Watches (Some set) before coming = AreSameTexts (map string_bytes set.keys) before
 Watches None before coming = IsDistinct bytes_eq (before ++ coming)
 
 abbrev pub IsWatched : SeenIds → List (List ℕ) → List (List ℕ) → Type 0

@@ -3,7 +3,7 @@ ghost use Rattle.serde_json.specs.Data.{Data};
 ghost use Rattle.odb_names.specs.Fronts.{HasFront, bad};
 ghost use Rattle.odb_names.specs.Segments.{IsNestedBatch};
 ghost use Rattle.odb_doc.specs.declared.fault.RequestRule.TheVariants as rules;
-ghost use Rattle.odb_doc.specs.BrokenRules.{OnRule, BreaksNoneBefore, IsLeastRequestRule, IsRequestObject};
+ghost use Rattle.odb_doc.specs.BrokenRules.{OnRule, BreaksNoneBefore, IsLeastRequestRule};
 ghost use Rattle.odb_doc.specs.batch.References.{RefersTo};
 ghost use Rattle.odb_doc.specs.batch.Shapes.{url_of};
 

@@ -1,30 +1,25 @@
-ghost use Rattle.std.specs.Prelude.{◌≡◌, ◌<◌, ◌+◌, ◌++◌, ◌∷◌, false, codes, length, option_map, string_bytes, Some, IfSome, OnOk};
-ghost use Rattle.serde_json.specs.Data.{string};
-ghost use Rattle.serde_json.specs.View.{view};
-ghost use Rattle.serde_json.specs.Written.{compact_text, comma_if};
+ghost use Rattle.std.specs.Prelude.{◌≡◌, ◌<◌, ◌+◌, ◌++◌, false, codes, length, string_bytes, OnOk};
 ghost use Rattle.odb_doc.specs.batch.Batches.{records};
-ghost use Rattle.odb_doc.specs.canonical.Canonical.{HasWholeBodies, headers_value, names_value};
+ghost use Rattle.odb_doc.specs.canonical.Canonical.{HasWholeBodies, names_value};
 ghost use Rattle.odb_doc.specs.canonical.CanonicalParts as parts;
 ghost use Rattle.odb_doc.specs.Texts.{member_part};
-ghost use Rattle.odb_doc.specs.Headers.{headers_in};
 ghost use Rattle.odb_doc.specs.batch.Names.{texts_in};
-ghost use Rattle.odb_doc.specs.WholeNumbers.{IsWhole};
 
 use crate::batch::Batch;
-use crate::text::{push_body, push_group, push_headers, push_if, push_quoted};
+use crate::text::{push_body, push_group, push_headers, push_if, push_open, push_quoted};
 use odb_names::Method;
 use std::alloc::{AllocError, Global};
 
-/// Appends the texts as the elements of an array, and the end of the array.
+/// Appends the texts as the elements of an array, the end of the array, and a comma.
 fn push_elements(alloc: Global, text: &mut String, elements: &[&str]) -> Result<(), AllocError>
     ensures { OnOk result (string_bytes text.new ≡ string_bytes text.old
-        ++ parts.names_left false (texts_in elements.now)) }
+        ++ (parts.names_left false (texts_in elements.now) ++ codes ",")) }
 {
     for k in 0..elements.len() {
         push_if(text, k > 0, ",")?;
         push_quoted(alloc, text, elements[k])?;
     }
-    text.push_str("]")
+    text.push_str("],")
 }
 
 /// Appends the member `dependsOn`, if there are names.
@@ -36,8 +31,7 @@ fn push_names(alloc: Global, text: &mut String, names: &[&str]) -> Result<(), Al
         return Ok(());
     }
     text.push_str("\"dependsOn\":[")?;
-    push_elements(alloc, text, names)?;
-    text.push_str(",")
+    push_elements(alloc, text, names)
 }
 
 /// Appends the members `id`, `method` and `url`, and the end of the request.
@@ -73,8 +67,7 @@ pub(crate) fn push_request(
         ≡ string_bytes text.new ++ parts.requests_left (records batch.now) (i + 1)) }
 {
     let request = batch.request(i);
-    push_if(text, i > 0, ",")?;
-    text.push_str("{")?;
+    push_open(text, i > 0)?;
     push_group(alloc, text, request.group)?;
     push_body(alloc, text, request.body)?;
     push_names(alloc, text, request.names.as_slice())?;

@@ -1,4 +1,4 @@
-ghost use Rattle.std.specs.Prelude.{◌≡◌, IfSome, MatchOption, IfOk, IfErr, OnOk, None, Some, is_some, option_map, codes, string_bytes};
+ghost use Rattle.std.specs.Prelude.{◌≡◌, IfSome, MatchOption, IfOk, IfErr, OnOk, None, Some, option_map, codes, string_bytes};
 ghost use Rattle.serde_json.specs.Data.{Data, unsigned};
 ghost use Rattle.serde_json.specs.Find.{get};
 ghost use Rattle.serde_json.specs.View.{view, number_view};
@@ -32,12 +32,7 @@ fn status_of(status: Number) -> Option<u16>
     ensures { MatchOption result (¬ IsReportedStatus (number_view status))
         (λ code. IsReportedStatus (number_view status) × (number_view status ≡ unsigned code)) }
 {
-    let code = status.as_u64()?;
-    if code <= 65_535 {
-        Some(code as u16)
-    } else {
-        None
-    }
+    u16::try_from(status.as_u64()?).ok()
 }
 
 /// Moves the id out of a start, or returns `None` if the element is not a start.
@@ -64,7 +59,7 @@ fn status_in(raw: &RawOutcome) -> Result<u16, EventRule>
     let Some(status) = status_of(raw.status) else {
         return Err(EventRule::BadEvents);
     };
-    if has_whole_body(&raw.body) {
+    if has_whole_body(raw.body.as_ref()) {
         Ok(status)
     } else {
         Err(EventRule::NotWhole)
@@ -90,13 +85,6 @@ fn read_report(alloc: Global, element: &mut Value) -> Result<NamedEvent, Broken<
     }
 }
 
-/// Returns whether the element has a member `start`.
-fn has_start(element: &Value) -> bool
-    ensures { result ≡ is_some (get (codes "start") (view element.now)) }
-{
-    element.get("start").is_some()
-}
-
 /// Reads an element, moving its values out, or returns the rule that it breaks.
 pub(crate) fn read_event(
     alloc: Global,
@@ -107,7 +95,7 @@ pub(crate) fn read_event(
     ensures fit { IfOk result (λ event. IsSoundEvent (event_value event)) }
     ensures first { IfErr result (OnRule (IsLeastBrokenEvent (view element.old))) }
 {
-    if !has_start(element) {
+    if element.get("start").is_none() {
         return read_report(alloc, element);
     }
     match start_of(element) {

@@ -9,7 +9,7 @@ ghost use Rattle.odb_doc.specs.recorded.RawOutcomes.{ArePartsOf, HasRawOutcome};
 
 use crate::broken::Broken;
 use crate::headers::headers_from;
-use crate::member::{Object, number_of, text_of, unless_null};
+use crate::member::{Object, text_of, unless_null};
 use serde_json::{Map, Number, Value};
 use std::alloc::Global;
 use std::collections::BTreeMap;
@@ -106,7 +106,7 @@ fn text_in(member: Option<Value>) -> Option<String>
 fn number_in(member: Option<Value>) -> Option<Number>
     ensures { option_map number_view result ≡ option_and_then as_number (option_map view member) }
 {
-    member.and_then(|value| number_of(&value))
+    member?.as_number().copied()
 }
 
 /// Moves the members of an outcome out of the object, or returns `None` if it has another one. Its id

@@ -1,4 +1,4 @@
-ghost use Rattle.std.specs.Prelude.{◌≡◌, ◌++◌, ◌∷◌, ◌↔◌, ◌<◌, ℕ, List, length, slice_get, Some, [], false, not, map, option_map, string_bytes, bytes_eq, IsTrue, IfSome, IfNone, OnSome, MatchOption, IfOk, IfErr, OnOk, OnErr, All};
+ghost use Rattle.std.specs.Prelude.{◌≡◌, ◌++◌, ◌∷◌, ◌<◌, ℕ, List, length, slice_get, Some, [], false, not, map, option_map, string_bytes, bytes_eq, IfSome, MatchOption, IfOk, IfErr, OnOk, OnErr, All};
 ghost use Rattle.std.specs.List.{AllZip, IsDistinct, list_any};
 ghost use Rattle.std.specs.Map.{keys_of};
 ghost use Rattle.std.proofs.Props.{props};
@@ -17,6 +17,7 @@ use crate::member::Object;
 use crate::recorded::outcome::{Outcome, RawOutcome, raw_outcome_of};
 use crate::recorded::outcome_fault::{OutcomeFault, OutcomeRule};
 use crate::recorded::seen::SeenIds;
+use crate::status::is_status;
 use crate::whole::has_whole_body;
 use serde_json::{Number, Value};
 use std::alloc::Global;
@@ -42,12 +43,8 @@ fn status_of(status: Number) -> Option<u16>
     ensures { MatchOption result (¬ IsStatus (number_view status))
         (λ code. IsStatus (number_view status) × (number_view status ≡ unsigned code)) }
 {
-    let code = status.as_u64()?;
-    if (200..=599).contains(&code) {
-        Some(code as u16)
-    } else {
-        None
-    }
+    let code = u16::try_from(status.as_u64()?).ok()?;
+    is_status(code).then_some(code)
 }
 
 /// Returns the status of the outcome, or the first of the rules F61 to F63 that it breaks.
@@ -74,7 +71,7 @@ fn status_in(seen: &mut SeenIds, raw: &RawOutcome) -> Result<u16, Broken<Outcome
     let Some(status) = status_of(raw.status) else {
         return Err(Broken::Rule(OutcomeRule::BadStatus));
     };
-    if !has_whole_body(&raw.body) {
+    if !has_whole_body(raw.body.as_ref()) {
         return Err(Broken::Rule(OutcomeRule::NotWhole));
     }
     Ok(status)

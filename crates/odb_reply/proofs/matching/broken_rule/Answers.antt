@@ -4,7 +4,7 @@ use Rattle.std.proofs.lemmas.Option.{get_or_from_slice_get}
 use Rattle.odb_doc.specs.batch.Records.{Record, record_of}
 use Rattle.odb_check.specs.Plans.{plan_records, shape}
 use Rattle.odb_check.specs.Positions.{group_at}
-use Rattle.odb_sched.specs.Statuses.{is_success}
+use Rattle.odb_doc.specs.Statuses.{is_success}
 use Rattle.odb_reply.specs.ResponseDocuments.{entries, entry_of}
 use Rattle.odb_reply.specs.Fits.{places, statuses}
 use Rattle.odb_reply.proofs.RuleLemmas.{place_within, first_differs, not_differs, first_unsound, not_success, not_failed, none_last}

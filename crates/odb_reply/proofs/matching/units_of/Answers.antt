@@ -2,7 +2,7 @@ use Rattle.std.proofs.Common.{◌≡◌, ◌∙◌, ℕ, true, false, length, ge
 use Rattle.std.proofs.lemmas.Option.{get_or_from_slice_get}
 use Rattle.odb_check.specs.Plans.{plan_records}
 use Rattle.odb_check.specs.Units.{unit_count}
-use Rattle.odb_sched.specs.Statuses.{is_success}
+use Rattle.odb_doc.specs.Statuses.{is_success}
 use Rattle.odb_reply.specs.Places.{AreUnits}
 use Rattle.odb_reply.specs.Fits.{statuses}
 use Rattle.odb_reply.proofs.UnitLemmas.{AreUnits-none, AreUnits-succeeded, AreUnits-failed}

@@ -1,4 +1,4 @@
-use Rattle.std.proofs.Common.{◌≡◌, ◌∙◌, ℕ, Some, None, length, replicate, option_map, ap, sym, subst, arith}
+use Rattle.std.proofs.Common.{◌≡◌, ◌∙◌, ℕ, Some, None, length, replicate, option_map, ap, sym, subst, arith, rules}
 use Rattle.odb_check.specs.Plans.{plan_records}
 use Rattle.odb_reply.specs.Fits.{id_in}
 use Rattle.odb_reply.specs.Places.{Places, AreNoted, IsNoted, IsMisplaced}
@@ -11,7 +11,7 @@ use Rattle.odb_reply.proofs.places.places_of.Goals as goal
 pub loop-at-init : goal.loop-at-init
 loop-at-init c =
     let rs = plan_records c.args.plan.now in
-    let none : c.in_ok-places.places.items ≡ replicate (length rs) None = c.in_ok-places.ensures ∙ ap (λ n. replicate n None) c.len.ensures.count in
+    let none : c.in_ok-places.places.items ≡ replicate (length rs) None = c.in_ok-places.ensures.items_if_clones_equal (λ y same. search rules) ∙ ap (λ n. replicate n None) c.len.ensures.count in
     rw none (AreNoted-none rs (entries c.args.responses.now))
 
 pub loop-at-preserved : goal.loop-at-preserved

@@ -1,7 +1,7 @@
-use Rattle.std.proofs.Common.{◌≡◌, ◌∙◌, ◌<◌, ◌≤◌, length, get_or, map, ap, sym, arith}
+use Rattle.std.proofs.Common.{◌≡◌, ◌∙◌, ◌<◌, ◌≤◌, length, get_or, map, ap, sym, subst, arith}
 use Rattle.std.proofs.lemmas.List.{length-map, map-append, get_or-map}
 use Rattle.serde_json.specs.View.{view}
-use Rattle.odb_reply.specs.ResponseDocuments.{entry_of}
+use Rattle.odb_reply.specs.ResponseDocuments.{IsFirstBad, entry_of}
 use Rattle.odb_reply.proofs.DocumentLemmas.{AreReadUpTo-none, AreReadUpTo-more, AreReadUpTo-good, AreReadUpTo-says, IsFirstBad-from}
 use Rattle.odb_reply.proofs.responses.responses_from.Goals as goal
 
@@ -20,13 +20,13 @@ loop-at-preserved c =
     )
 
 pub returns-in-Err-clause-first : goal.returns-in-Err-clause-first
-returns-in-Err-clause-first c =
+returns-in-Err-clause-first c = λ d array same.
     let vs = c.args.elements.now in
     let at = c.loop-at.at in
     let v = c.index-elements-at.result in
     let within : at < length (map view vs) = omega (arith, length-map vs view) in
     let is : get_or (map view vs) at (view v) ≡ view v = get_or-map view vs at v (view v) c.loop-at-test.true ∙ ap view (sym c.index-elements-at.is) in
-    IsFirstBad-from (map view vs) (map entry_of c.loop-at.list.items) at (view v) within is c.loop-at.invariant c.in-Err.ensures.rule
+    (array, subst (λ ds. IsFirstBad ds at) (sym same) (IsFirstBad-from (map view vs) (map entry_of c.loop-at.list.items) at (view v) within is c.loop-at.invariant c.in-Err.ensures.rule))
 
 pub returns-clause-good : goal.returns-clause-good
 returns-clause-good c =

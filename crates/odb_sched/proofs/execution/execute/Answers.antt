@@ -1,10 +1,11 @@
 -- An execution is what its steps make of the run.
-use Rattle.std.proofs.Common.{◌∙◌, sym, subst}
+use Rattle.std.proofs.Common.{◌∙◌, inr, sym, subst}
 use Rattle.odb_sched.specs.State.{at_first}
 use Rattle.odb_check.specs.Plans.{plan_records}
 use Rattle.odb_sched.specs.Calls.{IsExecution}
 use Rattle.odb_sched.specs.Choices.{Behind}
 use Rattle.odb_sched.proofs.CourseLemmas.{finished-within, finished-requests, finished-offered}
+use Rattle.odb_sched.proofs.OwnedLemmas.{same_error}
 use Rattle.odb_sched.proofs.PickLemmas.{unasked, cut-unasked}
 use Rattle.odb_sched.proofs.execution.execute.Goals as goal
 
@@ -44,3 +45,6 @@ returns-in_err-take_all-clause-unasked g c = λ named.
     ((goal.Chooser-dyn g c.args.chooser.now).allows c.args.chooser.now.1) (g.S.Service.offers c.args.service.now) g.S.Service.performs (plan_records c.args.plan.now)
     (at_first c.args.plan.now c.args.policy) c.args.service.now c.take_all.new.service
     c.args.chooser.now (c.args.chooser.now.0, c.take_all.new.chooser) c.in_err-take_all.field-0.0 named c.in_err-take_all.ensures.cut_short
+
+pub returns-in_err-take_all-clause-broken_off : goal.returns-in_err-take_all-clause-broken_off
+returns-in_err-take_all-clause-broken_off g c = same_error c.from_residual-in_err-take_all.result _ c.in_err-take_all.field-0.0 c.from_residual-in_err-take_all.ensures.1 (inr c.in_err-take_all.ensures.cut_short)

@@ -1,27 +1,25 @@
 use Rattle.std.proofs.Common.{arith, length}
 use Rattle.odb_check.specs.declared.fault.NameRule.TheVariants.{GroupSplit}
 use Rattle.odb_check.specs.Plans.{plan_records, batch_shape}
-use Rattle.odb_check.specs.Units.{HasMembers}
-use Rattle.odb_check.proofs.PlanLemmas.{span_of}
-use Rattle.odb_check.proofs.UnitLemmas.{has_members, in_order, unit_at_begin}
+use Rattle.odb_check.proofs.PlanLemmas.{has_span}
+use Rattle.odb_check.proofs.UnitLemmas.{in_order, unit_at_begin}
 use Rattle.odb_check.proofs.plan.Plan.members.Goals as goal
 
 pub returns-then-u-count : goal.returns-then-u-count
 unfolding batch_shape
 returns-then-u-count c =
     let rs = plan_records c.args.self.now in
-    let start = c.start_of-start.result in
     let end = c.start_of-end.result in
-    let members : HasMembers rs c.args.u start end = has_members rs (c.args.self.now.good GroupSplit) c.args.u start end c.start_of-start.ensures (omega (arith, c.start_of-end.ensures.within)) c.start_of-end.ensures.number
-    (λ i h more. omega (arith, in_order rs (c.args.self.now.good GroupSplit) end i more, unit_at_begin rs end c.start_of-end.ensures.begins, c.start_of-end.ensures.number)) in
-    record { members = members; span = span_of rs c.args.u start end members }
+    record {
+      span = has_span rs (c.args.self.now.good GroupSplit) c.args.u c.start_of-start.result end c.start_of-start.ensures (omega (arith, c.start_of-end.ensures.within)) c.start_of-end.ensures.number
+          (λ i h more. omega (arith, in_order rs (c.args.self.now.good GroupSplit) end i more, unit_at_begin rs end c.start_of-end.ensures.begins, c.start_of-end.ensures.number));
+    }
 
 pub returns-else-u-count : goal.returns-else-u-count
 unfolding batch_shape
 returns-else-u-count c =
     let rs = plan_records c.args.self.now in
-    let start = c.start_of-start.result in
-    let end = c.len-end.result in
-    let members : HasMembers rs c.args.u start end = rw c.len-end.ensures.count (has_members rs (c.args.self.now.good GroupSplit) c.args.u start (length rs) c.start_of-start.ensures (omega arith)
-    (omega (arith, c.requires, c.unit_count-count.ensures.count, c.if-u-count.false)) (λ i h more. absurd (omega arith))) in
-    record { members = members; span = span_of rs c.args.u start end members }
+    record {
+      span = rw c.len-end.ensures.count (has_span rs (c.args.self.now.good GroupSplit) c.args.u c.start_of-start.result (length rs) c.start_of-start.ensures (omega arith)
+          (omega (arith, c.requires, c.unit_count-count.ensures.count, c.if-u-count.false)) (λ i h more. absurd (omega arith)));
+    }

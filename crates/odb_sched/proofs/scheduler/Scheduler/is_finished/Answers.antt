@@ -1,16 +1,11 @@
--- No position may start and none runs exactly when the run is finished.
-use Rattle.std.proofs.Common.{◌↔◌, ◌∙◌, ap, sym, subst, ℕ, ◌<◌, ◌≡◌, false, IsTrue}
+use Rattle.std.proofs.Common.{◌↔◌, ◌≡◌, ◌<◌, ℕ, false, subst, IsTrue}
 use Rattle.odb_sched.specs.Phases.{is_running}
 use Rattle.odb_sched.specs.State.{size, phase_at}
 use Rattle.odb_sched.specs.Steps.{is_finished, may_start}
-use Rattle.odb_sched.specs.Reached.{IsReached}
-use Rattle.odb_sched.proofs.KeptLemmas.{finished_idle}
-use Rattle.odb_sched.proofs.CountedLemmas.{finished_is}
 use Rattle.odb_sched.proofs.scheduler.Scheduler.is_finished.Goals as goal
 
 pub returns-clause-value : goal.returns-clause-value
-returns-clause-value c = c.is_finished.ensures ∙ finished_is _ _ c.self.invariant.reached c.self.invariant.tracker ∙ ap is_finished c.self.view_is
+returns-clause-value c = subst (λ state. c.is_finished.result ≡ is_finished state) c.self.view_is c.is_finished.ensures.value
 
 pub returns-clause-idle : goal.returns-clause-idle
-returns-clause-idle c = subst (λ answer. IsTrue answer ↔ ((i : ℕ) → i < size c.args.self.now → (may_start c.args.self.now i ≡ false) × (is_running (phase_at c.args.self.now i) ≡ false)))
-    (sym (returns-clause-value c)) (finished_idle c.args.self.now (subst IsReached c.self.view_is c.self.invariant.reached))
+returns-clause-idle c = subst (λ state. IsTrue c.is_finished.result ↔ ((i : ℕ) → i < size state → (may_start state i ≡ false) × (is_running (phase_at state i) ≡ false))) c.self.view_is c.is_finished.ensures.idle

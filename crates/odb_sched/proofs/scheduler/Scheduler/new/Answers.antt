@@ -1,21 +1,10 @@
--- Before any event the state is reached, and as many requests are run as the plan has.
-use Rattle.std.proofs.Common.{◌≡◌, ◌∙◌, ap, sym, subst, length, replicate}
-use Rattle.odb_sched.specs.declared.phase.Phase.TheVariants.{Unstarted}
-use Rattle.odb_sched.specs.State.{shape}
-use Rattle.odb_sched.specs.Plans.{state_of}
-use Rattle.odb_sched.specs.Reached.{IsReached}
-use Rattle.odb_sched.specs.Kept.{IsTracked}
-use Rattle.odb_sched.proofs.PlanLemmas.{length-shape}
-use Rattle.odb_sched.proofs.ReachedLemmas.{reached_first}
+use Rattle.std.proofs.Common.{ap}
+use Rattle.odb_check.specs.Plans.{plan_records}
+use Rattle.odb_sched.specs.State.{State, with_requests}
 use Rattle.odb_sched.proofs.scheduler.Scheduler.new.Goals as goal
 
 pub invariant_of-result : goal.invariant_of-result
-invariant_of-result c =
-    let phases : c.in_ok-all_unstarted.field-0.items ≡ replicate (length (shape c.args.plan.now).units) Unstarted = c.in_ok-all_unstarted.ensures ∙ ap (λ n. replicate n Unstarted) c.len.ensures.size in
-    record {
-      reached = subst (λ ps. IsReached (state_of c.args.plan.now c.args.policy ps)) (sym phases) (reached_first c.args.plan.now c.args.policy c.every_plan.ensures.order);
-      tracker = subst (λ ps. IsTracked (state_of c.args.plan.now c.args.policy ps) c.in_ok-new.field-0) (sym phases) c.in_ok-new.ensures;
-    }
+invariant_of-result c = ap (λ (s : State). s.shape) c.in_ok-run.ensures.state
 
-pub returns-clause-size : goal.returns-clause-size
-returns-clause-size c = length-shape c.args.plan.now
+pub returns-clause-state : goal.returns-clause-state
+returns-clause-state c = ap (with_requests (plan_records c.args.plan.now)) c.in_ok-run.ensures.state

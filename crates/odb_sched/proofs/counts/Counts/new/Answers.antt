@@ -1,0 +1,13 @@
+use Rattle.std.proofs.Common.{◌∙◌, ap, sym, length, replicate}
+use Rattle.odb_sched.specs.declared.phase.Phase.TheVariants.{Unstarted}
+use Rattle.odb_sched.proofs.StopLemmas.{stopped_first}
+use Rattle.odb_sched.proofs.counts.Counts.new.Goals as goal
+
+pub returns-clause-phases : goal.returns-clause-phases
+returns-clause-phases c = c.in_ok-all_unstarted.ensures ∙ ap (λ n. replicate n Unstarted) c.len.ensures.size
+
+pub returns-clause-counts : goal.returns-clause-counts
+returns-clause-counts c = record {
+  counts = c.in_ok-new.ensures;
+  stopped = sym (stopped_first c.args.policy.mode (length c.args.graph.now.shape.units));
+}

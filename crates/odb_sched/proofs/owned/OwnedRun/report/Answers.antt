@@ -1,0 +1,29 @@
+-- A report that is not refused may come, and the counts follow.
+use Rattle.std.proofs.Common.{◌≡◌, ◌<◌, sym, subst, true, IfSome}
+use Rattle.std.proofs.lemmas.Bool.{and_parts}
+use Rattle.odb_sched.specs.Statuses.{is_status}
+use Rattle.odb_sched.specs.Phases.{is_running}
+use Rattle.odb_sched.specs.State.{size, phase_at}
+use Rattle.odb_sched.specs.Steps.{may_report}
+use Rattle.odb_sched.specs.Plans.{state_of}
+use Rattle.odb_sched.specs.Kept.{kept_state}
+use Rattle.odb_sched.specs.Reached.{IsReached}
+use Rattle.odb_sched.specs.Causes.{IsReportCause}
+use Rattle.odb_sched.proofs.ReachedLemmas.{reached_reported}
+use Rattle.odb_sched.proofs.owned.OwnedRun.report.Goals as goal
+
+pub report-requires-clause-running : goal.report-requires-clause-running
+report-requires-clause-running c =
+    (and_parts (is_running (phase_at (kept_state c.self.inside) c.args.i)) (is_status c.args.outcome.status)
+    (subst (λ state. may_report state c.args.i c.args.outcome ≡ true) (sym c.self.view_is) (c.report_refusal.ensures.none c.in_default.is))).0
+
+pub invariant_of-self : goal.invariant_of-self
+invariant_of-self c = record {
+  reached = subst (λ phases. IsReached (state_of c.self.inside.graph.shape c.self.inside.policy phases)) (sym c.report.ensures.phases)
+      (reached_reported _ c.args.i c.args.outcome c.self.invariant.reached (subst (λ state. c.args.i < size state) (sym c.self.view_is) c.requires)
+      (subst (λ state. may_report state c.args.i c.args.outcome ≡ true) (sym c.self.view_is) (c.report_refusal.ensures.none c.in_default.is)));
+  counts = c.report.ensures.counts;
+}
+
+pub returns-in-Some-clause-cause : goal.returns-in-Some-clause-cause
+returns-in-Some-clause-cause c = subst (λ found. IfSome found (IsReportCause c.args.self.now c.args.i c.args.outcome)) c.in-Some.is c.report_refusal.ensures.cause

@@ -1,0 +1,23 @@
+use Rattle.std.proofs.Common.{◌≡◌, ◌≤◌, ◌∙◌, ap, subst, arith, length}
+use Rattle.odb_dense.specs.Lists.{ListsOnce}
+use Rattle.odb_sched.specs.Phases.{is_running}
+use Rattle.odb_sched.specs.Kept.{kept_state}
+use Rattle.odb_sched.specs.State.{State, size, phase_at}
+use Rattle.odb_sched.specs.Steps.{running_count}
+use Rattle.odb_sched.proofs.ChoiceLemmas.{listed_within}
+use Rattle.odb_sched.proofs.CountedLemmas.{running_is, running_listed}
+use Rattle.odb_sched.proofs.owned.OwnedRun.running.Goals as goal
+
+pub returns-clause-listed : goal.returns-clause-listed
+returns-clause-listed c = subst (λ state. ListsOnce (size state) (λ i. is_running (phase_at state i)) c.running.result.now) c.self.view_is
+    (running_listed _ c.self.inside.counts c.running.result.now c.self.invariant.reached c.self.invariant.counts c.running.ensures.listed)
+
+pub returns-clause-within : goal.returns-clause-within
+returns-clause-within c = listed_within (size c.args.self.now) (λ i. is_running (phase_at c.args.self.now i)) c.running.result.now (returns-clause-listed c)
+
+pub returns-clause-width : goal.returns-clause-width
+returns-clause-width c =
+    let most : running_count (kept_state c.self.inside) ≤ c.self.inside.policy.width = c.self.invariant.reached.narrow in
+    let counted : length c.running.result.now ≡ running_count (kept_state c.self.inside) = c.running.ensures.count ∙ running_is (kept_state c.self.inside) c.self.inside.counts c.self.invariant.counts in
+    let width : c.self.inside.policy.width ≡ c.args.self.now.policy.width = ap (λ (state : State). state.policy.width) c.self.view_is in
+    omega arith

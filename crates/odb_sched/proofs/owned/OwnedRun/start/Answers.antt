@@ -1,0 +1,39 @@
+-- A start that is not refused may come, and the counts follow.
+use Rattle.std.proofs.Common.{◌≡◌, sym, subst, true, length, refl, ◌<◌, ◌≤◌, arith, IfSome}
+use Rattle.std.proofs.lemmas.Bool.{both_ways, false≢true}
+use Rattle.odb_sched.specs.State.{State, size}
+use Rattle.odb_sched.specs.Steps.{may_start}
+use Rattle.odb_sched.specs.Plans.{state_of}
+use Rattle.odb_sched.specs.Kept.{kept_state}
+use Rattle.odb_sched.specs.Reached.{IsReached}
+use Rattle.odb_sched.proofs.StartLemmas.{may_start-parts}
+use Rattle.odb_sched.proofs.CauseLemmas.{not_held_back, start_barred}
+use Rattle.odb_sched.specs.Causes.{IsStartCause}
+use Rattle.odb_sched.proofs.ReachedLemmas.{reached_started}
+use Rattle.odb_sched.proofs.owned.OwnedRun.start.Goals as goal
+
+pub returns-in-Some-clause-allowed : goal.returns-in-Some-clause-allowed
+returns-in-Some-clause-allowed c = ((λ e. absurd (false≢true e)), (λ may. absurd (both_ways _ (start_barred c.args.self.now c.args.i c.in-Some.cause (subst (λ found. IfSome found (IsStartCause c.args.self.now c.args.i)) c.in-Some.is c.start_refusal.ensures.cause)) may)))
+
+pub start-requires-clause-unstarted : goal.start-requires-clause-unstarted
+start-requires-clause-unstarted c = (may_start-parts (kept_state c.self.inside) c.args.i (subst (λ state. may_start state c.args.i ≡ true) (sym c.self.view_is) (c.start_refusal.ensures.none c.in_default.is))).fresh
+
+pub invariant_of-self : goal.invariant_of-self
+invariant_of-self c = record {
+  reached = subst (λ phases. IsReached (state_of c.self.inside.graph.shape c.self.inside.policy phases)) (sym c.start.ensures.phases)
+      (reached_started _ c.args.i c.self.invariant.reached (subst (λ state. c.args.i < size state) (sym c.self.view_is) c.requires)
+      (subst (λ state. may_start state c.args.i ≡ true) (sym c.self.view_is) (c.start_refusal.ensures.none c.in_default.is)));
+  counts = c.start.ensures.counts;
+}
+
+pub returns-clause-allowed : goal.returns-clause-allowed
+returns-clause-allowed c = ((λ _. c.start_refusal.ensures.none c.in_default.is), (λ _. refl))
+
+pub returns-in-Some-clause-free : goal.returns-in-Some-clause-free
+returns-in-Some-clause-free c wide is =
+    let each : length c.args.self.now.phases ≡ size c.args.self.now = subst (λ (s : State). length s.phases ≡ size s) c.self.view_is c.self.invariant.reached.each in
+    let few : size c.args.self.now ≤ 10000 = subst (λ (s : State). size s ≤ 10000) c.self.view_is c.self.invariant.reached.laws.few in
+    not_held_back c.args.self.now c.args.i each c.requires (omega (arith, few, wide)) (subst (IsStartCause c.args.self.now c.args.i) is (subst (λ found. IfSome found (IsStartCause c.args.self.now c.args.i)) c.in-Some.is c.start_refusal.ensures.cause))
+
+pub returns-in-Some-clause-cause : goal.returns-in-Some-clause-cause
+returns-in-Some-clause-cause c = subst (λ found. IfSome found (IsStartCause c.args.self.now c.args.i)) c.in-Some.is c.start_refusal.ensures.cause

@@ -1,7 +1,0 @@
-use Rattle.odb_sched.specs.State.{shape}
-use Rattle.odb_sched.proofs.SkippedLemmas.{AreSkipped}
-use Rattle.odb_sched.proofs.propagating.skip_members.Given as goal
-
--- the members so far are not ready
-abbrev pub invariant-loop-i : goal.invariant-loop-i
-invariant-loop-i l = AreSkipped (shape l.plan) l.phases l.u l.i l.initial.progress l.progress

@@ -1,0 +1,15 @@
+use Rattle.std.proofs.Common.{◌≡◌, ◌⊎◌, ℕ, ◌<◌, ◌≤◌, true, slice_index_or}
+use Rattle.odb_dense.specs.declared.worklist.Mark.TheVariants.{Unvisited}
+use Rattle.odb_dense.specs.Marks.{is_marked}
+use Rattle.odb_sched.specs.Propagation.{HaveMarked, NeedsUnit}
+use Rattle.odb_sched.proofs.DependentLemmas.{IsMarkedRow}
+use Rattle.odb_sched.proofs.report.mark_dependents.Given as goal
+
+-- the dependents of the members so far are marked
+abbrev pub invariant-loop-r : goal.invariant-loop-r
+invariant-loop-r l = record {
+  marks : HaveMarked l.initial.progress.units l.progress.units;
+  marked : (r : ℕ) → l.initial.r ≤ r → r < l.r → IsMarkedRow l.graph.shape l.graph.dependents l.progress.units r;
+  only : (v : ℕ) → is_marked (slice_index_or l.progress.units v Unvisited) ≡ true → (is_marked (slice_index_or l.initial.progress.units v Unvisited) ≡ true) ⊎ NeedsUnit l.graph.shape v l.u;
+  rest : l.progress ≡ record l.initial.progress { units = l.progress.units };
+}

@@ -1,0 +1,15 @@
+-- Each member is skipped in its turn.
+use Rattle.std.proofs.Common.{refl}
+use Rattle.odb_sched.proofs.SkippedLemmas.{ready_same, skipped_first, skipped_more, member_here}
+use Rattle.odb_sched.proofs.report.skip_members.Goals as goal
+
+pub loop-i-init : goal.loop-i-init
+loop-i-init c = record {
+  ready = ready_same c.args.graph.now.shape _ _ c.args.phases.now c.args.progress.now.unmet.items c.args.progress.now.ready (λ i within. skipped_first c.args.graph.now.shape c.args.progress.now.units c.args.u _ _ i c.members-members.ensures.span within) c.requires.ready;
+  rest = refl;
+}
+
+pub loop-i-preserved : goal.loop-i-preserved
+loop-i-preserved c =
+    let here = member_here c.args.graph.now.shape c.args.u _ _ c.loop-i.i c.members-members.ensures.span c.loop-i.auto.i c.loop-i-test.true in
+    skipped_more c.args.graph.now.shape c.args.phases.now c.args.u c.loop-i.i c.args.progress.now c.loop-i.progress c.remove.new.self here.0 here.1 c.requires.visited c.loop-i.invariant c.remove.ensures

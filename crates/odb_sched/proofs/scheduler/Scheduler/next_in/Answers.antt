@@ -1,0 +1,21 @@
+use Rattle.std.proofs.Common.{◌≡◌, ◌∙◌, ap, subst, true, IfSome}
+use Rattle.odb_check.specs.Plans.{plan_records}
+use Rattle.odb_sched.specs.Advances.{IsNext}
+use Rattle.odb_sched.specs.Choosing.{AllowsOrder}
+use Rattle.odb_sched.specs.State.{State, with_requests}
+use Rattle.odb_sched.specs.Steps.{is_finished}
+use Rattle.odb_sched.proofs.OwnedLemmas.{if_some, next_with}
+use Rattle.odb_sched.proofs.scheduler.Scheduler.next_in.Goals as goal
+
+pub invariant_of-self : goal.invariant_of-self
+invariant_of-self c = ap (λ (s : State). s.shape) c.next_in.ensures.same ∙ c.self.invariant
+
+pub returns-clause-same : goal.returns-clause-same
+returns-clause-same c = ap (with_requests (plan_records c.self.inside.plan.now)) c.next_in.ensures.same ∙ c.self.view_is
+
+pub returns-clause-finished : goal.returns-clause-finished
+returns-clause-finished c none = subst (λ state. is_finished state ≡ true) c.self.view_is (c.next_in.ensures.finished none)
+
+pub returns-clause-next : goal.returns-clause-next
+returns-clause-next c = subst (λ state. IfSome c.next_in.result (IsNext (AllowsOrder c.args.order) state)) c.self.view_is
+    (if_some c.next_in.result (next_with (AllowsOrder c.args.order) (plan_records c.self.inside.plan.now) c.self.inside.run) c.next_in.ensures.next)

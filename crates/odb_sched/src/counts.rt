@@ -1,0 +1,275 @@
+ghost use Rattle.std.specs.Prelude.{◌≡◌, ◌<◌, ◌&&◌, ◌||◌, ◌==◌, ℕ, true, false, not, nat_lt, length, find, replicate, slice_index_or, slice_set, count_by, IfOk, IfSome, IsSome, None, All};
+ghost use Rattle.odb_check.specs.Shape as shapes;
+ghost use Rattle.odb_dense.specs.declared.worklist.Mark.TheVariants.{Unvisited};
+ghost use Rattle.odb_dense.specs.Lists.{ListsOnce};
+ghost use Rattle.odb_dense.specs.Marks.{is_visited};
+ghost use Rattle.odb_sched.specs.declared.phase.Phase.TheVariants.{Unstarted, Running};
+ghost use Rattle.odb_sched.specs.Ends.{IsEndOf};
+ghost use Rattle.odb_sched.specs.FirstCounts as first;
+ghost use Rattle.odb_sched.specs.Phases as tests;
+ghost use Rattle.odb_sched.specs.Plans.{IsNeed, state_of, first_of};
+ghost use Rattle.odb_sched.specs.ProgressCounts as counting;
+ghost use Rattle.odb_sched.specs.Steps.{satisfied_in};
+
+use crate::graph::Graph;
+use crate::order::End;
+use crate::phase::Phase;
+use crate::policy::Policy;
+use odb_check::Need;
+use odb_dense::{OrderedPositions, Worklist};
+use std::alloc::{AllocError, Global};
+
+/// What is counted of a run beside the phases of its requests, which are read while it changes.
+#[derive(Drop)]
+pub(crate) struct Progress {
+    /// Of each request, how many of its needs are not satisfied.
+    pub(crate) unmet: Vec<usize>,
+    /// For each unit the number of its members that have not succeeded.
+    pub(crate) pending: Vec<u32>,
+    /// The units that have failed.
+    pub(crate) units: Worklist,
+    /// The ready requests, without regard to the stop and the width.
+    pub(crate) ready: OrderedPositions,
+    /// The running requests.
+    pub(crate) running: OrderedPositions,
+}
+
+/// Returns for each request the number of its dependencies.
+fn need_counts(alloc: Global, graph: &Graph) -> Result<Vec<usize>, AllocError>
+    ensures { IfOk result (λ counts. counts.items ≡ first.need_counts graph.now.shape) }
+{
+    let mut counts = Vec::with_capacity(alloc, graph.len() as usize)?;
+    for i in 0..graph.len() {
+        counts.push(graph.needs(i).len())?;
+    }
+    Ok(counts)
+}
+
+/// Returns for each unit the number of its members.
+fn member_counts(alloc: Global, graph: &Graph) -> Result<Vec<u32>, AllocError>
+    ensures counts { IfOk result (λ counts. counts.items ≡ first.member_counts graph.now.shape) }
+    ensures some { IfOk result (λ counts. All (λ count. 0 < count) counts.items) }
+{
+    let mut counts = Vec::with_capacity(alloc, graph.unit_count() as usize)?;
+    for u in 0..graph.unit_count() {
+        let members = graph.members(u);
+        counts.push(members.end - members.start)?;
+    }
+    Ok(counts)
+}
+
+/// Returns the requests without dependencies.
+fn without_needs(alloc: Global, graph: &Graph) -> Result<OrderedPositions, AllocError>
+    ensures each { IfOk result (λ free. length free ≡ length graph.now.shape.units) }
+    ensures exact { IfOk result (λ free. (i : ℕ) → i < length graph.now.shape.units
+        → slice_index_or free i false ≡ (first.needs_in graph.now.shape i == 0)) }
+{
+    let mut free = OrderedPositions::new(alloc, graph.len())?;
+    for i in 0..graph.len() {
+        if graph.needs(i).is_empty() {
+            free.insert(i);
+        }
+    }
+    Ok(free)
+}
+
+impl Progress {
+    /// Returns the counts before the first event of a run: no dependency is satisfied, and no
+    /// request is running or has failed.
+    ///
+    /// # Errors
+    ///
+    /// If memory for the requests and the units cannot be allocated.
+    pub(crate) fn new(alloc: Global, graph: &Graph) -> Result<Progress, AllocError>
+        ensures { IfOk result (counting.AreCounts graph.now.shape
+            (replicate (length graph.now.shape.units) Unstarted)) }
+    {
+        graph.laws();
+        Ok(Progress {
+            unmet: need_counts(alloc, graph)?,
+            pending: member_counts(alloc, graph)?,
+            units: Worklist::new(alloc, graph.unit_count())?,
+            ready: without_needs(alloc, graph)?,
+            running: OrderedPositions::new(alloc, graph.len())?,
+        })
+    }
+}
+
+/// Returns the phases of so many requests that have not started.
+fn all_unstarted(alloc: Global, count: u32) -> Result<Vec<Phase>, AllocError>
+    ensures { IfOk result (λ phases. phases.items ≡ replicate count Unstarted) }
+{
+    let mut phases = Vec::with_capacity(alloc, count as usize)?;
+    for _ in 0..count {
+        phases.push(Phase::Unstarted)?;
+    }
+    Ok(phases)
+}
+
+/// Moves a request that has started from the ready requests to the running ones. `phases[i]` is
+/// `Running` already.
+fn begin(graph: &Graph, phases: &[Phase], i: u32, progress: &mut Progress)
+    requires each { length phases.now ≡ length graph.now.shape.units }
+    requires request { i < length graph.now.shape.units }
+    requires runs { tests.is_running (slice_index_or phases.now i Unstarted) ≡ true }
+    requires counts { counting.AreCounts graph.now.shape (slice_set phases.now i Unstarted) progress.old }
+    ensures { counting.AreCounts graph.now.shape phases.now progress.new }
+{
+    progress.ready.remove(i);
+    progress.running.insert(i);
+}
+
+/// Returns whether a dependency is satisfied. `pending` has for each unit the number of its members
+/// that have not succeeded.
+fn is_satisfied(graph: &Graph, phases: &[Phase], pending: &[u32], need: Need) -> bool
+    requires each { length phases.now ≡ length graph.now.shape.units }
+    requires members { length pending.now ≡ graph.now.shape.unit_count }
+    requires pending { counting.ArePending graph.now.shape phases.now pending.now }
+    requires known { IsNeed graph.now.shape need }
+    ensures { result ≡ satisfied_in graph.now.shape phases.now need }
+{
+    match need {
+        Need::One(r) => phases[r as usize].has_succeeded(),
+        Need::Group(u) => pending[u as usize] == 0,
+    }
+}
+
+/// Returns the first dependency of a request that is not satisfied. `pending` has for each unit the
+/// number of its members that have not succeeded.
+pub(crate) fn first_unmet(graph: &Graph, phases: &[Phase], pending: &[u32], i: u32) -> Option<Need>
+    requires each { length phases.now ≡ length graph.now.shape.units }
+    requires members { length pending.now ≡ graph.now.shape.unit_count }
+    requires pending { counting.ArePending graph.now.shape phases.now pending.now }
+    requires request { i < length graph.now.shape.units }
+    ensures { result
+        ≡ find (λ need. not (satisfied_in graph.now.shape phases.now need))
+        (shapes.needs_of graph.now.shape i) }
+{
+    let needs = graph.needs(i);
+    for need in needs {
+        if !is_satisfied(graph, phases, pending, *need) {
+            return Some(*need);
+        }
+    }
+    None
+}
+
+/// How far a run has come: the phases of its requests, what is counted beside them, and whether an
+/// error has stopped it.
+#[derive(Drop)]
+pub(crate) struct Counts {
+    pub(crate) phases: Vec<Phase>,
+    pub(crate) progress: Progress,
+    pub(crate) stopped: bool,
+}
+
+impl Counts {
+    ghost use Rattle.odb_sched.specs.Kept.{IsCounted};
+
+    /// Returns the counts before the first event.
+    pub(crate) fn new(alloc: Global, graph: &Graph, policy: Policy) -> Result<Counts, AllocError>
+        ensures phases { IfOk result (λ counts. counts.phases.items
+            ≡ replicate (length graph.now.shape.units) Unstarted) }
+        ensures counts { IfOk result (IsCounted (first_of graph.now.shape policy)) }
+    {
+        Ok(Counts {
+            phases: all_unstarted(alloc, graph.len())?,
+            progress: Progress::new(alloc, graph)?,
+            stopped: false,
+        })
+    }
+
+    /// Writes the phase of a request.
+    pub(crate) fn put(&mut self, i: u32, phase: Phase)
+        requires { i < length self.old.phases.items }
+        ensures phases { self.new.phases.items ≡ slice_set self.old.phases.items i phase }
+        ensures rest { self.new ≡ record self.old { phases = self.new.phases } }
+    {
+        self.phases[i as usize] = phase;
+    }
+
+    /// Starts a request.
+    pub(crate) fn start(&mut self, graph: &Graph, policy: Policy, i: u32)
+        requires each { length self.old.phases.items ≡ length graph.now.shape.units }
+        requires request { i < length graph.now.shape.units }
+        requires unstarted { tests.is_unstarted (slice_index_or self.old.phases.items i Unstarted) ≡ true }
+        requires counts { IsCounted (state_of graph.now.shape policy self.old.phases.items) self.old }
+        ensures phases { self.new.phases.items ≡ slice_set self.old.phases.items i Running }
+        ensures counts { IsCounted (state_of graph.now.shape policy self.new.phases.items) self.new }
+    {
+        self.put(i, Phase::Running);
+        begin(graph, &self.phases, i, &mut self.progress);
+    }
+
+    /// Returns whether a unit has failed.
+    pub(crate) fn has_failed(&self, u: u32) -> bool
+        requires { u < length self.now.progress.units }
+        ensures { result ≡ is_visited (slice_index_or self.now.progress.units u Unvisited) }
+    {
+        self.progress.units.is_visited(u)
+    }
+
+    /// Returns whether nothing may start now: the run is stopped, or as many requests are running
+    /// as the width allows.
+    fn is_closed(&self, policy: Policy) -> bool
+        ensures { result ≡ (self.now.stopped
+            || not (nat_lt (count_by (λ runs. runs) self.now.progress.running) policy.width)) }
+    {
+        self.stopped || self.progress.running.len() >= policy.width as usize
+    }
+
+    /// Returns whether no request is running and none may start any more.
+    pub(crate) fn is_finished(&self) -> bool
+        ensures { result ≡ ((count_by (λ runs. runs) self.now.progress.running == 0)
+            && (self.now.stopped || (count_by (λ ready. ready) self.now.progress.ready == 0))) }
+    {
+        self.progress.running.is_empty() && (self.stopped || self.progress.ready.is_empty())
+    }
+
+    /// Returns the ready positions.
+    pub(crate) fn ready(&self, policy: Policy) -> &[u32]
+        ensures { ListsOnce (length self.now.progress.ready)
+            (λ i. slice_index_or self.now.progress.ready i false && not self.now.stopped
+            && nat_lt (count_by (λ runs. runs) self.now.progress.running) policy.width) result.now }
+    {
+        if self.is_closed(policy) {
+            return &[];
+        }
+        self.progress.ready.as_slice()
+    }
+
+    /// Returns the least or the greatest ready position, or `None` if there is none.
+    pub(crate) fn ready_at(&mut self, policy: Policy, end: End) -> Option<u32>
+        ensures same { self.new ≡ self.old }
+        ensures none { result ≡ None → (i : ℕ)
+            → (slice_index_or self.old.progress.ready i false && not self.old.stopped
+            && nat_lt (count_by (λ runs. runs) self.old.progress.running) policy.width) ≡ false }
+        ensures some { IfSome result (IsEndOf end self.old.progress.ready) }
+        ensures allowed { IsSome result → (self.old.stopped ≡ false)
+            × (nat_lt (count_by (λ runs. runs) self.old.progress.running) policy.width ≡ true) }
+    {
+        if self.is_closed(policy) {
+            return None;
+        }
+        end.of(&mut self.progress.ready)
+    }
+
+    /// Returns the least or the greatest running position, or `None` if there is none.
+    pub(crate) fn running_at(&mut self, end: End) -> Option<u32>
+        ensures same { self.new ≡ self.old }
+        ensures none { result ≡ None
+            → (i : ℕ) → slice_index_or self.old.progress.running i false ≡ false }
+        ensures some { IfSome result (IsEndOf end self.old.progress.running) }
+    {
+        end.of(&mut self.progress.running)
+    }
+
+    /// Returns the running positions.
+    pub(crate) fn running(&self) -> &[u32]
+        ensures count { length result.now ≡ count_by (λ runs. runs) self.now.progress.running }
+        ensures listed { ListsOnce (length self.now.progress.running)
+            (λ i. slice_index_or self.now.progress.running i false) result.now }
+    {
+        self.progress.running.as_slice()
+    }
+}

@@ -1,0 +1,312 @@
+ghost use Rattle.std.specs.Prelude.{◌≡◌, ◌≢◌, ◌<◌, ◌≤◌, ◌↔◌, ℕ, [], true, false, None, All, length, slice_set, replicate, IsTrue, IsOk, IfOk, IfErr, IfSome, OnOk, OnErr};
+ghost use Rattle.odb_check.specs.Plans.{plan_records};
+ghost use Rattle.odb_check.specs.Shape.{unit_of};
+ghost use Rattle.odb_dense.specs.Lists.{ListsOnce};
+ghost use Rattle.odb_sched.specs.declared.phase.Phase.TheVariants.{Unstarted};
+ghost use Rattle.odb_sched.specs.declared.refusal.StartRefusal.TheVariants.{WidthReached};
+ghost use Rattle.odb_sched.specs.Advances.{IsNext};
+ghost use Rattle.odb_sched.specs.Causes.{IsStartCause, IsReportCause};
+ghost use Rattle.odb_sched.specs.Choosing.{IsNone, AllowsOrder};
+ghost use Rattle.odb_sched.specs.Courses as courses;
+ghost use Rattle.odb_sched.specs.Ends.{IsAt, ReportsFirst, StartsFirst};
+ghost use Rattle.odb_sched.specs.Phases as tests;
+ghost use Rattle.odb_sched.specs.Plans.{first_of};
+ghost use Rattle.odb_sched.specs.Reached.{IsReached};
+ghost use Rattle.odb_sched.specs.State as states;
+ghost use Rattle.odb_sched.specs.Steps as steps;
+
+use crate::counts::{Counts, first_unmet};
+use crate::graph::Graph;
+use crate::order::{End, Order};
+use crate::phase::{Phase, is_status};
+use crate::policy::Policy;
+use crate::refusal::{ReportRefusal, StartRefusal};
+use crate::step::Step;
+use odb_check::Plan;
+use odb_doc::Outcome;
+use std::alloc::{AllocError, Global};
+use std::marker::Model;
+
+/// A run of a plan that borrows nothing: the numbers of the plan, and how far the run has come, with
+/// the outcomes that were reported (OData Protocol 4.01, section 11.7).
+///
+/// It knows its requests by their positions alone. So it outlives the document and the plan that it
+/// was made for, and [`crate::Scheduler::of`] puts it to a plan again. Its calls cost what those of a
+/// scheduler do.
+#[derive(Drop)]
+pub struct OwnedRun {
+    graph: Graph,
+    policy: Policy,
+    counts: Counts,
+}
+
+impl Model for OwnedRun {
+    ghost use Rattle.odb_doc.specs.DataCodes.{data_code, method_code};
+    ghost use Rattle.odb_sched.specs.State.{State};
+
+    ghost Value = { State };
+
+    ghost use Rattle.odb_sched.specs.contracts.phase.Phase as phase;
+    ghost use Rattle.odb_sched.specs.contracts.policy.Policy as policies;
+    ghost use Rattle.std.specs.Coded.{codes};
+
+    ghost coded = { Prim.hlevel (codes, data_code, method_code, policies.the_row.coded, phase.the_row.coded) };
+
+    ghost use Rattle.odb_sched.specs.Kept.{kept_state, IsKept};
+
+    ghost view = { kept_state };
+
+    ghost invariant = { IsKept };
+}
+
+impl OwnedRun {
+    /// Returns a run before its first event. It allocates all that the run needs: later calls
+    /// allocate nothing, and outcomes are moved in, not copied.
+    ///
+    /// # Errors
+    ///
+    /// If memory for the requests, the units and the dependencies cannot be allocated.
+    pub fn new(alloc: Global, plan: &Plan<'_>, policy: Policy) -> Result<OwnedRun, AllocError>
+        ensures state { IfOk result (λ run. run
+            ≡ states.without_requests (states.at_first plan.now policy)) }
+        ensures size { IfOk result (λ run. states.size run ≡ length (plan_records plan.now)) }
+    {
+        OwnedRun::of_graph(alloc, Graph::new(alloc, plan)?, policy)
+    }
+
+    /// Returns a run of these numbers before its first event.
+    fn of_graph(alloc: Global, graph: Graph, policy: Policy) -> Result<OwnedRun, AllocError>
+        ensures { IfOk result (λ run. run ≡ first_of graph.shape policy) }
+    {
+        graph.laws();
+        let counts = Counts::new(alloc, &graph, policy)?;
+        Ok(OwnedRun {
+            graph,
+            policy,
+            counts,
+        })
+    }
+
+    /// Returns the number of requests: 10,000 at most.
+    pub fn len(&self) -> u32
+        ensures size { result ≡ states.size self.now }
+        ensures small { result ≤ 10000 }
+    {
+        self.graph.len()
+    }
+
+    /// Returns whether the numbers of the run are those of a plan.
+    pub(crate) fn is_of(&self, plan: &Plan<'_>) -> bool
+        ensures { IsTrue result ↔ (self.now.shape ≡ states.shape plan.now) }
+    {
+        self.graph.is_of(plan)
+    }
+
+    /// Returns the first cause why a request may not start.
+    fn start_refusal(&self, i: u32) -> Option<StartRefusal>
+        requires { i < states.size self.now }
+        ensures cause { IfSome result (IsStartCause self.now i) }
+        ensures none { result ≡ None → steps.may_start self.now i ≡ true }
+    {
+        if !self.counts.phases[i as usize].is_unstarted() {
+            return Some(StartRefusal::AlreadyStarted);
+        }
+        if self.counts.stopped {
+            return Some(StartRefusal::Stopped);
+        }
+        if self.counts.has_failed(self.graph.unit_of(i)) {
+            return Some(StartRefusal::UnitFailed);
+        }
+        if let Some(need) = first_unmet(
+            &self.graph,
+            &self.counts.phases,
+            &self.counts.progress.pending,
+            i,
+        ) {
+            return Some(StartRefusal::Waiting(need));
+        }
+        if self.counts.running().len() >= self.policy.width as usize {
+            return Some(StartRefusal::WidthReached);
+        }
+        None
+    }
+
+    /// Starts request `i`, counted from 0.
+    ///
+    /// # Errors
+    ///
+    /// The first of the causes S1 to S5 that applies; the run is unchanged.
+    pub fn start(&mut self, i: u32) -> Result<(), StartRefusal>
+        requires { i < states.size self.old }
+        ensures ok { OnOk result (self.new ≡ states.started self.old i) }
+        ensures allowed { IsOk result ↔ IsTrue (steps.may_start self.old i) }
+        ensures cause { IfErr result (IsStartCause self.old i) }
+        ensures err { OnErr result (self.new ≡ self.old) }
+        ensures free { 10000 ≤ self.old.policy.width
+            → IfErr result (λ cause. cause ≢ WidthReached) }
+    {
+        if let Some(cause) = self.start_refusal(i) {
+            return Err(cause);
+        }
+        self.counts.start(&self.graph, self.policy, i);
+        Ok(())
+    }
+
+    /// Returns the first cause why an outcome is not accepted.
+    fn report_refusal(&self, i: u32, outcome: &Outcome) -> Option<ReportRefusal>
+        requires { i < states.size self.now }
+        ensures cause { IfSome result (IsReportCause self.now i outcome.now) }
+        ensures none { result ≡ None → steps.may_report self.now i outcome.now ≡ true }
+    {
+        if !self.counts.phases[i as usize].is_running() {
+            return Some(ReportRefusal::NotRunning);
+        }
+        if !is_status(outcome.status) {
+            return Some(ReportRefusal::BadStatus);
+        }
+        None
+    }
+
+    /// Takes the outcome of a running request.
+    ///
+    /// # Errors
+    ///
+    /// The first of P1 and P2 that applies, with the outcome; the run is unchanged.
+    pub fn report(&mut self, i: u32, outcome: Outcome) -> Result<(), (ReportRefusal, Outcome)>
+        requires { i < states.size self.old }
+        ensures ok { OnOk result (self.new ≡ states.reported self.old i outcome) }
+        ensures allowed { IsOk result ↔ IsTrue (steps.may_report self.old i outcome) }
+        ensures cause { IfErr result (λ e. IsReportCause self.old i outcome e.0) }
+        ensures back { IfErr result (λ e. e.1 ≡ outcome) }
+        ensures err { OnErr result (self.new ≡ self.old) }
+    {
+        if let Some(cause) = self.report_refusal(i, &outcome) {
+            return Err((cause, outcome));
+        }
+        self.counts.report(&self.graph, self.policy, i, outcome);
+        Ok(())
+    }
+
+    /// Returns the ready positions, each once, in no particular order.
+    pub fn ready(&self) -> &[u32]
+        ensures listed { ListsOnce (states.size self.now) (steps.may_start self.now) result.now }
+        ensures within { All (λ i. i < states.size self.now) result.now }
+    {
+        self.counts.ready(self.policy)
+    }
+
+    /// Returns the running positions, each once, in no particular order.
+    pub fn running(&self) -> &[u32]
+        ensures listed { ListsOnce (states.size self.now)
+            (λ i. tests.is_running (states.phase_at self.now i)) result.now }
+        ensures within { All (λ i. i < states.size self.now) result.now }
+        ensures width { length result.now ≤ self.now.policy.width }
+    {
+        self.counts.running()
+    }
+
+    /// Returns the least or the greatest ready position, or `None` if there is none.
+    fn ready_at(&mut self, end: End) -> Option<u32>
+        ensures same { self.new ≡ self.old }
+        ensures none { result ≡ None → IsNone (courses.ready_set self.old) }
+        ensures finished { result ≡ None → IsNone (courses.running_set self.old)
+            → steps.is_finished self.old ≡ true }
+        ensures some { IfSome result (λ i. (i < states.size self.old)
+            × (steps.may_start self.old i ≡ true) × IsAt end (courses.ready_set self.old) i) }
+    {
+        self.counts.ready_at(self.policy, end)
+    }
+
+    /// Returns the least or the greatest running position, or `None` if there is none.
+    fn running_at(&mut self, end: End) -> Option<u32>
+        ensures same { self.new ≡ self.old }
+        ensures none { result ≡ None → IsNone (courses.running_set self.old) }
+        ensures finished { result ≡ None → IsNone (courses.ready_set self.old)
+            → steps.is_finished self.old ≡ true }
+        ensures some { IfSome result (λ i. (i < states.size self.old)
+            × (tests.is_running (states.phase_at self.old i) ≡ true)
+            × IsAt end (courses.running_set self.old) i) }
+    {
+        self.counts.running_at(end)
+    }
+
+    /// Returns the report of the least or the greatest running position, or else the start of that
+    /// ready one.
+    fn report_or_start(&mut self, end: End) -> Option<Step>
+        ensures same { self.new ≡ self.old }
+        ensures finished { result ≡ None → steps.is_finished self.old ≡ true }
+        ensures next { IfSome result (IsNext (ReportsFirst end) self.old) }
+    {
+        if let Some(i) = self.running_at(end) {
+            return Some(Step::Report(i));
+        }
+        match self.ready_at(end) {
+            Some(i) => Some(Step::Start(i)),
+            None => None,
+        }
+    }
+
+    /// Returns the start of the least or the greatest ready position, or else the report of that
+    /// running one.
+    fn start_or_report(&mut self, end: End) -> Option<Step>
+        ensures same { self.new ≡ self.old }
+        ensures finished { result ≡ None → steps.is_finished self.old ≡ true }
+        ensures next { IfSome result (IsNext (StartsFirst end) self.old) }
+    {
+        if let Some(i) = self.ready_at(end) {
+            return Some(Step::Start(i));
+        }
+        match self.running_at(end) {
+            Some(i) => Some(Step::Report(i)),
+            None => None,
+        }
+    }
+
+    /// Returns the next step in an order, or `None` if the run is finished.
+    pub(crate) fn next_in(&mut self, order: Order) -> Option<Step>
+        ensures same { self.new ≡ self.old }
+        ensures finished { result ≡ None → steps.is_finished self.old ≡ true }
+        ensures next { IfSome result (IsNext (AllowsOrder order) self.old) }
+    {
+        match order {
+            Order::First => self.report_or_start(End::Least),
+            Order::Last => self.report_or_start(End::Greatest),
+            Order::Wide => self.start_or_report(End::Least),
+        }
+    }
+
+    /// Returns whether no event may come any more: no request is running, and the run is stopped or
+    /// each request was reported or will never start.
+    pub fn is_finished(&self) -> bool
+        ensures value { result ≡ steps.is_finished self.now }
+        ensures idle { IsTrue result ↔ ((i : ℕ) → i < states.size self.now
+            → (steps.may_start self.now i ≡ false)
+            × (tests.is_running (states.phase_at self.now i) ≡ false)) }
+    {
+        self.counts.is_finished()
+    }
+
+    /// Returns what has happened to a request.
+    pub(crate) fn phase(&self, i: u32) -> &Phase
+        requires { i < states.size self.now }
+        ensures { result.now ≡ states.phase_at self.now i }
+    {
+        &self.counts.phases[i as usize]
+    }
+
+    /// Returns whether all members of the request's unit have succeeded.
+    pub(crate) fn unit_succeeded(&self, i: u32) -> bool
+        requires { i < states.size self.now }
+        ensures { result ≡ steps.unit_succeeded self.now (unit_of self.now.shape i) }
+    {
+        self.counts.progress.pending[self.graph.unit_of(i) as usize] == 0
+    }
+
+    /// What holds of every state that a run comes to. It changes nothing.
+    pub(crate) fn reached(&self)
+        ensures reached { IsReached self.now }
+        ensures bare { self.now.requests ≡ [] }
+    {
+        let _ = &self.policy;
+    }
+}

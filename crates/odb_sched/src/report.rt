@@ -1,0 +1,247 @@
+ghost use Rattle.std.specs.Prelude.{◌≡◌, ◌<◌, ◌≤◌, ◌+◌, ◌-◌, ◌==◌, ◌&&◌, ◌||◌, ◌⊎◌, ℕ, true, not, length, slice_index_or, slice_set, count_by, All};
+ghost use Rattle.odb_check.specs.Shape as shapes;
+ghost use Rattle.odb_dense.specs.declared.worklist.Mark.TheVariants.{Unvisited};
+ghost use Rattle.odb_dense.specs.Marks.{is_marked, is_visited};
+ghost use Rattle.odb_sched.specs.declared.phase.Phase.TheVariants.{Unstarted, Running, Reported};
+ghost use Rattle.odb_sched.specs.Phases as tests;
+ghost use Rattle.odb_sched.specs.Plans.{state_of};
+ghost use Rattle.odb_sched.specs.ProgressCounts as counting;
+ghost use Rattle.odb_sched.specs.Propagation as propagation;
+ghost use Rattle.odb_sched.specs.Steps.{stops};
+
+use crate::counts::{Counts, Progress};
+use crate::graph::Graph;
+use crate::phase::Phase;
+use crate::policy::{Mode, Policy};
+use odb_doc::Outcome;
+
+/// Counts one need of a request as satisfied. The last one makes the request ready, unless it has
+/// started or its unit has failed.
+fn satisfy(graph: &Graph, phases: &[Phase], i: u32, progress: &mut Progress)
+    requires each { length phases.now ≡ length graph.now.shape.units }
+    requires request { i < length graph.now.shape.units }
+    requires units { length progress.old.units ≡ graph.now.shape.unit_count }
+    requires some { 0 < slice_index_or progress.old.unmet.items i 0 }
+    requires ready { counting.AreReady graph.now.shape (counting.is_skipped graph.now.shape progress.old.units)
+        phases.now progress.old.unmet.items progress.old.ready }
+    ensures ready { counting.AreReady graph.now.shape (counting.is_skipped graph.now.shape progress.old.units)
+        phases.now progress.new.unmet.items progress.new.ready }
+    ensures unmet { progress.new.unmet.items
+        ≡ slice_set progress.old.unmet.items i (slice_index_or progress.old.unmet.items i 0 - 1) }
+    ensures rest { progress.new ≡ record progress.old { unmet = progress.new.unmet; ready = progress.new.ready } }
+{
+    let at = i as usize;
+    progress.unmet[at] -= 1;
+    if progress.unmet[at] == 0
+        && phases[at].is_unstarted()
+        && !progress.units.is_visited(graph.unit_of(i))
+    {
+        progress.ready.insert(i);
+    }
+}
+
+/// Counts one need of the request of each entry of a list as satisfied.
+fn satisfy_each(graph: &Graph, phases: &[Phase], list: &[u32], progress: &mut Progress)
+    requires each { length phases.now ≡ length graph.now.shape.units }
+    requires units { length progress.old.units ≡ graph.now.shape.unit_count }
+    requires within { All (λ i. i < length graph.now.shape.units) list.now }
+    requires enough { (i : ℕ) → i < length graph.now.shape.units
+        → count_by (λ j. j == i) list.now ≤ slice_index_or progress.old.unmet.items i 0 }
+    requires ready { counting.AreReady graph.now.shape (counting.is_skipped graph.now.shape progress.old.units)
+        phases.now progress.old.unmet.items progress.old.ready }
+    ensures ready { counting.AreReady graph.now.shape (counting.is_skipped graph.now.shape progress.old.units)
+        phases.now progress.new.unmet.items progress.new.ready }
+    ensures fallen { (i : ℕ) → i < length graph.now.shape.units
+        → slice_index_or progress.new.unmet.items i 0 + count_by (λ j. j == i) list.now
+        ≡ slice_index_or progress.old.unmet.items i 0 }
+    ensures rest { progress.new ≡ record progress.old { unmet = progress.new.unmet; ready = progress.new.ready } }
+{
+    for i in list {
+        satisfy(graph, phases, *i, progress);
+    }
+}
+
+/// Counts the needs of a unit as satisfied, if all its members have succeeded.
+fn satisfy_unit(graph: &Graph, phases: &[Phase], u: u32, progress: &mut Progress)
+    requires each { length phases.now ≡ length graph.now.shape.units }
+    requires unit { u < graph.now.shape.unit_count }
+    requires units { length progress.old.units ≡ graph.now.shape.unit_count }
+    requires members { length progress.old.pending.items ≡ graph.now.shape.unit_count }
+    requires pending { slice_index_or progress.old.pending.items u 0
+        ≡ counting.pending_in graph.now.shape phases.now u }
+    requires enough { (i : ℕ) → i < length graph.now.shape.units
+        → counting.satisfied_by_unit graph.now.shape phases.now u i
+        ≤ slice_index_or progress.old.unmet.items i 0 }
+    requires ready { counting.AreReady graph.now.shape (counting.is_skipped graph.now.shape progress.old.units)
+        phases.now progress.old.unmet.items progress.old.ready }
+    ensures ready { counting.AreReady graph.now.shape (counting.is_skipped graph.now.shape progress.old.units)
+        phases.now progress.new.unmet.items progress.new.ready }
+    ensures fallen { (i : ℕ) → i < length graph.now.shape.units
+        → slice_index_or progress.new.unmet.items i 0
+        + counting.satisfied_by_unit graph.now.shape phases.now u i
+        ≡ slice_index_or progress.old.unmet.items i 0 }
+    ensures rest { progress.new ≡ record progress.old { unmet = progress.new.unmet; ready = progress.new.ready } }
+{
+    graph.laws();
+    if progress.pending[u as usize] == 0 {
+        satisfy_each(graph, phases, graph.of_unit(u), progress);
+    }
+}
+
+/// Counts a member of a unit as succeeded.
+fn count_success(u: u32, progress: &mut Progress)
+    requires unit { u < length progress.old.pending.items }
+    requires some { 0 < slice_index_or progress.old.pending.items u 0 }
+    ensures pending { progress.new.pending.items
+        ≡ slice_set progress.old.pending.items u (slice_index_or progress.old.pending.items u 0 - 1) }
+    ensures rest { progress.new ≡ record progress.old { pending = progress.new.pending } }
+{
+    progress.pending[u as usize] -= 1;
+}
+
+/// Handles a request that has succeeded: satisfies the needs of it, and those of its unit if it was
+/// the last of the members. `phases[i]` already holds the outcome.
+fn succeed(graph: &Graph, phases: &[Phase], i: u32, progress: &mut Progress)
+    requires each { length phases.now ≡ length graph.now.shape.units }
+    requires request { i < length graph.now.shape.units }
+    requires succeeded { tests.has_succeeded (slice_index_or phases.now i Unstarted) ≡ true }
+    requires counts { counting.AreCounts graph.now.shape (slice_set phases.now i Running) progress.old }
+    ensures { counting.AreCounts graph.now.shape phases.now progress.new }
+{
+    graph.laws();
+    progress.running.remove(i);
+    let unit = graph.unit_of(i);
+    count_success(unit, progress);
+    satisfy_each(graph, phases, graph.of_request(i), progress);
+    satisfy_unit(graph, phases, unit, progress);
+}
+
+/// Removes the members of a unit that has failed from the ready requests.
+fn skip_members(graph: &Graph, phases: &[Phase], u: u32, progress: &mut Progress)
+    requires unit { u < graph.now.shape.unit_count }
+    requires visited { is_visited (slice_index_or progress.old.units u Unvisited) ≡ true }
+    requires ready { counting.AreReady graph.now.shape
+        (λ i. counting.is_skipped graph.now.shape progress.old.units i && not (shapes.unit_of graph.now.shape i == u))
+        phases.now progress.old.unmet.items progress.old.ready }
+    ensures ready { counting.AreReady graph.now.shape (counting.is_skipped graph.now.shape progress.old.units)
+        phases.now progress.new.unmet.items progress.new.ready }
+    ensures rest { progress.new ≡ record progress.old { ready = progress.new.ready } }
+{
+    let members = graph.members(u);
+    for i in members.start..members.end {
+        progress.ready.remove(i);
+    }
+}
+
+/// Marks the unit of each request of the list as failed.
+fn mark_units(graph: &Graph, list: &[u32], progress: &mut Progress)
+    requires units { length progress.old.units ≡ graph.now.shape.unit_count }
+    requires within { All (λ i. i < length graph.now.shape.units) list.now }
+    ensures marks { propagation.HaveMarked progress.old.units progress.new.units }
+    ensures marked { (k : ℕ) → k < length list.now
+        → is_marked (slice_index_or progress.new.units
+        (shapes.unit_of graph.now.shape (slice_index_or list.now k 0)) Unvisited) ≡ true }
+    ensures only { (v : ℕ) → is_marked (slice_index_or progress.new.units v Unvisited) ≡ true
+        → (is_marked (slice_index_or progress.old.units v Unvisited) ≡ true)
+        ⊎ ((k : ℕ) × (k < length list.now)
+        × (shapes.unit_of graph.now.shape (slice_index_or list.now k 0) ≡ v)) }
+    ensures rest { progress.new ≡ record progress.old { units = progress.new.units } }
+{
+    for i in list {
+        progress.units.put(graph.unit_of(*i));
+    }
+}
+
+/// Puts each unit that depends on a unit on the worklist.
+fn mark_dependents(graph: &Graph, u: u32, progress: &mut Progress)
+    requires units { length progress.old.units ≡ graph.now.shape.unit_count }
+    requires unit { u < graph.now.shape.unit_count }
+    ensures marks { propagation.HaveMarked progress.old.units progress.new.units }
+    ensures marked { (w : ℕ) → propagation.NeedsUnit graph.now.shape w u
+        → is_marked (slice_index_or progress.new.units w Unvisited) ≡ true }
+    ensures only { (v : ℕ) → is_marked (slice_index_or progress.new.units v Unvisited) ≡ true
+        → (is_marked (slice_index_or progress.old.units v Unvisited) ≡ true)
+        ⊎ propagation.NeedsUnit graph.now.shape v u }
+    ensures rest { progress.new ≡ record progress.old { units = progress.new.units } }
+{
+    graph.laws();
+    let members = graph.members(u);
+    for r in members.start..members.end {
+        mark_units(graph, graph.of_request(r), progress);
+    }
+    mark_units(graph, graph.of_unit(u), progress);
+}
+
+/// Takes units from the worklist, and puts those that depend on them on it, until it is empty.
+fn propagate(graph: &Graph, phases: &[Phase], progress: &mut Progress)
+    requires each { length phases.now ≡ length graph.now.shape.units }
+    requires propagating { propagation.ArePropagating graph.now.shape phases.now progress.old.units }
+    requires ready { counting.AreReady graph.now.shape (counting.is_skipped graph.now.shape progress.old.units)
+        phases.now progress.old.unmet.items progress.old.ready }
+    ensures propagated { counting.ArePropagated graph.now.shape phases.now progress.new.units }
+    ensures ready { counting.AreReady graph.now.shape (counting.is_skipped graph.now.shape progress.new.units)
+        phases.now progress.new.unmet.items progress.new.ready }
+    ensures rest { progress.new
+        ≡ record progress.old { units = progress.new.units; ready = progress.new.ready } }
+{
+    graph.laws();
+    while let Some(u) = progress.units.take() {
+        skip_members(graph, phases, u, progress);
+        mark_dependents(graph, u, progress);
+    }
+}
+
+/// Handles a failed request: marks its unit as failed, and propagates the failure to every unit that
+/// depends on it, directly or not. `phases[i]` already holds the outcome.
+fn fail(graph: &Graph, phases: &[Phase], i: u32, progress: &mut Progress)
+    requires each { length phases.now ≡ length graph.now.shape.units }
+    requires request { i < length graph.now.shape.units }
+    requires failed { tests.has_failed (slice_index_or phases.now i Unstarted) ≡ true }
+    requires counts { counting.AreCounts graph.now.shape (slice_set phases.now i Running) progress.old }
+    ensures { counting.AreCounts graph.now.shape phases.now progress.new }
+{
+    graph.laws();
+    progress.running.remove(i);
+    progress.units.put(graph.unit_of(i));
+    propagate(graph, phases, progress);
+}
+
+/// Returns whether the run was stopped before, or this report stops it.
+fn is_stopped(stopped: bool, policy: Policy, phase: &Phase) -> bool
+    ensures { result ≡ (stopped || (stops policy.mode && tests.has_erred phase.now)) }
+{
+    stopped || (policy.mode == Mode::Stop && phase.has_erred())
+}
+
+/// Handles the report of a request. `phases[i]` already holds the outcome.
+fn take_report(graph: &Graph, phases: &[Phase], i: u32, progress: &mut Progress)
+    requires each { length phases.now ≡ length graph.now.shape.units }
+    requires request { i < length graph.now.shape.units }
+    requires reported { tests.is_reported (slice_index_or phases.now i Unstarted) ≡ true }
+    requires counts { counting.AreCounts graph.now.shape (slice_set phases.now i Running) progress.old }
+    ensures { counting.AreCounts graph.now.shape phases.now progress.new }
+{
+    if phases[i as usize].has_succeeded() {
+        succeed(graph, phases, i, progress);
+    } else {
+        fail(graph, phases, i, progress);
+    }
+}
+
+impl Counts {
+    ghost use Rattle.odb_sched.specs.Kept.{IsCounted};
+
+    /// Takes the outcome of a running request.
+    pub(crate) fn report(&mut self, graph: &Graph, policy: Policy, i: u32, outcome: Outcome)
+        requires each { length self.old.phases.items ≡ length graph.now.shape.units }
+        requires request { i < length graph.now.shape.units }
+        requires running { tests.is_running (slice_index_or self.old.phases.items i Unstarted) ≡ true }
+        requires counts { IsCounted (state_of graph.now.shape policy self.old.phases.items) self.old }
+        ensures phases { self.new.phases.items ≡ slice_set self.old.phases.items i (Reported outcome) }
+        ensures counts { IsCounted (state_of graph.now.shape policy self.new.phases.items) self.new }
+    {
+        self.put(i, Phase::Reported(outcome));
+        take_report(graph, &self.phases, i, &mut self.progress);
+        self.stopped = is_stopped(self.stopped, policy, &self.phases[i as usize]);
+    }
+}
