@@ -2,6 +2,7 @@
 
 use crate::commands::{ORDER, WIDTH, program};
 use clap::{ArgMatches, Error};
+use odb_engine::Form;
 use odb_sched::{MAX_WIDTH, Mode, Order, Policy};
 use std::alloc::{AllocError, Global};
 
@@ -22,6 +23,16 @@ pub struct Replay<'a> {
     pub order: Order,
     pub policy: Policy,
     pub traced: bool,
+    pub form: Form,
+}
+
+/// How a batch is run by events.
+#[derive(Clone, Copy)]
+pub struct Run<'a> {
+    pub file: &'a str,
+    pub events: &'a str,
+    pub policy: Policy,
+    pub form: Form,
 }
 
 /// A shell that completions are for.
@@ -60,14 +71,17 @@ pub enum Task<'a> {
     /// Check the batch in the file, or the one on standard input where none is named.
     Check {
         file: Option<&'a str>,
+        form: Form,
     },
     /// Plan the batch in the file.
     Plan {
         file: &'a str,
+        form: Form,
     },
     /// Print the canonical text of the batch in the file.
     Canon {
         file: &'a str,
+        form: Form,
     },
     /// Replay the batch in a file by the outcomes in another.
     Replay(Replay<'a>),
@@ -75,13 +89,10 @@ pub enum Task<'a> {
     Match {
         file: &'a str,
         responses: &'a str,
+        form: Form,
     },
     /// Run the batch in a file by the events in another.
-    Run {
-        file: &'a str,
-        events: &'a str,
-        policy: Policy,
-    },
+    Run(Run<'a>),
     /// Print a text that depends on no document.
     Print(Text<'a>),
 }
@@ -129,6 +140,15 @@ fn policy_of(words: &ArgMatches<'_>) -> Option<Policy> {
     }
 }
 
+/// Returns the form that a command over documents is asked for.
+fn form_of(words: &ArgMatches<'_>) -> Form {
+    if words.get_flag("json") {
+        Form::Json
+    } else {
+        Form::Lines
+    }
+}
+
 /// Returns the value of an argument that `clap` demands.
 fn value_of<'a>(words: &ArgMatches<'a>, id: &str) -> &'a str {
     words.get_str(id).unwrap_or("")
@@ -142,16 +162,18 @@ fn replay_of<'a>(words: &ArgMatches<'a>) -> Option<Task<'a>> {
         order: order_of(words.get_str(ORDER)),
         policy: policy_of(words)?,
         traced: words.get_flag("trace"),
+        form: form_of(words),
     }))
 }
 
 /// Returns the run that its command asks for, or `None` if the width is not valid.
 fn run_of<'a>(words: &ArgMatches<'a>) -> Option<Task<'a>> {
-    Some(Task::Run {
+    Some(Task::Run(Run {
         file: value_of(words, "FILE"),
         events: value_of(words, "EVENTS"),
         policy: policy_of(words)?,
-    })
+        form: form_of(words),
+    }))
 }
 
 /// Returns the match that its command asks for.
@@ -159,6 +181,7 @@ fn match_of<'a>(words: &ArgMatches<'a>) -> Task<'a> {
     Task::Match {
         file: value_of(words, "FILE"),
         responses: value_of(words, "RESPONSES"),
+        form: form_of(words),
     }
 }
 
@@ -175,9 +198,11 @@ fn task_named<'a>(name: &str, words: &ArgMatches<'a>) -> Option<Task<'a>> {
     match name {
         "plan" => Some(Task::Plan {
             file: value_of(words, "FILE"),
+            form: form_of(words),
         }),
         "canon" => Some(Task::Canon {
             file: value_of(words, "FILE"),
+            form: form_of(words),
         }),
         "replay" => replay_of(words),
         "match" => Some(match_of(words)),
@@ -187,6 +212,7 @@ fn task_named<'a>(name: &str, words: &ArgMatches<'a>) -> Option<Task<'a>> {
         "man" => Some(Task::Print(Text::Manual)),
         _ => Some(Task::Check {
             file: words.get_str("FILE"),
+            form: form_of(words),
         }),
     }
 }
@@ -195,7 +221,10 @@ fn task_named<'a>(name: &str, words: &ArgMatches<'a>) -> Option<Task<'a>> {
 fn task_of<'a>(words: &ArgMatches<'a>) -> Option<Task<'a>> {
     match words.subcommand() {
         Some((name, command)) => task_named(name, command),
-        None => Some(Task::Check { file: None }),
+        None => Some(Task::Check {
+            file: None,
+            form: Form::Lines,
+        }),
     }
 }
 

@@ -12,7 +12,7 @@ pub const ORDERS: [&str; 3] = ["first", "last", "wide"];
 
 pub const SHELLS: [&str; 3] = ["bash", "zsh", "fish"];
 
-pub const VERSION: &str = "0.1.0";
+pub const VERSION: &str = "0.2.0";
 
 const CHECK_HELP: &str = "The batch document; standard input where it is absent";
 
@@ -21,6 +21,10 @@ const ORDER_HELP: &str =
     the next, by position; `wide` starts everything it can [default: first]";
 
 const WIDTH_HELP: &str = "How many requests may run at once, from 1 to 10000 [default: 10000]";
+
+const RESULT_HELP: &str = "Print the result, or the fault, as one line of JSON";
+
+const FAULT_HELP: &str = "Print the fault of a refused document as one line of JSON";
 
 pub const PROGRAM_NOTES: &str =
     "Exit status: 0 for a result, 1 for a fault of a document, 2 for wrong \
@@ -79,11 +83,13 @@ fn with_replay_options<'a>(alloc: Global, replay: Command<'a>) -> Result<Command
             .value_parser(ORDERS.as_slice())
             .help(ORDER_HELP),
     )?;
-    with_policy(alloc, ordered)?.arg(flag(
-        alloc,
-        "trace",
-        "Print the steps, and what has to be undone, before the response",
-    ))
+    with_policy(alloc, ordered)?
+        .arg(flag(
+            alloc,
+            "trace",
+            "Print the steps, and what has to be undone, before the response",
+        ))?
+        .arg(flag(alloc, "json", FAULT_HELP))
 }
 
 /// Adds the options that every run has.
@@ -105,7 +111,7 @@ fn run_command<'a>(alloc: Global) -> Result<Command<'a>, AllocError> {
         .after_help(RUN_NOTES)
         .arg(document(alloc, "FILE", "The batch document"))?
         .arg(document(alloc, "EVENTS", "The document of recorded events"))?;
-    with_policy(alloc, run)
+    with_policy(alloc, run)?.arg(flag(alloc, "json", FAULT_HELP))
 }
 
 /// Returns the argument for a document that has to be named.
@@ -126,7 +132,8 @@ fn check_command<'a>(alloc: Global) -> Result<Command<'a>, AllocError> {
     Command::new(alloc, "check")
         .about("Check a batch: print one line, that it is accepted or its least fault")
         .after_help(CHECK_NOTES)
-        .arg(Arg::new(alloc, "FILE").help(CHECK_HELP))
+        .arg(Arg::new(alloc, "FILE").help(CHECK_HELP))?
+        .arg(flag(alloc, "json", RESULT_HELP))
 }
 
 /// Returns the command that plans.
@@ -136,7 +143,8 @@ fn plan_command<'a>(alloc: Global) -> Result<Command<'a>, AllocError> {
             "Plan a batch: print a line per request, with its level, its group and its dependencies",
         )
         .after_help(PLAN_NOTES)
-        .arg(document(alloc, "FILE", "The batch document"))
+        .arg(document(alloc, "FILE", "The batch document"))?
+        .arg(flag(alloc, "json", RESULT_HELP))
 }
 
 /// Returns the command that prints the canonical text.
@@ -144,7 +152,8 @@ fn canon_command<'a>(alloc: Global) -> Result<Command<'a>, AllocError> {
     Command::new(alloc, "canon")
         .about("Print the canonical text of a batch: equal texts mean equal batches")
         .after_help(CANON_NOTES)
-        .arg(document(alloc, "FILE", "The batch document"))
+        .arg(document(alloc, "FILE", "The batch document"))?
+        .arg(flag(alloc, "json", FAULT_HELP))
 }
 
 /// Returns the command that matches.
@@ -153,7 +162,8 @@ fn match_command<'a>(alloc: Global) -> Result<Command<'a>, AllocError> {
         .about("Match a service's responses against a batch: print the status of each request")
         .after_help(MATCH_NOTES)
         .arg(document(alloc, "FILE", "The batch document"))?
-        .arg(document(alloc, "RESPONSES", "The response document of the service"))
+        .arg(document(alloc, "RESPONSES", "The response document of the service"))?
+        .arg(flag(alloc, "json", RESULT_HELP))
 }
 
 /// Returns the command that explains a fault.

@@ -2,14 +2,13 @@
 ghost use Rattle.std.specs.Prelude.{IfOk};
 ghost use Rattle.odb_engine.specs.Inputs.{IsFresh};
 
-use crate::command_line::Replay;
+use crate::command_line::{Replay, Run};
 use crate::ending::{Status, failed, finish};
 use odb_doc::{Input, Output};
 use odb_engine::{
-    Setup, canon_batch_with, check_batch_with, match_batch_with, plan_batch_with,
-    replay_batch_with, run_batch_with,
+    Form, Options, Setup, canon_batch_as, check_batch_as, match_batch_as, plan_batch_as,
+    replay_batch_as, run_batch_as,
 };
-use odb_sched::Policy;
 use std::rt::Runtime;
 use std::{fs, io};
 
@@ -20,6 +19,16 @@ pub struct Surroundings {
     pub setup: Setup,
     /// Whether standard error is a terminal: then it is also printed why a file cannot be opened.
     pub is_watched: bool,
+}
+
+impl Surroundings {
+    /// Returns what an engine takes that writes in this form.
+    fn options(self, form: Form) -> Options {
+        Options {
+            form,
+            setup: self.setup,
+        }
+    }
 }
 
 /// Prints that the file cannot be opened, and why if a person reads it. Returns the status.
@@ -45,17 +54,23 @@ fn open<R: Runtime>(rt: &R, around: Surroundings, path: &str) -> Result<Input<R:
 }
 
 /// Checks the batch in a file, or on standard input.
-pub fn check<R: Runtime + AllocGlobal>(rt: &R, around: Surroundings, file: Option<&str>) -> Status {
+pub fn check<R: Runtime + AllocGlobal>(
+    rt: &R,
+    around: Surroundings,
+    file: Option<&str>,
+    form: Form,
+) -> Status {
     let mut output = Output::new(io::writer(rt));
+    let options = around.options(form);
     let ended = match file {
-        None => check_batch_with(
+        None => check_batch_as(
             rt.alloc(),
             &mut Input::new(rt.reader()),
             &mut output,
-            around.setup,
+            options,
         ),
         Some(path) => match open(rt, around, path) {
-            Ok(mut input) => check_batch_with(rt.alloc(), &mut input, &mut output, around.setup),
+            Ok(mut input) => check_batch_as(rt.alloc(), &mut input, &mut output, options),
             Err(status) => return status,
         },
     };
@@ -63,24 +78,34 @@ pub fn check<R: Runtime + AllocGlobal>(rt: &R, around: Surroundings, file: Optio
 }
 
 /// Plans the batch in a file.
-pub fn plan<R: Runtime + AllocGlobal>(rt: &R, around: Surroundings, path: &str) -> Status {
+pub fn plan<R: Runtime + AllocGlobal>(
+    rt: &R,
+    around: Surroundings,
+    path: &str,
+    form: Form,
+) -> Status {
     let mut output = Output::new(io::writer(rt));
     match open(rt, around, path) {
         Ok(mut input) => finish(
             rt,
-            plan_batch_with(rt.alloc(), &mut input, &mut output, around.setup),
+            plan_batch_as(rt.alloc(), &mut input, &mut output, around.options(form)),
         ),
         Err(status) => status,
     }
 }
 
 /// Prints the canonical text of the batch in a file.
-pub fn canon<R: Runtime + AllocGlobal>(rt: &R, around: Surroundings, path: &str) -> Status {
+pub fn canon<R: Runtime + AllocGlobal>(
+    rt: &R,
+    around: Surroundings,
+    path: &str,
+    form: Form,
+) -> Status {
     let mut output = Output::new(io::writer(rt));
     match open(rt, around, path) {
         Ok(mut input) => finish(
             rt,
-            canon_batch_with(rt.alloc(), &mut input, &mut output, around.setup),
+            canon_batch_as(rt.alloc(), &mut input, &mut output, around.options(form)),
         ),
         Err(status) => status,
     }
@@ -92,6 +117,7 @@ pub fn fit<R: Runtime + AllocGlobal>(
     around: Surroundings,
     file: &str,
     responses: &str,
+    form: Form,
 ) -> Status {
     let mut batch = match open(rt, around, file) {
         Ok(input) => input,
@@ -102,12 +128,12 @@ pub fn fit<R: Runtime + AllocGlobal>(
         Err(status) => return status,
     };
     let mut output = Output::new(io::writer(rt));
-    let ended = match_batch_with(
+    let ended = match_batch_as(
         rt.alloc(),
         &mut batch,
         &mut responses,
         &mut output,
-        around.setup,
+        around.options(form),
     );
     finish(rt, ended)
 }
@@ -127,7 +153,7 @@ pub fn replay<R: Runtime + AllocGlobal>(
         Err(status) => return status,
     };
     let mut order = replay.order;
-    let ended = replay_batch_with(
+    let ended = replay_batch_as(
         rt.alloc(),
         &mut batch,
         &mut outcomes,
@@ -135,35 +161,29 @@ pub fn replay<R: Runtime + AllocGlobal>(
         replay.policy,
         &mut order,
         replay.traced,
-        around.setup,
+        around.options(replay.form),
     );
     finish(rt, ended)
 }
 
 /// Runs the batch in a file by the events in another.
-pub fn run_events<R: Runtime + AllocGlobal>(
-    rt: &R,
-    around: Surroundings,
-    file: &str,
-    events: &str,
-    policy: Policy,
-) -> Status {
-    let mut batch = match open(rt, around, file) {
+pub fn run_events<R: Runtime + AllocGlobal>(rt: &R, around: Surroundings, run: Run<'_>) -> Status {
+    let mut batch = match open(rt, around, run.file) {
         Ok(input) => input,
         Err(status) => return status,
     };
-    let mut events = match open(rt, around, events) {
+    let mut events = match open(rt, around, run.events) {
         Ok(input) => input,
         Err(status) => return status,
     };
     let mut output = Output::new(io::writer(rt));
-    let ended = run_batch_with(
+    let ended = run_batch_as(
         rt.alloc(),
         &mut batch,
         &mut events,
         &mut output,
-        policy,
-        around.setup,
+        run.policy,
+        around.options(run.form),
     );
     finish(rt, ended)
 }

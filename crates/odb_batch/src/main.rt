@@ -65,16 +65,16 @@ fn print_text<R: Runtime + AllocGlobal>(rt: &R, text: Text<'_>) -> Status {
 /// Performs a task.
 fn perform<R: Runtime + AllocGlobal>(rt: &R, around: Surroundings, task: Task<'_>) -> Status {
     match task {
-        Task::Check { file } => check(rt, around, file),
-        Task::Plan { file } => plan(rt, around, file),
-        Task::Canon { file } => canon(rt, around, file),
+        Task::Check { file, form } => check(rt, around, file, form),
+        Task::Plan { file, form } => plan(rt, around, file, form),
+        Task::Canon { file, form } => canon(rt, around, file, form),
         Task::Replay(task) => replay(rt, around, task),
-        Task::Match { file, responses } => fit(rt, around, file, responses),
-        Task::Run {
+        Task::Match {
             file,
-            events,
-            policy,
-        } => run_events(rt, around, file, events, policy),
+            responses,
+            form,
+        } => fit(rt, around, file, responses, form),
+        Task::Run(task) => run_events(rt, around, task),
         Task::Print(text) => print_text(rt, text),
     }
 }

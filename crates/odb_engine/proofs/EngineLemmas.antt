@@ -25,6 +25,9 @@ use Rattle.odb_doc.specs.Refusals.{Printed}
 use Rattle.odb_engine.specs.Cascade.{Writes, Prints, line_of, Reports, RefusesBytes, IsLeast, Answers}
 use Rattle.odb_engine.specs.Cascade.IsLeast.{OfBytes, OfShape, OfNames}
 use Rattle.odb_engine.specs.Engines.{Ends, WritesPrefix}
+use Rattle.odb_engine.specs.declared.form.Form.{Form}
+use Rattle.odb_engine.specs.declared.form.Form.TheVariants.{Lines, Json}
+use Rattle.odb_engine.specs.Forms.{InForm, fault_text}
 use Rattle.odb_engine.specs.Halts.{Found, Refuses, RefusesNamesOf, Halted, text_found, HaltsBy, halt_of}
 
 -- a result of the search for a text
@@ -126,18 +129,35 @@ Ends-weaker contents P Q F G old new result to read is = record {
 pub printed : (P : Writes) (line : List ℕ) → P Done line → (ended : Ended) (text : List ℕ) → Prints line ended text → P ended text
 printed P line so ended text (ends, same) = subst (λ e. P e text) (sym ends) (subst (P Done) (sym same) so)
 
+-- a result is the same in each form
+pub done_in : (form : Form) (P : Writes) (text : List ℕ) → P Done text → InForm form P Done text
+done_in Lines P text so = so
+done_in Json P text so = inl (refl, so)
+
+-- a fault is written in its form
+pub refused_in : (form : Form) (P : Writes) (refusal : Printed) → P Refused (line_of refusal) → InForm form P Refused (fault_text form refusal)
+refused_in Lines P refusal so = so
+refused_in Json P refusal so = inr (record { refusal = refusal; is = so; ends = refl; prints = refl })
+
+-- what may be written in less cases may be written in a form
+pub InForm-weaker : (form : Form) (P Q : Writes) → ((ended : Ended) (text : List ℕ) → P ended text → Q ended text) → (ended : Ended) (text : List ℕ) → InForm form P ended text → InForm form Q ended text
+InForm-weaker Lines P Q to ended text so = to ended text so
+InForm-weaker Json P Q to ended text (inl (ends, so)) = inl (ends, to Done text so)
+InForm-weaker Json P Q to ended text (inr fault) = inr (record { refusal = fault.refusal; is = to Refused (line_of fault.refusal) fault.is; ends = fault.ends; prints = fault.prints })
+
 -- what is written of what was found is what may be written
-pub answered : (P : Writes) (found : FoundText) → Found P found → (ended : Ended) (text : List ℕ) → text_found found ended text → P ended text
-answered P (Ok found) so ended text prints = printed P (string_bytes found) so ended text prints
-answered P (Err (halts.Refused refusal)) so ended text (ends, line) = subst (λ e. P e text) (sym ends) (subst (P Refused) (sym line) so)
-answered P (Err halts.Read) so ended text none = absurd none
-answered P (Err halts.OutOfMemory) so ended text none = absurd none
+pub answered : (form : Form) (P : Writes) (found : FoundText) → Found P found → (ended : Ended) (text : List ℕ) → text_found form found ended text → InForm form P ended text
+answered form P (Ok found) so ended text prints = printed (InForm form P) (string_bytes found) (done_in form P (string_bytes found) so) ended text prints
+answered form P (Err (halts.Refused refusal)) so ended text (ends, line) =
+    subst (λ e. InForm form P e text) (sym ends) (subst (InForm form P Refused) (sym line) (refused_in form P (refusals.printed refusal) so))
+answered form P (Err halts.Read) so ended text none = absurd none
+answered form P (Err halts.OutOfMemory) so ended text none = absurd none
 
 -- an engine that ends by what was found
-pub Ends-found : {W : Type 0} (contents : W → Option (List ℕ)) (P : Writes) (ReadFailed : Type 0) (old new : Writing W) (found : FoundText) (result : Result Ended EngineFault)
-    → Found P found → ((found ≡ Err halts.Read) ↔ ReadFailed) → Ends contents (text_found found) (found ≡ Err halts.Read) old new result → Ends contents P ReadFailed old new result
-Ends-found contents P ReadFailed old new found result so read is =
-    Ends-weaker contents (text_found found) P _ ReadFailed old new result (answered P found so) read is
+pub Ends-found : {W : Type 0} (contents : W → Option (List ℕ)) (form : Form) (P : Writes) (ReadFailed : Type 0) (old new : Writing W) (found : FoundText) (result : Result Ended EngineFault)
+    → Found P found → ((found ≡ Err halts.Read) ↔ ReadFailed) → Ends contents (text_found form found) (found ≡ Err halts.Read) old new result → Ends contents (InForm form P) ReadFailed old new result
+Ends-found contents form P ReadFailed old new found result so read is =
+    Ends-weaker contents (text_found form found) (InForm form P) _ ReadFailed old new result (answered form P found so) read is
 
 abbrev pub halt_in : {T : Type 0} → Result T Halt → Halt
 halt_in (Ok value) = halts.Read

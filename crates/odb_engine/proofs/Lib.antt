@@ -14,3 +14,6 @@ mod TextLemmas
 mod MatchLemmas
 mod CanonLawLemmas
 mod MatchLawLemmas
+mod LiveLemmas
+mod ResultLemmas
+mod PlanLemmas

@@ -14,8 +14,9 @@ use Rattle.odb_reply.specs.ResponseDocuments.{Entry, IsResponseDocument, Refuses
 use Rattle.odb_reply.specs.ResponseDocuments as documents
 use Rattle.odb_doc.specs.Refusals.{Printed}
 use Rattle.odb_engine.specs.Cascade.{line_of, IsOne}
-use Rattle.odb_engine.specs.Matches.{Matches, MatchesEntries, Misfits, match_text}
+use Rattle.odb_engine.specs.Matches.{MatchesIn, MatchesEntries, Misfits, match_text}
 use Rattle.odb_engine.specs.Commands.{BySecond}
+use Rattle.odb_engine.specs.declared.form.Form.{Form}
 use Rattle.odb_engine.proofs.SecondLemmas.{second_one, some_document_one}
 
 -- the laws of odb_reply on its own relations
@@ -33,18 +34,18 @@ one_misfits : AreOneMatch → (batch : List Record) (entries : List Entry) (s t 
 one_misfits law batch entries s t one two =
     same_Some s t (sym one.is ∙ ap matches.match_row (law.one_misfit batch entries one.fault two.fault (ap is_some one.is) (ap is_some two.is) one.least two.least) ∙ two.is)
 
-entries_one : AreOneMatch → (batch : List Record) (entries : List Entry) → IsOne (MatchesEntries batch entries)
-entries_one law batch entries a b s t (inl x) (inl y) = (x.ends ∙ sym y.ends, x.line ∙ ap line_of (one_misfits law batch entries x.refusal y.refusal x.is y.is) ∙ sym y.line)
-entries_one law batch entries a b s t (inl x) (inr y) = absurd (law.no_misfit batch entries x.is.fault (ap is_some x.is.is) x.is.least y.fits)
-entries_one law batch entries a b s t (inr x) (inl y) = absurd (law.no_misfit batch entries y.is.fault (ap is_some y.is.is) y.is.least x.fits)
-entries_one law batch entries a b s t (inr x) (inr y) =
+entries_one : AreOneMatch → (form : Form) (batch : List Record) (entries : List Entry) → IsOne (MatchesEntries form batch entries)
+entries_one law form batch entries a b s t (inl x) (inl y) = (x.ends ∙ sym y.ends, x.line ∙ ap line_of (one_misfits law batch entries x.refusal y.refusal x.is y.is) ∙ sym y.line)
+entries_one law form batch entries a b s t (inl x) (inr y) = absurd (law.no_misfit batch entries x.is.fault (ap is_some x.is.is) x.is.least y.fits)
+entries_one law form batch entries a b s t (inr x) (inl y) = absurd (law.no_misfit batch entries y.is.fault (ap is_some y.is.is) y.is.least x.fits)
+entries_one law form batch entries a b s t (inr x) (inr y) =
     let same = law.one_table batch entries x.places y.places x.statuses y.statuses x.fits x.table y.table in
-    (x.prints.0 ∙ sym y.prints.0, x.prints.1 ∙ ap (match_text batch) same.1 ∙ sym y.prints.1)
+    (x.prints.0 ∙ sym y.prints.0, x.prints.1 ∙ ap (match_text form batch) same.1 ∙ sym y.prints.1)
 
-pub matches_one : AreOneMatch → (batch : List Record) (bytes : List ℕ) → IsOne (Matches batch bytes)
-matches_one law batch bytes = second_one places.Responses documents.responses_row RefusesResponses IsResponseDocument (λ value. AllZip Says (responses_in value))
-    (record { one_fault = law.one_fault; no_fault = law.no_fault; one_reading = λ value. law.one_list (responses_in value) }) bytes (MatchesEntries batch) (entries_one law batch)
+pub matches_one : AreOneMatch → (form : Form) (batch : List Record) (bytes : List ℕ) → IsOne (MatchesIn form batch bytes)
+matches_one law form batch bytes = second_one places.Responses documents.responses_row RefusesResponses IsResponseDocument (λ value. AllZip Says (responses_in value))
+    (record { one_fault = law.one_fault; no_fault = law.no_fault; one_reading = λ value. law.one_list (responses_in value) }) bytes (MatchesEntries form batch) (entries_one law form batch)
 
 -- also by the reader of a response document
-pub match_one : AreOneMatch → (responses : List ℕ) (batch : List Record) → IsOne (BySecond (Some responses) Matches batch)
-match_one law responses batch = some_document_one responses (Matches batch) (matches_one law batch)
+pub match_one : AreOneMatch → (form : Form) (responses : List ℕ) (batch : List Record) → IsOne (BySecond (Some responses) (MatchesIn form) batch)
+match_one law form responses batch = some_document_one responses (MatchesIn form batch) (matches_one law form batch)

@@ -10,10 +10,11 @@ use Rattle.odb_reply.specs.MatchFaults as matches
 use Rattle.odb_reply.specs.ResponseDocuments.{Entry, RefusesResponses}
 use Rattle.odb_reply.specs.ResponseDocuments as documents
 use Rattle.odb_engine.specs.declared.ending.Ended.TheVariants.{Refused}
+use Rattle.odb_engine.specs.declared.form.Form.{Form}
 use Rattle.odb_engine.specs.declared.halt.Halt.{Halt}
 use Rattle.odb_engine.specs.Cascade.{line_of}
 use Rattle.odb_engine.specs.Halts.{Refuses, HaltsBy}
-use Rattle.odb_engine.specs.Matches.{IsLeastOfResponses, Lists, Matches, Misfits, status_line, status_lines}
+use Rattle.odb_engine.specs.Matches.{IsLeastOfResponses, Lists, MatchesIn, Misfits, status_line, status_lines}
 use Rattle.odb_engine.specs.Cascade.IsLeastOf.{OfValue}
 use Rattle.odb_engine.proofs.EngineLemmas.{reports, halted-by}
 
@@ -56,13 +57,13 @@ lines_left-none rs ss i past = none rs ss i past
 -- ---- the exits of a match
 
 -- the response document has a fault
-pub halt-responses : (batch : List Record) (bytes : List ℕ) (fault : ResponseFault) (value : Data) → IsDocument bytes value → RefusesResponses fault value
-    → (halt : Halt) → HaltsBy (documents.responses_row fault) halt → Refuses (Matches batch bytes) halt
-halt-responses batch bytes fault value is_document least = halted-by (λ refusal. Matches batch bytes Refused (line_of refusal)) _
+pub halt-responses : (form : Form) (batch : List Record) (bytes : List ℕ) (fault : ResponseFault) (value : Data) → IsDocument bytes value → RefusesResponses fault value
+    → (halt : Halt) → HaltsBy (documents.responses_row fault) halt → Refuses (MatchesIn form batch bytes) halt
+halt-responses form batch bytes fault value is_document least = halted-by (λ refusal. MatchesIn form batch bytes Refused (line_of refusal)) _
     (λ refusal row. inl (reports (IsLeastOfResponses bytes) refusal (OfValue fault (record { value = value; document = is_document; holds = least }) row)))
 
 -- the responses do not fit the batch
-pub halt-match : (batch : List Record) (bytes : List ℕ) (entries : List Entry) (fault : MatchFault) → Lists bytes entries → RefusesMatch fault batch entries
-    → (halt : Halt) → HaltsBy (matches.match_row fault) halt → Refuses (Matches batch bytes) halt
-halt-match batch bytes entries fault lists least = halted-by (λ refusal. Matches batch bytes Refused (line_of refusal)) _
+pub halt-match : (form : Form) (batch : List Record) (bytes : List ℕ) (entries : List Entry) (fault : MatchFault) → Lists bytes entries → RefusesMatch fault batch entries
+    → (halt : Halt) → HaltsBy (matches.match_row fault) halt → Refuses (MatchesIn form batch bytes) halt
+halt-match form batch bytes entries fault lists least = halted-by (λ refusal. MatchesIn form batch bytes Refused (line_of refusal)) _
     (λ refusal row. inr (entries, lists, inl (reports (Misfits batch entries) refusal (record { fault = fault; least = least; is = row }))))

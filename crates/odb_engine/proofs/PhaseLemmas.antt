@@ -7,24 +7,28 @@ use Rattle.odb_engine.specs.declared.halt.Halt.{Halt}
 use Rattle.odb_engine.specs.declared.halt.Halt.TheVariants as halts
 use Rattle.odb_engine.specs.Cascade.{Writes}
 use Rattle.odb_engine.specs.Engines.{Ends}
+use Rattle.odb_engine.specs.declared.form.Form.{Form}
+use Rattle.odb_engine.specs.Forms.{InForm}
 use Rattle.odb_engine.specs.Inputs.{AskedFor, ReadsBatch}
 use Rattle.odb_engine.specs.Halts.{Sent, text_found}
 use Rattle.odb_engine.proofs.EngineLemmas.{Ends-weaker, answered, halt_in}
 
 -- a phase that halts has written nothing, so the output works
-pub Sent-works : {W : Type 0} (contents : W → Option (List ℕ)) (P : Writes) (F : Type 0) (old new : Writing W) (sent : Result (Result Ended EngineFault) Halt) → old.failed ≡ false → Sent contents P F old new sent
+pub Sent-works : {W : Type 0} (contents : W → Option (List ℕ)) (form : Form) (P : Writes) (F : Type 0) (old new : Writing W) (sent : Result (Result Ended EngineFault) Halt) → old.failed ≡ false → Sent contents form P F old new sent
     → IfErr sent (λ _. new.failed ≡ false)
-Sent-works contents P F old new (Ok result) works sent = tt
-Sent-works contents P F old new (Err halt) works (same, refuses) = ap (λ o. o.failed) same ∙ works
+Sent-works contents form P F old new (Ok result) works sent = tt
+Sent-works contents form P F old new (Err halt) works (same, refuses) = ap (λ o. o.failed) same ∙ works
 
 -- an engine that ends as a phase did, or by the fault that halted it
-pub Ends-concluded : {W : Type 0} (contents : W → Option (List ℕ)) (P : Writes) (F G : Type 0) (old mid new : Writing W) (sent : Result (Result Ended EngineFault) Halt) (result : Result Ended EngineFault)
-    → Sent contents P F old mid sent → IfOk sent (λ ended. (result ≡ ended) × (new ≡ mid)) → IfErr sent (λ halt. Ends contents (text_found (Err halt)) (halt ≡ halts.Read) mid new result)
-    → IfOk sent (λ _. F ↔ G) → IfErr sent (λ halt. (halt ≡ halts.Read) ↔ G) → Ends contents P G old new result
-Ends-concluded contents P F G old mid new (Ok ended) result sent (same, kept) _ read _ =
-    subst (λ r. Ends contents P G old new r) (sym same) (subst (λ o. Ends contents P G old o ended) (sym kept) (Ends-weaker contents P P F G old mid ended (λ e t so. so) read sent))
-Ends-concluded contents P F G old mid new (Err halt) result (same, refuses) _ is _ read =
-    subst (λ o. Ends contents P G o new result) same (Ends-weaker contents (text_found (Err halt)) P (halt ≡ halts.Read) G mid new result (answered P (Err halt) refuses) read is)
+pub Ends-concluded : {W : Type 0} (contents : W → Option (List ℕ)) (form : Form) (P : Writes) (F G : Type 0) (old mid new : Writing W) (sent : Result (Result Ended EngineFault) Halt) (result : Result Ended EngineFault)
+    → Sent contents form P F old mid sent → IfOk sent (λ ended. (result ≡ ended) × (new ≡ mid)) → IfErr sent (λ halt. Ends contents (text_found form (Err halt)) (halt ≡ halts.Read) mid new result)
+    → IfOk sent (λ _. F ↔ G) → IfErr sent (λ halt. (halt ≡ halts.Read) ↔ G) → Ends contents (InForm form P) G old new result
+Ends-concluded contents form P F G old mid new (Ok ended) result sent (same, kept) _ read _ =
+    let Q = InForm form P in
+    subst (λ r. Ends contents Q G old new r) (sym same) (subst (λ o. Ends contents Q G old o ended) (sym kept) (Ends-weaker contents Q Q F G old mid ended (λ e t so. so) read sent))
+Ends-concluded contents form P F G old mid new (Err halt) result (same, refuses) _ is _ read =
+    let Q = InForm form P in
+    subst (λ o. Ends contents Q G o new result) same (Ends-weaker contents (text_found form (Err halt)) Q (halt ≡ halts.Read) G mid new result (answered form P (Err halt) refuses) read is)
 
 differs : {T : Type 0} (x : T) (halt : Halt) → ◌≡◌ {A = Result T Halt} (Ok x) (Err halt) → ⊥
 differs x halt e = cc
@@ -54,10 +58,10 @@ asked-for remaining first read bytes old new (Ok x) reads _ = inr reads
 asked-for remaining first read bytes old new (Err halt) _ same = inl same
 
 -- the whole of an engine that writes its result itself
-pub Ends-of-two : {R S W : Type 0} (remaining : R → Option (List ℕ)) (contents : W → Option (List ℕ)) (P : Writes) (first read : Reading R) (bytes : List ℕ) (second asked : Reading S) (old mid new : Writing W) (sent : Result (Result Ended EngineFault) Halt) (result : Result Ended EngineFault)
-    → Sent contents P (IsTrue asked.failed) old mid sent → OnOk sent (ReadsBatch remaining first read bytes) → IfErr sent (λ _. asked ≡ second) → second.failed ≡ false → ((sent ≡ Err halts.Read) ↔ IsTrue read.failed)
-    → IfOk sent (λ ended. (result ≡ ended) × (new ≡ mid)) → IfErr sent (λ halt. Ends contents (text_found (Err halt)) (halt ≡ halts.Read) mid new result)
-    → Ends contents P (IsTrue read.failed ⊎ IsTrue asked.failed) old new result × AskedFor remaining first read bytes second asked
-Ends-of-two remaining contents P first read bytes second asked old mid new sent result is reads unasked works failed ended halted =
+pub Ends-of-two : {R S W : Type 0} (remaining : R → Option (List ℕ)) (contents : W → Option (List ℕ)) (form : Form) (P : Writes) (first read : Reading R) (bytes : List ℕ) (second asked : Reading S) (old mid new : Writing W) (sent : Result (Result Ended EngineFault) Halt) (result : Result Ended EngineFault)
+    → Sent contents form P (IsTrue asked.failed) old mid sent → OnOk sent (ReadsBatch remaining first read bytes) → IfErr sent (λ _. asked ≡ second) → second.failed ≡ false → ((sent ≡ Err halts.Read) ↔ IsTrue read.failed)
+    → IfOk sent (λ ended. (result ≡ ended) × (new ≡ mid)) → IfErr sent (λ halt. Ends contents (text_found form (Err halt)) (halt ≡ halts.Read) mid new result)
+    → Ends contents (InForm form P) (IsTrue read.failed ⊎ IsTrue asked.failed) old new result × AskedFor remaining first read bytes second asked
+Ends-of-two remaining contents form P first read bytes second asked old mid new sent result is reads unasked works failed ended halted =
     let (by_ok, by_halt) = read-of-two sent read.failed second asked failed (good-read remaining first read bytes sent reads) works unasked in
-    (Ends-concluded contents P _ _ old mid new sent result is ended halted by_ok by_halt, asked-for remaining first read bytes second asked sent reads unasked)
+    (Ends-concluded contents form P _ _ old mid new sent result is ended halted by_ok by_halt, asked-for remaining first read bytes second asked sent reads unasked)

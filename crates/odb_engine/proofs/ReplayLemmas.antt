@@ -1,7 +1,6 @@
 -- Runs by recorded outcomes: an outcome that is offered was recorded, so it is sound.
-use Rattle.std.proofs.Common.{◌≡◌, ℕ, zero, suc, ◌≤◌, ◌∙◌, ap, sym, refl, subst, arith, Bool, true, false, cond, ◌&&◌, List, [], ◌∷◌, get_or, All, Contains, Option, Some, None, is_some, unwrap_or, option_map, not, if◌then◌else◌, IfSome, find, bytes_eq, Result, Ok, Err}
+use Rattle.std.proofs.Common.{◌≡◌, ℕ, zero, suc, ◌∙◌, ap, sym, refl, subst, arith, Bool, true, false, cond, ◌&&◌, List, [], ◌∷◌, get_or, All, Contains, Option, Some, None, is_some, unwrap_or, option_map, not, if◌then◌else◌, IfSome, find, bytes_eq, Result, Ok, Err}
 use Rattle.std.proofs.lemmas.Bool.{true≢false, both_ways}
-use Rattle.std.proofs.lemmas.Bool.Decides.{nat_tests}
 use Rattle.std.proofs.lemmas.List.Elements.{All-contains, Contains-append_right}
 use Rattle.odb_doc.specs.declared.recorded.outcome.Outcome.{Outcome}
 use Rattle.odb_doc.specs.recorded.OutcomeValues.{IsRecordable}
@@ -23,7 +22,7 @@ use Rattle.odb_doc.specs.Refusals.{Printed}
 use Rattle.std.proofs.lemmas.Option.{same_Some}
 use Rattle.odb_sched.specs.Recordings.{outcome_for, recorded_for, offered, OffersRecorded}
 use Rattle.odb_sched.specs.State.{State, phase_at, first_state}
-use Rattle.odb_sched.specs.Statuses.{is_status, is_success}
+use Rattle.odb_doc.specs.Statuses.{is_status, is_success}
 use Rattle.odb_sched.specs.Steps.{unit_succeeded}
 use Rattle.odb_reply.specs.NotWhole.{HasWholeBody, HasWholeBodies}
 use Rattle.odb_reply.specs.Readable.{AnswersBy, IsReadable}
@@ -114,9 +113,6 @@ not_failed : (slot : Option Outcome) → Err service.Failed ≡ offered slot →
 not_failed None e = true≢false (ap is_failed e)
 not_failed (Some outcome) e = true≢false (ap is_failed e)
 
-in_range : (status : ℕ) → 200 ≤ status → status ≤ 599 → is_status status ≡ true
-in_range status low high = grind (arith, nat_tests)
-
 -- an execution by recorded outcomes fails only if an outcome is missing
 pub lacks-outcome : (allows : Allowance) (policy : Policy) (batch : List Record) (entries : List Recorded) (cause : ExecFault) → All IsSoundOutcome entries
     → IsCausedBy (offers_of batch entries) (IsDue allows (offers_of batch entries) (first_state batch policy)) cause
@@ -125,5 +121,5 @@ lacks-outcome allows policy batch entries (fault.NoOutcome i) sound (due, none) 
 lacks-outcome allows policy batch entries (fault.Service i) sound (due, failed) refusal row = absurd (not_failed (get_or (recorded_for batch entries) i None) failed)
 lacks-outcome allows policy batch entries (fault.BadStatus i) sound (due, (outcome, offer, bad)) refusal row =
     let (entry, fit, same) = offered-entry IsSoundOutcome batch entries i outcome sound offer in
-    absurd (both_ways _ bad (ap (λ o. is_status o.status) (sym same) ∙ in_range entry.1.status fit.low fit.high))
+    absurd (both_ways _ bad (ap (λ o. is_status o.status) (sym same) ∙ fit.status))
 lacks-outcome allows policy batch entries fault.OutOfMemory sound none refusal row = absurd (cc row)

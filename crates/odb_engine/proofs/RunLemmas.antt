@@ -24,7 +24,7 @@ use Rattle.odb_sched.specs.ResolveFaults as ids
 use Rattle.odb_sched.specs.Resolving.{IsResolved, RefusesNamed}
 use Rattle.odb_sched.specs.Runs.{Refuses, after_all}
 use Rattle.odb_sched.specs.State.{State, phase_at, first_state}
-use Rattle.odb_sched.specs.Statuses.{is_success}
+use Rattle.odb_doc.specs.Statuses.{is_success}
 use Rattle.odb_sched.specs.Steps.{unit_succeeded}
 use Rattle.odb_reply.specs.NotWhole.{HasWholeBody, HasWholeBodies}
 use Rattle.odb_reply.specs.Readable.{AnswersBy, IsReadable}

@@ -7,17 +7,39 @@ use Rattle.odb_doc.specs.Faults.{text_row}
 use Rattle.odb_check.specs.Units.{groups_of}
 use Rattle.odb_check.specs.Texts.{plan_text, newline}
 use Rattle.odb_doc.specs.Refusals.{Printed}
+use Rattle.odb_engine.specs.declared.form.Form.{Form}
+use Rattle.odb_engine.specs.declared.form.Form.TheVariants.{Lines, Json}
 use Rattle.odb_engine.specs.Cascade.{Writes, Prints, Reports}
+use Rattle.odb_engine.specs.Forms.{json_line}
 use Rattle.odb_engine.specs.Inputs.{SomeDocument}
 use Rattle.odb_engine.specs.Lines.{accepted_line}
+use Rattle.odb_engine.specs.Results.{counts_value, plan_value}
 
 -- how many requests and groups there are
+abbrev pub counts_text : Form → List Record → List ℕ
+counts_text Lines batch = accepted_line (length batch) (length (groups_of batch))
+counts_text Json batch = json_line (counts_value (length batch) (length (groups_of batch)))
+
+-- the counts in a form
+abbrev pub CountsIn : Form → List Record → Writes
+CountsIn form batch = Prints (counts_text form batch)
+
+-- the counts as a line of words
 abbrev pub Counts : List Record → Writes
-Counts batch = Prints (accepted_line (length batch) (length (groups_of batch)))
+Counts = CountsIn Lines
 
 -- the plan
+abbrev pub planned_text : Form → List Record → List ℕ
+planned_text Lines batch = plan_text batch
+planned_text Json batch = json_line (plan_value batch)
+
+-- the plan in a form
+abbrev pub PlansIn : Form → List Record → Writes
+PlansIn form batch = Prints (planned_text form batch)
+
+-- the plan as lines of words
 abbrev pub Plans : List Record → Writes
-Plans batch = Prints (plan_text batch)
+Plans = PlansIn Lines
 
 -- what is written by the second document of a reader
 abbrev pub BySecond : Option (List ℕ) → (List Record → List ℕ → Writes) → List Record → Writes

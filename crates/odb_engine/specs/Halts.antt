@@ -13,12 +13,14 @@ use Rattle.odb_engine.specs.declared.ending.EngineFault.{EngineFault}
 use Rattle.odb_engine.specs.declared.ending.EngineFault.TheVariants as faults
 use Rattle.odb_engine.specs.declared.halt.Halt.{Halt}
 use Rattle.odb_engine.specs.declared.halt.Halt.TheVariants as halts
+use Rattle.odb_engine.specs.declared.form.Form.{Form}
 use Rattle.odb_engine.specs.declared.input.ReadFault.{ReadFault}
 use Rattle.odb_engine.specs.declared.input.ReadFault.TheVariants as reads
 use Rattle.odb_doc.specs.Refusals.{Printed}
 use Rattle.odb_doc.specs.Refusals as refusals
 use Rattle.odb_engine.specs.Cascade.{Writes, Prints, line_of}
 use Rattle.odb_engine.specs.Engines.{Ends}
+use Rattle.odb_engine.specs.Forms.{InForm, fault_text}
 
 -- a halt by a fault is one by such a fault
 abbrev pub Halted : (Printed → Type 0) → Halt → Type 0
@@ -36,9 +38,9 @@ Found P (Ok text) = P Done (string_bytes text)
 Found P (Err halt) = Refuses P halt
 
 -- what a phase of an engine that writes its result itself returns: how it ended, or why nothing was written
-abbrev pub Sent : {W : Type 0} → (W → Option (List ℕ)) → Writes → Type 0 → Writing W → Writing W → Result (Result Ended EngineFault) Halt → Type 0
-Sent contents P ReadFailed old new (Ok result) = Ends contents P ReadFailed old new result
-Sent contents P ReadFailed old new (Err halt) = (new ≡ old) × Refuses P halt
+abbrev pub Sent : {W : Type 0} → (W → Option (List ℕ)) → Form → Writes → Type 0 → Writing W → Writing W → Result (Result Ended EngineFault) Halt → Type 0
+Sent contents form P ReadFailed old new (Ok result) = Ends contents (InForm form P) ReadFailed old new result
+Sent contents form P ReadFailed old new (Err halt) = (new ≡ old) × Refuses P halt
 
 -- The writer has received the text, or a prefix of it. Write means exactly that the output failed, and no input did.
 pub record Sends {W : Type 0} (contents : W → Option (List ℕ)) (text : List ℕ) (old new : Writing W) (result : Result (Unit {0}) EngineFault) : Type 0 where
@@ -48,11 +50,11 @@ pub record Sends {W : Type 0} (contents : W → Option (List ℕ)) (text : List 
   pub unread : result ≢ Err faults.Read
 
 -- what is written of what was found
-abbrev pub text_found : Result (String Global) Halt → Writes
-text_found (Ok found) ended text = Prints (string_bytes found) ended text
-text_found (Err (halts.Refused refusal)) ended text = (ended ≡ Refused) × (text ≡ line_of (refusals.printed refusal))
-text_found (Err halts.Read) ended text = ⊥
-text_found (Err halts.OutOfMemory) ended text = ⊥
+abbrev pub text_found : Form → Result (String Global) Halt → Writes
+text_found form (Ok found) ended text = Prints (string_bytes found) ended text
+text_found form (Err (halts.Refused refusal)) ended text = (ended ≡ Refused) × (text ≡ fault_text form (refusals.printed refusal))
+text_found form (Err halts.Read) ended text = ⊥
+text_found form (Err halts.OutOfMemory) ended text = ⊥
 
 -- the halt of a fault with this row: it is refused if it has one, and else out of memory
 abbrev pub HaltsBy : Option Printed → Halt → Type 0

@@ -4,10 +4,13 @@ pub mod Lines
 pub mod Traces
 pub mod Cascade
 pub mod Engines
+pub mod Forms
+pub mod Results
 pub mod Commands
 pub mod ReadAgain
 pub mod Replays
 pub mod Runs
 pub mod Matches
--- What serves private clauses: no public clause cites it.
+pub mod Live
 pub mod Halts
+pub mod ResultParts

@@ -10,10 +10,14 @@ use Rattle.odb_reply.specs.LeastMatchFault.{RefusesMatch}
 use Rattle.odb_reply.specs.MatchFaults.{match_row}
 use Rattle.odb_reply.specs.ResponseDocuments.{Entry, IsResponseDocument, RefusesResponses, Says, responses_in, responses_row}
 use Rattle.odb_engine.specs.declared.ending.Ended.{Ended}
+use Rattle.odb_engine.specs.declared.form.Form.{Form}
+use Rattle.odb_engine.specs.declared.form.Form.TheVariants.{Lines, Json}
 use Rattle.odb_doc.specs.Refusals.{Printed}
 use Rattle.odb_engine.specs.Cascade.{Writes, Prints, Reports, HasValue, IsLeastOf}
 use Rattle.odb_check.specs.Texts.{newline}
 use Rattle.odb_engine.specs.Lines.{fit_line}
+use Rattle.odb_engine.specs.Forms.{json_line}
+use Rattle.odb_engine.specs.Results.{match_value}
 
 -- `ID STATUS`
 abbrev pub status_line : List ℕ → ℕ → List ℕ
@@ -25,9 +29,10 @@ status_lines [] statuses = []
 status_lines (r ∷ rs) [] = []
 status_lines (r ∷ rs) (status ∷ statuses) = status_line r.id status ++ status_lines rs statuses
 
--- `ok N responses`, and the lines
-abbrev pub match_text : List Record → List ℕ → List ℕ
-match_text batch statuses = fit_line (length batch) ++ status_lines batch statuses
+-- `ok N responses`, and the lines; or all of it as JSON
+abbrev pub match_text : Form → List Record → List ℕ → List ℕ
+match_text Lines batch statuses = fit_line (length batch) ++ status_lines batch statuses
+match_text Json batch statuses = json_line (match_value batch statuses)
 
 -- the first fault of a response document
 abbrev pub IsLeastOfResponses : List ℕ → Printed → Type 0
@@ -44,17 +49,21 @@ pub record Misfits (batch : List Record) (entries : List Entry) (refusal : Print
   pub is : match_row fault ≡ Some refusal
 
 -- the responses fit the batch, and their statuses are printed
-pub record PrintsFit (batch : List Record) (entries : List Entry) (ended : Ended) (text : List ℕ) : Type 0 where
+pub record PrintsFit (form : Form) (batch : List Record) (entries : List Entry) (ended : Ended) (text : List ℕ) : Type 0 where
   pub fits : Fits batch entries
   pub places : List ℕ
   pub statuses : List ℕ
   pub table : IsTableOf batch entries places statuses
-  pub prints : Prints (match_text batch statuses) ended text
+  pub prints : Prints (match_text form batch statuses) ended text
 
 -- what is written of a batch and of responses
-abbrev pub MatchesEntries : List Record → List Entry → Writes
-MatchesEntries batch entries ended text = Reports (Misfits batch entries) ended text ⊎ PrintsFit batch entries ended text
+abbrev pub MatchesEntries : Form → List Record → List Entry → Writes
+MatchesEntries form batch entries ended text = Reports (Misfits batch entries) ended text ⊎ PrintsFit form batch entries ended text
 
--- what is written of a batch and the bytes of a response document
+-- what is written of a batch and the bytes of a response document, with the result in a form
+abbrev pub MatchesIn : Form → List Record → List ℕ → Writes
+MatchesIn form batch bytes ended text = Reports (IsLeastOfResponses bytes) ended text ⊎ ((entries : List Entry) × Lists bytes entries × MatchesEntries form batch entries ended text)
+
+-- the result as lines of words
 abbrev pub Matches : List Record → List ℕ → Writes
-Matches batch bytes ended text = Reports (IsLeastOfResponses bytes) ended text ⊎ ((entries : List Entry) × Lists bytes entries × MatchesEntries batch entries ended text)
+Matches = MatchesIn Lines

@@ -2,26 +2,36 @@ ghost use Rattle.std.specs.Prelude.{◌≡◌, false, Err, IsTrue};
 ghost use Rattle.odb_engine.specs.Inputs.{IsFresh, ReadsFew, SomeDocument};
 ghost use Rattle.odb_engine.specs.Cascade.{Answers};
 ghost use Rattle.odb_engine.specs.Engines.{Ends};
+ghost use Rattle.odb_engine.specs.Forms.{InForm};
 ghost use Rattle.odb_engine.specs.Commands as commands;
 
 use crate::command::{Command, answer};
 use crate::ending::{Ended, EngineFault};
+use crate::form::Form;
 use crate::halt::Halt;
+use crate::json::counts_json;
 use crate::lines::accepted_line;
-use crate::setup::Setup;
+use crate::setup::{Options, Setup};
 use odb_check::Plan;
 use odb_doc::{Batch, Input, Output};
 use std::alloc::Global;
 use std::io::{Read, Write};
 
 /// Prints how many requests and groups there are.
-struct Counts;
+#[derive(Drop)]
+struct Counts {
+    form: Form,
+}
 
 impl Command for Counts {
-    ghost writes = { λ _. commands.Counts };
+    ghost writes = { λ self. commands.CountsIn self.form };
 
     fn text(&self, alloc: Global, _batch: &Batch<'_>, plan: &Plan<'_>) -> Result<String, Halt> {
-        Ok(accepted_line(alloc, plan.len(), plan.group_count())?)
+        let (requests, groups) = (plan.len(), plan.group_count());
+        match self.form {
+            Form::Lines => Ok(accepted_line(alloc, requests, groups)?),
+            Form::Json => Ok(counts_json(alloc, requests, groups)?),
+        }
     }
 }
 
@@ -72,5 +82,41 @@ pub fn check_batch_with<R: Read, W: Write>(
     ensures memory { result ≡ Err EngineFault.OutOfMemory → output.new ≡ output.old }
     ensures reads { ReadsFew R.remaining input.old input.new }
 {
-    answer(alloc, input, output, &Counts, setup)
+    check_batch_as(
+        alloc,
+        input,
+        output,
+        Options {
+            form: Form::Lines,
+            setup,
+        },
+    )
+}
+
+/// Does what [`check_batch`] does, in a form and with a setup of the caller's.
+///
+/// # Errors
+///
+/// Those of [`check_batch`].
+pub fn check_batch_as<R: Read, W: Write>(
+    alloc: Global,
+    input: &mut Input<R>,
+    output: &mut Output<W>,
+    options: Options,
+) -> Result<Ended, EngineFault>
+    requires input { IsFresh input.old }
+    requires output { output.old.failed ≡ false }
+    ensures ends { SomeDocument (R.remaining input.old.reader) (λ bytes. Ends W.contents
+        (InForm options.form (Answers (commands.CountsIn options.form) bytes)) (IsTrue input.new.failed)
+        output.old output.new result) }
+    ensures memory { result ≡ Err EngineFault.OutOfMemory → output.new ≡ output.old }
+    ensures reads { ReadsFew R.remaining input.old input.new }
+{
+    answer(
+        alloc,
+        input,
+        output,
+        &Counts { form: options.form },
+        options,
+    )
 }

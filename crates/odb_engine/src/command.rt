@@ -6,6 +6,7 @@ ghost use Rattle.odb_check.specs.Seeds.{IsSeeded};
 ghost use Rattle.odb_engine.specs.declared.halt.Halt.TheVariants as halts;
 ghost use Rattle.odb_engine.specs.Cascade.{Answers};
 ghost use Rattle.odb_engine.specs.Engines.{Ends};
+ghost use Rattle.odb_engine.specs.Forms.{InForm};
 ghost use Rattle.odb_engine.specs.Halts.{Found, RefusesNamesOf, Halted};
 ghost use Rattle.odb_engine.specs.Inputs.{IsFresh, ReadsFew, SomeDocument};
 
@@ -13,7 +14,7 @@ use crate::ending::{Ended, EngineFault, end};
 use crate::halt::Halt;
 use crate::held::Held;
 use crate::input::value_of;
-use crate::setup::Setup;
+use crate::setup::{Options, Setup};
 use odb_check::{Plan, check_with};
 use odb_doc::{Batch, Input, Output, Place};
 use std::alloc::Global;
@@ -85,23 +86,22 @@ fn text_of<R: Read, C: Command>(
     command.text(alloc, &batch.value, &plan.value)
 }
 
-/// Runs a command over one document: writes what it prints of the batch, or the line of the least
-/// fault.
+/// Runs a command over one document: writes what it prints of the batch, or the least fault.
 pub fn answer<R: Read, W: Write, C: Command>(
     alloc: Global,
     input: &mut Input<R>,
     output: &mut Output<W>,
     command: &C,
-    setup: Setup,
+    options: Options,
 ) -> Result<Ended, EngineFault>
     requires input { IsFresh input.old }
     requires output { output.old.failed ≡ false }
     ensures ends { SomeDocument (R.remaining input.old.reader) (λ bytes. Ends W.contents
-        (Answers (C.writes command.now) bytes) (IsTrue input.new.failed)
+        (InForm options.form (Answers (C.writes command.now) bytes)) (IsTrue input.new.failed)
         output.old output.new result) }
     ensures memory { result ≡ Err EngineFault.OutOfMemory → output.new ≡ output.old }
     ensures reads { ReadsFew R.remaining input.old input.new }
 {
-    let found = text_of(alloc, input, command, setup);
-    end(alloc, found, output)
+    let found = text_of(alloc, input, command, options.setup);
+    end(alloc, options.form, found, output)
 }

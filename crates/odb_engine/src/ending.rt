@@ -1,12 +1,16 @@
-ghost use Rattle.std.specs.Prelude.{◌≡◌, false, Err, IfErr, IfOk};
+ghost use Rattle.std.specs.Prelude.{◌≡◌, false, Err, IfErr, IfOk, string_bytes};
+ghost use Rattle.odb_doc.specs.Refusals.{printed};
 ghost use Rattle.odb_engine.specs.declared.ending.EngineFault.TheVariants as faults;
 ghost use Rattle.odb_engine.specs.declared.halt.Halt.TheVariants as halts;
 ghost use Rattle.odb_engine.specs.Engines.{Ends};
+ghost use Rattle.odb_engine.specs.Forms.{fault_text};
 ghost use Rattle.odb_engine.specs.Halts.{text_found};
 
+use crate::form::Form;
 use crate::halt::Halt;
+use crate::json::fault_json;
 use crate::lines::fault_line;
-use odb_doc::{DeviceFault, Output};
+use odb_doc::{DeviceFault, Output, Refusal};
 use std::alloc::{AllocError, Global};
 use std::io::Write;
 use thiserror::Error;
@@ -16,7 +20,7 @@ use thiserror::Error;
 pub enum Ended {
     /// It wrote its result.
     Done,
-    /// It wrote the line of a fault.
+    /// It wrote a fault.
     Refused,
 }
 
@@ -55,23 +59,31 @@ impl From<AllocError> for EngineFault {
 /// written.
 pub type Sent = Result<Result<Ended, EngineFault>, Halt>;
 
-/// Writes what was found, or the line of the fault, and returns how the engine ended.
+/// Returns a fault in a form.
+fn fault_text(alloc: Global, form: Form, refusal: Refusal) -> Result<String, AllocError>
+    ensures { IfOk result (λ text. string_bytes text ≡ fault_text form (printed refusal)) }
+{
+    match form {
+        Form::Lines => fault_line(alloc, refusal.code, refusal.name, refusal.place),
+        Form::Json => fault_json(alloc, refusal),
+    }
+}
+
+/// Writes what was found, or the fault, and returns how the engine ended.
 pub fn end<W: Write>(
     alloc: Global,
+    form: Form,
     found: Result<String, Halt>,
     output: &mut Output<W>,
 ) -> Result<Ended, EngineFault>
     requires { output.old.failed ≡ false }
-    ensures ends { Ends W.contents (text_found found) (found ≡ Err halts.Read)
+    ensures ends { Ends W.contents (text_found form found) (found ≡ Err halts.Read)
         output.old output.new result }
     ensures memory { result ≡ Err EngineFault.OutOfMemory → output.new ≡ output.old }
 {
     let (ended, text) = match found {
         Ok(text) => (Ended::Done, text),
-        Err(Halt::Refused(refusal)) => {
-            let line = fault_line(alloc, refusal.code, refusal.name, refusal.place)?;
-            (Ended::Refused, line)
-        }
+        Err(Halt::Refused(refusal)) => (Ended::Refused, fault_text(alloc, form, refusal)?),
         Err(Halt::Read) => return Err(EngineFault::Read),
         Err(Halt::OutOfMemory) => return Err(EngineFault::OutOfMemory),
     };
@@ -79,22 +91,22 @@ pub fn end<W: Write>(
     Ok(ended)
 }
 
-/// Returns how an engine has ended; or writes the line of the fault by which it halted before it
-/// wrote anything.
+/// Returns how an engine has ended; or writes the fault by which it halted before it wrote anything.
 pub fn conclude<W: Write>(
     alloc: Global,
+    form: Form,
     sent: Sent,
     output: &mut Output<W>,
 ) -> Result<Ended, EngineFault>
     requires { IfErr sent (λ _. output.old.failed ≡ false) }
     ensures ended { IfOk sent (λ ended. (result ≡ ended) × (output.new ≡ output.old)) }
-    ensures halted { IfErr sent (λ halt. Ends W.contents (text_found (Err halt))
+    ensures halted { IfErr sent (λ halt. Ends W.contents (text_found form (Err halt))
         (halt ≡ halts.Read) output.old output.new result) }
     ensures memory { IfErr sent (λ _. result ≡ Err EngineFault.OutOfMemory
         → output.new ≡ output.old) }
 {
     match sent {
         Ok(result) => result,
-        Err(halt) => end(alloc, Err(halt), output),
+        Err(halt) => end(alloc, form, Err(halt), output),
     }
 }

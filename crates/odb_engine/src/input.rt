@@ -87,6 +87,17 @@ fn halt_at(fault: DocFault, place: Place) -> Halt
     }
 }
 
+/// Returns the value of the document in these bytes; `place` is the place of its fault.
+pub fn value_in(alloc: Global, bytes: &[u8], place: Place) -> Result<Value, Halt>
+    ensures value { IfOk result (λ value. IsDocument bytes.now (view value)) }
+    ensures fault { IfErr result (Halted (RefusesBytes place bytes.now)) }
+{
+    match parse(alloc, bytes) {
+        Ok(value) => Ok(value),
+        Err(fault) => Err(halt_at(fault, place)),
+    }
+}
+
 /// Returns the value of the document that an input gives; `place` is the place of its fault.
 pub fn value_of<R: Read>(alloc: Global, input: &mut Input<R>, place: Place) -> Result<Value, Halt>
     requires { IsFresh input.old }

@@ -9,9 +9,10 @@ ghost use Rattle.odb_sched.specs.Choosing.{AllowsOrder};
 ghost use Rattle.odb_sched.specs.declared.order.Order.{Order};
 ghost use Rattle.odb_sched.specs.declared.policy.Policy.{Policy};
 ghost use Rattle.odb_engine.specs.Cascade.{Accepts, Answers, IsOne};
-ghost use Rattle.odb_engine.specs.Commands.{BySecond, Canonical, Counts, Plans};
+ghost use Rattle.odb_engine.specs.declared.form.Form.{Form};
+ghost use Rattle.odb_engine.specs.Commands.{BySecond, Canonical, CountsIn, PlansIn};
 ghost use Rattle.odb_engine.specs.Inputs.{IsDocumentOf};
-ghost use Rattle.odb_engine.specs.Matches.{Matches};
+ghost use Rattle.odb_engine.specs.Matches.{MatchesIn};
 ghost use Rattle.odb_engine.specs.declared.ending.Ended.TheVariants.{Done};
 ghost use Rattle.odb_engine.specs.ReadAgain.{IsReadAgain};
 ghost use Rattle.odb_engine.specs.Replays.{Replays};
@@ -24,13 +25,14 @@ pub fn one_document()
 {}
 
 /// Two texts that a check may write for the same bytes are equal, and so are the ends; likewise for a
-/// plan, a canonical text and a match. So what these commands write is a function of the bytes.
+/// plan, a canonical text and a match, with the result in each form. So what these commands write is a
+/// function of the bytes.
 pub fn one_text()
-    ensures check { (bytes : List ℕ) → IsOne (Answers Counts bytes) }
-    ensures plan { (bytes : List ℕ) → IsOne (Answers Plans bytes) }
+    ensures check { (form : Form) (bytes : List ℕ) → IsOne (Answers (CountsIn form) bytes) }
+    ensures plan { (form : Form) (bytes : List ℕ) → IsOne (Answers (PlansIn form) bytes) }
     ensures canon { (bytes : List ℕ) → IsOne (Answers Canonical bytes) }
-    ensures matching { (bytes responses : List ℕ)
-        → IsOne (Answers (BySecond (Some responses) Matches) bytes) }
+    ensures matching { (form : Form) (bytes responses : List ℕ)
+        → IsOne (Answers (BySecond (Some responses) (MatchesIn form)) bytes) }
 {
     odb_doc::laws::one_batch();
     odb_doc::laws::one_fault();

@@ -3,7 +3,8 @@
 //! An engine reads its documents, writes its result or the line of the least fault, and returns how
 //! it ended: [`check_batch`], [`plan_batch`] and [`canon_batch`] over one document, [`match_batch`],
 //! [`replay_batch`] and [`run_batch`] over two. Each has a second call, as [`check_batch_with`], that
-//! takes a [`Setup`] too and has the same clauses. A contract states what the writer has received,
+//! takes a [`Setup`] too and has the same clauses, and a third, as [`check_batch_as`], that takes a
+//! [`Form`] with it: lines of words, as the others write, or JSON. A contract states what the writer has received,
 //! whatever the readers and the writer do: the whole text, or after a fault nothing or a prefix of
 //! it. [`laws`] states that a text is determined. Opening files, buffering small writes and turning
 //! an end into an exit status are left to the caller.
@@ -16,26 +17,34 @@ mod canon;
 mod check;
 mod command;
 mod ending;
+mod form;
 mod halt;
 mod held;
 mod input;
+mod json;
 pub mod laws;
 mod lines;
+mod live;
 mod match_responses;
 mod output;
 mod pair;
 mod plan;
+mod plan_json;
 mod replay;
 mod run;
 mod setup;
 mod trace;
 
-pub use canon::{canon_batch, canon_batch_with};
-pub use check::{check_batch, check_batch_with};
+pub use canon::{canon_batch, canon_batch_as, canon_batch_with};
+pub use check::{check_batch, check_batch_as, check_batch_with};
 pub use ending::{Ended, EngineFault};
+pub use form::Form;
+pub use halt::Halt;
 pub use held::Remains;
-pub use match_responses::{match_batch, match_batch_with};
-pub use plan::{plan_batch, plan_batch_with};
-pub use replay::{replay_batch, replay_batch_with};
-pub use run::{run_batch, run_batch_with};
-pub use setup::Setup;
+pub use lines::fault_line;
+pub use live::{open_run, text_of_run};
+pub use match_responses::{match_batch, match_batch_as, match_batch_with};
+pub use plan::{plan_batch, plan_batch_as, plan_batch_with};
+pub use replay::{replay_batch, replay_batch_as, replay_batch_with};
+pub use run::{run_batch, run_batch_as, run_batch_with};
+pub use setup::{Options, Setup};

@@ -7,18 +7,22 @@ ghost use Rattle.odb_engine.specs.declared.halt.Halt.TheVariants as halts;
 ghost use Rattle.odb_engine.specs.Cascade.{Answers};
 ghost use Rattle.odb_engine.specs.Commands.{BySecond};
 ghost use Rattle.odb_engine.specs.Engines.{Ends};
+ghost use Rattle.odb_engine.specs.Forms.{InForm};
 ghost use Rattle.odb_engine.specs.Halts.{Found};
 ghost use Rattle.odb_engine.specs.Inputs.{AskedFor, IsFresh, ReadsFew, SomeDocument};
-ghost use Rattle.odb_engine.specs.Matches.{Matches, match_text, status_line};
+ghost use Rattle.odb_engine.specs.declared.form.Form.TheVariants.{Lines};
+ghost use Rattle.odb_engine.specs.Matches.{Matches, MatchesIn, match_text, status_line};
 
 use crate::ending::{Ended, EngineFault, Sent};
+use crate::form::Form;
 use crate::halt::Halt;
-use crate::held::{Held, Remains};
+use crate::held::Held;
 use crate::input::value_of;
+use crate::json::match_json;
 use crate::lines::fit_line;
 use crate::output::print;
 use crate::pair::{PairCommand, answer_pair};
-use crate::setup::Setup;
+use crate::setup::{Options, Setup};
 use odb_check::Plan;
 use odb_doc::{Input, Output, Place};
 use odb_reply::{Responses, Table, match_responses};
@@ -34,10 +38,10 @@ fn push_status(alloc: Global, text: &mut String, id: &str, status: u16) -> Resul
 }
 
 /// Returns the line of the count, and the line of each request.
-fn match_text(alloc: Global, plan: &Plan<'_>, table: &Table) -> Result<String, AllocError>
+fn match_lines(alloc: Global, plan: &Plan<'_>, table: &Table) -> Result<String, AllocError>
     requires { length (statuses table.now) ≡ length (plan_records plan.now) }
     ensures { IfOk result (λ text. string_bytes text
-        ≡ match_text (plan_records plan.now) (statuses table.now)) }
+        ≡ match_text Lines (plan_records plan.now) (statuses table.now)) }
 {
     let count = plan.len();
     let mut text = fit_line(alloc, count)?;
@@ -47,33 +51,52 @@ fn match_text(alloc: Global, plan: &Plan<'_>, table: &Table) -> Result<String, A
     Ok(text)
 }
 
+/// Returns what is printed of responses that fit.
+fn match_text(
+    alloc: Global,
+    plan: &Plan<'_>,
+    table: &Table,
+    form: Form,
+) -> Result<String, AllocError>
+    requires { length (statuses table.now) ≡ length (plan_records plan.now) }
+    ensures { IfOk result (λ text. string_bytes text
+        ≡ match_text form (plan_records plan.now) (statuses table.now)) }
+{
+    match form {
+        Form::Lines => match_lines(alloc, plan, table),
+        Form::Json => match_json(alloc, plan, table),
+    }
+}
+
 /// Returns what is printed of the responses in a value.
-fn matched(alloc: Global, plan: &Plan<'_>, value: &Value, remains: Remains) -> Result<String, Halt>
+fn matched(alloc: Global, plan: &Plan<'_>, value: &Value, options: Options) -> Result<String, Halt>
     ensures found { (bytes : List ℕ) → IsDocument bytes (view value.now)
-        → Found (Matches (plan_records plan.now) bytes) result }
+        → Found (MatchesIn options.form (plan_records plan.now) bytes) result }
     ensures read { result ≢ Err halts.Read }
 {
     let responses = Held {
         value: Responses::read(alloc, value)?,
-        remains,
+        remains: options.setup.remains,
     };
     let table = match_responses(alloc, plan, &responses.value)?;
-    Ok(match_text(alloc, plan, &table)?)
+    Ok(match_text(alloc, plan, &table, options.form)?)
 }
 
 /// Prints the status of each request.
 #[derive(Drop)]
 struct Match {
-    setup: Setup,
+    options: Options,
 }
 
 impl PairCommand for Match {
-    ghost writes = { λ _. Matches };
+    ghost writes = { λ self. MatchesIn self.options.form };
 
     ghost streams = { λ _. ⊥ };
 
-    fn setup(&self) -> Setup {
-        self.setup
+    ghost form = { λ self. self.options.form };
+
+    fn options(&self) -> Options {
+        self.options
     }
 
     fn perform<S: Read, W: Write>(
@@ -83,12 +106,12 @@ impl PairCommand for Match {
         second: &mut Input<S>,
         output: &mut Output<W>,
     ) -> Sent {
-        let remains = self.setup.remains;
+        let options = self.options;
         let value = Held {
             value: value_of(alloc, second, Place::Responses)?,
-            remains,
+            remains: options.setup.remains,
         };
-        let text = matched(alloc, plan, &value.value, remains)?;
+        let text = matched(alloc, plan, &value.value, options)?;
         Ok(print(output, &text))
     }
 }
@@ -149,5 +172,41 @@ pub fn match_batch_with<R: Read, S: Read, W: Write>(
     ensures batch { ReadsFew R.remaining batch.old batch.new }
     ensures responses { ReadsFew S.remaining responses.old responses.new }
 {
-    answer_pair(alloc, batch, responses, output, &mut Match { setup })
+    match_batch_as(
+        alloc,
+        batch,
+        responses,
+        output,
+        Options {
+            form: Form::Lines,
+            setup,
+        },
+    )
+}
+
+/// Does what [`match_batch`] does, in a form and with a setup of the caller's.
+///
+/// # Errors
+///
+/// Those of [`match_batch`].
+pub fn match_batch_as<R: Read, S: Read, W: Write>(
+    alloc: Global,
+    batch: &mut Input<R>,
+    responses: &mut Input<S>,
+    output: &mut Output<W>,
+    options: Options,
+) -> Result<Ended, EngineFault>
+    requires batch { IsFresh batch.old }
+    requires responses { IsFresh responses.old }
+    requires output { output.old.failed ≡ false }
+    ensures ends { SomeDocument (R.remaining batch.old.reader) (λ bytes. Ends W.contents
+        (InForm options.form
+        (Answers (BySecond (S.remaining responses.old.reader) (MatchesIn options.form)) bytes))
+        (IsTrue batch.new.failed ⊎ IsTrue responses.new.failed) output.old output.new result
+        × AskedFor R.remaining batch.old batch.new bytes responses.old responses.new) }
+    ensures memory { result ≡ Err EngineFault.OutOfMemory → output.new ≡ output.old }
+    ensures batch { ReadsFew R.remaining batch.old batch.new }
+    ensures responses { ReadsFew S.remaining responses.old responses.new }
+{
+    answer_pair(alloc, batch, responses, output, &mut Match { options })
 }

@@ -4,6 +4,7 @@ ghost use Rattle.odb_engine.specs.declared.halt.Halt.TheVariants as halts;
 ghost use Rattle.odb_engine.specs.Cascade.{Answers};
 ghost use Rattle.odb_engine.specs.Commands.{BySecond};
 ghost use Rattle.odb_engine.specs.Engines.{Ends};
+ghost use Rattle.odb_engine.specs.Forms.{InForm};
 ghost use Rattle.odb_engine.specs.Inputs.{AskedFor, IsFresh, ReadsBatch, ReadsFew, SomeDocument};
 ghost use Rattle.odb_engine.specs.Halts.{Sent};
 
@@ -11,7 +12,7 @@ use crate::command::plan_of;
 use crate::ending::{Ended, EngineFault, Sent, conclude};
 use crate::held::Held;
 use crate::input::value_of;
-use crate::setup::Setup;
+use crate::setup::Options;
 use odb_check::Plan;
 use odb_doc::{Batch, Input, Output, Place};
 use std::alloc::Global;
@@ -26,6 +27,7 @@ pub trait PairCommand {
     ghost use Rattle.odb_check.specs.Plans.{plan_records};
     ghost use Rattle.odb_engine.specs.declared.ending.Ended.{Ended};
     ghost use Rattle.odb_engine.specs.declared.ending.EngineFault.TheVariants as faults;
+    ghost use Rattle.odb_engine.specs.declared.form.Form.{Form};
     ghost use Rattle.odb_engine.specs.declared.halt.Halt.TheVariants as halts;
     ghost use Rattle.odb_engine.specs.Halts.{Sent};
     ghost use Rattle.odb_engine.specs.Inputs.{IsFresh, ReadsFew, SomeDocument};
@@ -37,8 +39,12 @@ pub trait PairCommand {
     /// That its result is written in parts, so that an allocation may fail between two of them.
     ghost streams: { Self → Type 0 };
 
-    /// Returns the setup of its engine.
-    fn setup(&self) -> Setup;
+    /// The form of its faults.
+    ghost form: { Self → Form };
+
+    /// Returns the options of its engine.
+    fn options(&self) -> Options
+        ensures { result.form ≡ form self.now };
 
     /// Writes the result for a plan and the second document. If it halts, nothing is written.
     fn perform<S: Read, W: Write>(
@@ -50,7 +56,7 @@ pub trait PairCommand {
     ) -> Sent
         requires second { IsFresh second.old }
         requires output { output.old.failed ≡ false }
-        ensures sent { SomeDocument (S.remaining second.old.reader) (λ bytes. Sent W.contents
+        ensures sent { SomeDocument (S.remaining second.old.reader) (λ bytes. Sent W.contents (form self.old)
             (writes self.old (plan_records plan.now) bytes) ⊥ output.old output.new result) }
         ensures memory { result ≡ Ok (Err faults.OutOfMemory) → streams self.old }
         ensures read { (result ≡ Err halts.Read) ↔ IsTrue second.new.failed }
@@ -69,7 +75,7 @@ fn perform_on<R: Read, S: Read, W: Write, C: PairCommand>(
     requires batch { IsFresh batch.old }
     requires second { IsFresh second.old }
     requires output { output.old.failed ≡ false }
-    ensures sent { SomeDocument (R.remaining batch.old.reader) (λ bytes. Sent W.contents
+    ensures sent { SomeDocument (R.remaining batch.old.reader) (λ bytes. Sent W.contents (C.form command.old)
         (Answers (BySecond (S.remaining second.old.reader) (C.writes command.old)) bytes)
         (IsTrue second.new.failed) output.old output.new result
         × OnOk result (ReadsBatch R.remaining batch.old batch.new bytes)) }
@@ -80,7 +86,7 @@ fn perform_on<R: Read, S: Read, W: Write, C: PairCommand>(
     ensures batch { ReadsFew R.remaining batch.old batch.new }
     ensures second { ReadsFew S.remaining second.old second.new }
 {
-    let setup = command.setup();
+    let Options { form, setup } = command.options();
     let remains = setup.remains;
     let value = Held {
         value: value_of(alloc, batch, Place::Batch)?,
@@ -92,10 +98,10 @@ fn perform_on<R: Read, S: Read, W: Write, C: PairCommand>(
     };
     let plan = plan_of(alloc, &read.value, setup)?;
     let sent = command.perform(alloc, &plan.value, second, output);
-    Ok(conclude(alloc, sent, output))
+    Ok(conclude(alloc, form, sent, output))
 }
 
-/// Runs a command over two documents: writes its result, or the line of the least fault. The second
+/// Runs a command over two documents: writes its result, or the least fault. The second
 /// document is read only if the check accepts the batch in the first.
 pub fn answer_pair<R: Read, S: Read, W: Write, C: PairCommand>(
     alloc: Global,
@@ -108,7 +114,8 @@ pub fn answer_pair<R: Read, S: Read, W: Write, C: PairCommand>(
     requires second { IsFresh second.old }
     requires output { output.old.failed ≡ false }
     ensures ends { SomeDocument (R.remaining batch.old.reader) (λ bytes. Ends W.contents
-        (Answers (BySecond (S.remaining second.old.reader) (C.writes command.old)) bytes)
+        (InForm (C.form command.old)
+        (Answers (BySecond (S.remaining second.old.reader) (C.writes command.old)) bytes))
         (IsTrue batch.new.failed ⊎ IsTrue second.new.failed) output.old output.new result
         × AskedFor R.remaining batch.old batch.new bytes second.old second.new) }
     ensures memory { result ≡ Err faults.OutOfMemory
@@ -116,6 +123,7 @@ pub fn answer_pair<R: Read, S: Read, W: Write, C: PairCommand>(
     ensures batch { ReadsFew R.remaining batch.old batch.new }
     ensures second { ReadsFew S.remaining second.old second.new }
 {
+    let form = command.options().form;
     let sent = perform_on(alloc, batch, second, output, command);
-    conclude(alloc, sent, output)
+    conclude(alloc, form, sent, output)
 }

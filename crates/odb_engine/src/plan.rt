@@ -2,25 +2,34 @@ ghost use Rattle.std.specs.Prelude.{◌≡◌, false, Err, IsTrue};
 ghost use Rattle.odb_engine.specs.Inputs.{IsFresh, ReadsFew, SomeDocument};
 ghost use Rattle.odb_engine.specs.Cascade.{Answers};
 ghost use Rattle.odb_engine.specs.Engines.{Ends};
+ghost use Rattle.odb_engine.specs.Forms.{InForm};
 ghost use Rattle.odb_engine.specs.Commands as commands;
 
 use crate::command::{Command, answer};
 use crate::ending::{Ended, EngineFault};
+use crate::form::Form;
 use crate::halt::Halt;
-use crate::setup::Setup;
+use crate::plan_json::plan_json;
+use crate::setup::{Options, Setup};
 use odb_check::Plan;
 use odb_doc::{Batch, Input, Output};
 use std::alloc::Global;
 use std::io::{Read, Write};
 
 /// Prints the plan.
-struct Plans;
+#[derive(Drop)]
+struct Plans {
+    form: Form,
+}
 
 impl Command for Plans {
-    ghost writes = { λ _. commands.Plans };
+    ghost writes = { λ self. commands.PlansIn self.form };
 
     fn text(&self, alloc: Global, _batch: &Batch<'_>, plan: &Plan<'_>) -> Result<String, Halt> {
-        Ok(plan.text(alloc)?)
+        match self.form {
+            Form::Lines => Ok(plan.text(alloc)?),
+            Form::Json => Ok(plan_json(alloc, plan)?),
+        }
     }
 }
 
@@ -67,5 +76,35 @@ pub fn plan_batch_with<R: Read, W: Write>(
     ensures memory { result ≡ Err EngineFault.OutOfMemory → output.new ≡ output.old }
     ensures reads { ReadsFew R.remaining input.old input.new }
 {
-    answer(alloc, input, output, &Plans, setup)
+    plan_batch_as(
+        alloc,
+        input,
+        output,
+        Options {
+            form: Form::Lines,
+            setup,
+        },
+    )
+}
+
+/// Does what [`plan_batch`] does, in a form and with a setup of the caller's.
+///
+/// # Errors
+///
+/// Those of [`crate::check_batch`].
+pub fn plan_batch_as<R: Read, W: Write>(
+    alloc: Global,
+    input: &mut Input<R>,
+    output: &mut Output<W>,
+    options: Options,
+) -> Result<Ended, EngineFault>
+    requires input { IsFresh input.old }
+    requires output { output.old.failed ≡ false }
+    ensures ends { SomeDocument (R.remaining input.old.reader) (λ bytes. Ends W.contents
+        (InForm options.form (Answers (commands.PlansIn options.form) bytes)) (IsTrue input.new.failed)
+        output.old output.new result) }
+    ensures memory { result ≡ Err EngineFault.OutOfMemory → output.new ≡ output.old }
+    ensures reads { ReadsFew R.remaining input.old input.new }
+{
+    answer(alloc, input, output, &Plans { form: options.form }, options)
 }

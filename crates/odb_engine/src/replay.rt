@@ -8,17 +8,19 @@ ghost use Rattle.odb_engine.specs.declared.ending.Ended.TheVariants.{Done};
 ghost use Rattle.odb_engine.specs.declared.halt.Halt.TheVariants as halts;
 ghost use Rattle.odb_engine.specs.Cascade.{Answers};
 ghost use Rattle.odb_engine.specs.Engines.{Ends};
+ghost use Rattle.odb_engine.specs.Forms.{InForm};
 ghost use Rattle.odb_engine.specs.Inputs.{AskedFor, IsFresh, ReadsFew, SomeDocument};
 ghost use Rattle.odb_engine.specs.Replays as replays;
 ghost use Rattle.odb_engine.specs.Halts.{Refuses, Halted};
 
 use crate::ending::{Ended, EngineFault, Sent};
+use crate::form::Form;
 use crate::halt::Halt;
 use crate::held::{Held, Remains};
 use crate::input::value_of;
 use crate::output::send;
 use crate::pair::{PairCommand, answer_pair};
-use crate::setup::Setup;
+use crate::setup::{Options, Setup};
 use crate::trace::trace_part;
 use odb_check::Plan;
 use odb_doc::{Input, Outcomes, Output, Place};
@@ -56,7 +58,7 @@ struct Replay<C> {
     policy: Policy,
     chooser: C,
     traced: bool,
-    setup: Setup,
+    options: Options,
 }
 
 /// Executes a plan by recorded outcomes.
@@ -82,7 +84,7 @@ fn run_of<'a: 'p, 'p>(
     let _count = outcomes.len();
     let mut service = Held {
         value: Recorded::new(alloc, plan, outcomes)?,
-        remains: replay.setup.remains,
+        remains: replay.options.setup.remains,
     };
     let chooser = &mut *replay.chooser;
     let trace = execute(alloc, plan, replay.policy, chooser, &mut service.value)?;
@@ -96,8 +98,10 @@ impl<'c> PairCommand for Replay<&'c mut dyn Chooser> {
 
     ghost streams = { λ _. Unit {0} };
 
-    fn setup(&self) -> Setup {
-        self.setup
+    ghost form = { λ self. self.options.form };
+
+    fn options(&self) -> Options {
+        self.options
     }
 
     fn perform<S: Read, W: Write>(
@@ -107,7 +111,7 @@ impl<'c> PairCommand for Replay<&'c mut dyn Chooser> {
         second: &mut Input<S>,
         output: &mut Output<W>,
     ) -> Sent {
-        let (remains, traced) = (self.setup.remains, self.traced);
+        let (remains, traced) = (self.options.setup.remains, self.traced);
         let outcomes = outcomes_of(alloc, second, remains)?;
         let trace = Held {
             value: run_of(alloc, plan, outcomes, self)?,
@@ -194,11 +198,52 @@ pub fn replay_batch_with<R: Read, S: Read, W: Write>(
     ensures batch { ReadsFew R.remaining batch.old batch.new }
     ensures outcomes { ReadsFew S.remaining outcomes.old outcomes.new }
 {
+    replay_batch_as(
+        alloc,
+        batch,
+        outcomes,
+        output,
+        policy,
+        chooser,
+        traced,
+        Options {
+            form: Form::Lines,
+            setup,
+        },
+    )
+}
+
+/// Does what [`replay_batch`] does, with faults in a form and with a setup of the caller's.
+///
+/// # Errors
+///
+/// Those of [`replay_batch`].
+pub fn replay_batch_as<R: Read, S: Read, W: Write>(
+    alloc: Global,
+    batch: &mut Input<R>,
+    outcomes: &mut Input<S>,
+    output: &mut Output<W>,
+    policy: Policy,
+    chooser: &mut dyn Chooser,
+    traced: bool,
+    options: Options,
+) -> Result<Ended, EngineFault>
+    requires batch { IsFresh batch.old }
+    requires outcomes { IsFresh outcomes.old }
+    requires output { output.old.failed ≡ false }
+    ensures ends { SomeDocument (R.remaining batch.old.reader) (λ bytes. Ends W.contents
+        (InForm options.form (Answers (replays.Replays (allows chooser.old) policy traced
+        (S.remaining outcomes.old.reader)) bytes))
+        (IsTrue batch.new.failed ⊎ IsTrue outcomes.new.failed) output.old output.new result
+        × AskedFor R.remaining batch.old batch.new bytes outcomes.old outcomes.new) }
+    ensures batch { ReadsFew R.remaining batch.old batch.new }
+    ensures outcomes { ReadsFew S.remaining outcomes.old outcomes.new }
+{
     let mut replay = Replay {
         policy,
         chooser,
         traced,
-        setup,
+        options,
     };
     answer_pair(alloc, batch, outcomes, output, &mut replay)
 }

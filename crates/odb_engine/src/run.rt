@@ -6,18 +6,20 @@ ghost use Rattle.odb_engine.specs.declared.ending.Ended.TheVariants as ends;
 ghost use Rattle.odb_engine.specs.declared.halt.Halt.TheVariants as halts;
 ghost use Rattle.odb_engine.specs.Cascade.{Answers};
 ghost use Rattle.odb_engine.specs.Engines.{Ends};
+ghost use Rattle.odb_engine.specs.Forms.{InForm};
 ghost use Rattle.odb_engine.specs.Inputs.{AskedFor, IsFresh, ReadsFew, SomeDocument};
 ghost use Rattle.odb_engine.specs.Lines.{response_line};
 ghost use Rattle.odb_engine.specs.Runs as runs;
 ghost use Rattle.odb_engine.specs.Halts.{Halted};
 
 use crate::ending::{Ended, EngineFault, Sent};
+use crate::form::Form;
 use crate::halt::Halt;
 use crate::held::{Held, Remains};
 use crate::input::value_of;
 use crate::output::send;
 use crate::pair::{PairCommand, answer_pair};
-use crate::setup::Setup;
+use crate::setup::{Options, Setup};
 use odb_check::Plan;
 use odb_doc::{Events, Input, Output, Place, Refusal};
 use odb_reply::laws::every_response;
@@ -26,7 +28,7 @@ use std::alloc::Global;
 use std::io::{Read, Write};
 
 /// F66: no event is refused, but the run is unfinished after the last.
-const UNFINISHED: Halt = Halt::Refused(Refusal {
+pub(crate) const UNFINISHED: Halt = Halt::Refused(Refusal {
     code: "F66",
     name: "Unfinished",
     place: Place::Events,
@@ -85,7 +87,7 @@ fn done_of<'a: 'p, 'p>(
 #[derive(Drop)]
 struct Run {
     policy: Policy,
-    setup: Setup,
+    options: Options,
 }
 
 impl PairCommand for Run {
@@ -93,8 +95,10 @@ impl PairCommand for Run {
 
     ghost streams = { λ _. Unit {0} };
 
-    fn setup(&self) -> Setup {
-        self.setup
+    ghost form = { λ self. self.options.form };
+
+    fn options(&self) -> Options {
+        self.options
     }
 
     fn perform<S: Read, W: Write>(
@@ -104,7 +108,7 @@ impl PairCommand for Run {
         second: &mut Input<S>,
         output: &mut Output<W>,
     ) -> Sent {
-        let remains = self.setup.remains;
+        let remains = self.options.setup.remains;
         let events = events_of(alloc, second, remains)?;
         let done = Held {
             value: done_of(alloc, plan, events, self.policy, remains)?,
@@ -176,5 +180,42 @@ pub fn run_batch_with<R: Read, S: Read, W: Write>(
     ensures batch { ReadsFew R.remaining batch.old batch.new }
     ensures events { ReadsFew S.remaining events.old events.new }
 {
-    answer_pair(alloc, batch, events, output, &mut Run { policy, setup })
+    run_batch_as(
+        alloc,
+        batch,
+        events,
+        output,
+        policy,
+        Options {
+            form: Form::Lines,
+            setup,
+        },
+    )
+}
+
+/// Does what [`run_batch`] does, with faults in a form and with a setup of the caller's.
+///
+/// # Errors
+///
+/// Those of [`run_batch`].
+pub fn run_batch_as<R: Read, S: Read, W: Write>(
+    alloc: Global,
+    batch: &mut Input<R>,
+    events: &mut Input<S>,
+    output: &mut Output<W>,
+    policy: Policy,
+    options: Options,
+) -> Result<Ended, EngineFault>
+    requires batch { IsFresh batch.old }
+    requires events { IsFresh events.old }
+    requires output { output.old.failed ≡ false }
+    ensures ends { SomeDocument (R.remaining batch.old.reader) (λ bytes. Ends W.contents
+        (InForm options.form (Answers (runs.Runs policy (S.remaining events.old.reader)) bytes))
+        (IsTrue batch.new.failed ⊎ IsTrue events.new.failed) output.old output.new result
+        × AskedFor R.remaining batch.old batch.new bytes events.old events.new) }
+    ensures batch { ReadsFew R.remaining batch.old batch.new }
+    ensures events { ReadsFew S.remaining events.old events.new }
+{
+    let mut run = Run { policy, options };
+    answer_pair(alloc, batch, events, output, &mut run)
 }

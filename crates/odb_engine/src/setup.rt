@@ -1,6 +1,7 @@
 ghost use Rattle.std.specs.Prelude.{◌≡◌, None};
 ghost use Rattle.odb_engine.specs.declared.held.Remains.TheVariants.{Dropped};
 
+use crate::form::Form;
 use crate::held::Remains;
 use odb_check::Seed;
 
@@ -27,4 +28,11 @@ impl Setup {
             remains: Remains::Dropped,
         }
     }
+}
+
+/// The form of what an engine writes, and its setup.
+#[derive(Clone, Copy, Drop)]
+pub struct Options {
+    pub form: Form,
+    pub setup: Setup,
 }

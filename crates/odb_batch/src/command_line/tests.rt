@@ -1,31 +1,40 @@
-use super::{BadArguments, Replay, Task, Text};
+use super::{BadArguments, Form, Replay, Run, Task, Text};
 use clap::error::ErrorKind;
-use odb_sched::Policy;
 use std::alloc::{AllocError, Global};
 use std::test::Fail;
 
 /// Arguments, and what is read from them.
-const READINGS: [(&str, &str); 93] = [
+const READINGS: [(&str, &str); 104] = [
     ("", "check -"),
     (" check", "check -"),
     (" check F", "check F"),
     (" check F G", "rejected"),
     (" check --stop", "rejected"),
+    (" check --json", "check - json"),
+    (" check F --json", "check F json"),
+    (" check --json --json", "rejected"),
     (" plan", "rejected"),
     (" plan F", "plan F"),
     (" plan F G", "rejected"),
     (" plan F --order last", "rejected"),
+    (" plan --json F", "plan F json"),
     (" canon", "rejected"),
     (" canon F", "canon F"),
     (" canon F G", "rejected"),
+    (" canon F --json", "canon F json"),
     (" match", "rejected"),
     (" match F", "rejected"),
     (" match F G", "match F G"),
     (" match F G --stop", "rejected"),
+    (" match F --json G", "match F G json"),
     (" replay", "rejected"),
     (" replay F", "rejected"),
     (" replay F G", "replay F G First Continue 10000 false"),
     (" replay F G H", "rejected"),
+    (
+        " replay F G --json --trace",
+        "replay F G First Continue 10000 true json",
+    ),
     (
         " replay F G --order first",
         "replay F G First Continue 10000 false",
@@ -103,6 +112,7 @@ const READINGS: [(&str, &str); 93] = [
     (" run F", "rejected"),
     (" run F G", "run F G Continue 10000"),
     (" run F G --stop", "run F G Stop 10000"),
+    (" run F G --json", "run F G Continue 10000 json"),
     (" run F G --width 3", "run F G Continue 3"),
     (" run --width=1 F G --stop", "run F G Stop 1"),
     (" run F G --width 0", "width"),
@@ -116,6 +126,7 @@ const READINGS: [(&str, &str); 93] = [
     (" explain forwardname", "explain forwardname"),
     (" explain F41 F42", "rejected"),
     (" explain F41 --stop", "rejected"),
+    (" explain F41 --json", "rejected"),
     (" completions", "rejected"),
     (" completions bash", "completions Bash"),
     (" completions zsh", "completions Zsh"),
@@ -124,6 +135,8 @@ const READINGS: [(&str, &str); 93] = [
     (" completions bash zsh", "rejected"),
     (" man", "man"),
     (" man page", "rejected"),
+    (" man --json", "rejected"),
+    (" --json", "rejected"),
     (" other", "rejected"),
     (" --stop", "rejected"),
     (" help", "rejected"),
@@ -151,17 +164,19 @@ fn reading(alloc: Global, line: &str) -> Result<String, AllocError> {
 
 fn described(alloc: Global, task: Result<Task<'_>, BadArguments>) -> Result<String, AllocError> {
     match task {
-        Ok(Task::Check { file }) => format!(in alloc; "check {}", file.unwrap_or("-")),
-        Ok(Task::Plan { file }) => format!(in alloc; "plan {file}"),
-        Ok(Task::Canon { file }) => format!(in alloc; "canon {file}"),
-        Ok(Task::Match { file, responses }) => format!(in alloc; "match {file} {responses}"),
+        Ok(Task::Check { file, form }) => {
+            format!(in alloc; "check {}{}", file.unwrap_or("-"), form_text(form))
+        }
+        Ok(Task::Plan { file, form }) => format!(in alloc; "plan {file}{}", form_text(form)),
+        Ok(Task::Canon { file, form }) => format!(in alloc; "canon {file}{}", form_text(form)),
         Ok(
-            Task::Run {
+            Task::Match {
                 file,
-                events,
-                policy,
+                responses,
+                form,
             },
-        ) => described_run(alloc, file, events, policy),
+        ) => { format!(in alloc; "match {file} {responses}{}", form_text(form)) }
+        Ok(Task::Run(run)) => described_run(alloc, &run),
         Ok(Task::Print(text)) => described_text(alloc, text),
         Ok(Task::Replay(replay)) => described_replay(alloc, &replay),
         Err(BadArguments::Width) => String::from_str(alloc, "width"),
@@ -178,15 +193,24 @@ fn described_text(alloc: Global, text: Text<'_>) -> Result<String, AllocError> {
     }
 }
 
-fn described_run(
-    alloc: Global,
-    file: &str,
-    events: &str,
-    policy: Policy,
-) -> Result<String, AllocError> {
+/// Describes a form, with a space before it; lines of words are described by nothing.
+fn form_text(form: Form) -> &'static str {
+    match form {
+        Form::Lines => "",
+        Form::Json => " json",
+    }
+}
+
+fn described_run(alloc: Global, run: &Run<'_>) -> Result<String, AllocError> {
+    let Run {
+        file,
+        events,
+        policy,
+        form,
+    } = *run;
     let mode = policy.mode;
     let width = policy.width;
-    format!(in alloc; "run {file} {events} {mode:?} {width}")
+    format!(in alloc; "run {file} {events} {mode:?} {width}{}", form_text(form))
 }
 
 fn described_replay(alloc: Global, replay: &Replay<'_>) -> Result<String, AllocError> {
@@ -196,10 +220,14 @@ fn described_replay(alloc: Global, replay: &Replay<'_>) -> Result<String, AllocE
         order,
         policy,
         traced,
+        form,
     } = *replay;
     let mode = policy.mode;
     let width = policy.width;
-    format!(in alloc; "replay {file} {outcomes} {order:?} {mode:?} {width} {traced}")
+    format!(in alloc;
+        "replay {file} {outcomes} {order:?} {mode:?} {width} {traced}{}",
+        form_text(form)
+    )
 }
 
 fn kind_of(kind: ErrorKind) -> &'static str {

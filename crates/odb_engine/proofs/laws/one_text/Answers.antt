@@ -1,6 +1,6 @@
 use Rattle.std.proofs.Common.{◌∙◌, Some, sym}
-use Rattle.odb_engine.specs.Commands.{BySecond, Canonical, Counts, Plans}
-use Rattle.odb_engine.specs.Matches.{Matches}
+use Rattle.odb_engine.specs.Commands.{BySecond, Canonical, CountsIn, PlansIn}
+use Rattle.odb_engine.specs.Matches.{MatchesIn}
 use Rattle.odb_engine.proofs.CanonLawLemmas.{canonical_one}
 use Rattle.odb_engine.proofs.LawLemmas.{AreFunctional, answers_one}
 use Rattle.odb_engine.proofs.MatchLawLemmas.{AreOneMatch, match_one}
@@ -24,8 +24,8 @@ returns c =
       one_table = c.one_match.ensures.table;
     } in
     record {
-      check = λ bytes. answers_one law Counts bytes (λ batch good a b s t x y. (x.0 ∙ sym y.0, x.1 ∙ sym y.1));
-      plan = λ bytes. answers_one law Plans bytes (λ batch good a b s t x y. (x.0 ∙ sym y.0, x.1 ∙ sym y.1));
+      check = λ form bytes. answers_one law (CountsIn form) bytes (λ batch good a b s t x y. (x.0 ∙ sym y.0, x.1 ∙ sym y.1));
+      plan = λ form bytes. answers_one law (PlansIn form) bytes (λ batch good a b s t x y. (x.0 ∙ sym y.0, x.1 ∙ sym y.1));
       canon = λ bytes. answers_one law Canonical bytes (λ batch good. canonical_one batch);
-      matching = λ bytes responses. answers_one law (BySecond (Some responses) Matches) bytes (λ batch good. match_one reply responses batch);
+      matching = λ form bytes responses. answers_one law (BySecond (Some responses) (MatchesIn form)) bytes (λ batch good. match_one reply form responses batch);
     }

@@ -3,10 +3,11 @@ use Rattle.odb_doc.specs.recorded.OutcomeLists.{entries}
 use Rattle.odb_check.specs.Plans.{plan_records}
 use Rattle.odb_engine.specs.declared.ending.Ended.TheVariants.{Refused}
 use Rattle.odb_engine.specs.Cascade.{Prints, line_of}
+use Rattle.odb_engine.specs.Forms.{InForm}
 use Rattle.odb_engine.specs.Halts.{Sent}
 use Rattle.odb_engine.specs.Lines.{response_line}
 use Rattle.odb_engine.specs.Replays.{IsLeastOfOutcomes, LacksOutcome, ReplaysBatch, result_text}
-use Rattle.odb_engine.proofs.EngineLemmas.{exit-error, at-exit, halted-by, Ends-weaker, Refuses-weaker, Halted-weaker, printed, reports}
+use Rattle.odb_engine.proofs.EngineLemmas.{exit-error, at-exit, halted-by, Ends-weaker, Refuses-weaker, Halted-weaker, done_in, printed, reports}
 use Rattle.odb_engine.proofs.replay.ReplayRefMutDynChooserPairCommand.perform.Goals as goal
 
 pub returns-in_err-outcomes-clause-sent : goal.returns-in_err-outcomes-clause-sent
@@ -19,7 +20,7 @@ returns-in_err-outcomes-clause-sent g c =
     let halt = c.in_err-outcomes.field-0.0 in (
       bytes,
       gives,
-      exit-error (Sent g.W.Write.contents writes ⊥ c.args.output.now c.args.output.now) halt _ c.from_residual.ensures.1
+      exit-error (Sent g.W.Write.contents c.args.self.now.options.form writes ⊥ c.args.output.now c.args.output.now) halt _ c.from_residual.ensures.1
           (refl, Halted-weaker (IsLeastOfOutcomes bytes) (λ refusal. writes Refused (line_of refusal)) (λ refusal is. inl (reports (IsLeastOfOutcomes bytes) refusal is)) halt least),
     )
 
@@ -34,7 +35,7 @@ returns-in_err-run_of-clause-sent g c =
     let halt = c.in_err-run_of.field-0.0 in (
       bytes,
       gives,
-      exit-error (Sent g.W.Write.contents writes ⊥ c.args.output.now c.args.output.now) halt _ c.from_residual-in_err-run_of.ensures.1
+      exit-error (Sent g.W.Write.contents c.args.self.now.options.form writes ⊥ c.args.output.now c.args.output.now) halt _ c.from_residual-in_err-run_of.ensures.1
           (refl, Refuses-weaker (LacksOutcome allows replay.policy batch recorded) writes halt (λ ended text lacks. inr (recorded, record_of, inr lacks)) c.in_err-run_of.ensures.lacks),
     )
 
@@ -46,7 +47,7 @@ returns-in_err-start-clause-sent g c =
     let writes = ReplaysBatch allows replay.policy replay.traced (plan_records c.args.plan.now) bytes in (
       bytes,
       gives,
-      at-exit (Sent g.W.Write.contents writes ⊥ c.args.output.now c.args.output.now) _ _ c.from_residual-in_err-start.ensures.1
+      at-exit (Sent g.W.Write.contents c.args.self.now.options.form writes ⊥ c.args.output.now c.args.output.now) _ _ c.from_residual-in_err-start.ensures.1
           (λ halt by. (refl, halted-by (λ refusal. writes Refused (line_of refusal)) _ (λ refusal row. absurd (cc (row))) halt by)),
     )
 
@@ -61,6 +62,6 @@ returns-clause-sent g c =
     let line = result_text replay.traced trace.done trace.steps.items in (
       bytes,
       gives,
-      Ends-weaker g.W.Write.contents (Prints (c.deref.result.now ++ response_line trace.done)) writes ⊥ ⊥ c.args.output.now c.send.new.output c.send.result
-          (rw (c.deref.ensures, c.in_ok-start.ensures) (printed writes line (inr (entries c.in_ok-outcomes.outcomes, record_of, inl (c.in_ok-run_of.ensures.result replay.traced))))) (λ f. f, λ f. f) c.send.ensures,
+      Ends-weaker g.W.Write.contents (Prints (c.deref.result.now ++ response_line trace.done)) (InForm c.args.self.now.options.form writes) ⊥ ⊥ c.args.output.now c.send.new.output c.send.result
+          (rw (c.deref.ensures, c.in_ok-start.ensures) (printed (InForm c.args.self.now.options.form writes) line (done_in c.args.self.now.options.form writes line (inr (entries c.in_ok-outcomes.outcomes, record_of, inl (c.in_ok-run_of.ensures.result replay.traced)))))) (λ f. f, λ f. f) c.send.ensures,
     )

@@ -3,10 +3,11 @@ use Rattle.odb_doc.specs.recorded.EventLists.{entries}
 use Rattle.odb_check.specs.Plans.{plan_records}
 use Rattle.odb_engine.specs.declared.ending.Ended.TheVariants.{Refused}
 use Rattle.odb_engine.specs.Cascade.{Prints, line_of}
+use Rattle.odb_engine.specs.Forms.{InForm}
 use Rattle.odb_engine.specs.Halts.{Sent}
 use Rattle.odb_engine.specs.Lines.{response_line}
 use Rattle.odb_engine.specs.Runs.{IsLeastOfEvents, IsLeastOfRun, RunsBatch}
-use Rattle.odb_engine.proofs.EngineLemmas.{exit-error, Ends-weaker, Halted-weaker, printed, reports}
+use Rattle.odb_engine.proofs.EngineLemmas.{exit-error, Ends-weaker, Halted-weaker, done_in, printed, reports}
 use Rattle.odb_engine.proofs.run.RunPairCommand.perform.Goals as goal
 
 pub returns-in_err-events-clause-sent : goal.returns-in_err-events-clause-sent
@@ -17,7 +18,7 @@ returns-in_err-events-clause-sent g c =
     let halt = c.in_err-events.field-0.0 in (
       bytes,
       gives,
-      exit-error (Sent g.W.Write.contents writes ⊥ c.args.output.now c.args.output.now) halt _ c.from_residual.ensures.1
+      exit-error (Sent g.W.Write.contents c.args.self.now.options.form writes ⊥ c.args.output.now c.args.output.now) halt _ c.from_residual.ensures.1
           (refl, Halted-weaker (IsLeastOfEvents bytes) (λ refusal. writes Refused (line_of refusal)) (λ refusal is. inl (reports (IsLeastOfEvents bytes) refusal is)) halt least),
     )
 
@@ -32,7 +33,7 @@ returns-in_err-done_of-clause-sent g c =
     let halt = c.in_err-done_of.field-0.0 in (
       bytes,
       gives,
-      exit-error (Sent g.W.Write.contents writes ⊥ c.args.output.now c.args.output.now) halt _ c.from_residual-in_err-done_of.ensures.1
+      exit-error (Sent g.W.Write.contents c.args.self.now.options.form writes ⊥ c.args.output.now c.args.output.now) halt _ c.from_residual-in_err-done_of.ensures.1
           (refl, Halted-weaker least (λ refusal. writes Refused (line_of refusal)) (λ refusal is. inr (named, are, inl (reports least refusal is))) halt c.in_err-done_of.ensures.least),
     )
 
@@ -44,6 +45,6 @@ returns-clause-sent g c =
     let line = response_line c.in_ok-done_of.field-0 in (
       bytes,
       gives,
-      Ends-weaker g.W.Write.contents (Prints line) writes ⊥ ⊥ c.args.output.now c.send.new.output c.send.result
-          (printed writes line (inr (entries c.in_ok-events.events, are, inr c.in_ok-done_of.ensures.result))) (λ f. f, λ f. f) c.send.ensures,
+      Ends-weaker g.W.Write.contents (Prints line) (InForm c.args.self.now.options.form writes) ⊥ ⊥ c.args.output.now c.send.new.output c.send.result
+          (printed (InForm c.args.self.now.options.form writes) line (done_in c.args.self.now.options.form writes line (inr (entries c.in_ok-events.events, are, inr c.in_ok-done_of.ensures.result)))) (λ f. f, λ f. f) c.send.ensures,
     )

@@ -5,7 +5,7 @@ use Rattle.odb_doc.specs.batch.Records.{record_of}
 use Rattle.odb_engine.specs.Lines.{fit_line}
 use Rattle.odb_engine.specs.Matches.{status_line}
 use Rattle.odb_engine.proofs.MatchLemmas.{lines_left, lines_left-first, lines_left-next, lines_left-none}
-use Rattle.odb_engine.proofs.match_responses.match_text.Goals as goal
+use Rattle.odb_engine.proofs.match_responses.match_lines.Goals as goal
 
 pub loop-i-init : goal.loop-i-init
 loop-i-init c =

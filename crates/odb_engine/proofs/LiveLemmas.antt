@@ -1,0 +1,87 @@
+-- Runs that go on after recorded events.
+use Rattle.std.proofs.Common.{◌≡◌, ℕ, List, Option, Some, None, Result, Ok, Err, IfOk, IfErr, String, string_bytes, true, inl, inr, refl, subst}
+use Rattle.std.specs.declared.alloc.Global.{Global}
+use Rattle.serde_json.specs.Data.{Data}
+use Rattle.odb_doc.specs.declared.fault.DocFault.{DocFault}
+use Rattle.odb_doc.specs.declared.fault.TextFault.{TextFault}
+use Rattle.odb_doc.specs.declared.fault.TextFault.TheVariants as texts
+use Rattle.odb_doc.specs.Documents.{IsDocument}
+use Rattle.odb_doc.specs.Faults.{document_row, text_row}
+use Rattle.odb_doc.specs.Refusals.{Printed}
+use Rattle.odb_doc.specs.batch.LeastFault.{IsWellShaped, IsLeastFault}
+use Rattle.odb_doc.specs.batch.Records.{Record, IsBatchOf}
+use Rattle.odb_doc.specs.recorded.Events.{EventValue}
+use Rattle.odb_check.specs.LeastNameFault.{HasGoodNames}
+use Rattle.odb_sched.specs.declared.event.Event.{Event}
+use Rattle.odb_sched.specs.declared.policy.Policy.{Policy}
+use Rattle.odb_sched.specs.declared.refusal.RunRefusal.{RunRefusal}
+use Rattle.odb_sched.specs.declared.refusal.RunRefusal.TheVariants as refusals
+use Rattle.odb_sched.specs.declared.resolving.ResolveFault.{ResolveFault}
+use Rattle.odb_sched.specs.declared.resolving.ResolveFault.TheVariants as faults
+use Rattle.odb_sched.specs.Refusals.{run_row}
+use Rattle.odb_sched.specs.ResolveFaults.{resolve_row}
+use Rattle.odb_sched.specs.Resolving.{RefusesNamed}
+use Rattle.odb_sched.specs.Runs.{Refuses}
+use Rattle.odb_sched.specs.State.{State, first_state}
+use Rattle.odb_sched.specs.Steps.{is_finished}
+use Rattle.odb_reply.specs.NotWhole.{IsFirstNotWhole}
+use Rattle.odb_engine.specs.declared.ending.Ended.{Ended}
+use Rattle.odb_engine.specs.declared.ending.Ended.TheVariants.{Done, Refused}
+use Rattle.odb_engine.specs.declared.halt.Halt.{Halt}
+use Rattle.odb_engine.specs.Cascade.{Accepts, IsLeast, Writes, line_of}
+use Rattle.odb_engine.specs.Cascade.IsLeast.{OfShape, OfNames}
+use Rattle.odb_engine.specs.Halts.{Found, Halted, RefusesNamesOf}
+use Rattle.odb_engine.specs.Lines.{response_line}
+use Rattle.odb_engine.specs.Live.{IsLeastAfter, IsLeastOfState, ShowsState}
+use Rattle.odb_engine.specs.Live.IsLeastAfter.{OfIds, OfEvent}
+use Rattle.odb_engine.specs.Live.IsLeastOfState.{OfBody}
+use Rattle.odb_engine.specs.Runs.{AreEventsIn, AreResolved}
+use Rattle.odb_engine.proofs.EngineLemmas.{Halted-weaker, Refuses-weaker, reports}
+
+-- an event that names no request
+pub unknown-after : (policy : Policy) (batch : List Record) (bytes : List ℕ) (named : List EventValue) → AreEventsIn bytes named → (cause : ResolveFault) → RefusesNamed cause batch named
+    → (shown : Printed) → resolve_row cause ≡ Some shown → IsLeastAfter policy batch bytes shown
+unknown-after policy batch bytes named are (faults.UnknownEvent at) first shown row = OfIds named are at first row
+unknown-after policy batch bytes named are faults.OutOfMemory first shown row = absurd (cc row)
+
+-- an event that may not come
+pub barred-after : (policy : Policy) (batch : List Record) (bytes : List ℕ) (named : List EventValue) → AreEventsIn bytes named → (events : List Event) (cause : RunRefusal) → AreResolved batch named events
+    → Refuses (first_state batch policy) events cause → (shown : Printed) → run_row cause ≡ Some shown → IsLeastAfter policy batch bytes shown
+barred-after policy batch bytes named are events (refusals.Start at cause) resolved stops shown row = OfEvent named are events (refusals.Start at cause) resolved stops row
+barred-after policy batch bytes named are events (refusals.Report at cause) resolved stops shown row = OfEvent named are events (refusals.Report at cause) resolved stops row
+barred-after policy batch bytes named are events refusals.OutOfMemory resolved stops shown row = absurd (cc row)
+
+-- a body that holds a number that is not whole
+pub not-whole : (state : State) → is_finished state ≡ true → (fault : TextFault) → ((at : ℕ) → fault ≡ texts.NotWhole at → IsFirstNotWhole state at)
+    → (shown : Printed) → text_row fault ≡ Some shown → IsLeastOfState state shown
+not-whole state finished (texts.NotWhole at) first shown row = OfBody at finished (first at refl) row
+not-whole state finished texts.OutOfMemory first shown row = absurd (cc row)
+
+-- what is found of a state that is finished is what is shown of it
+pub found-of : (state : State) (found : Result (String Global) Halt) → is_finished state ≡ true → IfOk found (λ text. string_bytes text ≡ response_line state) → IfErr found (Halted (IsLeastOfState state)) → Found (ShowsState state) found
+found-of state (Ok text) finished is least = inr (finished, (refl, is))
+found-of state (Err halt) finished is least =
+    Halted-weaker (IsLeastOfState state) (λ refusal. ShowsState state Refused (line_of refusal)) (λ refusal so. inl (reports (IsLeastOfState state) refusal so)) halt least
+
+-- the batch that was read is accepted
+pub accepted : (bytes : List ℕ) (value : Data) (batch planned : List Record) (P : List Record → Type 0) → IsDocument bytes value → IsWellShaped value → IsBatchOf value batch → HasGoodNames batch
+    → planned ≡ batch → P planned → Accepts bytes P
+accepted bytes value batch planned P is shape is_batch names same so = record { value = value; document = is; shape = shape; batch = batch; is_batch = is_batch; names = names; holds = subst P same so }
+
+-- a fault of the shape of a batch document
+pub least-shape : (bytes : List ℕ) (fault : DocFault) (value : Data) → IsDocument bytes value → IsLeastFault fault value → (shown : Printed) → document_row fault ≡ Some shown → IsLeast bytes shown
+least-shape bytes fault value is least shown row = OfShape fault (record { value = value; document = is; holds = least }) row
+
+-- a fault of the names of its requests
+pub least-names : (bytes : List ℕ) (value : Data) (batch : List Record) → IsDocument bytes value → IsWellShaped value → IsBatchOf value batch → (shown : Printed) → RefusesNamesOf batch shown → IsLeast bytes shown
+least-names bytes value batch is shape is_batch shown refuses =
+    OfNames refuses.fault (record { value = value; document = is; holds = record { batch = batch; shape = shape; is_batch = is_batch; holds = refuses.refuses } }) refuses.is
+
+pub if-error : {T E : Type 0} (r : Result T E) (P Q : E → Type 0) → ((error : E) → P error → Q error) → IfErr r P → IfErr r Q
+if-error (Ok value) P Q to so = tt
+if-error (Err error) P Q to so = to error so
+
+-- what may be found in less cases may be found
+pub found-weaker : (P Q : Writes) (found : Result (String Global) Halt) → ((ended : Ended) (text : List ℕ) → P ended text → Q ended text) → Found P found → Found Q found
+found-weaker P Q (Ok text) to so = to Done (string_bytes text) so
+found-weaker P Q (Err halt) to so = Refuses-weaker P Q halt to so

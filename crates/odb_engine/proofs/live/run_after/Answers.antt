@@ -1,0 +1,50 @@
+-- A run after recorded events.
+use Rattle.std.proofs.Common.{IfErr, ap}
+use Rattle.odb_doc.specs.declared.fault.Place.TheVariants.{Events}
+use Rattle.odb_doc.specs.recorded.EventLists.{entries}
+use Rattle.odb_check.specs.Plans.{plan_records}
+use Rattle.odb_sched.specs.State.{without_requests}
+use Rattle.odb_engine.specs.Cascade.{RefusesBytes}
+use Rattle.odb_engine.specs.Cascade.IsLeastOf.{OfBytes, OfValue}
+use Rattle.odb_engine.specs.Halts.{Halted}
+use Rattle.odb_engine.specs.Live.{IsLeastAfter}
+use Rattle.odb_engine.specs.Live.IsLeastAfter.{OfDocument}
+use Rattle.odb_engine.specs.Runs.{AreEventsIn}
+use Rattle.odb_engine.proofs.EngineLemmas.{at-exit, exit-error, halted-by, Halted-weaker}
+use Rattle.odb_engine.proofs.LiveLemmas.{unknown-after, barred-after}
+use Rattle.odb_engine.proofs.live.run_after.Goals as goal
+
+pub returns-in_err-value-clause-least : goal.returns-in_err-value-clause-least
+returns-in_err-value-clause-least c =
+    let least = IsLeastAfter c.args.policy (plan_records c.args.plan.now) c.args.events.now in
+    exit-error (λ r. IfErr r (Halted least)) _ _ c.from_residual.ensures.1
+    (Halted-weaker (RefusesBytes Events c.args.events.now) least (λ refusal is. OfDocument (OfBytes is)) _ c.in_err-value.ensures.fault)
+
+pub returns-in_err-named-clause-least : goal.returns-in_err-named-clause-least
+returns-in_err-named-clause-least c =
+    let least = IsLeastAfter c.args.policy (plan_records c.args.plan.now) c.args.events.now in
+    let fault = c.in_err-named.field-0.0 in
+    at-exit (λ r. IfErr r (Halted least)) _ _ c.from_residual-in_err-named.ensures.1
+    (halted-by least _ (λ refusal row. OfDocument (OfValue fault (record { value = _; document = c.in_ok-value.ensures.value; holds = c.in_err-named.ensures.least }) row)))
+
+pub returns-in_err-resolved-clause-least : goal.returns-in_err-resolved-clause-least
+returns-in_err-resolved-clause-least c =
+    let policy = c.args.policy in
+    let batch = plan_records c.args.plan.now in
+    let bytes = c.args.events.now in
+    let named = entries c.in_ok-named.named in
+    let are : AreEventsIn bytes named = record { value = _; document = c.in_ok-value.ensures.value; holds = (c.in_ok-named.ensures.good, c.in_ok-named.ensures.events) } in
+    let least = IsLeastAfter policy batch bytes in
+    at-exit (λ r. IfErr r (Halted least)) _ _ c.from_residual-in_err-resolved.ensures.1
+    (halted-by least _ (unknown-after policy batch bytes named are c.in_err-resolved.field-0.0 c.in_err-resolved.ensures.least))
+
+pub returns-in_err-scheduler-clause-least : goal.returns-in_err-scheduler-clause-least
+returns-in_err-scheduler-clause-least c =
+    let policy = c.args.policy in
+    let batch = plan_records c.args.plan.now in
+    let bytes = c.args.events.now in
+    let named = entries c.in_ok-named.named in
+    let are : AreEventsIn bytes named = record { value = _; document = c.in_ok-value.ensures.value; holds = (c.in_ok-named.ensures.good, c.in_ok-named.ensures.events) } in
+    let least = IsLeastAfter policy batch bytes in
+    at-exit (λ r. IfErr r (Halted least)) _ _ c.from_residual-in_err-scheduler.ensures.1
+    (halted-by least _ (barred-after policy batch bytes named are c.in_ok-resolved.resolved.items c.in_err-scheduler.field-0.0 c.in_ok-resolved.ensures.events c.in_err-scheduler.ensures.refused))

@@ -1,0 +1,147 @@
+ghost use Rattle.std.specs.Prelude.{◌≡◌, ◌++◌, ◌∷◌, [], true, IfOk, IfErr, string_bytes};
+ghost use Rattle.odb_check.specs.Plans.{plan_records};
+ghost use Rattle.odb_check.specs.Texts.{newline};
+ghost use Rattle.odb_sched.specs.State.{with_requests, without_requests};
+ghost use Rattle.odb_sched.specs.Steps.{is_finished};
+ghost use Rattle.odb_engine.specs.Cascade.{Accepts, Answers};
+ghost use Rattle.odb_engine.specs.Halts.{Found, Halted};
+ghost use Rattle.odb_engine.specs.Lines.{response_line};
+ghost use Rattle.odb_engine.specs.Live as live;
+
+use crate::command::plan_of;
+use crate::halt::Halt;
+use crate::held::Remains;
+use crate::input::value_in;
+use crate::run::UNFINISHED;
+use crate::setup::Setup;
+use odb_check::{Plan, Seed};
+use odb_doc::{Batch, Events, Place};
+use odb_reply::response_text;
+use odb_sched::{Done, Mode, OwnedRun, Policy, Scheduler, resolve, run};
+use std::alloc::Global;
+use std::mem::replace;
+
+/// Returns the run of a plan after the recorded events in a document.
+fn run_after(
+    alloc: Global,
+    plan: &Plan<'_>,
+    events: &[u8],
+    policy: Policy,
+) -> Result<OwnedRun, Halt>
+    ensures run { IfOk result (live.IsAfter policy (plan_records plan.now) events.now) }
+    ensures least { IfErr result
+        (Halted (live.IsLeastAfter policy (plan_records plan.now) events.now)) }
+{
+    let value = value_in(alloc, events, Place::Events)?;
+    let named = Events::read(alloc, value)?;
+    let resolved = resolve(alloc, plan, named)?;
+    let scheduler = run(alloc, plan, policy, resolved)?;
+    Ok(scheduler.into_owned())
+}
+
+/// Returns the run of the batch in a document after the recorded events in another, which may be none:
+/// `{"events":[]}`. It borrows nothing of the documents.
+///
+/// The policy sets whether an error stops the run and how many requests may run at once. Names are
+/// looked up by the seed. Takes O(n log n) time and O(n) memory for n bytes of documents; what is kept
+/// is O(requests + dependencies) and the outcomes that the events report.
+///
+/// # Errors
+///
+/// `Refused` by the least fault of the batch; else of the events document; else F65 of the first event
+/// that names no request; else the first event that may not come, with its first cause, S1 to S5 or P1
+/// and P2. `OutOfMemory` if an allocation fails. Never `Read`.
+pub fn open_run(
+    alloc: Global,
+    batch: &[u8],
+    events: &[u8],
+    policy: Policy,
+    seed: Seed,
+) -> Result<OwnedRun, Halt>
+    ensures run { IfOk result (live.Opens policy batch.now events.now) }
+    ensures least { IfErr result (Halted (live.IsLeastOfOpening policy batch.now events.now)) }
+{
+    let value = value_in(alloc, batch, Place::Batch)?;
+    let read = Batch::read(alloc, &value)?;
+    let setup = Setup {
+        seed,
+        remains: Remains::Dropped,
+    };
+    let plan = plan_of(alloc, &read, setup)?;
+    run_after(alloc, &plan.value, events, policy)
+}
+
+/// Returns the line of the response of a finished run.
+fn line_of(alloc: Global, done: &Done<'_>) -> Result<String, Halt>
+    ensures text { IfOk result (λ text. string_bytes text ≡ response_line done.now) }
+    ensures least { IfErr result (Halted (live.IsLeastOfState done.now)) }
+{
+    done.laws();
+    let mut text = response_text(alloc, done)?;
+    text.push('\n')?;
+    Ok(text)
+}
+
+/// Returns the line of the response of a run, and the run again.
+fn shown<'p>(alloc: Global, scheduler: Scheduler<'p>) -> (Scheduler<'p>, Result<String, Halt>)
+    ensures same { result.0 ≡ scheduler.entry }
+    ensures found { Found (live.ShowsState scheduler.entry) result.1 }
+{
+    if !scheduler.is_finished() {
+        return (scheduler, Err(UNFINISHED));
+    }
+    let done = scheduler.close();
+    let line = line_of(alloc, &done);
+    (done.into_scheduler(), line)
+}
+
+/// Returns the line of the response of a run of a plan. If the run is not of the plan, there is no
+/// memory for it.
+fn line_on(alloc: Global, plan: &Plan<'_>, kept: &mut OwnedRun) -> Result<String, Halt>
+    ensures same { without_requests kept.new ≡ without_requests kept.old }
+    ensures found { Found (live.ShowsState (with_requests (plan_records plan.now) kept.old)) result }
+{
+    let spare = OwnedRun::new(alloc, plan, Policy::free(Mode::Continue))?;
+    match Scheduler::of(plan, replace(kept, spare)) {
+        Ok(scheduler) => {
+            let (scheduler, line) = shown(alloc, scheduler);
+            *kept = scheduler.into_owned();
+            line
+        }
+        Err(back) => {
+            *kept = back;
+            Err(Halt::OutOfMemory)
+        }
+    }
+}
+
+/// Returns what [`crate::run_batch`] writes of a batch and a run of it that was opened by
+/// [`open_run`] and has gone on: the response and a newline if the run is finished. The run is
+/// unchanged.
+///
+/// `batch` is the document of the run, which knows its requests by their positions alone. Takes O(n
+/// log n) time and O(n) memory for n bytes of the document and of the response.
+///
+/// # Errors
+///
+/// `Refused` by the least fault of the document, which has none if it is that of the run; else F66 if
+/// the run is not finished, or F50 if it answers a request by a number that is not whole.
+/// `OutOfMemory` if an allocation fails, and if the run is one of another batch. Never `Read`.
+pub fn text_of_run(
+    alloc: Global,
+    batch: &[u8],
+    kept: &mut OwnedRun,
+    seed: Seed,
+) -> Result<String, Halt>
+    ensures same { without_requests kept.new ≡ without_requests kept.old }
+    ensures found { Found (Answers (live.Shows kept.old) batch.now) result }
+{
+    let value = value_in(alloc, batch, Place::Batch)?;
+    let read = Batch::read(alloc, &value)?;
+    let setup = Setup {
+        seed,
+        remains: Remains::Dropped,
+    };
+    let plan = plan_of(alloc, &read, setup)?;
+    line_on(alloc, &plan.value, kept)
+}
