@@ -12,10 +12,11 @@
  *   Length     `*text_length` is always set, to the length of the text whether it fits or not, and to 0
  *              if there is none. It must not be NULL.
  *   Overlap    The text, its length and the documents must not overlap.
- *   Ownership  The caller owns all memory that it passes. Nothing has to be freed.
+ *   Ownership  The caller owns all memory that it passes. Nothing has to be freed but a live run.
  *   Memory     A call allocates by `malloc` and `realloc`, O(n) bytes for n bytes of documents and text,
- *              and frees all of it before it returns. If an allocation fails, the status says so.
- *   Threads    Nothing is kept between calls: any number of threads may call at once. Do not call from
+ *              and frees all of it before it returns, but for what a live run keeps. If an allocation
+ *              fails, the status says so.
+ *   Threads    Nothing is kept between calls but in a live run: any number of threads may call at once. Do not call from
  *              a signal handler, nor in the forked child of a process with threads.
  *   Cost       O(n log n) time for n bytes of documents and text, whatever the names in them.
  *   Seed       The tables of names start from `seed`. Draw it once per process by `odb_seed` and keep
@@ -40,7 +41,7 @@ extern "C" {
 #endif
 
 #define ODB_VERSION_MAJOR 0
-#define ODB_VERSION_MINOR 1
+#define ODB_VERSION_MINOR 2
 #define ODB_VERSION_PATCH 0
 #define ODB_VERSION (ODB_VERSION_MAJOR * 10000 + ODB_VERSION_MINOR * 100 + ODB_VERSION_PATCH)
 
@@ -51,6 +52,18 @@ enum {
     ODB_WRONG_OPTION = 2,  /* an option is none of its values; no text */
     ODB_OUT_OF_MEMORY = 4, /* an allocation failed; no text */
     ODB_SMALL_BUFFER = 5   /* the text is longer than the buffer; nothing is written */
+};
+
+/* What `odb_run_start` and `odb_run_report` return if the event may not come: the first cause that
+ * applies. The run is as it was. */
+enum {
+    ODB_ALREADY_STARTED = 11, /* S1: the request has started before */
+    ODB_STOPPED = 12,         /* S2: an error has stopped the run */
+    ODB_UNIT_FAILED = 13,     /* S3: the unit of the request has failed */
+    ODB_WAITING = 14,         /* S4: a request or group that it needs has not succeeded */
+    ODB_WIDTH_REACHED = 15,   /* S5: as many requests run as may */
+    ODB_NOT_RUNNING = 21,     /* P1: the request does not run */
+    ODB_BAD_STATUS = 22       /* P2: the status is not from 200 to 599 */
 };
 
 /* `mode`: what an error, a status from 400 to 599, does to a run. */
@@ -109,6 +122,66 @@ uint32_t odb_replay(const uint8_t *batch, size_t batch_size,
                     const uint8_t *outcomes, size_t outcomes_size,
                     uint32_t mode, uint32_t width, uint32_t order, uint32_t trace,
                     uint8_t *text, size_t text_size, size_t *text_length, uint64_t seed);
+
+/* A live run: a caller starts requests and reports how they ended, and learns what may start then. Requests are
+ * named by their positions in the batch, from 0.
+ *
+ *   Handle     `odb_run_open` writes a handle to its place, and `odb_run_close` ends it. Until then each call
+ *              takes the address of that place, or of a copy of it. A caller must pass a handle that was opened
+ *              and is not closed; nothing checks that.
+ *   Threads    One thread at a time may be in the calls on one handle, on any thread; runs of their own need
+ *              no lock.
+ *   Memory     A handle owns a copy of the batch document and all outcomes that were reported. No call keeps
+ *              what it was passed.
+ *   Overlap    The place of the handle must not overlap the other arguments. */
+typedef struct odb_live_run {
+    void *at;
+} odb_live_run;
+
+/* Opens the run of a batch after recorded events, which may be none: the document {"events":[]}.
+ * Returns ODB_DONE, and `*run` is a handle, with no text; what was there before is forgotten. Else `*run` is as
+ * it was. ODB_REFUSED if a document is refused, an event names no request or may not come: the text is the line
+ * of the fault. ODB_SMALL_BUFFER if the line does not fit. `mode` and `width` are those of `odb_run`, or it is
+ * ODB_WRONG_OPTION. ODB_OUT_OF_MEMORY. Takes O(n log n) time for n bytes of documents. */
+uint32_t odb_run_open(const uint8_t *batch, size_t batch_size,
+                      const uint8_t *events, size_t events_size,
+                      uint32_t mode, uint32_t width, odb_live_run *run,
+                      uint8_t *text, size_t text_size, size_t *text_length, uint64_t seed);
+
+/* Copies the positions of the requests that may start now to a buffer of `positions_size` numbers, each once,
+ * in no particular order. `*count` is set to the number of them. Returns ODB_DONE, or ODB_SMALL_BUFFER if they do
+ * not fit, and the buffer is as it was. A handle as above. Takes O(positions) time. */
+uint32_t odb_run_ready(odb_live_run *run, uint32_t *positions, size_t positions_size, size_t *count);
+
+/* The same of the requests that run now. */
+uint32_t odb_run_running(odb_live_run *run, uint32_t *positions, size_t positions_size, size_t *count);
+
+/* Starts a request. Returns ODB_DONE; or, with the run as it was, ODB_WRONG_OPTION if there is no such position,
+ * or the cause, from ODB_ALREADY_STARTED to ODB_WIDTH_REACHED. A handle as above. Takes O(dependencies of the
+ * request) time, and allocates nothing. */
+uint32_t odb_run_start(odb_live_run *run, uint32_t position);
+
+/* Takes the outcome of a request: an HTTP status, headers and a body. The headers are a JSON object of strings
+ * whose names differ in lower case, the body is JSON of whole numbers, and each may be empty or NULL, as the JSON
+ * null, for none. The response is a document that `odb_match` reads if no body in it nests more than 124 deep.
+ * Returns ODB_DONE; or, with the run as it was, ODB_WRONG_OPTION if there is no such position,
+ * ODB_REFUSED if the headers or the body are not of this form, ODB_OUT_OF_MEMORY, or the cause, ODB_NOT_RUNNING or
+ * ODB_BAD_STATUS. A handle as above. All reports of a run take O(requests + dependencies) time together, beside
+ * O(n log n) for n bytes of headers and bodies. */
+uint32_t odb_run_report(odb_live_run *run, uint32_t position, uint32_t status,
+                        const uint8_t *headers, size_t headers_size,
+                        const uint8_t *body, size_t body_size);
+
+/* Returns 1 if no event may come any more, else 0. A handle as above. Takes constant time. */
+uint32_t odb_run_finished(odb_live_run *run);
+
+/* Writes what `odb_run` writes of the batch and the events so far: the response and a newline, or the line of F66
+ * if the run is not finished. Returns what `odb_check` does. A handle as above, whose run stays as it is. The
+ * document is read again: takes O(n log n) time for n bytes of document and text. */
+uint32_t odb_run_response(odb_live_run *run, uint8_t *text, size_t text_size, size_t *text_length);
+
+/* Frees a run. Neither the handle nor a copy of it may be passed to a call any more. */
+void odb_run_close(odb_live_run run);
 
 /* Draws a seed from the random bytes of the system, or returns 0, which is no seed, if it has none. */
 static inline uint64_t odb_seed(void)
@@ -179,12 +252,55 @@ static inline uint32_t odb_inline_replay(const uint8_t *batch, size_t batch_size
                       text ? text : &none, text ? text_size : 0, text_length, seed);
 }
 
+static inline uint32_t odb_inline_run_open(const uint8_t *batch, size_t batch_size,
+                                           const uint8_t *events, size_t events_size,
+                                           uint32_t mode, uint32_t width, odb_live_run *run,
+                                           uint8_t *text, size_t text_size, size_t *text_length, uint64_t seed)
+{
+    uint8_t none = 0;
+    return odb_run_open(batch ? batch : &none, batch ? batch_size : 0,
+                        events ? events : &none, events ? events_size : 0, mode, width, run,
+                        text ? text : &none, text ? text_size : 0, text_length, seed);
+}
+
+static inline uint32_t odb_inline_run_ready(odb_live_run *run, uint32_t *positions, size_t positions_size, size_t *count)
+{
+    uint32_t none = 0;
+    return odb_run_ready(run, positions ? positions : &none, positions ? positions_size : 0, count);
+}
+
+static inline uint32_t odb_inline_run_running(odb_live_run *run, uint32_t *positions, size_t positions_size, size_t *count)
+{
+    uint32_t none = 0;
+    return odb_run_running(run, positions ? positions : &none, positions ? positions_size : 0, count);
+}
+
+static inline uint32_t odb_inline_run_report(odb_live_run *run, uint32_t position, uint32_t status,
+                                             const uint8_t *headers, size_t headers_size,
+                                             const uint8_t *body, size_t body_size)
+{
+    uint8_t none = 0;
+    return odb_run_report(run, position, status, headers ? headers : &none, headers ? headers_size : 0,
+                          body ? body : &none, body ? body_size : 0);
+}
+
+static inline uint32_t odb_inline_run_response(odb_live_run *run, uint8_t *text, size_t text_size, size_t *text_length)
+{
+    uint8_t none = 0;
+    return odb_run_response(run, text ? text : &none, text ? text_size : 0, text_length);
+}
+
 #define odb_check odb_inline_check
 #define odb_plan odb_inline_plan
 #define odb_canon odb_inline_canon
 #define odb_match odb_inline_match
 #define odb_run odb_inline_run
 #define odb_replay odb_inline_replay
+#define odb_run_open odb_inline_run_open
+#define odb_run_ready odb_inline_run_ready
+#define odb_run_running odb_inline_run_running
+#define odb_run_report odb_inline_run_report
+#define odb_run_response odb_inline_run_response
 
 #ifdef __cplusplus
 }

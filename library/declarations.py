@@ -4,7 +4,6 @@
 - Each declaration of include/odb_batch.h is the one that follows from the export in crates/odb_ffi;
   nothing else compares them. The bindings in python/ and node/ call just these functions.
 - Statuses and options have the same numbers in the header as in the source.
-- The version is the same everywhere.
 
 With a built library, `declarations.py FOLDER`, also that libodb_batch.so shows just these functions,
 has its name, and needs the C library alone; and that none is larger than it may be.
@@ -28,7 +27,18 @@ TYPES = {
     "&mut usize": ["size_t *{}"],
     "&[u8]": ["const uint8_t *{}", "size_t {}_size"],
     "&mut [u8]": ["uint8_t *{}", "size_t {}_size"],
+    "&mut [u32]": ["uint32_t *{}", "size_t {}_size"],
+    "Handle": ["odb_live_run {}"],
+    "&mut Handle": ["odb_live_run *{}"],
+    "&mut Slot": ["odb_live_run *{}"],
+    "": ["void {}"],
     "Global": [],
+}
+
+# The structs of the source that are an `odb_live_run` for C: a pointer, and fields that take no bytes.
+HANDLES = {
+    "Handle": "crates/odb_ffi/src/handle.rt",
+    "Slot": "crates/odb_ffi/src/slot.rt",
 }
 
 # A number of the header, and the constant or the definition of the source that has it.
@@ -43,6 +53,13 @@ NUMBERS = {
     "ODB_FIRST": r"(\d+) => Some\(Order::First\)",
     "ODB_LAST": r"(\d+) => Some\(Order::Last\)",
     "ODB_WIDE": r"(\d+) => Some\(Order::Wide\)",
+    "ODB_ALREADY_STARTED": r"StartRefusal::AlreadyStarted => (\d+)",
+    "ODB_STOPPED": r"StartRefusal::Stopped => (\d+)",
+    "ODB_UNIT_FAILED": r"StartRefusal::UnitFailed => (\d+)",
+    "ODB_WAITING": r"StartRefusal::Waiting\(_\) => (\d+)",
+    "ODB_WIDTH_REACHED": r"StartRefusal::WidthReached => (\d+)",
+    "ODB_NOT_RUNNING": r"ReportRefusal::NotRunning => (\d+)",
+    "ODB_BAD_STATUS": r"ReportRefusal::BadStatus => (\d+)",
 }
 
 
@@ -59,7 +76,7 @@ def source():
 def exports():
     """The declarations that follow from the source, by name."""
     found = {}
-    pattern = r'#\[unsafe\(no_mangle\)\]\s*pub extern "C" fn (\w+)\((.*?)\)\s*->\s*(\w+)'
+    pattern = r'#\[unsafe\(no_mangle\)\]\s*pub extern "C" fn (\w+)\((.*?)\)(?:\s*->\s*(\w+))?'
     for name, parameters, result in re.findall(pattern, source(), re.DOTALL):
         parts = [it.split(":", 1) for it in parameters.split(",") if it.strip()]
         places = [form.format(word.strip()) for word, kind in parts for form in TYPES[kind.strip()]]
@@ -81,23 +98,6 @@ def one(pattern, text, what):
     return found[0]
 
 
-def versions():
-    """The version, by where it is written."""
-    header = text_of(HEADER)
-    parts = [one(rf"#define ODB_VERSION_{it} (\d+)", header, HEADER) for it in ("MAJOR", "MINOR", "PATCH")]
-    number = one(r"fn odb_version\(\) -> u32\s*ensures \{ result ≡ (\d+) \}", source(), SOURCES)
-    program = "crates/odb_batch/src/commands.rt"
-    found = {
-        HEADER: ".".join(parts),
-        f"{SOURCES}, odb_version": f"{int(number) // 10000}.{int(number) // 100 % 100}.{int(number) % 100}",
-        program: one(r'const VERSION: &str = "([^"]*)"', text_of(program), program),
-    }
-    for path, pattern in (("python/pyproject.toml", r'(?m)^version = "([^"]*)"'), ("node/package.json", r'"version": "([^"]*)"')):
-        if os.path.exists(os.path.join(ROOT, path)):
-            found[path] = one(pattern, text_of(path), path)
-    return found
-
-
 def differences():
     """What differs, a line each."""
     wanted, found = exports(), declarations()
@@ -108,8 +108,14 @@ def differences():
     for name, pattern in NUMBERS.items():
         if one(rf"\b{name} = (\d+)", header, HEADER) != one(pattern, code, SOURCES):
             yield f"{name}: the header and the source have different numbers"
-    if len(set(versions().values())) != 1:
-        yield f"the versions differ: {versions()}"
+    for name, path in HANDLES.items():
+        struct = rf"#\[repr\(C\)\](?:\s*#\[[^]]*\])*\s*pub struct {name} \{{([^}}]*\}}[^}}]*)\}}"
+        fields = one(struct, text_of(path), path)
+        kinds = re.findall(r"(?m)^\s*(?:pub(?:\(crate\))? )?\w+: ([^{]*?),$", fields)
+        if kinds != ["*mut u8", "Global"]:
+            yield f"{name}: its fields are {kinds}, and not those of an odb_live_run"
+    if one(r"typedef struct odb_live_run \{\s*([^}]*?)\s*\} odb_live_run;", header, HEADER) != "void *at;":
+        yield "odb_live_run: it is another struct in the header"
 
 
 def output(*words):

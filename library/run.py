@@ -22,6 +22,26 @@ SANITIZERS = ["-fsanitize=address,undefined", "-fno-sanitize-recover=all"]
 MEMCHECK = ["valgrind", "-q", "--error-exitcode=9", "--leak-check=full"]
 ONE = "ok 1 requests 0 groups\n"
 
+# A program around the live run of docs/embedding.md.
+LIVE_PAGE = r"""
+#include <odb_batch.h>
+#include <stdio.h>
+#include <string.h>
+
+int main(void)
+{
+    static const char requests[] = "{\"requests\":[{\"id\":\"a\",\"method\":\"get\",\"url\":\"Books\"}]}";
+    static const char none[] = "{\"events\":[]}";
+    const uint8_t *batch = (const uint8_t *)requests, *events = (const uint8_t *)none;
+    size_t batch_size = strlen(requests), events_size = strlen(none);
+    uint64_t seed = odb_seed();
+    uint8_t text[128];
+RUN
+    printf("%.*s", (int)length, (const char *)text);
+    return (int)status;
+}
+"""
+
 
 class Failed(Exception):
     """A part that has not passed."""
@@ -29,6 +49,13 @@ class Failed(Exception):
 
 class Skipped(Exception):
     """A part whose tool is not installed."""
+
+
+# The response that the live runs of docs/embedding.md print.
+LIVE = (
+    '{"responses":[{"body":{"of":"a"},"headers":{"etag":"7"},"id":"a","status":200},'
+    '{"body":{"of":"b"},"headers":{"etag":"7"},"id":"b","status":200}]}\n'
+)
 
 
 def need(tool):
@@ -47,14 +74,17 @@ def run(*words, wanted=None, **more):
         raise Failed(f"{words[0]} printed {done.stdout!r}, not {wanted!r}")
 
 
-def block(language):
-    """The program of docs/embedding.md in a language."""
+def block(language, at=0):
+    """The program of docs/embedding.md in a language; a later one if there are several."""
     with open(PAGE, encoding="utf-8") as file:
-        return re.search(rf"```{language}\n(.*?)```", file.read(), re.DOTALL)[1]
+        return re.findall(rf"```{language}\n(.*?)```", file.read(), re.DOTALL)[at]
 
 
 class Parts:
     """The parts, in the order in which they run: each a method, named after what it tests."""
+
+    HELPERS = ("path", "write", "compile_calls")
+    NEEDED = ("build",)
 
     def __init__(self, folder):
         self.folder = folder
@@ -86,21 +116,31 @@ class Parts:
     def explanations(self):
         run(sys.executable, os.path.join(HERE, "explanations.py"))
 
-    def compile_calls(self, name, *flags):
-        """Compiles the tests in C, with the static library."""
-        sources = [os.path.join(HERE, it) for it in ("calls.c", "allocations.c")]
+    def compile_calls(self, tests, name, *flags):
+        """Compiles tests in C, with the static library."""
+        sources = [os.path.join(HERE, it) for it in (tests, "allocations.c")]
         run("cc", "-std=c99", *STRICT, *flags, "-o", self.path(name), *sources, self.archive, *WRAPPED)
         return self.path(name)
 
     def calls_in_c(self):
-        run(self.compile_calls("calls", "-O2"))
+        run(self.compile_calls("calls.c", "calls", "-O2"))
 
     def calls_with_sanitizers(self):
-        run(self.compile_calls("sanitized", *SANITIZERS))
+        run(self.compile_calls("calls.c", "sanitized", *SANITIZERS))
 
     def calls_under_valgrind(self):
         need("valgrind")
-        run(*MEMCHECK, self.compile_calls("checked"))
+        run(*MEMCHECK, self.compile_calls("calls.c", "checked"))
+
+    def live_runs_in_c(self):
+        run(self.compile_calls("live.c", "live", "-O2"))
+
+    def live_runs_with_sanitizers(self):
+        run(self.compile_calls("live.c", "live_sanitized", *SANITIZERS))
+
+    def live_runs_under_valgrind(self):
+        need("valgrind")
+        run(*MEMCHECK, self.compile_calls("live.c", "live_checked"))
 
     def header_in_other_dialects(self):
         use = self.write("use.c", '#include "odb_batch.h"\nint main(void) { return odb_version() != ODB_VERSION; }\n')
@@ -117,38 +157,53 @@ class Parts:
         run("cc", "-std=c99", *STRICT, "-o", self.path("page"), source, f"-L{self.folder}", "-lodb_batch")
         run(self.path("page"), wanted=ONE, env=self.variables)
 
+    def page_of_a_live_run_in_c(self):
+        lines = "\n".join(f"    {line}" for line in block("c", 1).splitlines())
+        source = self.write("live_page.c", LIVE_PAGE.replace("RUN", lines))
+        run("cc", "-std=c99", *STRICT, "-o", self.path("live_page"), source, f"-L{self.folder}", "-lodb_batch")
+        run(self.path("live_page"), wanted='{"responses":[{"body":{},"id":"a","status":200}]}\n', env=self.variables)
+
     def python(self):
         tests = os.path.join(ROOT, "python", "tests")
         run(sys.executable, "-m", "unittest", "discover", "-q", "-s", tests, env=self.variables)
-        tried = "import doctest, odb_batch, sys; sys.exit(doctest.testmod(odb_batch).failed)"
+        tried = (
+            "import doctest, odb_batch, odb_batch._runs, sys;"
+            "sys.exit(sum(doctest.testmod(it).failed for it in (odb_batch, odb_batch._runs)))"
+        )
         run(sys.executable, "-c", tried, env=self.variables)
         # The loader finds the library where no variable names it.
         found = {key: value for key, value in self.variables.items() if key != "ODB_BATCH_LIBRARY"}
         page = self.write("page.py", block("python"))
         run(sys.executable, page, wanted="Counts(requests=1, groups=0)\n['a']\n", env=found)
+        run(sys.executable, self.write("live.py", block("python", 1)), wanted=LIVE, env=found)
 
     def python_installed(self):
         """Installs a copy of the package, with the library in it, without a network."""
         copy, place = self.path("python"), self.path("installed")
-        shutil.copytree(os.path.join(ROOT, "python"), copy, ignore=shutil.ignore_patterns("libodb_batch*", "__pycache__"))
+        left = shutil.ignore_patterns("libodb_batch*", "__pycache__")
+        shutil.copytree(os.path.join(ROOT, "python"), copy, ignore=left)
         shutil.copy(self.shared, os.path.join(copy, "odb_batch"))
-        pip = [sys.executable, "-m", "pip", "install", "-q", "--no-index", "--no-cache-dir", "--disable-pip-version-check"]
-        run(*pip, "--root-user-action=ignore", "--target", place, copy)
-        plain = {key: value for key, value in self.variables.items() if key not in ("ODB_BATCH_LIBRARY", "LD_LIBRARY_PATH")}
+        pip = ["-m", "pip", "install", "-q", "--no-index", "--no-cache-dir", "--disable-pip-version-check"]
+        run(sys.executable, *pip, "--root-user-action=ignore", "--target", place, copy)
+        named = ("ODB_BATCH_LIBRARY", "LD_LIBRARY_PATH")
+        plain = {key: value for key, value in self.variables.items() if key not in named}
         page = self.write("page.py", block("python"))
         run(sys.executable, page, wanted="Counts(requests=1, groups=0)\n['a']\n", env={**plain, "PYTHONPATH": place})
 
     def python_on_the_worked_cases(self):
-        run(sys.executable, os.path.join(HERE, "worked.py"), "python", env=self.variables)
+        for binding in ("python", "live"):
+            run(sys.executable, os.path.join(HERE, "worked.py"), binding, env=self.variables)
 
     def node(self):
         need("node")
         folder = os.path.join(ROOT, "node")
         run(os.path.join(folder, "build"), self.folder)
-        run("node", "--test", "--test-reporter=dot", os.path.join(folder, "test", "commands.test.js"))
+        tests = [os.path.join(folder, "test", name) for name in ("commands.test.js", "run.test.js")]
+        run("node", "--test", "--test-reporter=dot", *tests)
         os.makedirs(self.path("node_modules"), exist_ok=True)
         os.symlink(folder, os.path.join(self.path("node_modules"), "odb-batch"))
         run("node", self.write("page.js", block("js")), wanted="{ requests: 1, groups: 0 } [ 'a' ]\n")
+        run("node", self.write("live.js", block("js", 1)), wanted=LIVE)
 
     def node_on_the_worked_cases(self):
         need("node")
@@ -192,11 +247,13 @@ fn main() {
         self.write(
             "java/Page.java",
             "class Page { public static void main(String[] args) throws Throwable {\n"
-            '  System.out.print(new String(Odb.check("{\\"requests\\":[{\\"id\\":\\"a\\",\\"method\\":\\"get\\",\\"url\\":\\"Books\\"}]}".getBytes(), 7)));\n'
+            '  System.out.print(new String(Odb.check("{\\"requests\\":[{\\"id\\":\\"a\\",\\"method\\":\\"get\\",'
+            '\\"url\\":\\"Books\\"}]}".getBytes(), 7)));\n'
             "} }\n",
         )
         run("javac", "-d", self.path("java"), self.path("java/Odb.java"), self.path("java/Page.java"))
-        run("java", "--enable-native-access=ALL-UNNAMED", "-cp", self.path("java"), "Page", wanted=ONE, env=self.variables)
+        java = ["java", "--enable-native-access=ALL-UNNAMED", "-cp", self.path("java")]
+        run(*java, "Page", wanted=ONE, env=self.variables)
 
     def page_in_csharp(self):
         need("dotnet")
@@ -209,36 +266,44 @@ fn main() {
         )
         self.write(
             "csharp/page.csproj",
-            '<Project Sdk="Microsoft.NET.Sdk"><PropertyGroup><OutputType>Exe</OutputType><TargetFramework>net8.0</TargetFramework>'
+            '<Project Sdk="Microsoft.NET.Sdk"><PropertyGroup><OutputType>Exe</OutputType>'
+            "<TargetFramework>net8.0</TargetFramework>"
             "<AllowUnsafeBlocks>true</AllowUnsafeBlocks></PropertyGroup></Project>\n",
         )
         run("dotnet", "run", "--project", self.path("csharp"), wanted=ONE, env=self.variables)
 
 
-PARTS = [name for name, it in vars(Parts).items() if callable(it) and name not in ("__init__", "path", "write", "compile_calls")]
+def parts_of(kind):
+    """The names of the parts of a class, in order: all of its methods but the helpers."""
+    return [name for name, it in vars(kind).items() if callable(it) and name not in ("__init__", *kind.HELPERS)]
+
+
+def try_parts(parts, names):
+    """Runs parts by their names; if one that the others need has failed, no more. Returns the exit status."""
+    failed = []
+    for name in names:
+        title = name.replace("_", " ")
+        print(f"{title}:", flush=True)
+        try:
+            getattr(parts, name)()
+        except Skipped as tool:
+            print(f"skipped: {tool}", flush=True)
+        except Failed as error:
+            failed.append(title)
+            print(f"failed: {error}", flush=True)
+            if name in parts.NEEDED:
+                break
+    print(f"{len(names)} parts, {len(failed)} failed{': ' if failed else ''}{', '.join(failed)}")
+    return 1 if failed else 0
 
 
 def main():
     parser = argparse.ArgumentParser(description="Builds and tests the library for other languages.")
     parser.add_argument("--only", default="", metavar="WORD", help="only the parts with WORD in their name")
-    chosen = [it for it in PARTS if it == "build" or parser.parse_args().only in it.replace("_", " ")]
-    failed = []
+    only = parser.parse_args().only
     with tempfile.TemporaryDirectory(prefix="library-") as folder:
-        parts = Parts(folder)
-        for name in chosen:
-            title = name.replace("_", " ")
-            print(f"{title}:", flush=True)
-            try:
-                getattr(parts, name)()
-            except Skipped as tool:
-                print(f"skipped: {tool}", flush=True)
-            except Failed as error:
-                failed.append(title)
-                print(f"failed: {error}", flush=True)
-                if name == "build":
-                    break
-    print(f"{len(chosen)} parts, {len(failed)} failed{': ' if failed else ''}{', '.join(failed)}")
-    return 1 if failed else 0
+        names = [it for it in parts_of(Parts) if it in Parts.NEEDED or only in it.replace("_", " ")]
+        return try_parts(Parts(folder), names)
 
 
 if __name__ == "__main__":

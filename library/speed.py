@@ -1,8 +1,8 @@
 #!/usr/bin/env python3
-"""Measures a check in process, by C and by Python, beside one that starts the program.
+"""Measures a check in process, by C and by Python, beside one that starts the program; and a live run.
 
-Prints the processor time of a check, in microseconds, for documents of several sizes. It needs `cc` and
-the built program.
+Prints the processor time of a check, in microseconds, for documents of several sizes; and of a live run
+with all its calls, in milliseconds, beside a replay by the program. It needs `cc` and the built program.
 """
 
 import argparse
@@ -38,6 +38,36 @@ def repeated(work, seconds):
     return (spent() - before) / count * 1e6
 
 
+def live_documents():
+    """A batch of as many requests as may be, of which each second one needs the one before, and its outcomes."""
+    need = lambda i: {"dependsOn": [f"r{i - 1}"]} if i % 2 else {}
+    requests = [{"id": f"r{i}", "method": "get", "url": "Orders", **need(i)} for i in range(MOST_REQUESTS)]
+    outcomes = [{"id": f"r{i}", "status": 200, "body": {"Count": 1}} for i in range(MOST_REQUESTS)]
+    return json.dumps({"requests": requests}), json.dumps({"outcomes": outcomes})
+
+
+def measure_live(folder, program, seconds):
+    """Prints what a live run takes in C, and what a replay by the program takes."""
+    paths = [os.path.join(folder, name) for name in ("batch", "outcomes")]
+    for path, text in zip(paths, live_documents()):
+        with open(path, "w", encoding="utf-8") as file:
+            file.write(text)
+    binary = compiled(folder, "live_speed")
+    tries = [subprocess.run([binary, paths[0]], capture_output=True, text=True, check=True).stdout for _ in range(5)]
+    print(f"a live run: {min(tries, key=lambda it: float(it.split()[-2])).strip()}")
+    if os.path.exists(program):
+        replay = lambda: subprocess.run([program, "replay", *paths], capture_output=True, check=True)
+        print(f"a replay by the program: {repeated(replay, seconds) / 1e3:.1f} ms")
+
+
+def compiled(folder, name):
+    """The path of a program of this folder, compiled with the static library."""
+    path = os.path.join(folder, name)
+    source = os.path.join(ROOT, "library", f"{name}.c")
+    subprocess.run(["cc", "-O2", f"-I{ROOT}/include", "-o", path, source, f"{folder}/libodb_batch.a"], check=True)
+    return path
+
+
 def main():
     parser = argparse.ArgumentParser(description="Measures checks in process beside those of the program.")
     parser.add_argument("--seconds", type=float, default=1, metavar="S", help="how long each is repeated; 1")
@@ -45,9 +75,7 @@ def main():
     program = os.path.join(ROOT, "crates", "odb_batch", "out", "odb_batch")
     with tempfile.TemporaryDirectory(prefix="speed-") as folder:
         subprocess.run([os.path.join(ROOT, "bin", "odb_library"), folder], check=True)
-        binary, path = os.path.join(folder, "speed"), os.path.join(folder, "document")
-        source = os.path.join(ROOT, "library", "speed.c")
-        subprocess.run(["cc", "-O2", f"-I{ROOT}/include", "-o", binary, source, f"{folder}/libodb_batch.a"], check=True)
+        binary, path = compiled(folder, "speed"), os.path.join(folder, "document")
         os.environ["ODB_BATCH_LIBRARY"] = os.path.join(folder, "libodb_batch.so.0")
         sys.path.insert(0, os.path.join(ROOT, "python"))
         import odb_batch
@@ -57,12 +85,16 @@ def main():
             document = document_of(size)
             with open(path, "wb") as file:
                 file.write(document)
-            in_c = subprocess.run([binary, path, str(options.seconds)], capture_output=True, text=True, check=True).stdout.strip()
+            timed = subprocess.run([binary, path, str(options.seconds)], capture_output=True, text=True, check=True)
+            in_c = timed.stdout.strip()
             in_python = repeated(lambda: odb_batch.check(document), options.seconds)
             by_process = "-"
             if os.path.exists(program):
-                by_process = f"{repeated(lambda: subprocess.run([program, 'check', path], capture_output=True, check=True), options.seconds):.0f}"
+                words = [program, "check", path]
+                started = lambda: subprocess.run(words, capture_output=True, check=True)
+                by_process = f"{repeated(started, options.seconds):.0f}"
             print(f"| {len(document):,} | {in_c} | {in_python:.1f} | {by_process} |", flush=True)
+        measure_live(folder, program, options.seconds)
 
 
 if __name__ == "__main__":

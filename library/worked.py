@@ -1,9 +1,10 @@
 #!/usr/bin/env python3
 """Runs the worked cases that need documents alone through a binding, and compares each answer.
 
-`worked.py python` takes every such case of cases/, and `worked.py node` every third. A case needs
-documents alone if it calls a command over a batch with files that it has, and options that a call has
-too; the rest is about the command line and devices. The last line is `N passed, N failed`.
+`worked.py python` takes every such case of cases/, and `worked.py node` every third; `worked.py live`
+takes those of `run`, and opens a live run in Python after the recorded events. A case needs documents
+alone if it calls a command over a batch with files that it has, and options that a call has too; the
+rest is about the command line and devices. The last line is `N passed, N failed`.
 """
 
 import argparse
@@ -67,7 +68,8 @@ def text_of(command, result):
         ]
         return "".join(lines).encode()
     if command == "match":
-        return f"ok {len(result)} responses\n{''.join(f'{id} {status}{chr(10)}' for id, status in result.items())}".encode()
+        lines = [f"{id} {status}\n" for id, status in result.items()]
+        return "".join([f"ok {len(result)} responses\n", *lines]).encode()
     if command != "replay":
         return result + b"\n"
     steps = [f"start {it.id}\n" if len(it) == 1 else f"report {it.id} {it.status}\n" for it in result.steps]
@@ -85,6 +87,18 @@ def python_answers(calls):
             yield f"fault {fault}\n".encode()
 
 
+def live_answers(calls):
+    """The responses of live runs in Python."""
+    import odb_batch
+
+    for _, (batch, events), options in calls:
+        try:
+            with odb_batch.Run(batch, events=events, **options) as run:
+                yield run.response() + b"\n"
+        except odb_batch.Fault as fault:
+            yield f"fault {fault}\n".encode()
+
+
 def node_answers(calls):
     """The answers of the module for Node, which worked.js prints a line each."""
     given = "".join(
@@ -98,13 +112,16 @@ def node_answers(calls):
 
 def main():
     parser = argparse.ArgumentParser(description="Runs the worked cases through a binding.")
-    parser.add_argument("binding", choices=("python", "node"))
+    parser.add_argument("binding", choices=("python", "live", "node"))
     binding = parser.parse_args().binding
     runs = [(run, call_of(run)) for run in pages.read_folder(os.path.join(ROOT, "cases"))]
     chosen = [(run, call) for run, call in runs if call]
+    if binding == "live":
+        chosen = [(run, call) for run, call in chosen if run.command == "run"]
     if binding == "node":
         chosen = chosen[::SHARE]
-    answers = list({"python": python_answers, "node": node_answers}[binding]([call for _, call in chosen]))
+    answers_of = {"python": python_answers, "live": live_answers, "node": node_answers}[binding]
+    answers = list(answers_of([call for _, call in chosen]))
     if len(answers) != len(chosen):
         sys.exit(f"{len(answers)} answers to {len(chosen)} calls")
     failed = 0

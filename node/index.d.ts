@@ -42,6 +42,24 @@ export interface ReplayOptions extends RunOptions {
 
 export type Step = { step: 'start'; id: string } | { step: 'report'; id: string; status: number }
 
+/** The headers of an answer, or none: an object, or pairs, as a `Headers` or a `Map` has them. */
+export type HeaderValues = Record<string, string> | Iterable<readonly [string, string]> | null
+
+/** An event of a run. A step of a replay is one, without headers and body. */
+export type RunEvent =
+  | { step: 'start'; id: string }
+  | {
+      step: 'report'
+      id: string
+      status: number
+      headers?: HeaderValues
+      /** A value that `JSON.stringify` can write, but no bytes. */
+      body?: unknown
+    }
+
+/** Events: a document of them, or an array of starts and reports in order. */
+export type Events = Document | readonly RunEvent[]
+
 /** What a replay did. `steps` and `undone` are empty if no trace was asked for. */
 export interface Replay {
   /** The response document, as JSON without a newline. */
@@ -59,9 +77,25 @@ export class Fault extends Error {
   readonly code: string
   /** Its name, as `ForwardName`. */
   readonly faultName: string
-  /** The document, as `batch`, or its element, as `/requests/0`, counted from 0. */
+  /**
+   * The document, as `batch`, or its element, as `/requests/0`, counted from 0; `report` for the headers or
+   * the body of a report of a live run.
+   */
   readonly place: string
   /** What the fault means, and how it is repaired. */
+  readonly explanation: string
+}
+
+/** A start or a report of a live run is refused, and nothing has changed. */
+export class Refused extends Error {
+  constructor(code: string, causeName: string, id: string)
+  /** The code of the first cause, S1 to S5 of a start, P1 or P2 of a report. */
+  readonly code: string
+  /** Its name, as `Waiting`. */
+  readonly causeName: string
+  /** The id of the request. */
+  readonly id: string
+  /** What the cause means, and what to do. */
   readonly explanation: string
 }
 
@@ -90,10 +124,87 @@ export function match(batch: Document, responses: Document): Map<string, number>
  * Runs a batch by recorded events, and returns the response document, as JSON without a newline. Throws a
  * `RangeError` for an option that has none of its values.
  */
-export function run(batch: Document, events: Document, options?: RunOptions): Buffer
+export function run(batch: Document, events: Events, options?: RunOptions): Buffer
 
 /** Replays a batch by recorded outcomes. Throws a `RangeError` for an option that has none of its values. */
 export function replay(batch: Document, outcomes: Document, options?: ReplayOptions): Replay
+
+export interface LiveOptions extends RunOptions {
+  /**
+   * What has happened already, in order; nothing is the default. A gateway that keeps its events goes on
+   * from there after it was stopped.
+   */
+  events?: Events
+}
+
+/**
+ * A live run of a batch: it says which requests may start now, and in the end what the batch is answered.
+ * The caller performs the requests. It starts those that are ready, in any order, and reports what each is
+ * answered, until the run is finished. A run that is not finished has a request that is ready or one that
+ * is running.
+ *
+ * A run holds memory of the library: close it. After that all but `close` throws an error with the code
+ * `ERR_ODB_CLOSED`. One that is forgotten is closed when it is collected. A run belongs to the thread, or
+ * the worker, that made it.
+ */
+export class Run {
+  /**
+   * Opens a run. Throws a {@link Fault} if a document is refused or an event may not come, and a
+   * `RangeError` for an option that has none of its values.
+   */
+  constructor(batch: Document, options?: LiveOptions)
+
+  /**
+   * The ids of the requests that may start now, in the order of the batch. It takes a time in proportion to
+   * their number: go through a list to its end before you ask for the next one. A start that may not come
+   * any more is refused.
+   */
+  readonly ready: string[]
+
+  /** The ids of the requests that have started and not reported yet, in the order of the batch. */
+  readonly running: string[]
+
+  /** Whether nothing is running and nothing may start any more, so that there is a response. */
+  readonly finished: boolean
+
+  /**
+   * The ids of the requests that succeeded but are answered 424, since another one of their group did not
+   * succeed: what they did has to be undone, in this order, from the last to the first. Throws the
+   * {@link Fault} F66 if the run is not finished.
+   */
+  readonly undone: string[]
+
+  /**
+   * Starts a request: call it just before the request is sent. Throws {@link Refused} with the first of the
+   * causes S1 to S5 if it may not start, and a `RangeError` with the code `ERR_ODB_UNKNOWN_ID` if no
+   * request of the batch has this id.
+   */
+  start(id: string): void
+
+  /**
+   * Reports what a running request was answered. A request without any answer, as over a connection that
+   * broke, is reported, too: as 502 or 504, or the run would wait for it forever. Throws {@link Refused}
+   * with the first of the causes P1 and P2 if the report may not come, and for an unknown id as `start`.
+   *
+   * @param status The final status, from 200 to 599.
+   * @param headers The headers that the response shows.
+   * @param body The body: a value that `JSON.stringify` can write, or bytes, which are its JSON; null,
+   *   undefined and no bytes are no body. Its numbers are whole, and it nests at most 124 deep: else, and for
+   *   other headers than strings with different names, throws the {@link Fault} that they have in a recorded
+   *   event, and the request is still running.
+   */
+  report(id: string, status: number, headers?: HeaderValues, body?: unknown): void
+
+  /**
+   * Returns the response document of the finished run, as JSON without a newline. Throws the {@link Fault}
+   * F66 if the run is not finished.
+   */
+  response(): Buffer
+
+  /** Frees the run, if it is not closed yet. `using` does so, too. */
+  close(): void
+  [Symbol.dispose](): void
+}
 
 /** The version of the library, MAJOR.MINOR.PATCH. */
 export const version: string

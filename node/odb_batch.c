@@ -1,34 +1,30 @@
-/* The addon of odb_batch for Node: one function, by Node-API.
+/* The addon of odb_batch for Node, by Node-API: the commands as one function, and live runs (runs.c).
  *
  *   call(command, batch, second, mode, width, order, trace) -> [status, text]
  *
  * `command` is the place of a command in `commands`, `batch` and `second` are Uint8Arrays, and the other
- * arguments numbers; what a command does not take is ignored. index.js makes the calls of it. */
+ * arguments numbers; what a command does not take is ignored. commands.js makes the calls of it. */
 
-#include <node_api.h>
 #include <stdlib.h>
 
-#include "../include/odb_batch.h"
+#include "addon.h"
 
 #define ARGUMENTS 7
+
 #define MORE 256 /* how much longer than its documents a text is thought to be */
 
-struct bytes {
-    uint8_t *at;
-    size_t size;
-};
-
-/* What the function is passed, and the buffer for the text. */
+/* What the function is passed. */
 struct given {
     uint32_t command, mode, width, order, trace;
-    struct bytes batch, second, text;
+    struct bytes batch, second;
     uint64_t seed;
 };
 
-/* Calls a command; returns its status and the length of its text. */
-static uint32_t make(const struct given *it, size_t *length)
+/* Calls a command: a writer. */
+static uint32_t make(void *given, struct bytes text, size_t *length)
 {
-    const struct bytes a = it->batch, b = it->second, text = it->text;
+    const struct given *it = given;
+    const struct bytes a = it->batch, b = it->second;
     switch (it->command) {
     case 0:
         return odb_check(a.at, a.size, text.at, text.size, length, it->seed);
@@ -46,23 +42,13 @@ static uint32_t make(const struct given *it, size_t *length)
     }
 }
 
-/* Calls a command, and again if its text did not fit; `text` has the text then. */
-static uint32_t make_whole(struct given *it, size_t *length)
+int read_arguments(napi_env env, napi_callback_info info, napi_value *arguments, size_t wanted)
 {
-    uint32_t status;
-    *length = it->batch.size + it->second.size + MORE;
-    do {
-        uint8_t *room = realloc(it->text.at, *length);
-        if (room == NULL)
-            return ODB_OUT_OF_MEMORY;
-        it->text.at = room;
-        it->text.size = *length;
-        status = make(it, length);
-    } while (status == ODB_SMALL_BUFFER);
-    return status;
+    size_t count = wanted;
+    return napi_get_cb_info(env, info, &count, arguments, NULL, NULL) == napi_ok && count == wanted;
 }
 
-static int read_bytes(napi_env env, napi_value value, struct bytes *found)
+int read_bytes(napi_env env, napi_value value, struct bytes *found)
 {
     napi_typedarray_type type;
     void *at = NULL;
@@ -72,32 +58,19 @@ static int read_bytes(napi_env env, napi_value value, struct bytes *found)
     return 1;
 }
 
-/* Reads the arguments; returns whether they are as they have to be. */
-static int read_given(napi_env env, napi_callback_info info, struct given *it)
+uint64_t seed_of(napi_env env)
 {
-    napi_value arguments[ARGUMENTS];
-    size_t count = ARGUMENTS;
     void *seed = NULL;
-    if (napi_get_cb_info(env, info, &count, arguments, NULL, NULL) != napi_ok || count != ARGUMENTS)
-        return 0;
-    if (napi_get_instance_data(env, &seed) != napi_ok)
-        return 0;
-    it->seed = seed != NULL ? *(uint64_t *)seed : 0;
-    return read_bytes(env, arguments[1], &it->batch) && read_bytes(env, arguments[2], &it->second)
-        && napi_get_value_uint32(env, arguments[0], &it->command) == napi_ok
-        && napi_get_value_uint32(env, arguments[3], &it->mode) == napi_ok
-        && napi_get_value_uint32(env, arguments[4], &it->width) == napi_ok
-        && napi_get_value_uint32(env, arguments[5], &it->order) == napi_ok
-        && napi_get_value_uint32(env, arguments[6], &it->trace) == napi_ok;
+    return napi_get_instance_data(env, &seed) == napi_ok && seed != NULL ? *(uint64_t *)seed : 0;
 }
 
 /* Makes the pair of a status and a text, or returns NULL with an exception. */
-static napi_value pair_of(napi_env env, uint32_t status, const uint8_t *text, size_t length)
+static napi_value pair_of(napi_env env, uint32_t status, struct bytes text)
 {
     napi_value pair, first, second;
     if (napi_create_array_with_length(env, 2, &pair) == napi_ok
         && napi_create_uint32(env, status, &first) == napi_ok
-        && napi_create_buffer_copy(env, length, text, NULL, &second) == napi_ok
+        && napi_create_buffer_copy(env, text.size, text.at, NULL, &second) == napi_ok
         && napi_set_element(env, pair, 0, first) == napi_ok
         && napi_set_element(env, pair, 1, second) == napi_ok)
         return pair;
@@ -105,20 +78,47 @@ static napi_value pair_of(napi_env env, uint32_t status, const uint8_t *text, si
     return NULL;
 }
 
+napi_value written(napi_env env, writer *write, void *given, size_t size)
+{
+    struct bytes text = {NULL, 0};
+    uint32_t status;
+    do {
+        uint8_t *room = realloc(text.at, size);
+        if (room == NULL) {
+            status = ODB_OUT_OF_MEMORY;
+            size = 0;
+            break;
+        }
+        text.at = room;
+        text.size = size;
+        status = write(given, text, &size);
+    } while (status == ODB_SMALL_BUFFER);
+    text.size = size;
+    napi_value pair = pair_of(env, status, text);
+    free(text.at);
+    return pair;
+}
+
+napi_value wrong_arguments(napi_env env)
+{
+    napi_throw_type_error(env, NULL, "wrong arguments");
+    return NULL;
+}
+
 static napi_value call(napi_env env, napi_callback_info info)
 {
-    struct given given = {0};
-    size_t length = 0;
-    if (!read_given(env, info, &given)) {
-        napi_throw_type_error(env, NULL, "wrong arguments");
-        return NULL;
-    }
-    uint32_t status = make_whole(&given, &length);
-    if (status == ODB_OUT_OF_MEMORY)
-        length = 0;
-    napi_value pair = pair_of(env, status, given.text.at, length);
-    free(given.text.at);
-    return pair;
+    struct given given;
+    napi_value it[ARGUMENTS];
+    if (!read_arguments(env, info, it, ARGUMENTS)
+        || !read_bytes(env, it[1], &given.batch) || !read_bytes(env, it[2], &given.second)
+        || napi_get_value_uint32(env, it[0], &given.command) != napi_ok
+        || napi_get_value_uint32(env, it[3], &given.mode) != napi_ok
+        || napi_get_value_uint32(env, it[4], &given.width) != napi_ok
+        || napi_get_value_uint32(env, it[5], &given.order) != napi_ok
+        || napi_get_value_uint32(env, it[6], &given.trace) != napi_ok)
+        return wrong_arguments(env);
+    given.seed = seed_of(env);
+    return written(env, make, &given, given.batch.size + given.second.size + MORE);
 }
 
 static void free_seed(napi_env env, void *seed, void *hint)
@@ -128,7 +128,7 @@ static void free_seed(napi_env env, void *seed, void *hint)
     free(seed);
 }
 
-/* Draws the seed of this instance, which nobody can see, and exports `call` and `version`. */
+/* Draws the seed of this instance, which nobody can see, and exports `call`, `version` and the runs. */
 NAPI_MODULE_INIT()
 {
     napi_value function, version;
@@ -140,7 +140,8 @@ NAPI_MODULE_INIT()
     }
     if (napi_create_function(env, "call", NAPI_AUTO_LENGTH, call, NULL, &function) == napi_ok
         && napi_set_named_property(env, exports, "call", function) == napi_ok
-        && napi_create_uint32(env, odb_version(), &version) == napi_ok)
-        napi_set_named_property(env, exports, "version", version);
+        && napi_create_uint32(env, odb_version(), &version) == napi_ok
+        && napi_set_named_property(env, exports, "version", version) == napi_ok)
+        export_runs(env, exports);
     return exports;
 }

@@ -1,7 +1,8 @@
 """Builds the wheel of odb_batch by the standard library alone (PEP 517 and 660).
 
 If libodb_batch.so.0 is beside the package's modules, it goes into the wheel, which is then one for this
-system; else the library is found as the package says.
+system, or for the one that the setting `plat-name` names; else the library is found as the package says.
+The same files give the same bytes: all have the time SOURCE_DATE_EPOCH, or the first that a wheel can have.
 """
 
 import base64
@@ -10,12 +11,14 @@ import os
 import re
 import sysconfig
 import tarfile
+import time
 import zipfile
 
 HERE = os.path.dirname(os.path.abspath(__file__))
 PACKAGE = os.path.join(HERE, "odb_batch")
 LIBRARY = "libodb_batch.so.0"
 NAME = "odb_batch"
+FIRST_TIME = 315532800  # 1980-01-01, in seconds since 1970
 
 
 def _setting(key):
@@ -29,10 +32,11 @@ def _files():
     return {f"{NAME}/{name}": os.path.join(PACKAGE, name) for name in names}
 
 
-def _tag():
+def _tag(settings):
     if not os.path.exists(os.path.join(PACKAGE, LIBRARY)):
         return "py3-none-any"
-    return "py3-none-" + re.sub(r"[-.]", "_", sysconfig.get_platform())
+    system = (settings or {}).get("plat-name") or re.sub(r"[-.]", "_", sysconfig.get_platform())
+    return f"py3-none-{system}"
 
 
 def _metadata():
@@ -49,21 +53,37 @@ def _metadata():
     return "\n".join(lines) + "\n\n" + page
 
 
+def _about_wheel(tag):
+    """What a wheel says of itself: a line for each tag, of which its name has all in one."""
+    python, abi, systems = tag.split("-")
+    is_pure = "true" if systems == "any" else "false"
+    tags = "".join(f"Tag: {python}-{abi}-{system}\n" for system in systems.split("."))
+    return f"Wheel-Version: 1.0\nGenerator: odb_batch\nRoot-Is-Purelib: {is_pure}\n{tags}"
+
+
+def _member(path):
+    """A file of a wheel, without what the clock and the folder would say of it."""
+    seconds = int(os.environ.get("SOURCE_DATE_EPOCH", FIRST_TIME))
+    member = zipfile.ZipInfo(path, time.gmtime(max(seconds, FIRST_TIME))[:6])
+    member.compress_type = zipfile.ZIP_DEFLATED
+    member.external_attr = 0o100644 << 16
+    return member
+
+
 def _build(folder, tag, files):
     """Writes a wheel of these files, by their paths, and returns its name."""
     about = f"{NAME}-{_setting('version')}.dist-info"
-    is_pure = "true" if tag == "py3-none-any" else "false"
     files[f"{about}/METADATA"] = _metadata().encode()
-    files[f"{about}/WHEEL"] = f"Wheel-Version: 1.0\nGenerator: odb_batch\nRoot-Is-Purelib: {is_pure}\nTag: {tag}\n".encode()
+    files[f"{about}/WHEEL"] = _about_wheel(tag).encode()
     rows = []
     for path, data in files.items():
         digest = base64.urlsafe_b64encode(hashlib.sha256(data).digest()).rstrip(b"=").decode()
         rows.append(f"{path},sha256={digest},{len(data)}\n")
     files[f"{about}/RECORD"] = ("".join(rows) + f"{about}/RECORD,,\n").encode()
     name = f"{NAME}-{_setting('version')}-{tag}.whl"
-    with zipfile.ZipFile(os.path.join(folder, name), "w", zipfile.ZIP_DEFLATED) as wheel:
+    with zipfile.ZipFile(os.path.join(folder, name), "w") as wheel:
         for path, data in files.items():
-            wheel.writestr(path, data)
+            wheel.writestr(_member(path), data)
     return name
 
 
@@ -74,7 +94,7 @@ def _read(path):
 
 def build_wheel(wheel_directory, config_settings=None, metadata_directory=None):
     files = {path: _read(place) for path, place in _files().items()}
-    return _build(wheel_directory, _tag(), files)
+    return _build(wheel_directory, _tag(config_settings), files)
 
 
 def build_editable(wheel_directory, config_settings=None, metadata_directory=None):

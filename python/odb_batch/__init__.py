@@ -1,4 +1,4 @@
-"""Checks, plans, matches, runs and replays batches of requests in JSON.
+"""Checks, plans, matches, runs and replays batches of requests in JSON, and drives live runs of them.
 
 The batches are those of OASIS OData JSON Format 4.01, section 19. Each function is a command of
 ``odb_batch``, which is proved to do what its contract states, called in this process:
@@ -16,19 +16,19 @@ Counts(requests=2, groups=0)
 ...     print(fault)
 F04 NoRequests batch
 
+A :class:`Run` is a live run, for who performs the requests: it says which of them may start now, takes what
+each is answered, and has the response in the end.
+
 A document is bytes, a text or a mapping that ``json`` can write. A document that is refused raises
-:class:`Fault`. All functions may be called from any number of threads at once; they release the
-interpreter's lock while they work.
+:class:`Fault`. All functions may be called from any number of threads at once, also over one run; they
+release the interpreter's lock while they work.
 """
 
 from ._commands import (
     Counts,
-    Document,
     Plan,
     PlannedRequest,
     Replay,
-    Report,
-    Start,
     canon,
     check,
     match,
@@ -36,17 +36,22 @@ from ._commands import (
     replay,
     run,
 )
-from ._faults import Fault
+from ._documents import Document, Events, Report, Start
+from ._faults import Fault, Refused
 from ._library import VERSION as __version__
+from ._runs import Run
 
 __all__ = [
     "Counts",
     "Document",
+    "Events",
     "Fault",
     "Plan",
     "PlannedRequest",
+    "Refused",
     "Replay",
     "Report",
+    "Run",
     "Start",
     "__version__",
     "canon",

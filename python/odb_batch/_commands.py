@@ -1,13 +1,10 @@
 """The commands: what they take and what they return."""
 
-import json
-from typing import Any, Dict, Iterator, List, Mapping, NamedTuple, Optional, Tuple, Union
+from typing import Any, Dict, Iterator, List, NamedTuple, Optional, Tuple, Union
 
 from . import _library
+from ._documents import Document, Events, Report, Start, bytes_of, events_of
 from ._faults import fault_of
-
-#: A document: bytes or a text of JSON, or a mapping that ``json`` can write.
-Document = Union[bytes, bytearray, memoryview, str, Mapping[str, Any]]
 
 MODES = {"continue": 0, "stop": 1}
 ORDERS = {"first": 0, "last": 1, "wide": 2}
@@ -77,19 +74,6 @@ class Plan:
         return self.requests[self._positions[id]]
 
 
-class Start(NamedTuple):
-    """A step of a replay: the request starts."""
-
-    id: str
-
-
-class Report(NamedTuple):
-    """A step of a replay: the request ends with this status."""
-
-    id: str
-    status: int
-
-
 class Replay(NamedTuple):
     """What a replay did.
 
@@ -105,20 +89,6 @@ class Replay(NamedTuple):
     undone: Tuple[str, ...]
 
 
-def bytes_of(document: Document) -> bytes:
-    """The bytes of a document."""
-    if isinstance(document, bytes):
-        return document
-    if isinstance(document, str):
-        # A text that is not Unicode is refused as a document that is not UTF-8.
-        return document.encode("utf-8", "surrogatepass")
-    if isinstance(document, (bytearray, memoryview)):
-        return bytes(document)
-    if isinstance(document, Mapping):
-        return json.dumps(document, ensure_ascii=False, separators=(",", ":")).encode("utf-8", "surrogatepass")
-    raise TypeError(f"a document is bytes, a str or a mapping, not {type(document).__name__}")
-
-
 def _number(names: Dict[str, int], what: str, value: str) -> int:
     """The number of a named option."""
     if value not in names:
@@ -126,24 +96,29 @@ def _number(names: Dict[str, int], what: str, value: str) -> int:
     return names[value]
 
 
-def _policy(mode: str, width: int) -> Tuple[int, int]:
+def policy(mode: str, width: int) -> Tuple[int, int]:
     """The numbers of a policy."""
     if isinstance(width, bool) or not isinstance(width, int) or not 1 <= width <= MAX_WIDTH:
         raise ValueError(f"width must be a whole number from 1 to {MAX_WIDTH}, not {width!r}")
     return _number(MODES, "mode", mode), width
 
 
-def answer(name: str, *documents: Document, options: Tuple[int, ...] = ()) -> bytes:
-    """The text that a command writes; raises what else it returns."""
+def failure_of(name: str, status: int) -> Exception:
+    """The exception for a status that is no answer."""
+    if status == _library.OUT_OF_MEMORY:
+        return MemoryError(f"{name} ran out of memory")
+    return RuntimeError(f"{name} returned the status {status}")
+
+
+def answer(name: str, *documents: Document, options: Tuple[Any, ...] = (), more: int = 0) -> bytes:
+    """The text that a function writes, of documents and maybe of `more` bytes; raises what else it returns."""
     given = tuple(map(bytes_of, documents))
-    status, text = _library.call(name, given, options, sum(map(len, given)) + _MORE)
+    status, text = _library.call(name, given, options, sum(map(len, given)) + more + _MORE)
     if status == _library.DONE:
         return text
     if status == _library.REFUSED:
         raise fault_of(text)
-    if status == _library.OUT_OF_MEMORY:
-        raise MemoryError(f"{name} ran out of memory")
-    raise RuntimeError(f"{name} returned the status {status}")
+    raise failure_of(name, status)
 
 
 def check(batch: Document) -> Counts:
@@ -205,12 +180,12 @@ def match(batch: Document, responses: Document) -> Dict[str, int]:
     return {id: int(status) for id, status in (line.split(" ") for line in lines)}
 
 
-def run(batch: Document, events: Document, *, mode: str = "continue", width: int = MAX_WIDTH) -> bytes:
+def run(batch: Document, events: Events, *, mode: str = "continue", width: int = MAX_WIDTH) -> bytes:
     """Runs a batch by recorded events.
 
     Args:
         batch: The batch.
-        events: The document of what happened, in order.
+        events: What happened, in order: a document, or starts and reports.
         mode: ``"continue"``, or ``"stop"`` to start nothing more after a status from 400 to 599.
         width: How many requests may run at once, from 1 to 10,000.
 
@@ -222,7 +197,7 @@ def run(batch: Document, events: Document, *, mode: str = "continue", width: int
         ValueError: An option has a value that it may not have.
         MemoryError: An allocation failed.
     """
-    return answer("odb_run", batch, events, options=_policy(mode, width))[:-1]
+    return answer("odb_run", batch, events_of(events), options=policy(mode, width))[:-1]
 
 
 def _traced(lines: List[bytes]) -> Replay:
@@ -265,5 +240,5 @@ def replay(
         ValueError: An option has a value that it may not have.
         MemoryError: An allocation failed.
     """
-    options = (*_policy(mode, width), _number(ORDERS, "order", order), int(bool(trace)))
+    options = (*policy(mode, width), _number(ORDERS, "order", order), int(bool(trace)))
     return _traced(answer("odb_replay", batch, outcomes, options=options)[:-1].split(b"\n"))

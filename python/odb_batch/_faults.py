@@ -1,4 +1,4 @@
-"""Why a document is refused."""
+"""Why a document is refused, or a start or a report of a live run."""
 
 from ._explanations import EXPLANATIONS
 
@@ -11,7 +11,8 @@ class Fault(ValueError):
     Attributes:
         code: Its code, as ``F41``, ``S4`` or ``P2``.
         name: Its name, as ``ForwardName``.
-        place: The document, as ``batch``, or its element, as ``/requests/0``, counted from 0.
+        place: The document, as ``batch``, or its element, as ``/requests/0``, counted from 0; ``report``
+            for the headers or the body of a report of a live run.
         explanation: What the fault means, and how it is repaired.
     """
 
@@ -27,6 +28,36 @@ class Fault(ValueError):
 
     def __str__(self) -> str:
         return f"{self.code} {self.name} {self.place}"
+
+    @property
+    def explanation(self) -> str:
+        return EXPLANATIONS.get(self.code, "")
+
+
+class Refused(Exception):
+    """A start or a report of a live run is refused, and nothing has changed.
+
+    Its text is the code, the name and the id, as ``S4 Waiting list``.
+
+    Attributes:
+        code: The code of the first cause, S1 to S5 of a start, P1 or P2 of a report.
+        name: Its name, as ``Waiting``.
+        id: The id of the request.
+        explanation: What the cause means, and what to do.
+    """
+
+    code: str
+    name: str
+    id: str
+
+    def __init__(self, code: str, name: str, id: str) -> None:
+        super().__init__(code, name, id)
+        self.code = code
+        self.name = name
+        self.id = id
+
+    def __str__(self) -> str:
+        return f"{self.code} {self.name} {self.id}"
 
     @property
     def explanation(self) -> str:

@@ -3,7 +3,7 @@
 import ctypes
 import os
 import secrets
-from typing import Callable, List, Tuple
+from typing import Any, Callable, List, Tuple
 
 NAME = "libodb_batch.so.0"
 VARIABLE = "ODB_BATCH_LIBRARY"
@@ -11,20 +11,39 @@ VARIABLE = "ODB_BATCH_LIBRARY"
 DONE, REFUSED, WRONG_OPTION, OUT_OF_MEMORY, SMALL_BUFFER = 0, 1, 2, 4, 5
 
 # The version that this package is made for; the library may have another patch.
-MAJOR, MINOR = 0, 1
+MAJOR, MINOR = 0, 2
+
+
+class Handle(ctypes.Structure):
+    """The handle of a run, which the library fills in."""
+
+    _fields_ = [("at", ctypes.c_void_p)]
+
 
 _BYTES = [ctypes.c_char_p, ctypes.c_size_t]
 _NUMBER = [ctypes.c_uint32]
-_TEXT = [ctypes.c_void_p, ctypes.c_size_t, ctypes.POINTER(ctypes.c_size_t), ctypes.c_uint64]
+_SIZE = ctypes.POINTER(ctypes.c_size_t)
+_TEXT = [ctypes.c_void_p, ctypes.c_size_t, _SIZE]
+_SEEDED = [*_TEXT, ctypes.c_uint64]
+_RUN = [ctypes.POINTER(Handle)]
+_POSITIONS = [ctypes.POINTER(ctypes.c_uint32), ctypes.c_size_t, _SIZE]
 
 # The parameters of each function.
 _PARAMETERS = {
-    "odb_check": [*_BYTES, *_TEXT],
-    "odb_plan": [*_BYTES, *_TEXT],
-    "odb_canon": [*_BYTES, *_TEXT],
-    "odb_match": [*_BYTES, *_BYTES, *_TEXT],
-    "odb_run": [*_BYTES, *_BYTES, *_NUMBER * 2, *_TEXT],
-    "odb_replay": [*_BYTES, *_BYTES, *_NUMBER * 4, *_TEXT],
+    "odb_check": [*_BYTES, *_SEEDED],
+    "odb_plan": [*_BYTES, *_SEEDED],
+    "odb_canon": [*_BYTES, *_SEEDED],
+    "odb_match": [*_BYTES, *_BYTES, *_SEEDED],
+    "odb_run": [*_BYTES, *_BYTES, *_NUMBER * 2, *_SEEDED],
+    "odb_replay": [*_BYTES, *_BYTES, *_NUMBER * 4, *_SEEDED],
+    "odb_run_open": [*_BYTES, *_BYTES, *_NUMBER * 2, *_RUN, *_SEEDED],
+    "odb_run_ready": [*_RUN, *_POSITIONS],
+    "odb_run_running": [*_RUN, *_POSITIONS],
+    "odb_run_start": [*_RUN, *_NUMBER],
+    "odb_run_report": [*_RUN, *_NUMBER * 2, *_BYTES, *_BYTES],
+    "odb_run_finished": [*_RUN],
+    "odb_run_response": [*_RUN, *_TEXT],
+    "odb_run_close": [Handle],
 }
 
 
@@ -59,6 +78,7 @@ def _declare(library: ctypes.CDLL) -> str:
         for name, parameters in _PARAMETERS.items():
             function = getattr(library, name)
             function.argtypes, function.restype = parameters, ctypes.c_uint32
+        library.odb_run_close.restype = None
     except AttributeError as error:
         raise ImportError(f"{NAME} is not the library of odb_batch: {error}") from None
     found = number // 10000, number // 100 % 100
@@ -74,14 +94,26 @@ VERSION = _declare(_LIBRARY)
 _SEED = secrets.randbits(64)
 
 
-def call(name: str, documents: Tuple[bytes, ...], options: Tuple[int, ...], room: int) -> Tuple[int, bytes]:
-    """Calls a function; returns its status and its text. `room` is a guess of how long that is."""
+def call(name: str, documents: Tuple[bytes, ...], options: Tuple[Any, ...], room: int) -> Tuple[int, bytes]:
+    """Calls a function that writes a text; returns its status and the text. `room` is a guess of how long that is."""
     function: Callable[..., int] = getattr(_LIBRARY, name)
     length = ctypes.c_size_t()
     sized = [part for document in documents for part in (document, len(document))]
+    seed = (_SEED,) if _PARAMETERS[name][-1] is ctypes.c_uint64 else ()
     while True:
         text = ctypes.create_string_buffer(room)
-        status = function(*sized, *options, text, room, ctypes.byref(length), _SEED)
+        status = function(*sized, *options, text, room, ctypes.byref(length), *seed)
         if status != SMALL_BUFFER:
             return status, ctypes.string_at(text, length.value)
         room = length.value
+
+
+def call_run(name: str, handle: Handle, *arguments: Any) -> int:
+    """Calls a function over a run, and returns its status."""
+    function: Callable[..., int] = getattr(_LIBRARY, name)
+    return function(ctypes.byref(handle), *arguments)
+
+
+def close_run(handle: Handle) -> None:
+    """Frees a run; its handle must not be used any more."""
+    _LIBRARY.odb_run_close(handle)

@@ -1,1 +1,5 @@
 mod ReturnLemmas
+mod AddressLemmas
+mod OutcomeLemmas
+mod AnswerLemmas
+mod PositionLemmas

@@ -1,25 +1,13 @@
 //! What a command writes, and how it reaches the buffer of the caller.
 
 ghost use Rattle.std.specs.Prelude.{◌≡◌, ◌≤◌, ◌++◌, None, length, drop, IfSome};
-ghost use Rattle.odb_ffi.specs.Returns as returns;
+ghost use Rattle.odb_engine.specs.declared.form.Form.TheVariants as forms;
+ghost use Rattle.odb_engine.specs.Halts.{text_found};
 ghost use Rattle.odb_ffi.specs.Returns.{Is, IsOutOfMemory, IsWrongOption, Returns};
 
-use odb_engine::Ended;
-
-/// The command wrote its result.
-const DONE: u32 = 0;
-
-/// A document is refused, and the text is the line of its fault.
-const REFUSED: u32 = 1;
-
-/// An option is a number that it may not be.
-const WRONG_OPTION: u32 = 2;
-
-/// An allocation failed.
-const OUT_OF_MEMORY: u32 = 4;
-
-/// The text is longer than the buffer.
-const SMALL_BUFFER: u32 = 5;
+use crate::status::{OUT_OF_MEMORY, SMALL_BUFFER, WRONG_OPTION, of_end};
+use odb_engine::{Ended, Halt, fault_line};
+use std::alloc::Global;
 
 /// How a command ended, and the whole text that it wrote.
 #[derive(Drop)]
@@ -28,13 +16,25 @@ pub struct Answer {
     pub text: Vec<u8>,
 }
 
-/// Returns the status of an end.
-fn status_of(ended: Ended) -> u32
-    ensures { result ≡ returns.status_of ended }
+/// Returns what is written of what an engine has found; `None` if it has found nothing.
+pub fn answer_of(alloc: Global, found: Result<String, Halt>) -> Option<Answer>
+    ensures { IfSome result (λ answer. text_found forms.Lines found answer.ended answer.text.items) }
 {
-    match ended {
-        Ended::Done => DONE,
-        Ended::Refused => REFUSED,
+    match found {
+        Ok(text) => Some(Answer {
+            ended: Ended::Done,
+            text: text.into_bytes(),
+        }),
+        Err(Halt::Refused(refusal)) => {
+            match fault_line(alloc, refusal.code, refusal.name, refusal.place) {
+                Ok(line) => Some(Answer {
+                    ended: Ended::Refused,
+                    text: line.into_bytes(),
+                }),
+                Err(_) => None,
+            }
+        }
+        Err(_) => None,
     }
 }
 
@@ -61,7 +61,7 @@ pub fn give(answer: Option<Answer>, buffer: &mut [u8], text_length: &mut usize) 
                 return SMALL_BUFFER;
             }
             copy_to(buffer, &answer.text);
-            status_of(answer.ended)
+            of_end(answer.ended)
         }
         None => OUT_OF_MEMORY,
     }

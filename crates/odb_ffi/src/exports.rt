@@ -22,9 +22,9 @@ use std::alloc::Global;
 /// The version of the library, MAJOR.MINOR.PATCH, as MAJOR * 10000 + MINOR * 100 + PATCH.
 #[unsafe(no_mangle)]
 pub extern "C" fn odb_version() -> u32
-    ensures { result ≡ 100 }
+    ensures { result ≡ 200 }
 {
-    100
+    200
 }
 
 /// Checks the batch in a document, as `odb_batch check` does.

@@ -6,8 +6,18 @@
 //! `include/odb_batch.h` declares the exports for C.
 #![tactic(auto)]
 
+mod address;
 mod answer;
 pub mod exports;
+mod filled;
+pub mod handle;
+mod lent;
 mod options;
+mod outcome;
 mod over_one;
 mod over_two;
+mod positions;
+pub mod run_exports;
+pub mod session;
+pub mod slot;
+mod status;

@@ -16,6 +16,18 @@ pub struct ReplayOptions {
     pub traced: bool,
 }
 
+/// Returns the seed that a number is. 0 is no seed.
+pub fn seed_of(seed: u64) -> Seed
+    ensures none { seed ≡ 0 → result.number ≡ None }
+    ensures some { seed ≢ 0 → result.number ≡ Some seed }
+{
+    if seed == 0 {
+        Seed::none()
+    } else {
+        Seed::new(seed)
+    }
+}
+
 /// Returns the setup of an engine that keeps nothing. 0 is no seed.
 pub fn setup_of(seed: u64) -> Setup
     ensures remains { result.remains ≡ Dropped }
@@ -23,11 +35,7 @@ pub fn setup_of(seed: u64) -> Setup
     ensures some { seed ≢ 0 → result.seed.number ≡ Some seed }
 {
     Setup {
-        seed: if seed == 0 {
-            Seed::none()
-        } else {
-            Seed::new(seed)
-        },
+        seed: seed_of(seed),
         remains: Remains::Dropped,
     }
 }

@@ -1,0 +1,58 @@
+/* Measures a live run of the batch in a document, with all its calls: opens it, starts and reports each
+ * request when it is ready, and writes the response. Prints the processor time of it all, in
+ * milliseconds.
+ *
+ *   live_speed FILE */
+
+#include "odb_batch.h"
+
+#include <stdio.h>
+#include <stdlib.h>
+#include <time.h>
+
+#define MOST_BYTES 16777216
+#define MOST_REQUESTS 10000
+
+static const uint8_t events[] = "{\"events\":[]}", body[] = "{\"Count\":1}";
+
+/* Starts all that is ready, reports all that runs, and so on to the end. Returns how many have run. */
+static long driven(odb_live_run *run)
+{
+    static uint32_t positions[MOST_REQUESTS];
+    long total = 0;
+    size_t count;
+    while (!odb_run_finished(run)) {
+        if (odb_run_ready(run, positions, MOST_REQUESTS, &count) != ODB_DONE || count == 0)
+            return -1;
+        for (size_t at = 0; at < count; at++)
+            if (odb_run_start(run, positions[at]) != ODB_DONE)
+                return -1;
+        for (size_t at = 0; at < count; at++)
+            if (odb_run_report(run, positions[at], 200, NULL, 0, body, sizeof body - 1) != ODB_DONE)
+                return -1;
+        total += (long)count;
+    }
+    return total;
+}
+
+int main(int count, char **words)
+{
+    uint8_t *document = malloc(MOST_BYTES), *text = malloc(MOST_BYTES);
+    FILE *file = count == 2 ? fopen(words[1], "rb") : NULL;
+    if (document == NULL || text == NULL || file == NULL)
+        return 70;
+    size_t size = fread(document, 1, MOST_BYTES, file), length;
+    fclose(file);
+    odb_live_run run;
+    clock_t begun = clock();
+    if (odb_run_open(document, size, events, sizeof events - 1, ODB_CONTINUE, ODB_MAX_WIDTH, &run,
+                     text, MOST_BYTES, &length, odb_seed()) != ODB_DONE)
+        return 1;
+    long total = driven(&run);
+    uint32_t status = odb_run_response(&run, text, MOST_BYTES, &length);
+    odb_run_close(run);
+    printf("%ld requests, %zu bytes, %.1f ms\n", total, length, (double)(clock() - begun) / CLOCKS_PER_SEC * 1e3);
+    free(document);
+    free(text);
+    return total < 0 || status != ODB_DONE;
+}

@@ -1,0 +1,37 @@
+/* What the files of the addon share. */
+
+#ifndef ODB_BATCH_ADDON_H
+#define ODB_BATCH_ADDON_H
+
+#include <node_api.h>
+
+#include "../include/odb_batch.h"
+
+struct bytes {
+    uint8_t *at;
+    size_t size;
+};
+
+/* Reads the arguments of a call, which have to be so many. Returns whether they are. */
+int read_arguments(napi_env env, napi_callback_info info, napi_value *arguments, size_t wanted);
+
+/* Reads a Uint8Array. Returns whether it is one. */
+int read_bytes(napi_env env, napi_value value, struct bytes *found);
+
+/* Returns the seed of this instance. */
+uint64_t seed_of(napi_env env);
+
+/* A call that writes a text to a buffer, and the length of the text; returns its status. */
+typedef uint32_t writer(void *given, struct bytes buffer, size_t *length);
+
+/* Has a call write its text, once more if that did not fit. `size` is a guess of how long it is. Returns the
+ * pair of status and text, or NULL with an exception. */
+napi_value written(napi_env env, writer *write, void *given, size_t size);
+
+/* Throws the exception for arguments of the wrong kind, and returns NULL. */
+napi_value wrong_arguments(napi_env env);
+
+/* Adds the calls of live runs to the exports. */
+napi_status export_runs(napi_env env, napi_value exports);
+
+#endif

@@ -1,0 +1,90 @@
+'use strict'
+
+// The commands. index.d.ts says what each takes and returns.
+
+const addon = require('./odb_batch.node')
+const { bytesOf, eventsOf } = require('./documents.js')
+const { settle } = require('./faults.js')
+
+const COMMANDS = ['check', 'plan', 'canon', 'match', 'run', 'replay']
+const MODES = ['continue', 'stop']
+const ORDERS = ['first', 'last', 'wide']
+const MAX_WIDTH = 10000
+
+/** The number of a named option. */
+function numberOf(names, what, value) {
+  const number = names.indexOf(value)
+  if (number < 0) throw new RangeError(`${what} must be one of ${names.join(', ')}, not ${String(value)}`)
+  return number
+}
+
+/** The numbers of the options. */
+function numbersOf({ mode = 'continue', width = MAX_WIDTH, order = 'first', trace = false }) {
+  if (!Number.isInteger(width) || width < 1 || width > MAX_WIDTH) {
+    throw new RangeError(`width must be a whole number from 1 to ${MAX_WIDTH}, not ${String(width)}`)
+  }
+  return [numberOf(MODES, 'mode', mode), width, numberOf(ORDERS, 'order', order), trace ? 1 : 0]
+}
+
+/** The text that a command writes; throws what else it returns. */
+function answer(command, batch, second = '', options = {}) {
+  const numbers = numbersOf(options)
+  const [status, text] = addon.call(COMMANDS.indexOf(command), bytesOf(batch), bytesOf(second), ...numbers)
+  settle(command, status, text)
+  return text
+}
+
+/** The lines of a text that ends with a newline, or is empty. */
+function linesOf(text) {
+  return text.toString().split('\n').slice(0, -1)
+}
+
+function check(batch) {
+  const [, requests, , groups] = answer('check', batch).toString().split(' ')
+  return { requests: Number(requests), groups: Number(groups) }
+}
+
+function plan(batch) {
+  return linesOf(answer('plan', batch)).map((line) => {
+    const [position, id, , level, , group, , needs] = line.split(' ')
+    return {
+      position: Number(position),
+      id,
+      level: Number(level),
+      group: group === '*' ? null : group,
+      needs: needs === '*' ? [] : needs.split(','),
+    }
+  })
+}
+
+function canon(batch) {
+  return answer('canon', batch).subarray(0, -1)
+}
+
+function match(batch, responses) {
+  const lines = linesOf(answer('match', batch, responses)).slice(1)
+  return new Map(lines.map((line) => line.split(' ')).map(([id, status]) => [id, Number(status)]))
+}
+
+function run(batch, events, { mode, width } = {}) {
+  return answer('run', batch, eventsOf(events), { mode, width }).subarray(0, -1)
+}
+
+/** The step of a line of a trace. */
+function stepOf(line) {
+  const [step, id, status] = line.split(' ')
+  return step === 'report' ? { step, id, status: Number(status) } : { step, id }
+}
+
+function replay(batch, outcomes, { mode, width, order, trace } = {}) {
+  const text = answer('replay', batch, outcomes, { mode, width, order, trace }).subarray(0, -1)
+  const end = text.lastIndexOf('\n')
+  const lines = end < 0 ? [] : linesOf(text.subarray(0, end + 1)).map(stepOf)
+  return {
+    response: text.subarray(end + 1),
+    steps: lines.filter(({ step }) => step !== 'undo'),
+    undone: lines.filter(({ step }) => step === 'undo').map(({ id }) => id),
+  }
+}
+
+module.exports = { canon, check, match, numbersOf, plan, replay, run }

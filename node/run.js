@@ -1,0 +1,144 @@
+'use strict'
+
+// Live runs. index.d.ts says what each call takes and returns.
+
+const addon = require('./odb_batch.node')
+const { numbersOf, plan, run } = require('./commands.js')
+const { arrayOf, bytesOf, eventsOf, headersOf, isSuccess, jsonOf, successesOf } = require('./documents.js')
+const { DONE, Fault, REFUSED, Refused, errorOf, settle } = require('./faults.js')
+
+const MOST = 2 ** 32 - 1
+const NOTHING = new Uint8Array()
+
+// Why a start or a report is refused, by the status that says so.
+const CAUSES = new Map([
+  [11, ['S1', 'AlreadyStarted']],
+  [12, ['S2', 'Stopped']],
+  [13, ['S3', 'UnitFailed']],
+  [14, ['S4', 'Waiting']],
+  [15, ['S5', 'WidthReached']],
+  [21, ['P1', 'NotRunning']],
+  [22, ['P2', 'BadStatus']],
+])
+
+/** Throws what a start or a report returns but that it is done. */
+function settleEvent(name, status, id) {
+  if (CAUSES.has(status)) throw new Refused(...CAUSES.get(status), id)
+  settle(name, status, '')
+}
+
+/** The JSON of a value; nothing if there is none. */
+function partOf(value) {
+  return value === undefined || value === null ? NOTHING : arrayOf(value) ?? jsonOf(value)
+}
+
+/** Why headers or a body are refused: the fault that the same report has as a recorded event. */
+function faultOf(headers, body) {
+  const [first, second] = [headers, body].map((it) => (it.length > 0 ? it : Buffer.from('null')))
+  const parts = ['{"events":[{"report":"","status":200,"headers":', first, ',"body":', second, '}]}']
+  try {
+    run({ requests: [] }, Buffer.concat(parts.map((it) => Buffer.from(it))))
+  } catch (error) {
+    // F65 is that they were read, so one of them is JSON only together with what is around it here.
+    if (!(error instanceof Fault)) return error
+    if (error.code !== 'F65') return new Fault(error.code, error.faultName, 'report')
+  }
+  return new Fault('F02', 'NotJson', 'report')
+}
+
+class Run {
+  #run
+  #plan
+  #positions
+  #listed
+  #size
+  #succeeded
+
+  constructor(batch, { mode, width, events = [] } = {}) {
+    const [modeNumber, widthNumber] = numbersOf({ mode, width })
+    const [given, happened] = [bytesOf(batch), eventsOf(events)]
+    this.#plan = plan(given)
+    this.#positions = new Map(this.#plan.map(({ id, position }) => [id, position]))
+    // Room for all positions, so that a list of some always fits.
+    this.#listed = new Uint32Array(Math.max(this.#plan.length, 1))
+    // How many bytes the response is made of.
+    this.#size = given.length + happened.length
+    const [status, text, opened] = addon.open(given, happened, modeNumber, widthNumber)
+    settle('open', status, text)
+    this.#run = opened
+    // The ids of the requests that have succeeded.
+    this.#succeeded = new Set(successesOf(happened))
+  }
+
+  /** The run, or an error if it is closed. */
+  get #open() {
+    if (this.#run === undefined) throw errorOf('ERR_ODB_CLOSED', 'the run is closed')
+    return this.#run
+  }
+
+  /** The position of a request, or an error if the batch has none with this id. */
+  #position(id) {
+    const position = this.#positions.get(id)
+    if (position === undefined) {
+      throw errorOf('ERR_ODB_UNKNOWN_ID', `the batch has no request with the id ${String(id)}`, RangeError)
+    }
+    return position
+  }
+
+  /** The ids of the requests that a call lists, in the order of the batch. */
+  #list(name) {
+    const [status, count] = addon[name](this.#open, this.#listed)
+    settle(name, status, '')
+    return Array.from(this.#listed.subarray(0, count).sort(), (position) => this.#plan[position].id)
+  }
+
+  get ready() {
+    return this.#list('ready')
+  }
+
+  get running() {
+    return this.#list('running')
+  }
+
+  get undone() {
+    if (!this.finished) throw new Fault('F66', 'Unfinished', 'events')
+    const failed = new Set(this.#plan.filter(({ id }) => !this.#succeeded.has(id)).map(({ group }) => group))
+    const isUndone = ({ id, group }) => group !== null && failed.has(group) && this.#succeeded.has(id)
+    return this.#plan.filter(isUndone).map(({ id }) => id).reverse()
+  }
+
+  get finished() {
+    return addon.finished(this.#open) === 1
+  }
+
+  start(id) {
+    settleEvent('start', addon.start(this.#open, this.#position(id)), id)
+  }
+
+  report(id, status, headers, body) {
+    if (!Number.isInteger(status)) throw new TypeError(`a status must be a whole number, not ${String(status)}`)
+    const position = this.#position(id)
+    const [heads, text] = [partOf(headersOf(headers)), partOf(body)]
+    const end = addon.report(this.#open, position, Math.min(Math.max(status, 0), MOST), heads, text)
+    if (end === DONE) this.#size += heads.length + text.length
+    if (end === DONE && isSuccess(status)) this.#succeeded.add(id)
+    if (end === REFUSED) throw faultOf(heads, text)
+    settleEvent('report', end, id)
+  }
+
+  response() {
+    const [status, text] = addon.response(this.#open, Math.min(this.#size, MOST))
+    settle('response', status, text)
+    return text.subarray(0, -1)
+  }
+
+  close() {
+    if (this.#run !== undefined) addon.close(this.#run)
+    this.#run = undefined
+  }
+}
+
+// Where the language has it, `using` closes a run.
+if (Symbol.dispose) Run.prototype[Symbol.dispose] = Run.prototype.close
+
+module.exports = { Run }

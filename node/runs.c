@@ -1,0 +1,213 @@
+/* Live runs for Node: a run is an external value, which closes it when it is collected.
+ *
+ *   open(batch, events, mode, width) -> [status, text, run]
+ *   ready(run, positions), running(run, positions) -> [status, count]
+ *   start(run, position), report(run, position, status, headers, body), finished(run) -> status
+ *   response(run, size) -> [status, text]
+ *   close(run)
+ *
+ * Documents are Uint8Arrays, `positions` is a Uint32Array with room for all positions, and `size` a guess of
+ * how long the text is. run.js makes the class of it. */
+
+#include <stdlib.h>
+
+#include "addon.h"
+
+#define LINE 256 /* longer than the line of a fault */
+
+/* A run and whether it is open. */
+struct live {
+    odb_live_run run;
+    int is_open;
+};
+
+static void close_live(struct live *it)
+{
+    if (it->is_open)
+        odb_run_close(it->run);
+    it->is_open = 0;
+}
+
+static void free_live(napi_env env, void *data, void *hint)
+{
+    (void)env;
+    (void)hint;
+    close_live(data);
+    free(data);
+}
+
+/* Reads a run that is open. */
+static int read_live(napi_env env, napi_value value, struct live **found)
+{
+    void *at = NULL;
+    napi_valuetype type;
+    if (napi_typeof(env, value, &type) != napi_ok || type != napi_external)
+        return 0;
+    if (napi_get_value_external(env, value, &at) != napi_ok)
+        return 0;
+    *found = at;
+    return (*found)->is_open;
+}
+
+static int read_number(napi_env env, napi_value value, uint32_t *found)
+{
+    return napi_get_value_uint32(env, value, found) == napi_ok;
+}
+
+static napi_value number_of(napi_env env, uint32_t number)
+{
+    napi_value value;
+    return napi_create_uint32(env, number, &value) == napi_ok ? value : NULL;
+}
+
+/* What a run is opened with, and where. */
+struct opening {
+    struct bytes batch, events;
+    uint32_t mode, width;
+    uint64_t seed;
+    struct live *live;
+};
+
+/* Opens a run: a writer of the line of the fault. */
+static uint32_t open_live(void *given, struct bytes text, size_t *length)
+{
+    const struct opening *it = given;
+    uint32_t status = odb_run_open(it->batch.at, it->batch.size, it->events.at, it->events.size, it->mode, it->width,
+                                   &it->live->run, text.at, text.size, length, it->seed);
+    it->live->is_open = status == ODB_DONE;
+    return status;
+}
+
+static napi_value open_run(napi_env env, napi_callback_info info)
+{
+    struct opening given;
+    napi_value it[4], run;
+    if (!read_arguments(env, info, it, 4)
+        || !read_bytes(env, it[0], &given.batch) || !read_bytes(env, it[1], &given.events)
+        || !read_number(env, it[2], &given.mode) || !read_number(env, it[3], &given.width))
+        return wrong_arguments(env);
+    given.seed = seed_of(env);
+    given.live = calloc(1, sizeof *given.live);
+    if (given.live == NULL || napi_create_external(env, given.live, free_live, NULL, &run) != napi_ok) {
+        free(given.live);
+        napi_throw_error(env, "ERR_ODB_OUT_OF_MEMORY", "out of memory");
+        return NULL;
+    }
+    napi_value found = written(env, open_live, &given, LINE);
+    if (found == NULL || napi_set_element(env, found, 2, run) != napi_ok)
+        return NULL;
+    return found;
+}
+
+/* Makes the pair of a status and a count. */
+static napi_value count_of(napi_env env, uint32_t status, size_t count)
+{
+    napi_value pair, first = number_of(env, status), second = number_of(env, (uint32_t)count);
+    if (first == NULL || second == NULL || napi_create_array_with_length(env, 2, &pair) != napi_ok
+        || napi_set_element(env, pair, 0, first) != napi_ok || napi_set_element(env, pair, 1, second) != napi_ok)
+        return NULL;
+    return pair;
+}
+
+typedef uint32_t listing(odb_live_run *run, uint32_t *positions, size_t positions_size, size_t *count);
+
+/* Has a function list positions into the array that is passed. */
+static napi_value list(napi_env env, napi_callback_info info, listing *listed)
+{
+    struct live *live;
+    napi_typedarray_type type;
+    napi_value it[2];
+    size_t size = 0, count = 0;
+    void *positions = NULL;
+    if (!read_arguments(env, info, it, 2) || !read_live(env, it[0], &live)
+        || napi_get_typedarray_info(env, it[1], &type, &size, &positions, NULL, NULL) != napi_ok
+        || type != napi_uint32_array || size == 0)
+        return wrong_arguments(env);
+    uint32_t status = listed(&live->run, positions, size, &count);
+    return count_of(env, status, count);
+}
+
+static napi_value ready(napi_env env, napi_callback_info info)
+{
+    return list(env, info, odb_run_ready);
+}
+
+static napi_value running(napi_env env, napi_callback_info info)
+{
+    return list(env, info, odb_run_running);
+}
+
+static napi_value start(napi_env env, napi_callback_info info)
+{
+    struct live *live;
+    uint32_t position;
+    napi_value it[2];
+    if (!read_arguments(env, info, it, 2) || !read_live(env, it[0], &live) || !read_number(env, it[1], &position))
+        return wrong_arguments(env);
+    return number_of(env, odb_run_start(&live->run, position));
+}
+
+static napi_value report(napi_env env, napi_callback_info info)
+{
+    struct live *live;
+    struct bytes headers, body;
+    uint32_t position, status;
+    napi_value it[5];
+    if (!read_arguments(env, info, it, 5) || !read_live(env, it[0], &live) || !read_number(env, it[1], &position)
+        || !read_number(env, it[2], &status) || !read_bytes(env, it[3], &headers) || !read_bytes(env, it[4], &body))
+        return wrong_arguments(env);
+    return number_of(env, odb_run_report(&live->run, position, status, headers.at, headers.size, body.at, body.size));
+}
+
+static napi_value finished(napi_env env, napi_callback_info info)
+{
+    struct live *live;
+    napi_value it[1];
+    if (!read_arguments(env, info, it, 1) || !read_live(env, it[0], &live))
+        return wrong_arguments(env);
+    return number_of(env, odb_run_finished(&live->run));
+}
+
+/* Writes the response: a writer. */
+static uint32_t respond(void *live, struct bytes text, size_t *length)
+{
+    return odb_run_response(&((struct live *)live)->run, text.at, text.size, length);
+}
+
+static napi_value response(napi_env env, napi_callback_info info)
+{
+    struct live *live;
+    uint32_t size;
+    napi_value it[2];
+    if (!read_arguments(env, info, it, 2) || !read_live(env, it[0], &live) || !read_number(env, it[1], &size))
+        return wrong_arguments(env);
+    return written(env, respond, live, (size_t)size + 1);
+}
+
+static napi_value close_run(napi_env env, napi_callback_info info)
+{
+    struct live *live;
+    napi_value it[1];
+    if (!read_arguments(env, info, it, 1) || !read_live(env, it[0], &live))
+        return wrong_arguments(env);
+    close_live(live);
+    return NULL;
+}
+
+napi_status export_runs(napi_env env, napi_value exports)
+{
+    static const struct {
+        const char *name;
+        napi_callback call;
+    } calls[] = {
+        {"open", open_run}, {"ready", ready},       {"running", running},   {"start", start},
+        {"report", report}, {"finished", finished}, {"response", response}, {"close", close_run},
+    };
+    for (size_t i = 0; i < sizeof calls / sizeof *calls; i++) {
+        napi_property_descriptor it = {calls[i].name, NULL, calls[i].call, NULL, NULL, NULL, napi_enumerable, NULL};
+        napi_status status = napi_define_properties(env, exports, 1, &it);
+        if (status != napi_ok)
+            return status;
+    }
+    return napi_ok;
+}

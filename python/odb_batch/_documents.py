@@ -1,0 +1,83 @@
+"""Documents and events: what callers pass, and the bytes that the library reads."""
+
+import json
+from typing import Any, Dict, Iterable, Iterator, Mapping, NamedTuple, Optional, Union
+
+#: A document: bytes or a text of JSON, or a mapping that ``json`` can write.
+Document = Union[bytes, bytearray, memoryview, str, Mapping[str, Any]]
+
+
+class Start(NamedTuple):
+    """An event of a run, or a step of a replay: the request starts."""
+
+    id: str
+
+
+class Report(NamedTuple):
+    """An event of a run, or a step of a replay: the request ends with this status.
+
+    Attributes:
+        id: The id of the request.
+        status: Its status.
+        headers: The headers of its answer, or None; of a step always None.
+        body: The body of its answer, a value that ``json`` can write, or None; of a step always None.
+    """
+
+    id: str
+    status: int
+    headers: Optional[Mapping[str, str]] = None
+    body: Any = None
+
+
+#: Events: a document of them, or starts and reports in order.
+Events = Union[Document, Iterable[Union[Start, Report]]]
+
+
+def _utf8(text: str) -> bytes:
+    """The bytes of a text. One that is not Unicode is refused as a document that is not UTF-8."""
+    return text.encode("utf-8", "surrogatepass")
+
+
+def json_of(value: Any) -> bytes:
+    """The JSON of a value."""
+    return _utf8(json.dumps(value, ensure_ascii=False, separators=(",", ":")))
+
+
+def bytes_of(document: Document) -> bytes:
+    """The bytes of a document."""
+    if isinstance(document, bytes):
+        return document
+    if isinstance(document, str):
+        return _utf8(document)
+    if isinstance(document, (bytearray, memoryview)):
+        return bytes(document)
+    if isinstance(document, Mapping):
+        return json_of(document)
+    raise TypeError(f"a document is bytes, a str or a mapping, not {type(document).__name__}")
+
+
+def _element(event: Union[Start, Report]) -> Dict[str, Any]:
+    """The element of a document of events."""
+    if isinstance(event, Start):
+        return {"start": event.id}
+    if isinstance(event, Report):
+        headers = None if event.headers is None else dict(event.headers)
+        return {"report": event.id, "status": event.status, "headers": headers, "body": event.body}
+    raise TypeError(f"an event is a Start or a Report, not {type(event).__name__}")
+
+
+def events_of(events: Events) -> bytes:
+    """The bytes of a document of events."""
+    if isinstance(events, (bytes, bytearray, memoryview, str, Mapping)):
+        return bytes_of(events)
+    return json_of({"events": list(map(_element, events))})
+
+
+def is_success(status: int) -> bool:
+    """Whether a status is that of a success, 2xx."""
+    return 200 <= status <= 299
+
+
+def successes_of(events: bytes) -> Iterator[str]:
+    """The ids of the requests that have succeeded by a document of events that the library has taken."""
+    return (it["report"] for it in json.loads(events)["events"] if "report" in it and is_success(it["status"]))

@@ -1,0 +1,240 @@
+"""Live runs: which requests may start now, by what has been reported so far."""
+
+import ctypes
+import threading
+import weakref
+from types import TracebackType
+from typing import Any, Mapping, Optional, Tuple, Type
+
+from . import _library
+from ._commands import MAX_WIDTH, answer, failure_of, plan, policy
+from ._documents import Document, Events, bytes_of, events_of, is_success, json_of, successes_of
+from ._faults import Fault, Refused
+
+# Why a start or a report is refused, by the status that says so.
+_CAUSES = {
+    11: ("S1", "AlreadyStarted"),
+    12: ("S2", "Stopped"),
+    13: ("S3", "UnitFailed"),
+    14: ("S4", "Waiting"),
+    15: ("S5", "WidthReached"),
+    21: ("P1", "NotRunning"),
+    22: ("P2", "BadStatus"),
+}
+_MOST = 2**32 - 1
+
+
+class Run:
+    """A live run of a batch: it says which requests may start now, and in the end what the batch is answered.
+
+    The caller performs the requests. It starts those that are ``ready``, in any order, and reports what
+    each is answered, until the run is ``finished``:
+
+    >>> from odb_batch import Run
+    >>> batch = {"requests": [{"id": "a", "method": "get", "url": "Books"},
+    ...                       {"id": "b", "method": "get", "url": "Loans", "dependsOn": ["a"]}]}
+    >>> with Run(batch) as run:
+    ...     while not run.finished:
+    ...         for id in run.ready:
+    ...             run.start(id)
+    ...             run.report(id, 200, body={"of": id})
+    ...     run.response()
+    b'{"responses":[{"body":{"of":"a"},"id":"a","status":200},{"body":{"of":"b"},"id":"b","status":200}]}'
+
+    A start that may not come is refused, by the exception :class:`Refused`, and so is such a report; the
+    run is as it was then. A run that is not finished has a request that is ready or one that is running.
+
+    A run holds memory of the library: close it, by ``with`` or by :meth:`close`. After that each call
+    and property raises ValueError. One that is forgotten is closed when it is collected.
+
+    Any number of threads may use one run: a lock of the run lets in one at a time. The interpreter's lock
+    is released meanwhile. Do not use it in a handler of a signal, nor in the child of a fork.
+
+    Args:
+        batch: The batch.
+        mode: ``"continue"``, or ``"stop"`` to start nothing more after a status from 400 to 599.
+        width: How many requests may run at once, from 1 to 10,000.
+        events: What has happened already, in order: a document, or starts and reports. A gateway that
+            keeps them goes on from there after it was stopped.
+
+    Raises:
+        Fault: A document is refused, or an event may not come.
+        ValueError: An option has a value that it may not have.
+        MemoryError: An allocation failed.
+    """
+
+    __slots__ = ("_lock", "_handle", "_release", "_plan", "_listed", "_size", "_succeeded", "__weakref__")
+
+    def __init__(
+        self, batch: Document, *, mode: str = "continue", width: int = MAX_WIDTH, events: Events = ()
+    ) -> None:
+        options, given, happened = policy(mode, width), bytes_of(batch), events_of(events)
+        self._plan = plan(given)
+        # Room for all positions, so that a list of some always fits.
+        self._listed = (ctypes.c_uint32 * max(len(self._plan), 1))()
+        # How many bytes the response is made of.
+        self._size = len(given) + len(happened)
+        self._lock = threading.Lock()
+        self._handle = _library.Handle()
+        answer("odb_run_open", given, happened, options=(*options, ctypes.byref(self._handle)))
+        self._release = weakref.finalize(self, _library.close_run, self._handle)
+        # A thread may still be in a call when the process ends, and then all memory goes.
+        self._release.atexit = False
+        # The positions of the requests that have succeeded.
+        self._succeeded = {self._plan.request(id).position for id in successes_of(happened)}
+
+    def __enter__(self) -> "Run":
+        with self._lock:
+            self._require_open()
+        return self
+
+    def __exit__(
+        self, kind: Optional[Type[BaseException]], error: Optional[BaseException], trace: Optional[TracebackType]
+    ) -> None:
+        self.close()
+
+    @property
+    def ready(self) -> Tuple[str, ...]:
+        """The ids of the requests that may start now, in the order of the batch.
+
+        It takes a time in proportion to their number. Go through a list to its end before you ask for the
+        next one; a start that may not come any more is refused.
+        """
+        return self._list("odb_run_ready")
+
+    @property
+    def running(self) -> Tuple[str, ...]:
+        """The ids of the requests that have started and not reported yet, in the order of the batch."""
+        return self._list("odb_run_running")
+
+    @property
+    def undone(self) -> Tuple[str, ...]:
+        """The ids of the requests that succeeded but are answered 424, since another one of their group did not
+        succeed: what they did has to be undone, in this order, from the last to the first.
+
+        Raises:
+            Fault: The run is not finished (F66).
+            ValueError: The run is closed.
+        """
+        with self._lock:
+            if not self._call("odb_run_finished"):
+                raise Fault("F66", "Unfinished", "events")
+            failed = {it.group for it in self._plan if it.position not in self._succeeded} - {None}
+            undone = [it.id for it in self._plan if it.group in failed and it.position in self._succeeded]
+        return tuple(reversed(undone))
+
+    @property
+    def finished(self) -> bool:
+        """Whether nothing is running and nothing may start any more, so that there is a response."""
+        with self._lock:
+            return bool(self._call("odb_run_finished"))
+
+    def start(self, id: str) -> None:
+        """Starts a request: call it just before the request is sent.
+
+        Raises:
+            Refused: The request may not start, by the first of the causes S1 to S5.
+            KeyError: No request of the batch has this id.
+            ValueError: The run is closed.
+        """
+        position = self._plan.request(id).position
+        with self._lock:
+            status = self._call("odb_run_start", position)
+        _settle("odb_run_start", status, id)
+
+    def report(self, id: str, status: int, headers: Optional[Mapping[str, str]] = None, body: Any = None) -> None:
+        """Reports what a running request was answered.
+
+        Args:
+            id: The id of the request.
+            status: The final status, from 200 to 599. A request without any answer, as over a connection
+                that broke, is reported, too: as 502 or 504, or the run would wait for it forever.
+            headers: The headers that the response shows, or None.
+            body: The body, a value that ``json`` can write, or bytes, which are its JSON; None and empty
+                bytes are no body. Its numbers are whole, and it nests at most 124 deep.
+
+        Raises:
+            Refused: The report may not come, by the first of the causes P1 and P2.
+            Fault: The headers or the body are refused, by the fault that they have in a recorded event;
+                the request is still running.
+            KeyError: No request of the batch has this id.
+            ValueError: The run is closed.
+            MemoryError: An allocation failed.
+        """
+        if isinstance(status, bool) or not isinstance(status, int):
+            raise TypeError(f"a status is a whole number, not {status!r}")
+        position = self._plan.request(id).position
+        heads = b"" if headers is None else json_of(dict(headers))
+        text = _body(body)
+        number = min(max(status, 0), _MOST)
+        with self._lock:
+            end = self._call("odb_run_report", position, number, heads, len(heads), text, len(text))
+            if end == _library.DONE:
+                self._size += len(heads) + len(text)
+                if is_success(status):
+                    self._succeeded.add(position)
+        if end == _library.REFUSED:
+            raise _fault(heads, text)
+        _settle("odb_run_report", end, id)
+
+    def response(self) -> bytes:
+        """Returns the response document of the finished run, as JSON without a newline.
+
+        Raises:
+            Fault: The run is not finished (F66).
+            ValueError: The run is closed.
+            MemoryError: An allocation failed.
+        """
+        with self._lock:
+            self._require_open()
+            return answer("odb_run_response", options=(ctypes.byref(self._handle),), more=self._size)[:-1]
+
+    def close(self) -> None:
+        """Frees the run, if it is not closed yet."""
+        with self._lock:
+            self._release()
+
+    def _require_open(self) -> None:
+        if not self._release.alive:
+            raise ValueError("the run is closed")
+
+    def _call(self, name: str, *arguments: Any) -> int:
+        """Calls a function over the open run, by the thread that has the lock; returns its status."""
+        self._require_open()
+        return _library.call_run(name, self._handle, *arguments)
+
+    def _list(self, name: str) -> Tuple[str, ...]:
+        """The ids of the requests that a function lists, in the order of the batch."""
+        count = ctypes.c_size_t()
+        with self._lock:
+            status = self._call(name, self._listed, len(self._listed), ctypes.byref(count))
+            positions = self._listed[: count.value]
+        _settle(name, status, "")
+        return tuple(self._plan[position].id for position in sorted(positions))
+
+
+def _settle(name: str, status: int, id: str) -> None:
+    """Raises what a call returns but that it is done."""
+    if status in _CAUSES:
+        raise Refused(*_CAUSES[status], id)
+    if status != _library.DONE:
+        raise failure_of(name, status)
+
+
+def _body(body: Any) -> bytes:
+    """The JSON of a body; nothing if there is none."""
+    if isinstance(body, (bytes, bytearray, memoryview)):
+        return bytes(body)
+    return b"" if body is None else json_of(body)
+
+
+def _fault(headers: bytes, body: bytes) -> Fault:
+    """Why headers or a body are refused: the fault that the same report has as a recorded event."""
+    event = b'{"report":"","status":200,"headers":%s,"body":%s}' % (headers or b"null", body or b"null")
+    try:
+        answer("odb_run", {"requests": []}, b'{"events":[%s]}' % event, options=policy("continue", 1))
+    except Fault as fault:
+        # F65 is that they were read, so one of them is JSON only together with what is around it here.
+        if fault.code != "F65":
+            return Fault(fault.code, fault.name, "report")
+    return Fault("F02", "NotJson", "report")

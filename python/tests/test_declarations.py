@@ -1,0 +1,44 @@
+"""Whether the package declares the functions that it calls as the header does."""
+
+import ctypes
+import os
+import re
+import unittest
+
+from odb_batch import _library
+
+ROOT = os.path.dirname(os.path.dirname(os.path.dirname(os.path.abspath(__file__))))
+HEADER = os.path.join(ROOT, "include", "odb_batch.h")
+KINDS = {
+    "const uint8_t *": ctypes.c_char_p,
+    "uint8_t *": ctypes.c_void_p,
+    "size_t": ctypes.c_size_t,
+    "size_t *": ctypes.POINTER(ctypes.c_size_t),
+    "uint32_t": ctypes.c_uint32,
+    "uint32_t *": ctypes.POINTER(ctypes.c_uint32),
+    "uint64_t": ctypes.c_uint64,
+    "odb_live_run": _library.Handle,
+    "odb_live_run *": ctypes.POINTER(_library.Handle),
+    "void": None,
+}
+
+
+def declared():
+    """The functions of the header: a result and the parameters, by name."""
+    with open(HEADER, encoding="utf-8") as file:
+        found = re.findall(r"^(\w+) (odb_\w+)\(([^)]*)\);", file.read(), re.MULTILINE)
+    kind = lambda parameter: KINDS[re.sub(r"\w+$", "", " ".join(parameter.split())).strip()]
+    return {name: (KINDS[result], [kind(it) for it in of.split(",") if it != "void"]) for result, name, of in found}
+
+
+class Declarations(unittest.TestCase):
+    def test_are_those_of_the_header(self):
+        names = [name for name in vars(_library._LIBRARY) if name.startswith("odb_")]
+        functions = {name: getattr(_library._LIBRARY, name) for name in names}
+        found = {name: (it.restype, list(it.argtypes)) for name, it in functions.items()}
+        wanted = declared()
+        self.assertEqual(found, {name: wanted.get(name) for name in found})
+
+
+if __name__ == "__main__":
+    unittest.main()
