@@ -1,0 +1,212 @@
+"""What a batch does to the library, and what it is answered."""
+
+import json
+import os
+
+from common import CONTINUE, JSON, ROOT, ServiceTest, new_book, request, rows
+from odb_batch import match
+
+
+class Examples(ServiceTest):
+    def test_answers_each_batch_of_the_examples(self):
+        for name, wanted in [
+            ("usual", {"book": 200, "mark": 204, "loan": 201, "list": 200}),
+            ("usual", {"book": 200, "mark": 424, "loan": 409, "list": 424}),
+            ("references", {"order": 404, "line": 424, "stock": 404}),
+        ]:
+            with self.subTest(name=name), open(os.path.join(ROOT, "examples", f"{name}.json"), "rb") as file:
+                document = file.read()
+                status, value = self.client.ask("POST", "/$batch", document, CONTINUE)
+                self.assertEqual((status, match(document, value)), (200, wanted))
+
+    def test_refuses_the_other_batches_of_the_examples(self):
+        for name, code, word, place in [
+            ("too_early", "F41", "ForwardName", "/requests/0"),
+            ("wrong_body", "F21", "BadBody", "/requests/1"),
+        ]:
+            with self.subTest(name=name), open(os.path.join(ROOT, "examples", f"{name}.json"), "rb") as file:
+                status, value = self.client.ask("POST", "/$batch", file.read())
+                error = value["error"]
+                self.assertEqual((status, error["code"], error["target"]), (400, code, place))
+                self.assertTrue(error["message"].startswith(f"{word}: "), error)
+
+
+class Groups(ServiceTest):
+    def test_a_group_that_fails_at_any_member_leaves_no_row(self):
+        for failing in range(4):
+            with self.subTest(failing=failing):
+                books = [f"f{failing}-{i}" if i != failing else "dune" for i in range(4)]
+                found = self.client.statuses(*(new_book(f"r{i}", book, "g") for i, book in enumerate(books)))
+                self.assertEqual(list(found.values()), [409 if i == failing else 424 for i in range(4)])
+        self.assertEqual([id for id, *_ in rows(self.database) if id.startswith("f")], [])
+
+    def test_a_group_sees_its_own_rows_and_nobody_else_does(self):
+        found = self.client.batch(
+            new_book("made", "mine", "g"),
+            request("seen", "get", "$made", group="g", needs=["made"]),
+            new_book("wrong", "emma", "g", needs=["seen"]),
+            request("after", "get", "Books('mine')"),
+        )
+        self.assertEqual([it["status"] for it in found.values()], [424, 424, 409, 404])
+
+    def test_what_needs_a_group_is_performed_after_its_commit(self):
+        found = self.client.batch(
+            new_book("one", "c1", "g"), new_book("two", "c2", "g"), request("after", "get", "Books('c2')", needs=["g"])
+        )
+        self.assertEqual([it["status"] for it in found.values()], [201, 201, 200])
+        self.assertEqual(found["after"]["body"]["Title"], "c2")
+
+    def test_a_group_of_one_batch_waits_for_that_of_another(self):
+        for i in range(5):
+            groups = [[new_book(f"{g}{k}", f"w{i}{g}{k}", g) for k in range(3)] for g in "abcd"]
+            found = self.client.statuses(*(it for group in groups for it in group))
+            self.assertEqual(set(found.values()), {201})
+
+
+class References(ServiceTest):
+    def test_a_reference_is_the_location_of_what_was_created(self):
+        found = self.client.batch(
+            new_book("b", "it's a/b?", needs=[]),
+            request("show", "get", "$b", needs=["b"]),
+            request("part", "get", "$b/Title", needs=["b"]),
+            request("move", "patch", "%24b", {"Shelf": "K1"}, needs=["show", "b"]),
+            request("lend", "post", "Loans", {"Book": "it's a/b?", "Reader": 7}, needs=["move"]),
+            request("back", "delete", "$lend", needs=["lend"]),
+            request("gone", "get", "$lend", needs=["back", "lend"]),
+        )
+        self.assertEqual([it["status"] for it in found.values()], [201, 200, 404, 204, 201, 204, 404])
+        self.assertEqual(found["b"]["headers"], {"location": "/library/Books('it''s%20a%2Fb%3F')"})
+        self.assertEqual(found["show"]["body"]["Title"], "it's a/b?")
+
+    def test_a_reference_to_what_created_nothing_is_refused(self):
+        found = self.client.batch(
+            request("read", "get", "Books"),
+            request("use", "get", "$read", needs=["read"]),
+            request("metadata", "get", "Books"),
+            request("reserved", "get", "$metadata", needs=["metadata"]),
+        )
+        self.assertEqual([it["status"] for it in found.values()], [200, 400, 200, 200])
+        self.assertEqual(found["use"]["body"]["error"]["code"], "NoLocation")
+        self.assertIn("$EntityContainer", found["reserved"]["body"])
+
+
+class Preferences(ServiceTest):
+    # One request at once, so it is known which ones come after an error.
+    options = ("--width", "1")
+
+    def test_stops_after_an_error_unless_continuing_is_preferred(self):
+        batch = [request("first", "get", "Books"), request("wrong", "get", "Nothing"), request("last", "get", "Books")]
+        for prefer, continues in [
+            (None, False),
+            ("continue-on-error", True),
+            ("Continue-On-Error=true", True),
+            ('return=minimal, odata.continue-on-error="true"', True),
+            ("continue-on-error; foo=\"a,b\"", True),
+            ("continue-on-error=false", False),
+            ("continue-on-error=false, continue-on-error=true", False),
+            ("continue-on-errors", False),
+        ]:
+            with self.subTest(prefer=prefer):
+                found = self.client.statuses(*batch, headers={**JSON, **({"Prefer": prefer} if prefer else {})})
+                self.assertEqual(list(found.values()), [200, 404, 200 if continues else 424])
+                self.assertEqual(self.client.headers["Preference-Applied"], "continue-on-error" if continues else None)
+
+    def test_a_group_that_is_not_over_when_the_run_stops_is_undone(self):
+        batch = new_book("a", "s1", "g"), new_book("b", "dune", "g"), new_book("c", "s2", "g"), new_book("d", "s3")
+        self.assertEqual(list(self.client.statuses(*batch, headers=JSON).values()), [424, 409, 424, 424])
+        self.assertEqual(list(self.client.statuses(*batch).values()), [424, 409, 424, 201])
+        self.assertEqual([id for id, *_ in rows(self.database) if id.startswith("s")], ["s3"])
+
+
+class Entities(ServiceTest):
+    def test_answers_single_requests(self):
+        book = {"Id": "e1", "Title": "E", "Shelf": None, "Reader": None}
+        location = "/library/Books('e1')"
+        for method, path, body, status, shown in [
+            ("POST", "/library/Books", {"Id": "e1", "Title": "E", "note@x.y": 1}, 201, book),
+            ("POST", "/Books", {"Id": "e1", "Title": "E"}, 409, None),
+            ("GET", "/library/Books('e1')", None, 200, book),
+            ("GET", "/Books(Id='e1')?x=1", None, 200, book),
+            ("PATCH", location, {"Shelf": "A", "Id": "other"}, 204, None),
+            ("PATCH", location, {}, 204, None),
+            ("GET", location, None, 200, {**book, "Shelf": "A"}),
+            ("PUT", location, {"Title": "F"}, 204, None),
+            ("GET", location, None, 200, {**book, "Title": "F"}),
+            ("POST", "/Loans", {"Book": "e1", "Reader": 9}, 201, {"Id": 1, "Book": "e1", "Reader": 9}),
+            ("POST", "/Loans", {"Book": "nothing", "Reader": 9}, 409, None),
+            ("DELETE", location, None, 409, None),
+            ("DELETE", "/Loans(1)", None, 204, None),
+            ("DELETE", location, None, 204, None),
+            ("DELETE", location, None, 404, None),
+            ("PATCH", location, {}, 404, None),
+            ("GET", "/Loans(1)", None, 404, None),
+            ("GET", "/Loans('1')", None, 400, None),
+            ("GET", "/Books(1)", None, 400, None),
+            ("GET", "/Books(null)", None, 400, None),
+            ("GET", "/Books?$top=1", None, 501, None),
+            ("GET", "/Books('dune')?$select=Title", None, 501, None),
+            ("GET", "/Books?$filter=startswith(Title,'D')", None, 501, None),
+            ("GET", "/Books?$filter=Title%20eq%201", None, 400, None),
+            ("GET", "/Books('dune')/Title", None, 404, None),
+            ("GET", "/libraryBooks", None, 404, None),
+            ("GET", "/", None, 404, None),
+            ("DELETE", "/Books", None, 405, None),
+            ("POST", "/Books('dune')", {}, 405, None),
+            ("POST", "/$metadata", {}, 405, None),
+            ("GET", "/$batch", None, 405, None),
+            ("POST", "/Books", [], 400, None),
+            ("POST", "/Books", {"Id": "e2"}, 400, None),
+            ("POST", "/Books", {"Id": "e2", "Title": 7}, 400, None),
+            ("POST", "/Books", {"Id": "e2", "Title": "E", "Reader": 2**63}, 400, None),
+            ("POST", "/Books", {"Id": "e2", "Title": "E", "Reader": True}, 400, None),
+            ("POST", "/Books", {"Id": "e2", "Title": "E", "Readers": 1}, 400, None),
+            ("POST", "/Books", b'{"Id": "\\ud800", "Title": "E"}', 400, None),
+            ("POST", "/Books", b'{"Id": "e2", "Title": "E"', 400, None),
+            ("POST", "/Books", b"[" * 100_000, 400, None),
+        ]:
+            with self.subTest(method=method, path=path, body=str(body)[:40]):
+                found, value = self.client.ask(method, path, body)
+                self.assertEqual(found, status, value)
+                if shown is not None:
+                    self.assertEqual({name: it for name, it in value.items() if "@" not in name}, shown)
+                elif status >= 400:
+                    self.assertLessEqual({"code", "message"}, set(value["error"]))
+
+    def test_performs_absolute_urls_of_its_own_host_alone(self):
+        own = f"http://127.0.0.1:{self.service.port}"
+        urls = {f"{own}/Books": 200, "http://elsewhere/Books": 404, "http://[/Books": 400}
+        found = self.client.statuses(*(request(f"r{k}", "get", url) for k, url in enumerate(urls)))
+        self.assertEqual(list(found.values()), list(urls.values()))
+
+    def test_lists_and_filters(self):
+        status, value = self.client.ask("GET", "/library/Books?$filter=Title%20eq%20'Emma'")
+        emma = {"Id": "emma", "Title": "Emma", "Shelf": "A1", "Reader": None}
+        self.assertEqual((status, value["value"]), (200, [emma]))
+        self.assertEqual(value["@context"], "/library/$metadata#Books")
+
+    def test_describes_itself(self):
+        status, value = self.client.ask("GET", "/library/$metadata")
+        self.assertEqual((status, value["$Version"]), (200, "4.01"))
+        self.assertEqual(self.client.headers["OData-Version"], "4.01")
+
+
+class Sizes(ServiceTest):
+    def test_answers_an_empty_batch(self):
+        self.assertEqual(self.client.batch(), {})
+
+    def test_performs_what_the_library_has_read(self):
+        document = b'{"requests":[{"id":"a","method":"GET","url":"Nothing","url":"Books","headers":{"PREFER":"x"}}]}'
+        status, value = self.client.ask("POST", "/$batch", document)
+        self.assertEqual((status, match(document, value)), (200, {"a": 200}))
+
+    def test_refuses_a_number_that_is_not_whole(self):
+        half = {**new_book("a", "x"), "body": {"Reader": 1.5}}
+        status, value = self.client.ask("POST", "/$batch", {"requests": [half]})
+        self.assertEqual((status, value["error"]["code"]), (400, "F50"))
+
+    def test_the_response_is_the_text_of_the_library(self):
+        status, value = self.client.ask("POST", "/$batch", {"requests": [request("a", "get", "Loans")]})
+        body = {"@context": "/library/$metadata#Loans", "value": []}
+        self.assertEqual((status, value), (200, {"responses": [{"body": body, "id": "a", "status": 200}]}))
+        self.assertEqual(self.client.headers["Content-Type"], "application/json")
+        self.assertEqual(int(self.client.headers["Content-Length"]), len(json.dumps(value, separators=(",", ":"))))

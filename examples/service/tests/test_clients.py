@@ -1,0 +1,244 @@
+"""Clients that send bad requests, or do not wait for an answer: the service continues."""
+
+import json
+import os
+import socket
+import time
+import unittest
+
+from common import JSON, SECONDS, ServiceTest, new_book, request, rows, until
+
+MAX_BODY = 16_777_216
+BATCH = json.dumps({"requests": [request("a", "get", "Books")]}).encode()
+# A group that fails, in a document of some length.
+GROUP = [new_book("a", "m", "g"), new_book("b", "dune", "g")]
+UNDONE = json.dumps({"requests": GROUP, "note@here": "n" * 9999}).encode()
+
+
+def head(*lines, method="POST", path="/$batch"):
+    return "\r\n".join([f"{method} {path} HTTP/1.1", "Host: here", *lines, "", ""]).encode()
+
+
+def post(body, *lines):
+    return head("Content-Type: application/json", f"Content-Length: {len(body)}", *lines) + body
+
+
+class ClientTest(ServiceTest):
+    options = ("--patience", "1.5")
+
+    def connect(self):
+        connection = socket.create_connection(("127.0.0.1", self.service.port), timeout=SECONDS)
+        self.addCleanup(connection.close)
+        return connection
+
+    def everything(self, connection):
+        """What the service sends until it closes the connection."""
+        found = b""
+        while part := connection.recv(65536):
+            found += part
+        return found
+
+    def exchange(self, data, then_close_writing=True):
+        """Sends bytes on a connection of their own; returns what comes back."""
+        with self.connect() as connection:
+            connection.sendall(data)
+            if then_close_writing:
+                connection.shutdown(socket.SHUT_WR)
+            return self.everything(connection)
+
+    def assert_answers(self, found, status, code=None):
+        first, _, body = found.partition(b"\r\n\r\n")
+        self.assertEqual(first.split(b" ")[1:2], [str(status).encode()], found[:300])
+        if code is not None:
+            self.assertEqual(json.loads(body)["error"]["code"], code)
+
+
+class Refusals(ClientTest):
+    def test_refuses_other_media_types(self):
+        for media in ("multipart/mixed; boundary=b", "text/plain", "application/jsonl", None):
+            with self.subTest(media=media):
+                status, value = self.client.ask("POST", "/$batch", BATCH, {"Content-Type": media} if media else {})
+                self.assertEqual((status, value["error"]["code"]), (415, "BadMediaType"))
+                self.assertEqual(self.client.headers["Accept"], "application/json")
+        for media in ("application/json;odata.metadata=none", "Application/JSON"):
+            status, _ = self.client.ask("POST", "/$batch", BATCH, {"Content-Type": media})
+            self.assertEqual(status, 200)
+
+    def test_refuses_a_batch_by_its_least_fault(self):
+        for document, code, name, place in [
+            (b"", "F02", "NotJson", "batch"),
+            (b"[]", "F03", "NotObject", "batch"),
+            (b'{"requests":[7]}', "F10", "NotRequestObject", "/requests/0"),
+            (b'{"requests":[{"id":"a","method":"get","url":"/$batch"}]}', "F22", "NestedBatch", "/requests/0"),
+            (b" " * MAX_BODY, "F02", "NotJson", "batch"),
+        ]:
+            with self.subTest(code=code):
+                status, value = self.client.ask("POST", "/$batch", document)
+                error = value["error"]
+                self.assertEqual((status, error["code"], error["target"]), (400, code, place))
+                self.assertTrue(error["message"].startswith(f"{name}: "))
+
+    def test_refuses_a_long_body_before_it_is_sent(self):
+        lines = ["Content-Type: application/json", f"Content-Length: {MAX_BODY + 1}"]
+        for name, more, sent in [("some of it", [], b"{" * 1000), ("none of it", ["Expect: 100-continue"], b"")]:
+            with self.subTest(sent=name):
+                begun = time.monotonic()
+                found = self.exchange(head(*lines, *more) + sent, then_close_writing=False)
+                self.assert_answers(found, 413, "TooLong")
+                self.assertLess(time.monotonic() - begun, SECONDS / 2)
+
+    def test_refuses_a_long_body_that_is_sent_at_once(self):
+        lines = ["Content-Type: application/json", f"Content-Length: {MAX_BODY + 1}"]
+        with self.connect() as connection:
+            connection.sendall(head(*lines) + b" " * (MAX_BODY + 1))
+            self.assert_answers(self.everything(connection), 413, "TooLong")
+
+    def test_waits_for_a_body_that_is_announced(self):
+        with self.connect() as connection:
+            connection.sendall(post(BATCH, "Expect: 100-continue", "Connection: close")[: -len(BATCH)])
+            self.assertEqual(connection.recv(65536), b"HTTP/1.1 100 Continue\r\n\r\n")
+            connection.sendall(BATCH)
+            self.assert_answers(self.everything(connection), 200)
+
+    def test_refuses_bodies_without_a_length(self):
+        for lines, status, code in [
+            (["Transfer-Encoding: chunked"], 411, "LengthRequired"),
+            (["Transfer-Encoding: chunked", "Content-Length: 2"], 411, "LengthRequired"),
+            (["Content-Length: 2", "Content-Length: 3"], 400, "BadLength"),
+            (["Content-Length: -1"], 400, "BadLength"),
+            (["Content-Length: 0x2"], 400, "BadLength"),
+            (["Content-Length: " + "9" * 5000], 400, "BadLength"),
+        ]:
+            with self.subTest(lines=lines[0][:40]):
+                self.assert_answers(self.exchange(head("Content-Type: application/json", *lines) + b"{}"), status, code)
+
+    def test_refuses_heads_that_cannot_be_read(self):
+        for data, status in [
+            (b"hello\r\n\r\n", 400),
+            (b"GET /Books HTTP/3.0\r\n\r\n", 505),
+            (b"TRACE /Books HTTP/1.1\r\n\r\n", 501),
+            (b"GET /" + b"a" * 70_000 + b" HTTP/1.1\r\n\r\n", 414),
+            (head("A: " + "a" * 70_000), 431),
+            (head(*["A: a"] * 200), 431),
+        ]:
+            with self.subTest(data=data[:30]):
+                self.assert_answers(self.exchange(data), status, "BadRequest")
+
+    def test_answers_the_next_request_of_a_connection(self):
+        for method, path, headers, wanted in [
+            ("POST", "/$batch", {"Content-Type": "text/plain"}, 415),
+            ("POST", "/$batch", JSON, 400),
+            ("HEAD", "/Books", {}, 200),
+            ("POST", "/Nothing", JSON, 400),
+            ("GET", "/Books", {}, 200),
+        ]:
+            status, _ = self.client.ask(method, path, b"{" if method == "POST" else None, headers)
+            self.assertEqual(status, wanted)
+
+    def test_logs_a_line_for_each_answer(self):
+        self.exchange("GET /logged\x1b[2J\u00ff HTTP/1.1\r\n\r\n".encode("latin-1"))
+        self.client.ask("GET", "/logged")
+        lines = until(lambda: [line for line in self.service.log if "/logged" in line], lambda it: len(it) == 2)
+        self.assertEqual([line.split()[-2:] for line in lines], [["404", "NotFound"]] * 2)
+        self.assertTrue(all(line.isprintable() for line in self.service.log))
+
+
+class Connections(ClientTest):
+    def test_answers_a_body_that_is_cut(self):
+        self.assert_answers(self.exchange(post(BATCH)[:-5]), 400, "CutBody")
+
+    def test_cuts_off_a_client_that_is_slow(self):
+        for name, data, status in [("in the head", head()[:20], None), ("in the body", post(BATCH)[:-10], 408)]:
+            with self.subTest(where=name), self.connect() as connection:
+                begun = time.monotonic()
+                connection.sendall(data)
+                connection.settimeout(0.2)
+                found = b""
+                while time.monotonic() - begun < SECONDS:
+                    try:
+                        part = connection.recv(65536)
+                    except socket.timeout:
+                        connection.sendall(b"x")
+                        continue
+                    found += part
+                    if not part:
+                        break
+                self.assertLess(time.monotonic() - begun, 5)
+                self.assertEqual(found.split(b" ")[1:2], [b"%d" % status] if status else [])
+
+    def test_cuts_off_a_client_that_takes_no_answer(self):
+        book = {"Id": "long", "Title": "t" * 100_000}
+        self.assertEqual(self.client.ask("POST", "/Books", book)[0], 201)
+        document = json.dumps({"requests": [request(f"r{k}", "get", "Books('long')") for k in range(200)]})
+        with self.connect() as connection:
+            connection.sendall(post(document.encode()))
+            time.sleep(3)
+            try:
+                self.assertLess(len(self.everything(connection)), 100_000 * 200)
+            except ConnectionResetError:
+                pass
+
+    def test_slow_clients_hold_nobody_up(self):
+        slow = [self.connect() for _ in range(20)]
+        for connection in slow:
+            connection.sendall(post(BATCH)[:-1])
+        begun = time.monotonic()
+        self.assertEqual(self.client.statuses(new_book("a", "quick")), {"a": 201})
+        self.assertLess(time.monotonic() - begun, 1)
+
+    def test_a_batch_whose_client_hangs_up_is_finished(self):
+        requests = [new_book(f"r{k}", f"h{k}", group=f"g{k // 2}") for k in range(20)]
+        with self.connect() as connection:
+            connection.sendall(post(json.dumps({"requests": requests}).encode()))
+        wanted = {f"h{k}" for k in range(20)}
+        found = until(lambda: {id for id, *_ in rows(self.database)}, wanted.issubset)
+        self.assertLessEqual(wanted, found)
+
+
+@unittest.skipUnless(os.path.isdir("/proc/self/fd"), "there is no /proc")
+class Memory(ClientTest):
+    """Requests of all kinds, and what the process holds before and after them."""
+
+    KINDS = (
+        post(BATCH),
+        post(BATCH)[:-5],
+        post(b'{"requests":[{"id":"a"}]}'),
+        post(UNDONE),
+        post(BATCH).replace(b"application/json", b"multipart/mixed"),
+        post(b"{" * 100_000),
+        head(f"Content-Length: {MAX_BODY + 1}"),
+        head("Transfer-Encoding: chunked"),
+        head(method="GET", path="/Books"),
+        b"hello\r\n\r\n",
+    )
+
+    def ask_all(self, count):
+        for k in range(count):
+            with self.connect() as connection:
+                connection.sendall(self.KINDS[k % len(self.KINDS)])
+                # Each third client hangs up before it is answered.
+                if k % 3:
+                    connection.shutdown(socket.SHUT_WR)
+                    self.assertTrue(self.everything(connection).startswith(b"HTTP/1.1 "), k)
+
+    def held(self):
+        """The kilobytes, threads and open files of the service."""
+        folder = f"/proc/{self.service.process.pid}"
+        with open(f"{folder}/status", encoding="ascii") as file:
+            found = dict(line.split(":", 1) for line in file)
+        return int(found["VmRSS"].split()[0]), int(found["Threads"]), len(os.listdir(f"{folder}/fd"))
+
+    def held_at_rest(self):
+        """What is held once the last connections are closed."""
+        time.sleep(2)
+        return self.held()
+
+    def test_holds_no_more_after_2000_requests(self):
+        self.ask_all(500)
+        memory, threads, files = self.held_at_rest()
+        self.ask_all(2000)
+        later = self.held_at_rest()
+        self.assertLess(later[0] - memory, 2048, "kilobytes")
+        self.assertLessEqual(later[1], threads + 1)
+        self.assertLessEqual(later[2], files + 2)
+        self.assertEqual(self.client.statuses(request("a", "get", "Books")), {"a": 200})

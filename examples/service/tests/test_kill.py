@@ -1,0 +1,62 @@
+"""A service that is killed under load: after each start no group is half in the database."""
+
+import http.client
+import os
+import tempfile
+import threading
+import time
+import unittest
+from collections import Counter
+from random import Random
+
+from common import Process, new_book, request, rows
+
+KILLS, CLIENTS, MEMBERS = 20, 4, 5
+
+
+class Load:
+    """Clients that send groups of MEMBERS books until the service is gone, and note those that were answered."""
+
+    def __init__(self, service, prefix):
+        self.service, self.prefix, self.answered = service, prefix, []
+        self.threads = [threading.Thread(target=self.send, args=(k,), daemon=True) for k in range(CLIENTS)]
+        for thread in self.threads:
+            thread.start()
+
+    def send(self, k):
+        with self.service.client() as client:
+            try:
+                for number in range(10_000):
+                    name = f"{self.prefix}.{k}.{number}"
+                    members = [new_book(f"r{i}", f"{name}.{i}", "g") for i in range(MEMBERS)]
+                    if set(client.statuses(*members, request("list", "get", "Loans")).values()) <= {200, 201}:
+                        self.answered.append(name)
+            except (OSError, http.client.HTTPException):
+                pass
+
+    def join(self):
+        for thread in self.threads:
+            thread.join()
+
+
+class Kill(unittest.TestCase):
+    def test_no_group_is_half_in_the_database(self):
+        random, groups, answered = Random("kill"), Counter(), []
+        with tempfile.TemporaryDirectory(prefix="service-") as folder:
+            database = os.path.join(folder, "library.sqlite")
+            service = Process(database)
+            for k in range(KILLS):
+                load = Load(service, f"k{k}")
+                time.sleep(random.uniform(0.02, 0.3))
+                service.kill()
+                load.join()
+                answered += load.answered
+                service = Process(database)
+                with service.client() as client:
+                    self.assertEqual(client.statuses(request("a", "get", "Books")), {"a": 200})
+                self.assertEqual(rows(database, "pragma_integrity_check"), [("ok",)])
+                groups = Counter(id.rpartition(".")[0] for id, *_ in rows(database) if "." in id)
+                self.assertEqual(set(groups.values()) - {MEMBERS}, set())
+                self.assertEqual(set(answered) - set(groups), set(), "answered, and not in the database")
+            self.assertEqual(service.stop(), 0)
+        self.assertGreater(len(answered), KILLS)

@@ -1,0 +1,135 @@
+"""Eight clients at once: the database is what a plain sequential program makes of it in the order of the commits."""
+
+import json
+import os
+import re
+from concurrent.futures import ThreadPoolExecutor
+from random import Random
+
+from common import CONTINUE, JSON, ROOT, ServiceTest, rows, until
+from model import Library, good_batch
+from odb_batch import match
+
+CLIENTS, BATCHES = 8, 200
+LINE = re.compile(r"batch (\d+): (?:(commit) (\S+)|(\S+) (get|post|patch|put|delete) .* (\d+))$")
+
+
+class Course:
+    """What happened, by the log: transactions in the order in which they ended, and reads among them."""
+
+    def __init__(self, batches):
+        self.requests = {it["id"]: it for batch in batches for it in batch["requests"]}
+        self.library, self.versions = Library(), []
+        self.remember()
+        self.unit, self.draft, self.locations = None, None, {}
+        self.statuses, self.reads, self.seen = {}, {}, {}
+
+    def remember(self):
+        self.versions.append({name: self.library.listed(name) for name in ("Books", "Loans")})
+
+    def unit_of(self, id):
+        group = self.requests[id].get("atomicityGroup")
+        return id.split(".")[0], group or id
+
+    def take(self, id, status):
+        """A request was performed: a read of its own, or the next of a transaction, which are not mixed."""
+        given = self.requests[id]
+        self.statuses[id] = status
+        if given["method"] == "get" and "atomicityGroup" not in given:
+            self.reads[id] = len(self.versions)
+            return None
+        if self.unit_of(id) != self.unit:
+            self.unit, self.draft = self.unit_of(id), self.library.copy()
+        if given["method"] == "get":
+            self.seen[id] = self.draft.listed(given["url"])
+            return None
+        return self.compare(id, given, status)
+
+    def compare(self, id, given, status):
+        """What the plain program answers; the difference if the service answered something else."""
+        url = given["url"]
+        if url.startswith("$"):
+            url = self.locations[url[1:]]
+        wanted, location = self.draft.perform(given["method"].lower(), url, given.get("body"))
+        self.locations[id] = location
+        return None if status == wanted else f"{id} was answered {status} and not {wanted}"
+
+    def commit(self):
+        self.library, self.unit = self.draft, None
+        self.remember()
+
+    def follow(self, log):
+        """Follows a log; returns the differences."""
+        differences = []
+        for line in log:
+            found = LINE.search(line)
+            if found and found[2]:
+                self.commit()
+            elif found:
+                differences.append(self.take(found[4], int(found[6])))
+        return [it for it in differences if it]
+
+
+def example(name, prefix):
+    """A batch of examples/ whose ids begin with a prefix."""
+    with open(os.path.join(ROOT, "examples", f"{name}.json"), encoding="utf-8") as file:
+        batch = json.load(file)
+    ids = {it["id"] for it in batch["requests"]}
+    for request in batch["requests"]:
+        request["id"] = f"{prefix}.{request['id']}"
+        request["dependsOn"] = [f"{prefix}.{it}" if it in ids else it for it in request.get("dependsOn", [])]
+        request["url"] = request["url"].replace("$order", f"${prefix}.order")
+    return batch
+
+
+def documents():
+    """The batches of the clients: random ones, and at the end those of the examples for each client."""
+    found = [good_batch(Random(f"load {k}"), f"k{k}") for k in range(BATCHES)]
+    return found + [example(name, f"{name}{k}") for name in ("usual", "references") for k in range(CLIENTS)]
+
+
+class Load(ServiceTest):
+    def setUp(self):
+        super().setUp()
+        self.batches = documents()
+
+    def ask(self, numbers):
+        """Sends batches on one connection; returns the responses by the numbers of the batches."""
+        found = {}
+        with self.service.client() as client:
+            for k in numbers:
+                status, value = client.ask("POST", "/$batch", self.batches[k], CONTINUE if k % 4 else JSON)
+                if status != 200:
+                    raise AssertionError(f"batch {k} was answered {status}: {value}")
+                found[k] = value
+        return found
+
+    def test_eight_clients_at_once(self):
+        shares = [range(first, len(self.batches), CLIENTS) for first in range(CLIENTS)]
+        with ThreadPoolExecutor(CLIENTS) as pool:
+            found = {k: value for part in pool.map(self.ask, shares) for k, value in part.items()}
+        log = until(lambda: list(self.service.log), lambda it: sum("POST" in line for line in it) == len(self.batches))
+        course = Course(self.batches)
+        self.assertEqual(course.follow(log), [])
+        for name in ("Books", "Loans"):
+            self.assertEqual(rows(self.database, name), [tuple(it.values()) for it in course.library.listed(name)])
+        succeeded = 0
+        for k, batch in enumerate(self.batches):
+            statuses = match(batch, found[k])
+            succeeded += sum(status < 300 for status in statuses.values())
+            for response in found[k]["responses"]:
+                self.assert_fits(course, response)
+        self.assertGreater(succeeded, BATCHES)
+        self.assertGreater(len(course.versions), BATCHES / 2)
+
+    def assert_fits(self, course, response):
+        """The response is that of the log or 424. A read shows what was committed, or what its group has written."""
+        id, status = response["id"], response["status"]
+        self.assertIn(status, (course.statuses.get(id), 424))
+        if status == 200 and course.requests[id]["url"] in ("Books", "Loans"):
+            name, shown = course.requests[id]["url"], response["body"]["value"]
+            if id in course.reads:
+                # The line of a commit may come after that of a read that shows it.
+                self.assertIn(shown, [it[name] for it in course.versions[: course.reads[id] + 1]])
+            else:
+                self.assertEqual(shown, course.seen[id])
