@@ -11,11 +11,18 @@ or `result` where it has one without a name, and CASE distinguishes two edits of
 status is 1 where an edit lacks that line, names a call or a clause that does not exist, asks what
 another one asks, or where there are more edits than MOST; else 0. A clause that no edit asks is
 listed and is no failure.
+
+`--try NAME` tries the one edit crates/CRATE/must-fail/NAME.edit instead, over what `rt check` kept, and
+ends with the lines and the status of `rt must-fail`.
 """
 
+import glob
 import os
 import re
+import shutil
+import subprocess
 import sys
+import tempfile
 
 ROOT = os.path.dirname(os.path.dirname(os.path.realpath(__file__)))
 MOST = 130
@@ -51,7 +58,8 @@ def exported(crate):
     if not os.path.exists(root):
         return set(), set()
     text = re.sub(r"//.*", "", text_of(root))
-    names = {name for _, names in re.findall(r"pub use ([\w:]+)::\{?([\w, \n]+)\}?;", text) for name in re.findall(r"\w+", names)}
+    uses = re.findall(r"pub use [\w:]+::\{?([\w, \n]+)\}?;", text)
+    names = {name for names in uses for name in re.findall(r"\w+", names)}
     return names, set(re.findall(r"pub mod (\w+);", text))
 
 
@@ -132,7 +140,24 @@ def wrong(crate, every):
         asked[question] = name
 
 
+def try_alone(name):
+    """Tries one edit in a copy of the crates that has no other edit; returns the exit status."""
+    found = glob.glob(f"{ROOT}/crates/*/must-fail/{glob.escape(name)}.edit")
+    if len(found) != 1:
+        print(f"{name}: {len(found)} edits have this name")
+        return 2
+    crate = found[0].split("/")[-3]
+    with tempfile.TemporaryDirectory(prefix="edit-") as copy:
+        shutil.copytree(f"{ROOT}/crates", f"{copy}/crates", ignore=shutil.ignore_patterns("out", "must-fail"))
+        os.mkdir(f"{copy}/crates/{crate}/must-fail")
+        for path in (found[0], f"{ROOT}/crates.txt", f"{ROOT}/HANDLES"):
+            shutil.copy(path, os.path.join(copy, os.path.relpath(path, ROOT)))
+        return subprocess.run(["rt", "must-fail", crate], cwd=copy).returncode
+
+
 def main():
+    if sys.argv[1:2] == ["--try"]:
+        return try_alone(*sys.argv[2:3])
     clauses = {crate: public_clauses(crate) for crate in crates()}
     every = {call: found for known in clauses.values() for call, found in known.items()}
     faults, count = [], 0
@@ -141,7 +166,8 @@ def main():
         edits = len(list(questions(crate)))
         count += edits
         faults += wrong(crate, every)
-        unasked = [f"{call}: {clause}" for call, found in known.items() for clause in found if (call, clause) not in asked]
+        pairs = [(call, clause) for call, found in known.items() for clause in found]
+        unasked = [f"{call}: {clause}" for call, clause in pairs if (call, clause) not in asked]
         total = sum(map(len, known.values()))
         print(f"{crate}: {edits} edits; {total - len(unasked)} of {total} clauses of public calls are asked")
         if "--unasked" in sys.argv[1:]:

@@ -96,7 +96,8 @@ def write(faults):
     for name, (codes, subject) in FILES.items():
         chosen = [it for it in faults if re.fullmatch(codes, it.code)]
         with open(os.path.join(TEXTS, name + ".rt"), "w", encoding="utf-8") as file:
-            file.write(f"// Generated from docs/faults.md by .ci/faults.py --write; do not edit.\n//! The faults of {subject}.\n\n")
+            file.write("// Generated from docs/faults.md by .ci/faults.py --write; do not edit.\n")
+            file.write(f"//! The faults of {subject}.\n\n")
             file.write("use super::Explanation;\n\n")
             file.write(f"pub const FAULTS: [Explanation; {len(chosen)}] = [{''.join(map(row, chosen))}];\n")
 

@@ -1,11 +1,13 @@
 """Runs what has to pass before a change lands, and reports the processor time of each part.
 
-The parts are `rt ci` (the proofs, the tests, the must-fail edits), the questions that the edits say
-they ask, the commands of README.md against the output that it shows, the faults of docs/faults.md
-against the program, the worked cases, the manual page and the completions against the help,
-documents that are cut and documents as long as the program takes, random documents against plain
-rules, the library for other languages and its bindings, allocations that fail, names that crowd the tables of one seed, and the short form of the
-benchmark, which compares answers and judges no time. The exit status is 0 where all of them pass.
+The parts are `rt ci` (the proofs, the tests, the must-fail edits), the version in every place that has
+it, the questions that the edits say they ask, the commands of pages against the output that they show,
+the faults of docs/faults.md against the program, the worked cases, the manual page and the completions
+against the help, documents that are cut and documents as long as the program takes, random documents
+against plain rules, results and documents against the schemas of docs/schemas/, the library for other
+languages and its bindings, the example service, the tool that judges services, the archive of a release,
+allocations that fail, names that crowd the tables of one seed, and the short form of the benchmark, which
+compares answers and judges no time. The exit status is 0 where all of them pass.
 """
 
 import os
@@ -18,6 +20,7 @@ import time
 ROOT = os.path.dirname(os.path.dirname(os.path.realpath(__file__)))
 TICK = os.sysconf("SC_CLK_TCK")
 PAUSE = 0.2
+PAGES = ["README.md", "docs/library.md", "examples/README.md"]
 
 
 def read(path):
@@ -96,7 +99,8 @@ def spent_by_children():
 def run(words, quiet=False):
     """Runs a command; returns its exit status, the seconds of each kind, and its last lines."""
     before, last = spent_by_children(), []
-    started = subprocess.Popen(words, stdout=subprocess.PIPE, stderr=None if quiet else subprocess.STDOUT, text=True, errors="replace")
+    messages = None if quiet else subprocess.STDOUT
+    started = subprocess.Popen(words, stdout=subprocess.PIPE, stderr=messages, text=True, errors="replace")
     watch = Watch(started.pid)
     for line in started.stdout:
         last = [*last[-2:], line]
@@ -117,8 +121,9 @@ def main():
     rows += [(name, kinds.get(name, 0)) for name in named]
     rows.append(("building and running", max(kinds["all"] - sum(kinds.get(name, 0) for name in named), 0)))
     for title, quiet, words in [
+        ("versions", False, [".ci/version.py", "--program", "crates/odb_batch/out/odb_batch"]),
         ("the questions of the edits", False, [".ci/edits.py"]),
-        ("README.md and docs/library.md", False, [".ci/readme.py", "README.md", "docs/library.md"]),
+        ("commands and excerpts of pages", False, [".ci/readme.py", *PAGES]),
         ("docs/faults.md", False, [".ci/faults.py"]),
         ("worked cases", False, ["cases/run.py"]),
         ("manual page", False, ["cases/manual.py", "--mistakes"]),
@@ -127,7 +132,11 @@ def main():
         ("documents as long as it takes", False, ["cases/sizes.py"]),
         ("random documents", False, ["cases/fuzz.py", "--mistakes"]),
         ("commands against each other", False, ["cases/agree.py"]),
+        ("documents against their schemas", False, ["cases/schemas.py"]),
         ("library for other languages", False, ["library/run.py"]),
+        ("the example service", False, ["examples/service/tests"]),
+        ("conformance of services", False, ["tools/conformance/tests"]),
+        ("release", False, ["library/release.py"]),
         ("allocations that fail", False, ["hostile/memory.py"]),
         ("names made for a seed", False, ["hostile/seeds.py"]),
         ("bench/bench.py --short", True, ["bench/bench.py", "--short"]),

@@ -83,7 +83,7 @@ def differences(path):
     print(f"{path}: {len(cases) - failed} commands as shown, {failed} not")
     differ = [it for it in shown if not stands_in(it[1], it[2])]
     for number, source, _ in differ:
-        print(f"{path}:{number}: {source} does not have these lines" if source else f"{path}:{number}: no file is named")
+        print(f"{path}:{number}: {source + ' does not have these lines' if source else 'no file is named'}")
     print(f"{path}: {len(shown) - len(differ)} excerpts as in their files, {len(differ)} not")
     return failed + len(differ), len(cases) + len(shown)
 
