@@ -32,7 +32,8 @@ def jobs_of(program, folder, trial):
     unread = write(folder, "unread", batch.replace('"requests"', '"messages"', 1))
     words = (program, *trial.command.split(), *paths)
     readings = [(program, "check", path) for path in (unread, *paths[1:])]
-    return [Job(trial.title, 1, trial.command, words, trial.status), *(Job(trial.title, 1, "read", it, 1) for it in readings)]
+    call = Job(trial.title, 1, trial.command, words, trial.status)
+    return [call, *(Job(trial.title, 1, "read", it, 1) for it in readings)]
 
 
 def joined(readings, start):

@@ -2,6 +2,7 @@
 """Shows that the commands agree with each other, on good batches made at random.
 
 The canonical text of a batch is its own canonical text, and has the plan and the counts of the batch.
+The results as JSON say what the lines say.
 For every order, with and without `--stop` and at some widths: `match` accepts the response of a
 replay, and `run` of the trace's events gives that response. The last line is `N chains, M broken`.
 """
@@ -94,6 +95,27 @@ def statuses(response):
     return f"ok {len(found)} responses\n" + "".join(f"{it['id']} {it['status']}\n" for it in found)
 
 
+def as_json(value):
+    """A value as the program prints it."""
+    return json.dumps(value, separators=(",", ":")) + "\n"
+
+
+def planned(line, batch):
+    """A line of `plan` as its JSON form has it, where no id and no group is `*`."""
+    at, name, _, level, _, group, _, needs = line.split(" ")
+    member = {"group": group} if batch["requests"][int(at)].get("atomicityGroup") is not None else {}
+    return {**member, "id": name, "level": int(level), "needs": [] if needs == "*" else needs.split(",")}
+
+
+def forms_agree(folder, batch, value):
+    """The results of check and plan as JSON against their lines."""
+    _ok, requests, _, groups, _ = folder.call("check", batch).split()
+    counts = as_json({"groups": int(groups), "requests": int(requests)})
+    same("check --json", folder.call("check", batch, "--json"), counts)
+    requests = [planned(line, value) for line in folder.call("plan", batch).splitlines()]
+    same("plan --json", folder.call("plan", "--json", batch), as_json({"requests": requests}))
+
+
 def texts_agree(folder, batch):
     """The canonical text against the batch."""
     text = folder.call("canon", batch)
@@ -109,7 +131,10 @@ def runs_agree(folder, batch, outcomes, order, policy):
     printed = folder.call("replay", batch, recorded, "--order", order, "--trace", *policy)
     *trace, response, _end = printed.split("\n")
     what = f"{order} {' '.join(policy)}"
-    same(f"match, {what}", folder.call("match", batch, folder.write("responses.json", response)), statuses(response))
+    responses = folder.write("responses.json", response)
+    same(f"match, {what}", folder.call("match", batch, responses), statuses(response))
+    elements = [{"id": it["id"], "status": it["status"]} for it in json.loads(response)["responses"]]
+    same(f"match --json, {what}", folder.call("match", "--json", batch, responses), as_json({"responses": elements}))
     events = folder.write("events.json", events_of(trace, outcomes))
     same(f"run, {what}", folder.call("run", batch, events, *policy), response + "\n")
 
@@ -124,6 +149,7 @@ def chain(binary, seed):
         batch = folder.write("batch.json", value)
         try:
             texts_agree(folder, batch)
+            forms_agree(folder, batch, value)
             for order, policy in itertools.product(ORDERS, POLICIES):
                 runs_agree(folder, batch, outcomes, order, policy)
         except Broken as broken:
@@ -139,7 +165,8 @@ def more_options(option):
 def main():
     options = read_arguments("Shows that the commands agree with each other.", more_options)
     with ThreadPoolExecutor(options.jobs) as pool:
-        broken = list(filter(None, pool.map(lambda k: chain(options.binary, f"{options.seed} {k}"), range(options.count))))
+        tried = pool.map(lambda k: chain(options.binary, f"{options.seed} {k}"), range(options.count))
+        broken = list(filter(None, tried))
     for text in broken[:5]:
         print(text)
     print(f"{options.count} chains, {len(broken)} broken")

@@ -12,7 +12,7 @@ import sys
 import tempfile
 from collections import Counter
 from concurrent.futures import ThreadPoolExecutor
-from dataclasses import dataclass
+from dataclasses import dataclass, replace
 from random import Random
 
 sys.dont_write_bytecode = True
@@ -23,6 +23,7 @@ import rules
 import rules_of_runs
 from pages import OF_BATCHES, command_names
 from program import read_arguments
+from shrink import shrunk
 
 SECONDS = 60
 SHOWN = 5
@@ -98,10 +99,17 @@ def call(trial, binary):
     return done.stdout + done.stderr, done.returncode
 
 
-def show(number, trial, got):
-    """Prints a difference, with all that is needed to see it again."""
-    wanted, status = trial.by_rules()
-    print(f"document {number}: {' '.join(trial.arguments())}")
+def smallest(trial, binary):
+    """The trial with the smallest documents found for which rules and program still differ."""
+    of = lambda documents: replace(trial, documents=documents)
+    return of(shrunk(trial.documents, lambda documents: call(of(documents), binary) != of(documents).by_rules()))
+
+
+def show(number, trial, binary):
+    """Prints a difference by the smallest documents that still show it, with all that is needed to see it again."""
+    trial = smallest(trial, binary)
+    (wanted, status), got = trial.by_rules(), call(trial, binary)
+    print(f"document {number}, made smaller: {' '.join(trial.arguments())}")
     for data in trial.documents:
         print("  document:", data.decode(errors="backslashreplace"))
     print(f"  by the rules, status {status}: {wanted.decode()}  by the program, status {got[1]}: {got[0].decode()}")
@@ -143,11 +151,11 @@ def more_options(option):
     option("--plant", choices=list(mistakes.MISTAKES), help="compare with rules that have this mistake")
 
 
-def compare(trials, outputs):
+def compare(trials, outputs, binary):
     """Shows the first differences; returns how many there are."""
-    differ = [(k, it, got) for k, (it, got) in enumerate(zip(trials, outputs), 1) if it.by_rules() != got]
-    for number, it, got in differ[:SHOWN]:
-        show(number, it, got)
+    differ = [(k, it) for k, (it, got) in enumerate(zip(trials, outputs), 1) if it.by_rules() != got]
+    for number, it in differ[:SHOWN]:
+        show(number, it, binary)
     return len(differ)
 
 
@@ -162,9 +170,9 @@ def main():
     missed = look_for_mistakes(trials, outputs, commands) if options.mistakes else 0
     if options.plant:
         with mistakes.planted(options.plant):
-            differ = compare(trials, outputs)
+            differ = compare(trials, outputs, binary)
     else:
-        differ = compare(trials, outputs)
+        differ = compare(trials, outputs, binary)
     print(f"{len(trials)} documents, {differ} differ")
     return 1 if differ or missed else 0
 

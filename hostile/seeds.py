@@ -104,7 +104,8 @@ class Crowd:
             wrong = [command for command, job in jobs.items() if self.is_slow(job, content, source) != wanted]
             self.runs, self.wrong = self.runs + len(jobs), self.wrong + len(wrong)
             how = "slow" if wanted else "not slow"
-            print(f"names for {name}, {source.title}: {len(jobs)} commands have to be {how}: {len(wrong)} wrong", *wrong, flush=True)
+            title = f"names for {name}, {source.title}: {len(jobs)} commands have to be {how}: {len(wrong)} wrong"
+            print(title, *wrong, flush=True)
 
 
 def main():
