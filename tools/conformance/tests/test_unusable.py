@@ -108,11 +108,20 @@ class Unusable(unittest.TestCase):
 
 class Interrupted(unittest.TestCase):
     def test_what_was_made_is_removed(self):
-        for number in (signal.SIGINT, signal.SIGTERM):
-            with self.subTest(number), service() as (running, folder):
-                words = [sys.executable, TOOL, running.url, *ABOUT]
-                with subprocess.Popen(words, stdout=subprocess.PIPE, stderr=subprocess.PIPE, text=True) as process:
-                    until(lambda: sum("batch" in it for it in list(running.log)), lambda count: count > 20)
+        # after batches, after requests, and after removals: whatever was under way
+        for number, words, least in [
+            (signal.SIGINT, "batch", 20),
+            (signal.SIGTERM, "batch", 21),
+            (signal.SIGINT, "POST", 60),
+            (signal.SIGTERM, "DELETE", 30),
+            (signal.SIGINT, "DELETE", 31),
+        ]:
+            with self.subTest(words, number=number), service() as (running, folder):
+                words_of_tool = [sys.executable, TOOL, running.url, *ABOUT]
+                with subprocess.Popen(
+                    words_of_tool, stdout=subprocess.PIPE, stderr=subprocess.PIPE, text=True
+                ) as process:
+                    until(lambda: sum(words in it for it in list(running.log)), lambda count: count > least)
                     process.send_signal(number)
                     self.assertEqual(process.communicate(timeout=SECONDS), ("", "error: interrupted\n"))
                 self.assertEqual(process.returncode, 3)
