@@ -20,7 +20,30 @@ import time
 ROOT = os.path.dirname(os.path.dirname(os.path.realpath(__file__)))
 TICK = os.sysconf("SC_CLK_TCK")
 PAUSE = 0.2
-PAGES = ["README.md", "docs/library.md", "examples/README.md"]
+
+# The parts after `rt ci`: a title, and the words after python3.
+PARTS = [
+    ("versions", "tools/version.py --program crates/odb_batch/out/odb_batch"),
+    ("the questions of the edits", "tools/edits.py"),
+    ("commands and excerpts of pages", "tools/readme.py README.md docs/library.md examples/README.md"),
+    ("docs/faults.md", "tools/faults.py"),
+    ("worked cases", "tests cases"),
+    ("manual page", "tests manual --mistakes"),
+    ("completions", "tests completions --mistakes"),
+    ("documents that are cut", "tests cut"),
+    ("documents as long as it takes", "tests sizes"),
+    ("random documents", "tests fuzz --mistakes"),
+    ("commands against each other", "tests agree"),
+    ("documents against their schemas", "tests schemas"),
+    ("library for other languages", "library/run.py"),
+    ("the example service", "examples/service/tests"),
+    ("conformance of services", "tools/conformance/tests"),
+    ("release", "library/release.py"),
+    ("allocations that fail", "tests memory"),
+    ("names made for a seed", "tests seeds"),
+    ("the short benchmark", "bench/bench.py --short"),
+]
+QUIET = ("the short benchmark",)
 
 
 def read(path):
@@ -120,29 +143,9 @@ def main():
     named = ["proofs", "tests", "must-fail edits"]
     rows += [(name, kinds.get(name, 0)) for name in named]
     rows.append(("building and running", max(kinds["all"] - sum(kinds.get(name, 0) for name in named), 0)))
-    for title, quiet, words in [
-        ("versions", False, [".ci/version.py", "--program", "crates/odb_batch/out/odb_batch"]),
-        ("the questions of the edits", False, [".ci/edits.py"]),
-        ("commands and excerpts of pages", False, [".ci/readme.py", *PAGES]),
-        ("docs/faults.md", False, [".ci/faults.py"]),
-        ("worked cases", False, ["cases/run.py"]),
-        ("manual page", False, ["cases/manual.py", "--mistakes"]),
-        ("completions", False, ["cases/completions.py", "--mistakes"]),
-        ("documents that are cut", False, ["cases/cut.py"]),
-        ("documents as long as it takes", False, ["cases/sizes.py"]),
-        ("random documents", False, ["cases/fuzz.py", "--mistakes"]),
-        ("commands against each other", False, ["cases/agree.py"]),
-        ("documents against their schemas", False, ["cases/schemas.py"]),
-        ("library for other languages", False, ["library/run.py"]),
-        ("the example service", False, ["examples/service/tests"]),
-        ("conformance of services", False, ["tools/conformance/tests"]),
-        ("release", False, ["library/release.py"]),
-        ("allocations that fail", False, ["hostile/memory.py"]),
-        ("names made for a seed", False, ["hostile/seeds.py"]),
-        ("bench/bench.py --short", True, ["bench/bench.py", "--short"]),
-    ]:
+    for title, command in PARTS:
         print(f"{title}:", flush=True)
-        status, kinds, _ = run([sys.executable, *words], quiet)
+        status, kinds, _ = run([sys.executable, *command.split()], title in QUIET)
         failed += [title] * bool(status)
         rows.append((title, kinds["all"]))
     print("processor minutes:")

@@ -12,7 +12,9 @@ import subprocess
 import sys
 import tempfile
 
+ROOT = os.path.dirname(os.path.dirname(os.path.realpath(__file__)))
 sys.dont_write_bytecode = True
+sys.path.append(os.path.join(ROOT, "tests"))
 
 import floods
 import longest
@@ -21,7 +23,6 @@ import turns
 import workloads
 from measure import BenchFault, adopt_orphans
 
-ROOT = os.path.dirname(os.path.dirname(os.path.realpath(__file__)))
 TURNS = 12
 FLOODED = "flooded"
 LONGEST = "longest"
@@ -142,7 +143,7 @@ def measured_text(words, program, folder):
     growth = tables.growth_table(cases, measures)
     parts += [growth, tables.GROWTH_LEGEND] if growth else []
     parts += [flood_text(words, program, folder, count)] if FLOODED in words.only else []
-    # a short run leaves them out: cases/sizes.py compares what is printed of them
+    # a short run leaves them out: `python3 tests sizes` compares what is printed of them
     parts += [longest_text(program, folder, count)] if LONGEST in words.only and not words.short else []
     return "\n\n".join(parts)
 
@@ -155,7 +156,7 @@ def main():
         program = given_program(words.program) if words.program else built_program()
         with tempfile.TemporaryDirectory(prefix="odb_batch_bench_") as folder:
             print(measured_text(words, program, folder))
-    except (BenchFault, OSError) as fault:
+    except (BenchFault, OSError, subprocess.CalledProcessError) as fault:
         report(fault)
         return 1
     except KeyboardInterrupt:

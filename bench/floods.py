@@ -1,31 +1,22 @@
 """Documents whose names crowd a hash table, beside documents of the same form with random names.
 
-The names come from collide.c: their hashes end in the same bits, as long as the hasher of the table
-is not seeded. A program whose tables can be crowded takes time that grows as the square of their
+The hashes of those names end in the same bits, as long as the hasher of the table is not seeded. A program whose tables can be crowded takes time that grows as the square of their
 number. The table shows how many times as long, and how much more memory, such a document takes.
 """
 
 import json
 import os
-import random
-import subprocess
 from dataclasses import dataclass
 
-import answers
 from measure import BenchFault, staying_on, stir_memory
+from runners import answers
+from runners.contents import Content, events_of, response_text
+from runners.crowds import SHARED_BITS, colliding_names, get, lookup_requests, random_names
 from turns import Job, run_job, summary, times_as_long
-from workloads import Content, events_of
 
 NAMES = 100_000
 SHORT_NAMES = 4_000
-SHARED_BITS = 13
-RANDOM_SEED = 20_401
-LETTERS = "abcdefghijklmnopqrstuvwxyz0123456789-_~.ABCDEFGHIJKLMNOPQRSTUVWX"
 KINDS = ("random", "flooded")
-
-# The batch of many look-ups: ids and groups, and how many of them each request names.
-MEMBERS = 2
-LOOKED_UP = 50
 
 
 @dataclass(frozen=True)
@@ -38,52 +29,6 @@ class Flood:
     arguments: dict
     wanted: dict
     status: int
-
-
-def colliding_names(folder, count, low, high, *seed):
-    """Names whose hashes in a table of this seed, or of none, share these bits, made by collide.c."""
-    source = os.path.join(os.path.dirname(os.path.realpath(__file__)), "collide.c")
-    program = os.path.join(folder, "collide")
-    try:
-        subprocess.run(["cc", "-O3", "-o", program, source], check=True)
-        words = [program, *map(str, (count, low, high, *seed))]
-        made = subprocess.run(words, check=True, stdout=subprocess.PIPE, text=True)
-    except (OSError, subprocess.CalledProcessError) as error:
-        raise BenchFault(f"collide.c: {error}") from None
-    return made.stdout.split()
-
-
-def random_names(count):
-    """As many names of the same length, each once."""
-    draw, names = random.Random(RANDOM_SEED), {}
-    while len(names) < count:
-        names["".join(draw.choices(LETTERS, k=8))] = None
-    return list(names)
-
-
-def get(name):
-    return {"id": name, "method": "get", "url": "X"}
-
-
-def lookup_requests(names, count, looked_up=LOOKED_UP):
-    """Requests in groups of two, most of which name so many groups before them, and as many members."""
-    ids, groups = names[:count], names[count : count + count // MEMBERS]
-    requests = []
-    for position, name in enumerate(ids):
-        own = position // MEMBERS
-        request = {**get(name), "atomicityGroup": groups[own]}
-        if own >= 2 * looked_up:
-            named = [(own * 7919 + k * 104_729) % own for k in range(looked_up)]
-            request["dependsOn"] = [it for unit in dict.fromkeys(named) for it in (ids[MEMBERS * unit], groups[unit])]
-        requests.append(request)
-    return requests
-
-
-def response_text(requests, statuses):
-    """The response document of requests that end with these statuses, and a newline."""
-    outcomes = [{"id": it["id"], "status": status} for it, status in zip(requests, statuses)]
-    made = answers.responses(requests, outcomes)
-    return json.dumps(made, separators=(",", ":"), sort_keys=True) + "\n"
 
 
 def write(folder, name, kind, document):

@@ -1,19 +1,15 @@
-"""The longest documents that the program takes, of cases/sizes.py, beside the reading of the same bytes.
+"""The longest documents that the program takes, of `python3 tests sizes`, beside the reading of the same bytes.
 
 The documents of one kind are made, measured in turns and removed before those of the next, since they
-have 16 MB each. What the program prints of them is compared by cases/sizes.py.
+have 16 MB each. What the program prints of them is compared there.
 """
 
 import os
-import sys
 
-from turns import Job, run_job, start_job, summary, times_as_long
 from measure import staying_on, stir_memory
+from runners import sizes
+from turns import Job, run_job, start_job, summary
 from workloads import write_tiny
-
-sys.path.append(os.path.join(os.path.dirname(os.path.dirname(os.path.realpath(__file__))), "cases"))
-
-import sizes
 
 KINDS = (sizes.names, sizes.dense, sizes.members, sizes.headers, sizes.seconds, sizes.urls, sizes.escapes, sizes.runs)
 

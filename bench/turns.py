@@ -4,8 +4,8 @@ import os
 import statistics
 from dataclasses import dataclass
 
-import answers
 from measure import BenchFault, run, staying_on, stir_memory
+from runners import answers
 
 COMMANDS = ("check", "plan", "canon", "replay", "match", "run")
 READ_BATCH = "read batch"
@@ -61,17 +61,9 @@ def run_job(job, output=os.devnull):
 
 def is_right(job, content, text):
     """Whether the job printed what it has to print."""
-    if job.command == "check":
-        return text == answers.check_line(content.requests)
-    if job.command == "plan":
-        return text == answers.plan_text(content.requests)
-    if job.command == "canon":
-        return answers.is_line_of(text, answers.canonical(content.requests))
-    if job.command == "match":
-        return text == answers.match_text(content.requests, content.outcomes)
-    if job.command in ("replay", "run"):
-        return answers.is_line_of(text, answers.responses(content.requests, content.outcomes))
-    return text == ONLY_READ
+    if job.command not in COMMANDS:
+        return text == ONLY_READ
+    return answers.is_right(job.command, content.requests, content.outcomes, text)
 
 
 def try_job(job, content, folder):

@@ -5,9 +5,9 @@ import os
 from dataclasses import dataclass
 from typing import Callable
 
-import answers
 import shapes
 from measure import BenchFault
+from runners.contents import Content, compact, documents_of
 
 MAX_DOCUMENT_BYTES = 16_777_216
 SHORT_DIVISOR = 20
@@ -93,14 +93,6 @@ class Case:
         return self.part == 1
 
 
-@dataclass(frozen=True)
-class Content:
-    """What the documents of a case hold: requests, and an outcome for each of them."""
-
-    requests: list
-    outcomes: list
-
-
 def write_document(path, text):
     """Writes a document, which has to be one that the program takes."""
     data = text.encode("utf-8")
@@ -110,30 +102,11 @@ def write_document(path, text):
         file.write(data)
 
 
-def compact(member, elements):
-    """The text of a document with one member, an array."""
-    return json.dumps({member: elements}, separators=(",", ":"))
-
-
-def events_of(content):
-    """The events of a run that finishes each request before it starts the next."""
-    outcome_of, events = {outcome["id"]: outcome for outcome in content.outcomes}, []
-    for request in content.requests:
-        outcome = dict(outcome_of[request["id"]])
-        events += [{"start": request["id"]}, {"report": outcome.pop("id"), **outcome}]
-    return events
-
-
 def write_case(folder, name, part, words, options, texts, content):
     """Writes the documents of a case, and the batch under another member."""
     batch, outcomes = texts
-    documents = {
-        "batch": batch,
-        "unread": batch.replace('"requests"', f'"{UNREAD_MEMBER}"', 1),
-        "outcomes": outcomes,
-        "responses": compact("responses", answers.responses(content.requests, content.outcomes)["responses"]),
-        "events": compact("events", events_of(content)),
-    }
+    unread = batch.replace('"requests"', f'"{UNREAD_MEMBER}"', 1)
+    documents = {**documents_of(content), "batch": batch, "unread": unread, "outcomes": outcomes}
     paths = {kind: os.path.join(folder, f"{name}_{part}_{kind}.json") for kind in documents}
     for kind, text in documents.items():
         write_document(paths[kind], text)

@@ -19,9 +19,9 @@ import time
 
 sys.dont_write_bytecode = True
 
-from run import HERE, ONE, ROOT, Failed, Skipped, block, need, parts_of, try_parts
+from run import ONE, ROOT, Failed, Skipped, block, need, parts_of, try_parts
 
-sys.path.append(os.path.join(ROOT, ".ci"))
+sys.path.append(os.path.join(ROOT, "tools"))
 
 from version import read_version
 
@@ -185,7 +185,7 @@ class Parts:
 
     def symbols(self):
         """The libraries show the calls of the header, and need the C library alone."""
-        words = [sys.executable, os.path.join(HERE, "declarations.py"), self.place("lib")]
+        words = [sys.executable, os.path.join(ROOT, "tools", "declarations.py"), self.place("lib")]
         wrong_unless(subprocess.run(words).returncode == 0, "the libraries have faults")
         loaded = self.outside("ldd", self.place("bin/odb_batch"), self.place(SHARED), PATH=TOOLS)
         for line in loaded.splitlines():

@@ -111,10 +111,10 @@ class Parts:
         run(os.path.join(ROOT, "bin", "odb_library"), self.folder)
 
     def declarations(self):
-        run(sys.executable, os.path.join(HERE, "declarations.py"), self.folder)
+        run(sys.executable, os.path.join(ROOT, "tools", "declarations.py"), self.folder)
 
     def explanations(self):
-        run(sys.executable, os.path.join(HERE, "explanations.py"))
+        run(sys.executable, os.path.join(ROOT, "tools", "explanations.py"))
 
     def compile_calls(self, tests, name, *flags):
         """Compiles tests in C, with the static library."""

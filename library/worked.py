@@ -1,7 +1,7 @@
 #!/usr/bin/env python3
 """Runs the worked cases that need documents alone through a binding, and compares each answer.
 
-`worked.py python` takes every such case of cases/, and `worked.py node` every third; `worked.py live`
+`worked.py python` takes every such case of tests/cases/, and `worked.py node` every third; `worked.py live`
 takes those of `run`, and opens a live run in Python after the recorded events. A case needs documents
 alone if it calls a command over a batch with files that it has, and options that a call has too; the
 rest is about the command line and devices. The last line is `N passed, N failed`.
@@ -16,9 +16,9 @@ import sys
 
 ROOT = os.path.dirname(os.path.dirname(os.path.realpath(__file__)))
 sys.dont_write_bytecode = True
-sys.path[:0] = [os.path.join(ROOT, "cases"), os.path.join(ROOT, "python")]
+sys.path[:0] = [os.path.join(ROOT, "tests"), os.path.join(ROOT, "python")]
 
-import pages
+from runners import pages
 
 SECONDS = ("match", "run", "replay")
 OPTIONS = {"--order": "order", "--width": "width"}
@@ -114,7 +114,7 @@ def main():
     parser = argparse.ArgumentParser(description="Runs the worked cases through a binding.")
     parser.add_argument("binding", choices=("python", "live", "node"))
     binding = parser.parse_args().binding
-    runs = [(run, call_of(run)) for run in pages.read_folder(os.path.join(ROOT, "cases"))]
+    runs = [(run, call_of(run)) for run in pages.read_folder(os.path.join(ROOT, "tests", "cases"))]
     chosen = [(run, call) for run, call in runs if call]
     if binding == "live":
         chosen = [(run, call) for run, call in chosen if run.command == "run"]

@@ -1,4 +1,4 @@
-"""What each fault means, by its code. Made of docs/faults.md by library/explanations.py --write."""
+"""What each fault means, by its code. Made of docs/faults.md by tools/explanations.py --write."""
 
 EXPLANATIONS = {
     "F01": (

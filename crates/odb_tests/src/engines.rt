@@ -1,5 +1,5 @@
 //! The engines over readers and writers of a library: each with ample memory, slow ones, and some
-//! that fail. What the engines print is shown on the built program, in cases/.
+//! that fail. What the engines print is shown on the built program, in tests/cases/.
 
 ghost use Rattle.std.specs.Prelude.{◌≡◌, false};
 ghost use Rattle.odb_engine.specs.Inputs.{IsFresh};

@@ -1,5 +1,5 @@
 //! Tests of what a library's caller sees of every crate, over whole documents. What the program prints
-//! is shown on the built program, in cases/.
+//! is shown on the built program, in tests/cases/.
 //!
 //! This crate has tests and nothing else. They are here, and not in the crates that they test,
 //! because a crate with tests is proved twice.

@@ -10,4 +10,4 @@ import sys
 from harness import ROOT, SERVICE, run
 
 if __name__ == "__main__":
-    sys.exit(run(os.path.dirname(os.path.abspath(__file__)), SERVICE, os.path.join(ROOT, "cases")))
+    sys.exit(run(os.path.dirname(os.path.abspath(__file__)), SERVICE, os.path.join(ROOT, "tests")))

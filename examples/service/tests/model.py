@@ -7,7 +7,7 @@ one after another. Only what the random batches ask for is in it.
 import copy
 import re
 
-import grammar
+from runners import grammar
 
 BOOKS = ("dune", "emma", "b1", "b2", "b3")
 SHELVES = ("A1", "B2", None)

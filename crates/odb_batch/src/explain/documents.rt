@@ -1,4 +1,4 @@
-// Generated from docs/faults.md by .ci/faults.py --write; do not edit.
+// Generated from docs/faults.md by tools/faults.py --write; do not edit.
 //! The faults of the document and the form of its requests.
 
 use super::Explanation;

@@ -1,4 +1,4 @@
-// Generated from docs/faults.md by .ci/faults.py --write; do not edit.
+// Generated from docs/faults.md by tools/faults.py --write; do not edit.
 //! The faults of ids, groups, names and references.
 
 use super::Explanation;

@@ -1,4 +1,4 @@
-// Generated from docs/faults.md by .ci/faults.py --write; do not edit.
+// Generated from docs/faults.md by tools/faults.py --write; do not edit.
 //! The faults of executions, and events that may not come.
 
 use super::Explanation;

@@ -5,8 +5,7 @@ from contextlib import contextmanager
 from dataclasses import dataclass
 from urllib.parse import unquote_to_bytes
 
-import rules
-import rules_of_runs
+from . import rules, rules_of_runs
 
 
 @dataclass

@@ -58,7 +58,7 @@ PLACES = [
     Place("python/pyproject.toml", r'^version = "(.*)"$'),
     Place("python/odb_batch/_library.py", r"^MAJOR, MINOR = (\d+, \d+)$", "{0}, {1}"),
     Place("node/package.json", r'^  "version": "(.*)",$'),
-    Place("cases/help.txt", r"^out odb_batch (\d\S*)$"),
+    Place("tests/cases/help.txt", r"^out odb_batch (\d\S*)$"),
     Place("README.md", r"odb_batch-(\d+\.\d+\.\d+)"),
 ]
 

@@ -3,8 +3,7 @@
 import json
 import re
 
-import rules
-import rules_of_runs
+from . import rules, rules_of_runs
 
 IDS = ("a", "b", "c", "d", "e", "f", "1", "2", "A", "x-1", "~", "metadata", "all")
 GROUPS = ("g", "h", "G")

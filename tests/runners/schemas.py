@@ -1,4 +1,3 @@
-#!/usr/bin/env python3
 """Checks what the program prints, and the documents that it reads, against the schemas of docs/schemas/.
 
 The results of check, plan and match and the faults of all commands with `--json`, the responses of
@@ -15,11 +14,8 @@ import sys
 import tempfile
 from random import Random
 
-sys.dont_write_bytecode = True
-
-import agree
-import grammar
-from program import ROOT, read_arguments
+from . import agree, grammar
+from .program import ROOT, read_arguments
 
 SECONDS = 60
 SCHEMAS = os.path.join(ROOT, "docs", "schemas")
@@ -179,7 +175,7 @@ def more_options(option):
 def main():
     options = read_arguments("Checks documents against docs/schemas/.", more_options)
     with tempfile.TemporaryDirectory(prefix="schemas-") as folder:
-        checks = Checks(options.binary, folder)
+        checks = Checks(options.program, folder)
         on_examples(checks)
         for k in range(options.count):
             on_batch(checks, Random(f"schemas {k}"))
@@ -187,7 +183,3 @@ def main():
     print(*checks.failed[:5], sep="\n", end="\n" if checks.failed else "")
     print(f"{checks.passed} passed, {len(checks.failed)} failed")
     return 1 if checks.failed else 0
-
-
-if __name__ == "__main__":
-    sys.exit(main())

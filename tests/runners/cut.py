@@ -1,4 +1,3 @@
-#!/usr/bin/env python3
 """Cuts the documents of examples/ after each of their bytes and gives each part to the program.
 
 No part of a JSON object is JSON, so each has to be refused by F02 at the place of its document. A
@@ -8,15 +7,12 @@ line is `N passed, M failed`.
 
 import os
 import subprocess
-import sys
 import tempfile
 from concurrent.futures import ThreadPoolExecutor
 from dataclasses import dataclass
 
-sys.dont_write_bytecode = True
-
-from pages import OF_BATCHES
-from program import ROOT, read_arguments
+from .pages import OF_BATCHES
+from .program import ROOT, read_arguments
 
 EXAMPLES = os.path.join(ROOT, "examples")
 BATCH = "usual.json"
@@ -82,13 +78,9 @@ def main():
     options = read_arguments("Gives the program documents that were cut.")
     chosen = parts()
     with tempfile.TemporaryDirectory(prefix="cut-") as folder, ThreadPoolExecutor(options.jobs) as pool:
-        got = list(pool.map(lambda part: call(part, options.binary, folder), chosen))
+        got = list(pool.map(lambda part: call(part, options.program, folder), chosen))
     wrong = [(part, it) for part, it in zip(chosen, got) if it != (part.fault(), b"", 1)]
     for part, (out, err, status) in wrong[:SHOWN]:
         print(f"{part.command}, {part.name} cut after {len(part.data)} bytes: status {status}, {out!r} {err!r}")
     print(f"{len(chosen) - len(wrong)} passed, {len(wrong)} failed")
     return 1 if wrong else 0
-
-
-if __name__ == "__main__":
-    sys.exit(main())

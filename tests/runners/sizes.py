@@ -1,29 +1,20 @@
-#!/usr/bin/env python3
 """Gives the program documents as long as it takes, of as many parts of one kind as they hold.
 
 Each answer is compared with the one that the rules give; no time is judged (bench/ measures). The
-names that crowd a table are made by bench/collide.c, which `cc` compiles. The last line is
+names that crowd a table are made by tests/seeds/collide.c, which `cc` compiles. The last line is
 `N passed, M failed`.
 """
 
 import json
 import os
 import subprocess
-import sys
 import tempfile
 from concurrent.futures import ThreadPoolExecutor
 from dataclasses import dataclass
 
-sys.dont_write_bytecode = True
-
-from program import ROOT, read_arguments
-from run import shown
-
-sys.path.append(os.path.join(ROOT, "bench"))
-
-import answers
-import floods
-import workloads
+from . import answers, contents, crowds
+from .cases import shown
+from .program import read_arguments
 
 MOST_BYTES = 16_777_216
 LONG = 15_728_640
@@ -112,13 +103,13 @@ def runs():
 def crowded():
     """The batch of the benchmark whose ids and groups would crowd a table without a seed, to each command."""
     with tempfile.TemporaryDirectory(prefix="crowded-") as folder:
-        count = MOST_REQUESTS + MOST_REQUESTS // floods.MEMBERS
-        names = floods.colliding_names(folder, count, floods.SHARED_BITS, 0)
-    requests = floods.lookup_requests(names, MOST_REQUESTS)
+        count = MOST_REQUESTS + MOST_REQUESTS // crowds.MEMBERS
+        names = crowds.colliding_names(folder, count, crowds.SHARED_BITS, 0)
+    requests = crowds.lookup_requests(names, MOST_REQUESTS)
     outcomes = [{"id": it["id"], "status": 200} for it in requests]
-    events = workloads.events_of(workloads.Content(requests, outcomes))
+    events = contents.events_of(contents.Content(requests, outcomes))
     batch, responses = json.dumps({"requests": requests}), answers.responses(requests, outcomes)
-    response = floods.response_text(requests, [200] * len(requests))
+    response = contents.response_text(requests, [200] * len(requests))
     canonical = json.dumps(answers.canonical(requests), separators=(",", ":"), sort_keys=True) + "\n"
     title = "crowded ids and groups"
     yield Trial(title, "check", [batch], answers.check_line(requests))
@@ -239,10 +230,6 @@ def main():
     options = read_arguments("Gives the program the longest documents that it takes.")
     kinds = [crowded, dense, seconds, members, headers, names, urls, escapes, runs]
     with tempfile.TemporaryDirectory(prefix="sizes-") as folder, ThreadPoolExecutor(options.jobs) as pool:
-        passed = [it for found in pool.map(lambda kind: tried(kind, options.binary, folder), kinds) for it in found]
+        passed = [it for found in pool.map(lambda kind: tried(kind, options.program, folder), kinds) for it in found]
     print(f"{sum(passed)} passed, {len(passed) - sum(passed)} failed")
     return 0 if all(passed) else 1
-
-
-if __name__ == "__main__":
-    sys.exit(main())

@@ -1,4 +1,3 @@
-#!/usr/bin/env python3
 """Lets allocations of the program fail, one run for each, and looks at how it ends.
 
 For each command on small documents the first allocation fails, then the second, and so on until a run
@@ -16,15 +15,8 @@ from concurrent.futures import ThreadPoolExecutor
 from dataclasses import dataclass
 from random import Random
 
-sys.dont_write_bytecode = True
-
-import documents
-
-HERE = os.path.dirname(os.path.realpath(__file__))
-ROOT = os.path.dirname(HERE)
-sys.path.append(os.path.join(ROOT, "cases"))
-
-from program import read_arguments
+from . import trials
+from .program import ROOT, TESTS, read_arguments
 
 MEMORY = (4, b"error: memory\n")
 SECONDS = 60
@@ -52,7 +44,7 @@ class Program:
     def __init__(self, binary, folder):
         self.binary, self.folder = binary, folder
         self.library = os.path.join(folder, "refuse.so")
-        source = os.path.join(HERE, "refuse.c")
+        source = os.path.join(TESTS, "memory", "refuse.c")
         subprocess.run(["cc", "-shared", "-fPIC", "-O2", "-o", self.library, source], check=True)
 
     def run(self, trial, at=0, rest=False):
@@ -132,27 +124,23 @@ def tried(program, pool, trial, rest, seed):
 
 
 def more_options(option):
-    option("--commands", default=",".join(documents.COMMANDS), metavar="NAME,..", help="only these commands")
+    option("--commands", default=",".join(trials.COMMANDS), metavar="NAME,..", help="only these commands")
     option("--seed", type=int, default=1, metavar="S", help="which allocations of the large trials; 1")
     option("--only", default="", metavar="WORD", help="only the trials with WORD in their title")
 
 
 def main():
     options = read_arguments("Lets allocations of the program fail.", more_options)
-    chosen = [it for it in documents.trials(options.commands.split(",")) if options.only in it.title]
+    chosen = [it for it in trials.trials(options.commands.split(",")) if options.only in it.title]
     if not chosen:
         sys.exit("no trial is chosen")
     runs = wrong = 0
-    with tempfile.TemporaryDirectory(prefix="hostile-") as folder, ThreadPoolExecutor(options.jobs) as pool:
-        program = Program(options.binary, folder)
-        documents.write(folder, os.path.join(ROOT, "examples"))
+    with tempfile.TemporaryDirectory(prefix="memory-") as folder, ThreadPoolExecutor(options.jobs) as pool:
+        program = Program(options.program, folder)
+        trials.write(folder, os.path.join(ROOT, "examples"))
         for trial in chosen:
             for rest in (False,) if trial.large else (False, True):
                 more, bad = tried(program, pool, trial, rest, options.seed)
                 runs, wrong = runs + more, wrong + bad
     print(f"{runs} runs, {wrong} wrong")
     return 1 if wrong else 0
-
-
-if __name__ == "__main__":
-    sys.exit(main())

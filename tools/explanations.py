@@ -10,7 +10,6 @@ import sys
 
 ROOT = os.path.dirname(os.path.dirname(os.path.realpath(__file__)))
 sys.dont_write_bytecode = True
-sys.path.append(os.path.join(ROOT, ".ci"))
 
 from faults import plain, read_page
 
@@ -25,7 +24,7 @@ def of_python(meanings):
     """The module of the Python package."""
     rows = "".join(f'    "{code}": (\n{literal(meaning)}\n    ),\n' for code, meaning in meanings.items())
     return (
-        '"""What each fault means, by its code. Made of docs/faults.md by library/explanations.py --write."""\n\n'
+        '"""What each fault means, by its code. Made of docs/faults.md by tools/explanations.py --write."""\n\n'
         f"EXPLANATIONS = {{\n{rows}}}\n"
     )
 
@@ -49,7 +48,7 @@ def main():
         with open(os.path.join(ROOT, path), encoding="utf-8") as file:
             if file.read() != made_of(meanings):
                 wrong += 1
-                print(f"{path} is otherwise than library/explanations.py --write makes it")
+                print(f"{path} is otherwise than tools/explanations.py --write makes it")
     print(f"{len(meanings)} explanations in {len(FILES)} files, {wrong} wrong")
     return 1 if wrong else 0
 

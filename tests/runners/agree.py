@@ -1,4 +1,3 @@
-#!/usr/bin/env python3
 """Shows that the commands agree with each other, on good batches made at random.
 
 The canonical text of a batch is its own canonical text, and has the plan and the counts of the batch.
@@ -11,15 +10,12 @@ import itertools
 import json
 import os
 import subprocess
-import sys
 import tempfile
 from concurrent.futures import ThreadPoolExecutor
 from random import Random
 
-sys.dont_write_bytecode = True
-
-import grammar
-from program import read_arguments
+from . import grammar
+from .program import read_arguments
 
 SECONDS = 60
 ORDERS = ("first", "last", "wide")
@@ -165,13 +161,9 @@ def more_options(option):
 def main():
     options = read_arguments("Shows that the commands agree with each other.", more_options)
     with ThreadPoolExecutor(options.jobs) as pool:
-        tried = pool.map(lambda k: chain(options.binary, f"{options.seed} {k}"), range(options.count))
+        tried = pool.map(lambda k: chain(options.program, f"{options.seed} {k}"), range(options.count))
         broken = list(filter(None, tried))
     for text in broken[:5]:
         print(text)
     print(f"{options.count} chains, {len(broken)} broken")
     return 1 if broken else 0
-
-
-if __name__ == "__main__":
-    sys.exit(main())

@@ -5,7 +5,7 @@ import subprocess
 import sys
 from dataclasses import dataclass, field
 
-from program import read_arguments
+from .program import read_arguments
 
 SECONDS = 60
 
@@ -104,7 +104,7 @@ def compare_with_help(about, checks_of, mistakes, mistake_faults):
     the planted mistakes are not found.
     """
     options = read_arguments(about, more_options)
-    texts = Texts(options.binary)
+    texts = Texts(options.program)
     found = [list(check) for check in checks_of(texts)]
     if options.mistakes:
         missed = list(mistake_faults(texts))

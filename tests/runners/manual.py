@@ -1,4 +1,3 @@
-#!/usr/bin/env python3
 """Compares the manual page with the help of each command, line by line.
 
 The page has to be the one that is put together here: its sections in order, each command with the
@@ -12,11 +11,8 @@ import difflib
 import re
 import shutil
 import subprocess
-import sys
 
-sys.dont_write_bytecode = True
-
-from helps import compare_with_help, read_helps
+from .helps import compare_with_help, read_helps
 
 PAGE = """\
 .TH ODB_BATCH 1
@@ -139,7 +135,3 @@ def checks_of(texts):
 
 def main():
     return compare_with_help("Compares the manual page with the help.", checks_of, MISTAKES, mistake_faults)
-
-
-if __name__ == "__main__":
-    sys.exit(main())

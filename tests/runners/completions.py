@@ -1,4 +1,3 @@
-#!/usr/bin/env python3
 """Compares what the completion scripts offer with the help of each command.
 
 Each line is completed by bash, and by zsh and fish if they are installed; if not, a line reports
@@ -10,14 +9,11 @@ line is `N passed, N failed`.
 
 import re
 import subprocess
-import sys
 from dataclasses import dataclass
 
-sys.dont_write_bytecode = True
-
-import shells
-from helps import compare_with_help, read_helps
-from shells import FILE, Unread
+from . import shells
+from .helps import compare_with_help, read_helps
+from .shells import FILE, Unread
 
 # Lines, each with what is offered for its last word.
 LINES = [
@@ -169,7 +165,3 @@ def checks_of(texts):
 
 def main():
     return compare_with_help("Compares the completions with the help.", checks_of, MISTAKES, mistake_faults)
-
-
-if __name__ == "__main__":
-    sys.exit(main())

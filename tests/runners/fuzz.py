@@ -1,4 +1,3 @@
-#!/usr/bin/env python3
 """Compares the program with the plain rules of rules.py on documents made at random.
 
 The same seed makes the same documents. With `--mistakes` it shows, too, that each planted mistake of
@@ -8,22 +7,16 @@ mistakes.py is found: that the rules with it print something else than the progr
 
 import os
 import subprocess
-import sys
 import tempfile
 from collections import Counter
 from concurrent.futures import ThreadPoolExecutor
 from dataclasses import dataclass, replace
 from random import Random
 
-sys.dont_write_bytecode = True
-
-import grammar
-import mistakes
-import rules
-import rules_of_runs
-from pages import OF_BATCHES, command_names
-from program import read_arguments
-from shrink import shrunk
+from . import grammar, mistakes, rules, rules_of_runs
+from .pages import OF_BATCHES, command_names
+from .program import read_arguments
+from .shrink import shrunk
 
 SECONDS = 60
 SHOWN = 5
@@ -161,7 +154,7 @@ def compare(trials, outputs, binary):
 
 def main():
     options = read_arguments("Compares the program with plain rules on random documents.", more_options)
-    binary, commands = options.binary, options.commands
+    binary, commands = options.program, options.commands
     trials = [trial(Random(f"{options.seed} {k}"), commands) for k in range(options.count)]
     with ThreadPoolExecutor(options.jobs) as pool:
         outputs = list(pool.map(lambda it: call(it, binary), trials))
@@ -175,7 +168,3 @@ def main():
         differ = compare(trials, outputs, binary)
     print(f"{len(trials)} documents, {differ} differ")
     return 1 if differ or missed else 0
-
-
-if __name__ == "__main__":
-    sys.exit(main())

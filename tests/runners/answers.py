@@ -72,3 +72,16 @@ def is_line_of(text, wanted):
         return json.loads(text) == wanted
     except ValueError:
         return False
+
+
+def is_right(command, requests, outcomes, text):
+    """Whether a command printed what it has to print."""
+    if command == "check":
+        return text == check_line(requests)
+    if command == "plan":
+        return text == plan_text(requests)
+    if command == "canon":
+        return is_line_of(text, canonical(requests))
+    if command == "match":
+        return text == match_text(requests, outcomes)
+    return is_line_of(text, responses(requests, outcomes))

@@ -1,4 +1,4 @@
-"""Reads the pages of worked cases: what README.md in this folder describes, made into runs.
+"""Reads the pages of worked cases: what tests/cases/README.md describes, made into runs.
 
 A page is a text file of lines, each a keyword and what follows its first space. A run is one call of
 the program, with what it has to print and the status that it has to end with.

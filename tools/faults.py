@@ -96,7 +96,7 @@ def write(faults):
     for name, (codes, subject) in FILES.items():
         chosen = [it for it in faults if re.fullmatch(codes, it.code)]
         with open(os.path.join(TEXTS, name + ".rt"), "w", encoding="utf-8") as file:
-            file.write("// Generated from docs/faults.md by .ci/faults.py --write; do not edit.\n")
+            file.write("// Generated from docs/faults.md by tools/faults.py --write; do not edit.\n")
             file.write(f"//! The faults of {subject}.\n\n")
             file.write("use super::Explanation;\n\n")
             file.write(f"pub const FAULTS: [Explanation; {len(chosen)}] = [{''.join(map(row, chosen))}];\n")
@@ -148,13 +148,13 @@ def differences(binary, batch, fault):
 
 def main():
     parser = argparse.ArgumentParser(description="Compares docs/faults.md with the program.")
-    parser.add_argument("--binary", default=PROGRAM, metavar="PATH", help="the program; else the one built here")
+    parser.add_argument("--program", default=PROGRAM, metavar="PATH", help="the program; else the one built here")
     parser.add_argument("--write", action="store_true", help="make the texts of the program")
     options = parser.parse_args()
     faults, batch = read_page()
     if options.write:
         return write(faults)
-    binary = os.path.abspath(options.binary)
+    binary = os.path.abspath(options.program)
     table = "".join(it.heading + "\n" for it in faults)
     found = [] if call(binary, ROOT, "explain") == (table, 0) else ["explain: the table differs from the page"]
     found += [f"{it.code} {it.name}: {line}" for it in faults for line in differences(binary, batch, it)]

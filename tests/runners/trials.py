@@ -1,4 +1,4 @@
-"""The documents and the command lines for allocations that fail."""
+"""The documents and the command lines whose allocations fail in memory.py."""
 
 import json
 import os

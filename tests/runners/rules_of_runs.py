@@ -2,8 +2,8 @@
 
 from dataclasses import dataclass, field
 
-import rules
-from rules import Fault, first_fault, fold, is_number, is_status, is_whole, json_text
+from . import rules
+from .rules import Fault, first_fault, fold, is_number, is_status, is_whole, json_text
 
 
 @dataclass

@@ -1,5 +1,4 @@
-#!/usr/bin/env python3
-"""Runs the worked cases of this folder against the program and compares all that it does.
+"""Runs the worked cases of tests/cases/ against the program and compares all that it does.
 
 Each run has a fresh folder with the case's files. Its standard output, its standard error and its
 exit status have to be the ones that the case shows. The last line is `N passed, N failed`.
@@ -13,12 +12,10 @@ import tempfile
 from concurrent.futures import ThreadPoolExecutor
 from contextlib import contextmanager
 
-sys.dont_write_bytecode = True
+from . import pages
+from .program import TESTS, read_arguments
 
-import pages
-from program import read_arguments
-
-HERE = os.path.dirname(os.path.realpath(__file__))
+CASES = os.path.join(TESTS, "cases")
 SECONDS = 60
 SHOWN = 600
 NOBODY = "|"
@@ -137,23 +134,19 @@ def tried(run, binary):
 
 
 def main():
-    options = read_arguments("Runs the worked cases of this folder.", more_options)
+    options = read_arguments("Runs the worked cases of tests/cases/.", more_options)
     chosen = [
         run
-        for run in pages.read_folder(HERE)
+        for run in pages.read_folder(CASES)
         if run.command in options.commands and options.only in f"{run.page} {run.title}"
     ]
     if not chosen:
         sys.exit("no case is chosen")
     failed = 0
     with ThreadPoolExecutor(options.jobs) as pool:
-        for run, found in zip(chosen, pool.map(lambda run: tried(run, options.binary), chosen)):
+        for run, found in zip(chosen, pool.map(lambda run: tried(run, options.program), chosen)):
             if found:
                 failed += 1
                 print(run.name, *found, sep="\n", end="\n\n")
     print(f"{len(chosen) - failed} passed, {failed} failed")
     return 1 if failed else 0
-
-
-if __name__ == "__main__":
-    sys.exit(main())
