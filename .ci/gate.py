@@ -1,13 +1,17 @@
 """Runs what has to pass before a change lands, and reports the processor time of each part.
 
 The parts are `rt ci` (the proofs, the tests, the must-fail edits), the version in every place that has
-it, the questions that the edits say they ask, the commands of pages against the output that they show,
-the faults of docs/faults.md against the program, the worked cases, the manual page and the completions
-against the help, documents that are cut and documents as long as the program takes, random documents
-against plain rules, results and documents against the schemas of docs/schemas/, the library for other
-languages and its bindings, the example service, the tool that judges services, the archive of a release,
-allocations that fail, names that crowd the tables of one seed, and the short form of the benchmark, which
-compares answers and judges no time. The exit status is 0 where all of them pass.
+it, the places that each fault has, the questions that the edits say they ask, the commands of pages
+against the output that they show, the faults of docs/faults.md against the program, the worked cases, the
+manual page and the completions against the help, documents that are cut and documents as long as the
+program takes, random documents against plain rules, results and documents against the schemas of
+docs/schemas/, the library for other languages and its bindings, the example service, the tool that judges
+services, the archive of a release, allocations that fail, names that crowd the tables of one seed, and the
+short form of the benchmark, which compares answers and judges no time. The exit status is 0 where all of
+them pass.
+
+What a part takes is what the system counts of its processes once they have ended. Of `rt ci`, whose
+processes do three kinds of work, the processes are looked at while they run.
 """
 
 import os
@@ -24,6 +28,7 @@ PAUSE = 0.2
 # The parts after `rt ci`: a title, and the words after python3.
 PARTS = [
     ("versions", "tools/version.py --program crates/odb_batch/out/odb_batch"),
+    ("the places of the faults", "tools/places.py"),
     ("the questions of the edits", "tools/edits.py"),
     ("commands and excerpts of pages", "tools/readme.py README.md docs/library.md examples/README.md"),
     ("docs/faults.md", "tools/faults.py"),
@@ -119,18 +124,18 @@ def spent_by_children():
     return used.ru_utime + used.ru_stime
 
 
-def run(words, quiet=False):
+def run(words, quiet=False, watched=False):
     """Runs a command; returns its exit status, the seconds of each kind, and its last lines."""
     before, last = spent_by_children(), []
     messages = None if quiet else subprocess.STDOUT
     started = subprocess.Popen(words, stdout=subprocess.PIPE, stderr=messages, text=True, errors="replace")
-    watch = Watch(started.pid)
+    watch = Watch(started.pid) if watched else None
     for line in started.stdout:
         last = [*last[-2:], line]
         if not quiet:
             print(line, end="", flush=True)
     status = started.wait()
-    kinds = watch.seconds()
+    kinds = watch.seconds() if watch else {}
     kinds["all"] = spent_by_children() - before
     return status, kinds, last
 
@@ -138,7 +143,7 @@ def run(words, quiet=False):
 def main():
     os.chdir(ROOT)
     begun, failed, rows = time.monotonic(), [], []
-    status, kinds, last = run(["rt", "ci"])
+    status, kinds, last = run(["rt", "ci"], watched=True)
     failed += ["rt ci"] * bool(status)
     named = ["proofs", "tests", "must-fail edits"]
     rows += [(name, kinds.get(name, 0)) for name in named]
