@@ -22,6 +22,7 @@ import tables
 import turns
 import workloads
 from measure import BenchFault, adopt_orphans
+from runners.program import add_program, ready
 
 TURNS = 12
 FLOODED = "flooded"
@@ -58,7 +59,7 @@ def read_words(words):
     option = parser.add_argument
     option("--short", action="store_true", help="small sizes and one turn: some twenty seconds")
     option("--turns", type=turn_count, metavar="N", help=f"how often each run is made; {TURNS}, in short 1")
-    option("--program", metavar="PATH", help="the program to measure; else that of this repository")
+    add_program(option)
     option(
         "--only",
         type=workload_names,
@@ -72,24 +73,6 @@ def read_words(words):
 def report(line):
     """Prints on standard error how far the measuring is."""
     print(f"bench: {line}", file=sys.stderr, flush=True)
-
-
-def built_program():
-    """The program of this repository, built where it has to be."""
-    usual = os.path.join(ROOT, "examples", "usual.json")
-    command = [os.path.join(ROOT, "bin", "odb_batch"), "check", usual]
-    try:
-        subprocess.run(command, stdin=subprocess.DEVNULL, stdout=subprocess.DEVNULL, check=True)
-    except (OSError, subprocess.CalledProcessError) as error:
-        raise BenchFault(f"bin/odb_batch: {error}") from None
-    return os.path.join(ROOT, "crates", "odb_batch", "out", "odb_batch")
-
-
-def given_program(path):
-    """The program at a path, which has to be one that can be run."""
-    if not (os.path.isfile(path) and os.access(path, os.X_OK)):
-        raise BenchFault(f"{path} is no program")
-    return os.path.realpath(path)
 
 
 def prepare(program, folder, names, short):
@@ -153,7 +136,7 @@ def main():
     signal.signal(signal.SIGTERM, lambda *_: sys.exit(143))
     try:
         adopt_orphans()
-        program = given_program(words.program) if words.program else built_program()
+        program = os.path.realpath(ready(words.program))
         with tempfile.TemporaryDirectory(prefix="odb_batch_bench_") as folder:
             print(measured_text(words, program, folder))
     except (BenchFault, OSError, subprocess.CalledProcessError) as fault:

@@ -15,6 +15,11 @@ import tempfile
 import time
 
 ROOT = os.path.dirname(os.path.dirname(os.path.realpath(__file__)))
+sys.dont_write_bytecode = True
+sys.path.append(os.path.join(ROOT, "tests"))
+
+from runners.program import add_program, ready
+
 SIZES = (300, 1_000, 100_000, 10_000_000)
 MOST_REQUESTS = 10_000
 
@@ -55,9 +60,8 @@ def measure_live(folder, program, seconds):
     binary = compiled(folder, "live_speed")
     tries = [subprocess.run([binary, paths[0]], capture_output=True, text=True, check=True).stdout for _ in range(5)]
     print(f"a live run: {min(tries, key=lambda it: float(it.split()[-2])).strip()}")
-    if os.path.exists(program):
-        replay = lambda: subprocess.run([program, "replay", *paths], capture_output=True, check=True)
-        print(f"a replay by the program: {repeated(replay, seconds) / 1e3:.1f} ms")
+    replay = lambda: subprocess.run([program, "replay", *paths], capture_output=True, check=True)
+    print(f"a replay by the program: {repeated(replay, seconds) / 1e3:.1f} ms")
 
 
 def compiled(folder, name):
@@ -70,9 +74,10 @@ def compiled(folder, name):
 
 def main():
     parser = argparse.ArgumentParser(description="Measures checks in process beside those of the program.")
+    add_program(parser.add_argument)
     parser.add_argument("--seconds", type=float, default=1, metavar="S", help="how long each is repeated; 1")
     options = parser.parse_args()
-    program = os.path.join(ROOT, "crates", "odb_batch", "out", "odb_batch")
+    program = ready(options.program)
     with tempfile.TemporaryDirectory(prefix="speed-") as folder:
         subprocess.run([os.path.join(ROOT, "bin", "odb_library"), folder], check=True)
         binary, path = compiled(folder, "speed"), os.path.join(folder, "document")
@@ -88,12 +93,9 @@ def main():
             timed = subprocess.run([binary, path, str(options.seconds)], capture_output=True, text=True, check=True)
             in_c = timed.stdout.strip()
             in_python = repeated(lambda: odb_batch.check(document), options.seconds)
-            by_process = "-"
-            if os.path.exists(program):
-                words = [program, "check", path]
-                started = lambda: subprocess.run(words, capture_output=True, check=True)
-                by_process = f"{repeated(started, options.seconds):.0f}"
-            print(f"| {len(document):,} | {in_c} | {in_python:.1f} | {by_process} |", flush=True)
+            started = lambda: subprocess.run([program, "check", path], capture_output=True, check=True)
+            by_process = repeated(started, options.seconds)
+            print(f"| {len(document):,} | {in_c} | {in_python:.1f} | {by_process:.0f} |", flush=True)
         measure_live(folder, program, options.seconds)
 
 

@@ -9,23 +9,30 @@ names the clause that has to refuse it:
 CALL is written as a caller writes it (`check`, `Plan::needs`), CLAUSE is the name of its `ensures`,
 or `result` where it has one without a name, and CASE distinguishes two edits of one clause. The exit
 status is 1 where an edit lacks that line, names a call or a clause that does not exist, asks what
-another one asks, or where there are more edits than MOST; else 0. A clause that no edit asks is
-listed and is no failure.
+another one asks, or where all edits together take more processor minutes than MINUTES; else 0. A
+clause that no edit asks is listed and is no failure.
 
 `--try NAME` tries the one edit crates/CRATE/must-fail/NAME.edit instead, over what `rt check` kept, and
-ends with the lines and the status of `rt must-fail`.
+ends with the lines and the status of `rt must-fail`, and with what it took.
 """
 
+import argparse
 import glob
 import os
 import re
+import resource
 import shutil
 import subprocess
 import sys
 import tempfile
 
 ROOT = os.path.dirname(os.path.dirname(os.path.realpath(__file__)))
-MOST = 130
+
+# What `.ci/run` may spend on edits; and what one edit of a crate takes, of odb_engine and odb_ffi what the
+# count of a whole run leaves for them. A crate without a number counts as one of those.
+MINUTES = 70
+SECONDS = {"odb_dense": 9, "odb_names": 10, "odb_doc": 26, "odb_check": 16, "odb_sched": 23, "odb_reply": 17}
+OTHER = 70
 
 BLOCK = re.compile(r"(?:pub )?(?:unsafe )?(impl|trait)\b(.*)")
 CALL = re.compile(r"( *)(pub )?(?:final )?(?:const )?(?:extern \"C\" )?fn (\w+)")
@@ -152,29 +159,37 @@ def try_alone(name):
         os.mkdir(f"{copy}/crates/{crate}/must-fail")
         for path in (found[0], f"{ROOT}/crates.txt", f"{ROOT}/HANDLES"):
             shutil.copy(path, os.path.join(copy, os.path.relpath(path, ROOT)))
-        return subprocess.run(["rt", "must-fail", crate], cwd=copy).returncode
+        status = subprocess.run(["rt", "must-fail", crate], cwd=copy).returncode
+    used = resource.getrusage(resource.RUSAGE_CHILDREN)
+    print(f"{name}: {used.ru_utime + used.ru_stime:.0f} s of processor time")
+    return status
 
 
 def main():
-    if sys.argv[1:2] == ["--try"]:
-        return try_alone(*sys.argv[2:3])
+    parser = argparse.ArgumentParser(description="Lists which clauses of public calls the must-fail edits ask.")
+    parser.add_argument("--try", dest="tried", metavar="NAME", help="try this edit alone")
+    parser.add_argument("--unasked", action="store_true", help="list the clauses that no edit asks")
+    options = parser.parse_args()
+    if options.tried:
+        return try_alone(options.tried)
     clauses = {crate: public_clauses(crate) for crate in crates()}
     every = {call: found for known in clauses.values() for call, found in known.items()}
-    faults, count = [], 0
+    faults, count, seconds = [], 0, 0
     asked = {question[:2] for crate in clauses for _, question in questions(crate) if question}
     for crate, known in clauses.items():
         edits = len(list(questions(crate)))
-        count += edits
+        count, seconds = count + edits, seconds + edits * SECONDS.get(crate, OTHER)
         faults += wrong(crate, every)
         pairs = [(call, clause) for call, found in known.items() for clause in found]
         unasked = [f"{call}: {clause}" for call, clause in pairs if (call, clause) not in asked]
         total = sum(map(len, known.values()))
         print(f"{crate}: {edits} edits; {total - len(unasked)} of {total} clauses of public calls are asked")
-        if "--unasked" in sys.argv[1:]:
+        if options.unasked:
             print("".join(f"  not asked: {it}\n" for it in unasked), end="")
-    if count > MOST:
-        faults.append(f"{count} edits are more than {MOST}")
+    if seconds > MINUTES * 60:
+        faults.append(f"the edits take more than {MINUTES} processor minutes: drop one that asks less, or raise MINUTES")
     print("".join(f"{it}\n" for it in faults), end="")
+    print(f"about {seconds / 60:.0f} processor minutes of at most {MINUTES}")
     print(f"{count} edits, {len(faults)} faults")
     return 1 if faults else 0
 

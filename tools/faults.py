@@ -17,10 +17,13 @@ import tempfile
 from dataclasses import dataclass
 
 ROOT = os.path.dirname(os.path.dirname(os.path.realpath(__file__)))
+sys.dont_write_bytecode = True
+sys.path.append(os.path.join(ROOT, "tests"))
+
+from runners.program import add_program, ready
+
 PAGE = os.path.join(ROOT, "docs", "faults.md")
-CRATE = os.path.join(ROOT, "crates", "odb_batch")
-PROGRAM = os.path.join(CRATE, "out", "odb_batch")
-TEXTS = os.path.join(CRATE, "src", "explain")
+TEXTS = os.path.join(ROOT, "crates", "odb_batch", "src", "explain")
 
 # The files of texts: which codes they have, and what they are about.
 FILES = {
@@ -148,13 +151,13 @@ def differences(binary, batch, fault):
 
 def main():
     parser = argparse.ArgumentParser(description="Compares docs/faults.md with the program.")
-    parser.add_argument("--program", default=PROGRAM, metavar="PATH", help="the program; else the one built here")
+    add_program(parser.add_argument)
     parser.add_argument("--write", action="store_true", help="make the texts of the program")
     options = parser.parse_args()
     faults, batch = read_page()
     if options.write:
         return write(faults)
-    binary = os.path.abspath(options.program)
+    binary = ready(options.program)
     table = "".join(it.heading + "\n" for it in faults)
     found = [] if call(binary, ROOT, "explain") == (table, 0) else ["explain: the table differs from the page"]
     found += [f"{it.code} {it.name}: {line}" for it in faults for line in differences(binary, batch, it)]

@@ -2,14 +2,23 @@
 
 In a block that begins ```console, a line that begins with `$ ` is a command, and the lines up to the
 next command or the end of the block are what it prints, on standard output and standard error.
-Commands run by bash at the top of the repository. A block that begins ```rust begins with a comment
+Commands run by bash at the top of the repository; where one calls bin/odb_batch, the program has to be
+built, since that would build it in silence here. A block that begins ```rust begins with a comment
 that names a file, as `// crates/NAME/src/tests.rt`, and shows lines of that file: what follows the
-comment has to appear there word for word.
+comment has to appear there word for word. Without an argument it reads PAGES.
 """
 
+import os
 import re
 import subprocess
 import sys
+
+ROOT = os.path.dirname(os.path.dirname(os.path.realpath(__file__)))
+PAGES = ("README.md", "docs/library.md", "examples/README.md")
+sys.dont_write_bytecode = True
+sys.path.append(os.path.join(ROOT, "tests"))
+
+from runners.program import PROGRAM, ready
 
 
 def blocks(page, kind):
@@ -53,7 +62,7 @@ def stands_in(path, lines):
     if path is None:
         return False
     try:
-        with open(path, encoding="utf-8") as file:
+        with open(os.path.join(ROOT, path), encoding="utf-8") as file:
             all_lines = file.read().splitlines()
     except OSError:
         return False
@@ -63,13 +72,16 @@ def stands_in(path, lines):
 
 def differences(path):
     """Compares one page; returns how many of its commands and excerpts differ, of how many."""
-    with open(path, encoding="utf-8") as file:
+    with open(os.path.join(ROOT, path), encoding="utf-8") as file:
         page = file.read()
     cases, shown = examples(page), excerpts(page)
+    if any("bin/odb_batch" in command for _, command, _ in cases):
+        ready(PROGRAM)
     failed = 0
     for number, command, wanted in cases:
         run = subprocess.run(
             ["bash", "-c", command],
+            cwd=ROOT,
             stdin=subprocess.DEVNULL,
             stdout=subprocess.PIPE,
             stderr=subprocess.STDOUT,
@@ -89,7 +101,7 @@ def differences(path):
 
 
 def main():
-    found = [differences(path) for path in sys.argv[1:]]
+    found = [differences(path) for path in sys.argv[1:] or PAGES]
     return 1 if not found or any(bad or not all_ for bad, all_ in found) else 0
 
 

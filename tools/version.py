@@ -1,7 +1,7 @@
 """Compares the version that the file VERSION has with every other place that has it.
 
 `--write` puts it into the sources, headers, packages and pages; CHANGELOG.md has to describe it by a
-section, which is written by hand. With `--program PATH` the program has to print it too. The last
+section, which is written by hand. With `--program` the program has to print it too. The last
 line is `N places, M differ`.
 """
 
@@ -13,6 +13,11 @@ import sys
 from dataclasses import dataclass
 
 ROOT = os.path.dirname(os.path.dirname(os.path.realpath(__file__)))
+sys.dont_write_bytecode = True
+sys.path.append(os.path.join(ROOT, "tests"))
+
+from runners.program import PROGRAM, ready
+
 SOURCE = "VERSION"
 EXPORT = "crates/odb_ffi/src/exports.rt"
 HEADER = "include/odb_batch.h"
@@ -88,14 +93,15 @@ def differences(version, program):
 
 def main():
     parser = argparse.ArgumentParser(description="Compares the version with every place that has it.")
-    parser.add_argument("--program", metavar="PATH", help="a built program, which has to print the version")
+    what = "a built program, which has to print the version; without PATH the one built here"
+    parser.add_argument("--program", nargs="?", const=PROGRAM, metavar="PATH", help=what)
     parser.add_argument("--write", action="store_true", help="write it to every place but CHANGELOG.md")
     options = parser.parse_args()
     version = read_version()
     if options.write:
         for place in PLACES:
             place.write(version)
-    found = list(differences(version, options.program))
+    found = list(differences(version, options.program and ready(options.program)))
     count = len(PLACES) + 1 + bool(options.program)
     print(*found, f"version {version}: {count} places, {len(found)} differ", sep="\n")
     return 1 if found else 0
