@@ -18,6 +18,8 @@
  *              fails, the status says so.
  *   Threads    Nothing is kept between calls but in a live run: any number of threads may call at once. Do not call from
  *              a signal handler, nor in the forked child of a process with threads.
+ *   Stack      A call needs ODB_STACK_BYTES of its thread's stack at most: it recurses no deeper than documents may
+ *              nest, 127 levels. This is measured, and a test makes each call on such a stack; it is not proved.
  *   Cost       O(n log n) time for n bytes of documents and text, whatever the names in them.
  *   Seed       The tables of names start from `seed`. Draw it once per process by `odb_seed` and keep
  *              it secret, so that nobody can choose names that make a call slow. 0 is no seed: it is as
@@ -44,6 +46,9 @@ extern "C" {
 #define ODB_VERSION_MINOR 2
 #define ODB_VERSION_PATCH 0
 #define ODB_VERSION (ODB_VERSION_MAJOR * 10000 + ODB_VERSION_MINOR * 100 + ODB_VERSION_PATCH)
+
+/* How much stack a thread has to have for any call. */
+#define ODB_STACK_BYTES 131072
 
 /* What a call returns. */
 enum {

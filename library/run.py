@@ -6,6 +6,7 @@ installed`. The last line is `N parts, M failed`. `--only WORD` runs the parts w
 """
 
 import argparse
+import json
 import os
 import re
 import shutil
@@ -43,6 +44,9 @@ RUN
 """
 
 
+ANSWERED = '{"responses":[{"id":"a","status":204}]}\n'
+
+
 class Failed(Exception):
     """A part that has not passed."""
 
@@ -64,6 +68,21 @@ def need(tool):
         raise Skipped(f"{tool} is not installed")
 
 
+def node_folder():
+    """The folder into which node is installed."""
+    return os.path.dirname(os.path.dirname(os.path.realpath(shutil.which("node"))))
+
+
+def found_gyp():
+    """The command node-gyp, or that of npm; skips the part where neither is installed."""
+    if shutil.which("node-gyp"):
+        return ["node-gyp"]
+    inside = os.path.join(node_folder(), "lib/node_modules/npm/node_modules/node-gyp/bin/node-gyp.js")
+    if not os.path.exists(inside):
+        raise Skipped("node-gyp is not installed")
+    return ["node", inside]
+
+
 def run(*words, wanted=None, **more):
     """Runs a command, which has to end with status 0, and to print what is wanted if that is given."""
     kept = {} if wanted is None else {"stdout": subprocess.PIPE, "text": True}
@@ -83,7 +102,7 @@ def block(language, at=0):
 class Parts:
     """The parts, in the order in which they run: each a method, named after what it tests."""
 
-    HELPERS = ("path", "write", "compile_calls")
+    HELPERS = ("path", "write", "compile_calls", "compile_addon")
     NEEDED = ("build",)
 
     def __init__(self, folder):
@@ -142,6 +161,11 @@ class Parts:
         need("valgrind")
         run(*MEMCHECK, self.compile_calls("live.c", "live_checked"))
 
+    def stack_of_calls(self):
+        source = os.path.join(HERE, "stack.c")
+        run("cc", "-std=gnu99", *STRICT, "-pthread", "-o", self.path("stack"), source, self.archive)
+        run(self.path("stack"))
+
     def header_in_other_dialects(self):
         use = self.write("use.c", '#include "odb_batch.h"\nint main(void) { return odb_version() != ODB_VERSION; }\n')
         for dialect in ("c99", "c11"):
@@ -194,16 +218,40 @@ class Parts:
         for binding in ("python", "live"):
             run(sys.executable, os.path.join(HERE, "worked.py"), binding, env=self.variables)
 
+    def compile_addon(self, folder):
+        """Makes the addon by the compiler alone; skips the part if the headers of Node are missing."""
+        done = subprocess.run([os.path.join(folder, "compile"), self.folder], stderr=subprocess.PIPE, text=True)
+        if done.returncode == 70:
+            raise Skipped("node_api.h is not installed")
+        if done.returncode:
+            raise Failed(f"node/compile: {done.stderr.strip()}")
+
     def node(self):
         need("node")
         folder = os.path.join(ROOT, "node")
-        run(os.path.join(folder, "build"), self.folder)
+        self.compile_addon(folder)
         tests = [os.path.join(folder, "test", name) for name in ("commands.test.js", "run.test.js")]
         run("node", "--test", "--test-reporter=dot", *tests)
         os.makedirs(self.path("node_modules"), exist_ok=True)
         os.symlink(folder, os.path.join(self.path("node_modules"), "odb-batch"))
         run("node", self.write("page.js", block("js")), wanted="{ requests: 1, groups: 0 } [ 'a' ]\n")
         run("node", self.write("live.js", block("js", 1)), wanted=LIVE)
+
+    def node_by_gyp(self):
+        """Makes the addon by node-gyp, in a copy, and calls it."""
+        need("node")
+        gyp = found_gyp()
+        copy = self.path("gyp/node")
+        shutil.copytree(os.path.join(ROOT, "node"), copy, ignore=shutil.ignore_patterns("*.node", "build"))
+        shutil.copytree(os.path.join(ROOT, "include"), self.path("gyp/include"))
+        self.compile_addon(copy)  # where it is skipped, there are no headers for node-gyp either
+        os.remove(os.path.join(copy, "odb_batch.node"))
+        headers = os.environ.get("NODE_HEADERS") or os.path.join(node_folder(), "include", "node")
+        folder = os.path.dirname(os.path.dirname(headers))
+        words = [*gyp, "rebuild", "--silent", f"--nodedir={folder}", "--", f"-Dodb_library={self.folder}"]
+        run(*words, cwd=copy, env={**self.variables, "HOME": self.folder})
+        check = f"console.log(require({json.dumps(copy)}).check('{{\"requests\":[]}}'))"
+        run("node", "-e", check, wanted="{ requests: 0, groups: 0 }\n")
 
     def node_on_the_worked_cases(self):
         need("node")
@@ -221,6 +269,16 @@ fn main() {
         source = self.write("page.rs", block("rust") + main)
         run("rustc", "--edition=2021", "-Dwarnings", "-L", self.folder, "-o", self.path("page_rs"), source)
         run(self.path("page_rs"), wanted=ONE, env=self.variables)
+        main = """
+fn main() {
+    let batch = br#"{"requests":[{"id":"a","method":"get","url":"Books"}]}"#;
+    print!("{}", String::from_utf8(answered(batch, 128, 7).1).unwrap());
+    assert_eq!(answered(b"", 128, 0), (1, b"fault F02 NotJson batch\\n".to_vec()));
+}
+"""
+        source = self.write("live.rs", block("rust", 1) + main)
+        run("rustc", "--edition=2021", "-Dwarnings", "-L", self.folder, "-o", self.path("live_rs"), source)
+        run(self.path("live_rs"), wanted=ANSWERED, env=self.variables)
 
     def page_in_go(self):
         need("go")
@@ -228,14 +286,16 @@ fn main() {
         main = (
             'package main\n\nimport (\n\t"fmt"\n\todb "page"\n)\n\nfunc main() {\n'
             '\t_, text := odb.Check([]byte(`{"requests":[{"id":"a","method":"get","url":"Books"}]}`), 7)\n'
-            '\tfmt.Print(string(text))\n\tif status, _ := odb.Check(nil, 0); status != 1 {\n\t\tpanic(status)\n\t}\n}\n'
+            '\tfmt.Print(string(text))\n\tif status, _ := odb.Check(nil, 0); status != 1 {\n\t\tpanic(status)\n\t}\n'
+            '\t_, text = odb.Answered([]byte(`{"requests":[{"id":"a","method":"get","url":"Books"}]}`), 128, 7)\n'
+            '\tfmt.Print(string(text))\n}\n'
         )
         os.makedirs(self.path("go/main"), exist_ok=True)
         self.write("go/go.mod", "module page\n\ngo 1.20\n")
         self.write("go/page.go", block("go"))
         self.write("go/main/main.go", main)
         flags = {"CGO_CFLAGS": f"-I{ROOT}/include", "CGO_LDFLAGS": f"-L{self.folder}"}
-        run("go", "run", "./main", wanted=ONE, cwd=self.path("go"), env={**self.variables, **flags})
+        run("go", "run", "./main", wanted=ONE + ANSWERED, cwd=self.path("go"), env={**self.variables, **flags})
 
     def page_in_java(self):
         need("javac")
@@ -262,15 +322,19 @@ fn main() {
         self.write(
             "csharp/Page.cs",
             'System.Console.Write(System.Text.Encoding.UTF8.GetString(Odb.Check("""\n'
-            '{"requests":[{"id":"a","method":"get","url":"Books"}]}\n"""u8, 7).Text));\n',
+            '{"requests":[{"id":"a","method":"get","url":"Books"}]}\n"""u8, 7).Text));\n'
+            'var text = new byte[128];\n'
+            'var (_, length) = OdbRun.Answer("""\n{"requests":[{"id":"a","method":"get","url":"Books"}]}\n"""u8, text, 7);\n'
+            "System.Console.Write(System.Text.Encoding.UTF8.GetString(text, 0, length));\n",
         )
+        self.write("csharp/OdbRun.cs", block("csharp", 1))
         self.write(
             "csharp/page.csproj",
             '<Project Sdk="Microsoft.NET.Sdk"><PropertyGroup><OutputType>Exe</OutputType>'
             "<TargetFramework>net8.0</TargetFramework>"
             "<AllowUnsafeBlocks>true</AllowUnsafeBlocks></PropertyGroup></Project>\n",
         )
-        run("dotnet", "run", "--project", self.path("csharp"), wanted=ONE, env=self.variables)
+        run("dotnet", "run", "--project", self.path("csharp"), wanted=ONE + ANSWERED, env=self.variables)
 
 
 def parts_of(kind):

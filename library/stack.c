@@ -1,0 +1,196 @@
+/* Measures how much stack the calls of the library take: each is made by a thread with a stack of
+ * ODB_STACK_BYTES, on documents that nest as deep as they may and deeper, and on a long chain of requests.
+ *
+ * The last line that it prints is the most that a call took, `N of M bytes of stack`. */
+
+#include "odb_batch.h"
+
+#include <pthread.h>
+#include <stdio.h>
+#include <stdlib.h>
+#include <string.h>
+
+#define PAGE 4096
+#define FILLING 0xa5
+#define MOST_BYTES 4194304
+#define DEEPEST 124 /* levels of a body in a document of 127 */
+#define CHAIN 10000
+
+static char batch[MOST_BYTES], second[MOST_BYTES];
+static uint8_t text[MOST_BYTES];
+static size_t length;
+
+/* What a thread does, and whether it ended as it had to. */
+typedef int work(void);
+
+static const uint8_t *bytes(const char *document)
+{
+    return (const uint8_t *)document;
+}
+
+static int is_done(uint32_t status)
+{
+    return status == ODB_DONE;
+}
+
+static int check(void)
+{
+    return is_done(odb_check(bytes(batch), strlen(batch), text, sizeof text, &length, 7));
+}
+
+static int check_without_a_seed(void)
+{
+    return is_done(odb_check(bytes(batch), strlen(batch), text, sizeof text, &length, 0));
+}
+
+static int plan(void)
+{
+    return is_done(odb_plan(bytes(batch), strlen(batch), text, sizeof text, &length, 7));
+}
+
+static int canon(void)
+{
+    return is_done(odb_canon(bytes(batch), strlen(batch), text, sizeof text, &length, 7));
+}
+
+static int refused(void)
+{
+    return odb_check(bytes(batch), strlen(batch), text, sizeof text, &length, 7) == ODB_REFUSED;
+}
+
+static int match(void)
+{
+    return is_done(odb_match(bytes(batch), strlen(batch), bytes(second), strlen(second), text, sizeof text, &length, 7));
+}
+
+static int replay(void)
+{
+    return is_done(odb_replay(bytes(batch), strlen(batch), bytes(second), strlen(second), ODB_CONTINUE, ODB_MAX_WIDTH,
+                              ODB_WIDE, 1, text, sizeof text, &length, 7));
+}
+
+static int run(void)
+{
+    return is_done(odb_run(bytes(batch), strlen(batch), bytes(second), strlen(second), ODB_CONTINUE, ODB_MAX_WIDTH,
+                           text, sizeof text, &length, 7));
+}
+
+/* Opens a run after the events, and makes all of its calls: its one request is reported with the body in `second`. */
+static int live(void)
+{
+    static const char none[] = "{\"events\":[]}", headers[] = "{\"ETag\":\"7\"}";
+    odb_live_run opened;
+    uint32_t positions[1];
+    size_t count;
+    if (odb_run_open(bytes(batch), strlen(batch), bytes(none), strlen(none), ODB_STOP, 1, &opened, text, sizeof text, &length, 7))
+        return 0;
+    int right = is_done(odb_run_ready(&opened, positions, 1, &count)) && is_done(odb_run_start(&opened, 0))
+        && is_done(odb_run_running(&opened, positions, 1, &count))
+        && is_done(odb_run_report(&opened, 0, 200, bytes(headers), strlen(headers), bytes(second), strlen(second)))
+        && odb_run_finished(&opened) && is_done(odb_run_response(&opened, text, sizeof text, &length));
+    odb_run_close(opened);
+    return right;
+}
+
+/* Appends a value that nests so deep, of arrays and objects in turn. */
+static void nest(char *document, int levels)
+{
+    char *end = document + strlen(document);
+    for (int level = 0; level < levels; level++)
+        end = stpcpy(end, level % 2 ? "{\"k\":" : "[");
+    end = stpcpy(end, "1");
+    for (int level = levels; level-- > 0;)
+        end = stpcpy(end, level % 2 ? "}" : "]");
+}
+
+/* Makes a document of a text, a value that nests, and a text. */
+static void make(char *document, const char *before, int levels, const char *after)
+{
+    strcpy(document, before);
+    nest(document, levels);
+    strcat(document, after);
+}
+
+static void make_deep(int levels)
+{
+    make(batch, "{\"requests\":[{\"id\":\"a\",\"method\":\"post\",\"url\":\"X\","
+                "\"headers\":{\"Content-Type\":\"application/json\"},\"body\":", levels, "}]}");
+}
+
+/* Makes a batch in which each request needs the one before it, and an entry for each in another document. */
+static void make_chain(const char *name, const char *more)
+{
+    char *end = stpcpy(batch, "{\"requests\":["), *other = second + sprintf(second, "{\"%s\":[", name);
+    for (int i = 0; i < CHAIN; i++) {
+        end += sprintf(end, "%s{\"id\":\"r%d\",\"method\":\"get\",\"url\":\"X\"", i ? "," : "", i);
+        end += i ? sprintf(end, ",\"dependsOn\":[\"r%d\"]}", i - 1) : sprintf(end, "}");
+        other += sprintf(other, "%s{\"id\":\"r%d\",\"status\":200%s}", i ? "," : "", i, more);
+    }
+    strcpy(end, "]}");
+    strcpy(other, "]}");
+}
+
+static void *perform(void *given)
+{
+    work *const *done = given;
+    return (*done)() ? text : NULL;
+}
+
+static size_t most;
+static int wrong;
+
+/* Does the work in a thread, and measures how much of its stack was written. */
+static void measure(const char *title, work *done)
+{
+    pthread_t thread;
+    pthread_attr_t attributes;
+    void *result = NULL, *place = NULL;
+    if (posix_memalign(&place, PAGE, ODB_STACK_BYTES))
+        exit(70);
+    uint8_t *stack = place;
+    memset(stack, FILLING, ODB_STACK_BYTES);
+    if (pthread_attr_init(&attributes) || pthread_attr_setstack(&attributes, stack, ODB_STACK_BYTES)
+        || pthread_create(&thread, &attributes, perform, &done) || pthread_join(thread, &result))
+        exit(70);
+    size_t left = 0;
+    while (left < ODB_STACK_BYTES && stack[left] == FILLING)
+        left++;
+    size_t used = ODB_STACK_BYTES - left;
+    if (result == NULL || left == 0) {
+        wrong++;
+        printf("%s: is wrong\n", title);
+    }
+    printf("%s: %zu\n", title, used);
+    most = used > most ? used : most;
+    pthread_attr_destroy(&attributes);
+    free(stack);
+}
+
+int main(void)
+{
+    make_deep(DEEPEST);
+    measure("a check of a deep body", check);
+    measure("a check of a deep body without a seed", check_without_a_seed);
+    measure("a plan of a deep body", plan);
+    measure("a canonical text of a deep body", canon);
+    make(second, "{\"responses\":[{\"id\":\"a\",\"status\":200,\"body\":", DEEPEST, "}]}");
+    measure("a match of a deep body", match);
+    make(second, "{\"outcomes\":[{\"id\":\"a\",\"status\":200,\"body\":", DEEPEST, "}]}");
+    measure("a replay of a deep body", replay);
+    make(second, "{\"events\":[{\"start\":\"a\"},{\"report\":\"a\",\"status\":200,\"body\":", DEEPEST, "}]}");
+    measure("a run of a deep body", run);
+    make(second, "", DEEPEST + 2, "");
+    measure("a live run of a deep body", live);
+    make_deep(100000);
+    measure("a check of a body that is too deep", refused);
+    make_chain("outcomes", "");
+    measure("a check of a chain", check);
+    measure("a check of a chain without a seed", check_without_a_seed);
+    measure("a plan of a chain", plan);
+    measure("a canonical text of a chain", canon);
+    measure("a replay of a chain", replay);
+    make_chain("responses", "");
+    measure("a match of a chain", match);
+    printf("%zu of %d bytes of stack\n", most, ODB_STACK_BYTES);
+    return wrong != 0;
+}
