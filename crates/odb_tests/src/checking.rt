@@ -11,9 +11,9 @@ use std::test::Fail;
 /// Two groups, of which the second needs the first, and a request that needs both and a member.
 const GROUPS: &str = r#"{"requests":[
     {"id":"a","method":"post","url":"X","atomicityGroup":"left"},
-    {"id":"b","method":"get","url":"$a/Y","atomicityGroup":"left"},
-    {"id":"c","method":"get","url":"X","atomicityGroup":"right","dependsOn":["left"]},
-    {"id":"d","method":"get","url":"X","atomicityGroup":"right"},
+    {"id":"b","method":"delete","url":"$a/Y","atomicityGroup":"left"},
+    {"id":"c","method":"delete","url":"X","atomicityGroup":"right","dependsOn":["left"]},
+    {"id":"d","method":"delete","url":"X","atomicityGroup":"right"},
     {"id":"e","method":"get","url":"$b/Y","dependsOn":["right","c","right","left"]}]}"#;
 
 /// Texts that are ids or groups of `GROUPS`, or neither.

@@ -31,18 +31,18 @@ const THREE: &str = r#"{"requests":[{"id":"r","method":"get","url":"X"},
 
 /// A group whose second request refers to its first.
 const REFERENCE: &str = r#"{"requests":[
-    {"id":"1","method":"get","url":"X","atomicityGroup":"g"},
-    {"id":"2","method":"get","url":"$1/Orders","atomicityGroup":"g"}]}"#;
+    {"id":"1","method":"delete","url":"X","atomicityGroup":"g"},
+    {"id":"2","method":"delete","url":"$1/Orders","atomicityGroup":"g"}]}"#;
 
 /// A group of three.
-const GROUP: &str = r#"{"requests":[{"id":"p","method":"get","url":"X","atomicityGroup":"g"},
-    {"id":"q","method":"get","url":"X","atomicityGroup":"g"},
-    {"id":"r","method":"get","url":"X","atomicityGroup":"g"}]}"#;
+const GROUP: &str = r#"{"requests":[{"id":"p","method":"delete","url":"X","atomicityGroup":"g"},
+    {"id":"q","method":"delete","url":"X","atomicityGroup":"g"},
+    {"id":"r","method":"delete","url":"X","atomicityGroup":"g"}]}"#;
 
 /// A group of two whose second request depends on another, and a request that depends on the group.
 const PASSED_ON: &str = r#"{"requests":[{"id":"a","method":"get","url":"X"},
-    {"id":"p","method":"get","url":"X","atomicityGroup":"g"},
-    {"id":"q","method":"get","url":"X","atomicityGroup":"g","dependsOn":["a"]},
+    {"id":"p","method":"delete","url":"X","atomicityGroup":"g"},
+    {"id":"q","method":"delete","url":"X","atomicityGroup":"g","dependsOn":["a"]},
     {"id":"r","method":"get","url":"X","dependsOn":["g"]}]}"#;
 
 /// What a test does with the plan of a document.

@@ -123,8 +123,8 @@ pub const FAULTS: [Explanation; 20] = [
         places: "/requests/N",
         meaning: "atomicityGroup is neither null nor an identifier, which has the form of an id (F13). Other requests\n\
             refer to the group by this name. Give the group such a name.",
-        refused: r#"{"requests":[{"id":"1","method":"get","url":"A","atomicityGroup":""}]}"#,
-        accepted: r#"{"requests":[{"id":"1","method":"get","url":"A","atomicityGroup":null}]}"#,
+        refused: r#"{"requests":[{"id":"1","method":"delete","url":"A","atomicityGroup":""}]}"#,
+        accepted: r#"{"requests":[{"id":"1","method":"delete","url":"A","atomicityGroup":null}]}"#,
     },
     Explanation {
         code: "F17",

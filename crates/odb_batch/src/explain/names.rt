@@ -20,8 +20,8 @@ pub const FAULTS: [Explanation; 10] = [
         places: "/requests/N",
         meaning: "The id of the request is also the name of an atomicity group. A name in dependsOn would mean both\n\
             (OData Protocol 4.01, section 11.7). Rename one of them.",
-        refused: r#"{"requests":[{"id":"1","method":"get","url":"A","atomicityGroup":"1"}]}"#,
-        accepted: r#"{"requests":[{"id":"1","method":"get","url":"A","atomicityGroup":"g"}]}"#,
+        refused: r#"{"requests":[{"id":"1","method":"delete","url":"A","atomicityGroup":"1"}]}"#,
+        accepted: r#"{"requests":[{"id":"1","method":"delete","url":"A","atomicityGroup":"g"}]}"#,
     },
     Explanation {
         code: "F32",
@@ -29,8 +29,8 @@ pub const FAULTS: [Explanation; 10] = [
         places: "/requests/N",
         meaning: "The group of the request has earlier requests, but the one just before it is not in the group. The\n\
             requests of a group follow one another (OData JSON Format 4.01, section 19.1). Move them together.",
-        refused: r#"{"requests":[{"id":"1","method":"get","url":"A","atomicityGroup":"g"},{"id":"2","method":"get","url":"B"},{"id":"3","method":"get","url":"C","atomicityGroup":"g"}]}"#,
-        accepted: r#"{"requests":[{"id":"2","method":"get","url":"B"},{"id":"1","method":"get","url":"A","atomicityGroup":"g"},{"id":"3","method":"get","url":"C","atomicityGroup":"g"}]}"#,
+        refused: r#"{"requests":[{"id":"1","method":"delete","url":"A","atomicityGroup":"g"},{"id":"2","method":"get","url":"B"},{"id":"3","method":"delete","url":"C","atomicityGroup":"g"}]}"#,
+        accepted: r#"{"requests":[{"id":"2","method":"get","url":"B"},{"id":"1","method":"delete","url":"A","atomicityGroup":"g"},{"id":"3","method":"delete","url":"C","atomicityGroup":"g"}]}"#,
     },
     Explanation {
         code: "F40",
@@ -58,8 +58,8 @@ pub const FAULTS: [Explanation; 10] = [
         places: "/requests/N",
         meaning: "The request depends on its own group. The group succeeds only if all its requests do, so this one\n\
             would wait for itself (a choice of this product). Name the requests of the group that it depends on.",
-        refused: r#"{"requests":[{"id":"1","method":"get","url":"A","atomicityGroup":"g"},{"id":"2","method":"get","url":"B","atomicityGroup":"g","dependsOn":["g"]}]}"#,
-        accepted: r#"{"requests":[{"id":"1","method":"get","url":"A","atomicityGroup":"g"},{"id":"2","method":"get","url":"B","atomicityGroup":"g","dependsOn":["1"]}]}"#,
+        refused: r#"{"requests":[{"id":"1","method":"delete","url":"A","atomicityGroup":"g"},{"id":"2","method":"delete","url":"B","atomicityGroup":"g","dependsOn":["g"]}]}"#,
+        accepted: r#"{"requests":[{"id":"1","method":"delete","url":"A","atomicityGroup":"g"},{"id":"2","method":"delete","url":"B","atomicityGroup":"g","dependsOn":["1"]}]}"#,
     },
     Explanation {
         code: "F43",
@@ -68,8 +68,8 @@ pub const FAULTS: [Explanation; 10] = [
         meaning: "The request depends on an earlier member of another group, and dependsOn does not list that group.\n\
             The member may be undone with its group after it succeeded, so the group has to be waited for (a\n\
             choice of this product). Add the group, at any place of the list.",
-        refused: r#"{"requests":[{"id":"1","method":"get","url":"A","atomicityGroup":"g"},{"id":"2","method":"get","url":"B","dependsOn":["1"]}]}"#,
-        accepted: r#"{"requests":[{"id":"1","method":"get","url":"A","atomicityGroup":"g"},{"id":"2","method":"get","url":"B","dependsOn":["1","g"]}]}"#,
+        refused: r#"{"requests":[{"id":"1","method":"delete","url":"A","atomicityGroup":"g"},{"id":"2","method":"get","url":"B","dependsOn":["1"]}]}"#,
+        accepted: r#"{"requests":[{"id":"1","method":"delete","url":"A","atomicityGroup":"g"},{"id":"2","method":"get","url":"B","dependsOn":["1","g"]}]}"#,
     },
     Explanation {
         code: "F44",

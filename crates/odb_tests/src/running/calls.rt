@@ -135,8 +135,8 @@ fn asks_its_service_once_for_each_report(rt: HostRuntime) -> Result<(), Fail> {
 
 /// Two requests outside a group of two, one before it and one after it.
 const AROUND: &str = r#"{"requests":[{"id":"a","method":"get","url":"X"},
-    {"id":"p","method":"get","url":"X","atomicityGroup":"g"},
-    {"id":"q","method":"get","url":"X","atomicityGroup":"g"},
+    {"id":"p","method":"delete","url":"X","atomicityGroup":"g"},
+    {"id":"q","method":"delete","url":"X","atomicityGroup":"g"},
     {"id":"z","method":"get","url":"X"}]}"#;
 
 /// Runs events as a list, in the mode Stop or Continue.

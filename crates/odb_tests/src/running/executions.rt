@@ -20,8 +20,8 @@ const USUAL: &str = r#"{"requests":[{"id":"0","method":"get","url":"Customers"},
 /// A group whose second request depends on another request, and what depends on the group and on
 /// the other request.
 const BOTH: &str = r#"{"requests":[{"id":"a","method":"get","url":"X"},
-    {"id":"p","method":"get","url":"X","atomicityGroup":"g"},
-    {"id":"q","method":"get","url":"X","atomicityGroup":"g","dependsOn":["a"]},
+    {"id":"p","method":"delete","url":"X","atomicityGroup":"g"},
+    {"id":"q","method":"delete","url":"X","atomicityGroup":"g","dependsOn":["a"]},
     {"id":"r","method":"get","url":"X","dependsOn":["g"]},
     {"id":"t","method":"get","url":"X","dependsOn":["a"]}]}"#;
 
