@@ -7,14 +7,13 @@ use Rattle.odb_doc.specs.recorded.LeastOutcomeFault.{IsOutcomesDocument, Refuses
 use Rattle.odb_doc.specs.recorded.OutcomeFaults as documents
 use Rattle.odb_doc.specs.recorded.Outcomes.{Recorded, AreOutcomesOf}
 use Rattle.odb_doc.specs.batch.Records.{Record}
-use Rattle.odb_sched.specs.declared.fault.ExecFault.TheVariants as fault
-use Rattle.odb_sched.specs.declared.order.Order.{Order}
+use Rattle.odb_sched.specs.declared.execution.ExecFault.TheVariants as fault
+use Rattle.odb_sched.specs.declared.chooser.Order.{Order}
 use Rattle.odb_sched.specs.declared.policy.Policy.{Policy}
-use Rattle.odb_sched.specs.ExecFaults.{exec_row}
-use Rattle.odb_sched.specs.Choosing.{AllowsOrder}
-use Rattle.odb_sched.specs.Orders.{Faults, HasOneCourse, HasOneFault, FaultsOrFinishes}
-use Rattle.odb_sched.specs.Recordings.{recorded_for}
-use Rattle.odb_sched.specs.State.{State, first_state}
+use Rattle.odb_sched.specs.run.Refusals.{exec_row}
+use Rattle.odb_sched.specs.run.Choosing.{AllowsOrder}
+use Rattle.odb_sched.specs.run.Recordings.{Faults, HasOneCourse, HasOneFault, FaultsOrFinishes, recorded_for}
+use Rattle.odb_sched.specs.run.State.{State, first_state}
 use Rattle.odb_engine.specs.declared.ending.Ended.{Ended}
 use Rattle.odb_engine.specs.Cascade.{line_of, IsOne}
 use Rattle.odb_engine.specs.Replays.{Replays, ReplaysBatch, ReplaysEntries, LacksOutcome, result_text}

@@ -16,14 +16,13 @@ use Rattle.odb_sched.specs.declared.event.Event.{Event}
 use Rattle.odb_sched.specs.declared.policy.Policy.{Policy}
 use Rattle.odb_sched.specs.declared.refusal.RunRefusal.{RunRefusal}
 use Rattle.odb_sched.specs.declared.refusal.RunRefusal.TheVariants as refusals
-use Rattle.odb_sched.specs.declared.resolving.ResolveFault.{ResolveFault}
-use Rattle.odb_sched.specs.declared.resolving.ResolveFault.TheVariants as faults
-use Rattle.odb_sched.specs.Refusals.{run_row}
-use Rattle.odb_sched.specs.ResolveFaults.{resolve_row}
-use Rattle.odb_sched.specs.Resolving.{RefusesNamed}
-use Rattle.odb_sched.specs.Runs.{Refuses}
-use Rattle.odb_sched.specs.State.{State, first_state}
-use Rattle.odb_sched.specs.Steps.{is_finished}
+use Rattle.odb_sched.specs.declared.event.ResolveFault.{ResolveFault}
+use Rattle.odb_sched.specs.declared.event.ResolveFault.TheVariants as faults
+use Rattle.odb_sched.specs.run.Refusals.{run_row, resolve_row}
+use Rattle.odb_sched.specs.run.Resolving.{RefusesNamed}
+use Rattle.odb_sched.specs.run.Runs.{Refuses}
+use Rattle.odb_sched.specs.run.State.{State, first_state}
+use Rattle.odb_sched.specs.run.Steps.{is_finished}
 use Rattle.odb_reply.specs.NotWhole.{IsFirstNotWhole}
 use Rattle.odb_engine.specs.declared.ending.Ended.{Ended}
 use Rattle.odb_engine.specs.declared.ending.Ended.TheVariants.{Done, Refused}

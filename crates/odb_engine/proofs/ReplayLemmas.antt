@@ -13,17 +13,17 @@ use Rattle.odb_sched.specs.declared.phase.Phase.TheVariants.{Unstarted, Running,
 use Rattle.odb_sched.specs.declared.policy.Policy.{Policy}
 use Rattle.odb_sched.specs.declared.service.ServiceFault.{ServiceFault}
 use Rattle.odb_sched.specs.declared.service.ServiceFault.TheVariants as service
-use Rattle.odb_sched.specs.declared.fault.ExecFault.{ExecFault}
-use Rattle.odb_sched.specs.declared.fault.ExecFault.TheVariants as fault
-use Rattle.odb_sched.specs.Answers.{answer, answer_of, outcome_of, reported}
-use Rattle.odb_sched.specs.Courses.{Allowance, IsDue, IsCausedBy}
-use Rattle.odb_sched.specs.ExecFaults.{exec_row}
+use Rattle.odb_sched.specs.declared.execution.ExecFault.{ExecFault}
+use Rattle.odb_sched.specs.declared.execution.ExecFault.TheVariants as fault
+use Rattle.odb_sched.specs.run.Answers.{answer, answer_of, outcome_of, reported}
+use Rattle.odb_sched.specs.run.Courses.{Allowance, IsReportEnabled, IsCausedBy}
+use Rattle.odb_sched.specs.run.Refusals.{exec_row}
 use Rattle.odb_doc.specs.Refusals.{Printed}
 use Rattle.std.proofs.lemmas.Option.{same_Some}
-use Rattle.odb_sched.specs.Recordings.{outcome_for, recorded_for, offered, OffersRecorded}
-use Rattle.odb_sched.specs.State.{State, phase_at, first_state}
+use Rattle.odb_sched.specs.run.Recordings.{outcome_for, recorded_for, offered, OffersRecorded}
+use Rattle.odb_sched.specs.run.State.{State, phase_at, first_state}
 use Rattle.odb_doc.specs.Statuses.{is_status, is_success}
-use Rattle.odb_sched.specs.Steps.{unit_succeeded}
+use Rattle.odb_sched.specs.run.Steps.{unit_succeeded}
 use Rattle.odb_reply.specs.NotWhole.{HasWholeBody, HasWholeBodies}
 use Rattle.odb_reply.specs.Readable.{AnswersBy, IsReadable}
 use Rattle.odb_engine.specs.declared.ending.Ended.TheVariants.{Refused}
@@ -115,7 +115,7 @@ not_failed (Some outcome) e = true≢false (ap is_failed e)
 
 -- an execution by recorded outcomes fails only if an outcome is missing
 pub lacks-outcome : (allows : Allowance) (policy : Policy) (batch : List Record) (entries : List Recorded) (cause : ExecFault) → All IsSoundOutcome entries
-    → IsCausedBy (offers_of batch entries) (IsDue allows (offers_of batch entries) (first_state batch policy)) cause
+    → IsCausedBy (offers_of batch entries) (IsReportEnabled allows (offers_of batch entries) (first_state batch policy)) cause
     → (refusal : Printed) → exec_row cause ≡ Some refusal → LacksOutcome allows policy batch entries Refused (line_of refusal)
 lacks-outcome allows policy batch entries (fault.NoOutcome i) sound (due, none) refusal row = record { at = i; due = due; none = none; ends = refl; line = ap line_of (same_Some _ _ (sym row)) }
 lacks-outcome allows policy batch entries (fault.Service i) sound (due, failed) refusal row = absurd (not_failed (get_or (recorded_for batch entries) i None) failed)

@@ -17,14 +17,13 @@ use Rattle.odb_sched.specs.declared.event.Event.TheVariants as event
 use Rattle.odb_sched.specs.declared.policy.Policy.{Policy}
 use Rattle.odb_sched.specs.declared.refusal.RunRefusal.{RunRefusal}
 use Rattle.odb_sched.specs.declared.refusal.RunRefusal.TheVariants as refusal
-use Rattle.odb_sched.specs.declared.resolving.ResolveFault.{ResolveFault}
-use Rattle.odb_sched.specs.declared.resolving.ResolveFault.TheVariants.{UnknownEvent}
-use Rattle.odb_sched.specs.Refusals as refusals
-use Rattle.odb_sched.specs.ResolveFaults as resolving
-use Rattle.odb_sched.specs.Resolving.{IsFirstUnknown, IsKnown, IsResolved, RefusesNamed}
-use Rattle.odb_sched.specs.Runs.{IsRunFrom, RefusesEvent, Refuses, StopsAt, after_all}
-use Rattle.odb_sched.specs.State.{State, after, first_state}
-use Rattle.odb_sched.specs.Steps.{is_finished, may_come}
+use Rattle.odb_sched.specs.declared.event.ResolveFault.{ResolveFault}
+use Rattle.odb_sched.specs.declared.event.ResolveFault.TheVariants.{UnknownEvent}
+use Rattle.odb_sched.specs.run.Refusals as refusals
+use Rattle.odb_sched.specs.run.Resolving.{IsFirstUnknown, IsKnown, IsResolved, RefusesNamed}
+use Rattle.odb_sched.specs.run.Runs.{IsRunFrom, RefusesEvent, Refuses, StopsAt, after_all}
+use Rattle.odb_sched.specs.run.State.{State, after, first_state}
+use Rattle.odb_sched.specs.run.Steps.{is_finished, may_come}
 use Rattle.odb_engine.specs.declared.ending.Ended.{Ended}
 use Rattle.odb_doc.specs.Refusals.{Printed}
 use Rattle.odb_engine.specs.Cascade.{line_of, IsOne}
@@ -82,8 +81,8 @@ not-unknown batch (n ∷ ns) (e ∷ es) (suc at) all un = not-unknown batch ns e
 
 -- the laws of odb_sched on refusals
 pub record HaveOneCause : Type 0 where
-  pub one_refusal : (state : State) (events : List Event) (cause other : RunRefusal) → refusals.IsNumbered cause → refusals.IsNumbered other → Refuses state events cause → Refuses state events other → cause ≡ other
-  pub one_unknown : (requests : List Record) (events : List EventValue) (fault other : ResolveFault) → resolving.IsNumbered fault → resolving.IsNumbered other → RefusesNamed fault requests events → RefusesNamed other requests events → fault ≡ other
+  pub one_refusal : (state : State) (events : List Event) (cause other : RunRefusal) → refusals.IsNumberedRefusal cause → refusals.IsNumberedRefusal other → Refuses state events cause → Refuses state events other → cause ≡ other
+  pub one_unknown : (requests : List Record) (events : List EventValue) (fault other : ResolveFault) → refusals.IsNumberedResolve fault → refusals.IsNumberedResolve other → RefusesNamed fault requests events → RefusesNamed other requests events → fault ≡ other
 
 one-unknown : HaveOneCause → (batch : List Record) (ns : List EventValue) (a b : ℕ) → IsFirstUnknown batch ns a → IsFirstUnknown batch ns b → UnknownEvent a ≡ UnknownEvent b
 one-unknown law batch ns a b x y = law.one_unknown batch ns (UnknownEvent a) (UnknownEvent b) (λ is. cc (is)) (λ is. cc (is)) x y
@@ -91,7 +90,7 @@ one-unknown law batch ns a b x y = law.one_unknown batch ns (UnknownEvent a) (Un
 -- ---- events that may not come
 
 -- what may not come has a numbered refusal
-refuses : (state : State) (events : List Event) (cause : RunRefusal) → StopsAt state events cause → refusals.IsNumbered cause × Refuses state events cause
+refuses : (state : State) (events : List Event) (cause : RunRefusal) → StopsAt state events cause → refusals.IsNumberedRefusal cause × Refuses state events cause
 refuses state events (refusal.Start at cause) stops = ((λ is. cc (is)), stops)
 refuses state events (refusal.Report at cause) stops = ((λ is. cc (is)), stops)
 refuses state events refusal.OutOfMemory stops = absurd (no-memory (after_all state stops.before) (length stops.before) stops.event stops.refused)
@@ -124,7 +123,7 @@ module _ (causes : HaveOneCause) (policy : Policy) (batch : List Record) (good :
   same-events es fs a b = one-list batch good ns es fs a b
 
   one-least : (a b : Printed) → IsLeastOfRun policy batch ns a → IsLeastOfRun policy batch ns b → a ≡ b
-  one-least a b (OfIds i x same) (OfIds j y equal) = same_Some a b (sym same ∙ ap resolving.resolve_row (one-unknown causes batch ns i j x y) ∙ equal)
+  one-least a b (OfIds i x same) (OfIds j y equal) = same_Some a b (sym same ∙ ap refusals.resolve_row (one-unknown causes batch ns i j x y) ∙ equal)
   one-least a b (OfIds i x same) (OfEvent fs d r y equal) = absurd (not-unknown batch ns fs i r x.unknown)
   one-least a b (OfIds i x same) (OfEnd fs r run barred equal) = absurd (not-unknown batch ns fs i r x.unknown)
   one-least a b (OfEvent es c q x same) (OfIds j y equal) = absurd (not-unknown batch ns es j q y.unknown)

@@ -15,17 +15,16 @@ use Rattle.odb_sched.specs.declared.phase.Phase.TheVariants.{Unstarted, Running,
 use Rattle.odb_sched.specs.declared.policy.Policy.{Policy}
 use Rattle.odb_sched.specs.declared.refusal.RunRefusal.{RunRefusal}
 use Rattle.odb_sched.specs.declared.refusal.RunRefusal.TheVariants as refusal
-use Rattle.odb_sched.specs.declared.resolving.ResolveFault.{ResolveFault}
-use Rattle.odb_sched.specs.declared.resolving.ResolveFault.TheVariants as fault
-use Rattle.odb_sched.specs.Answers.{answer, answer_of, outcome_of}
+use Rattle.odb_sched.specs.declared.event.ResolveFault.{ResolveFault}
+use Rattle.odb_sched.specs.declared.event.ResolveFault.TheVariants as fault
+use Rattle.odb_sched.specs.run.Answers.{answer, answer_of, outcome_of}
 use Rattle.odb_doc.specs.Refusals.{Printed}
-use Rattle.odb_sched.specs.Refusals as refusals
-use Rattle.odb_sched.specs.ResolveFaults as ids
-use Rattle.odb_sched.specs.Resolving.{IsResolved, RefusesNamed}
-use Rattle.odb_sched.specs.Runs.{Refuses, after_all}
-use Rattle.odb_sched.specs.State.{State, phase_at, first_state}
+use Rattle.odb_sched.specs.run.Refusals as refusals
+use Rattle.odb_sched.specs.run.Resolving.{IsResolved, RefusesNamed}
+use Rattle.odb_sched.specs.run.Runs.{Refuses, after_all}
+use Rattle.odb_sched.specs.run.State.{State, phase_at, first_state}
 use Rattle.odb_doc.specs.Statuses.{is_success}
-use Rattle.odb_sched.specs.Steps.{unit_succeeded}
+use Rattle.odb_sched.specs.run.Steps.{unit_succeeded}
 use Rattle.odb_reply.specs.NotWhole.{HasWholeBody, HasWholeBodies}
 use Rattle.odb_reply.specs.Readable.{AnswersBy, IsReadable}
 use Rattle.odb_engine.specs.Runs.{AreResolved, IsLeastOfRun, end_of}
@@ -123,7 +122,7 @@ requests-kept state (event.Report i outcome ∷ events) = requests-kept _ events
 
 -- an event that names no request
 pub unknown-event : (policy : Policy) (batch : List Record) (recorded : List EventValue) (cause : ResolveFault) → RefusesNamed cause batch recorded
-    → (shown : Printed) → ids.resolve_row cause ≡ Some shown → IsLeastOfRun policy batch recorded shown
+    → (shown : Printed) → refusals.resolve_row cause ≡ Some shown → IsLeastOfRun policy batch recorded shown
 unknown-event policy batch recorded (fault.UnknownEvent at) first shown row = OfIds at first row
 unknown-event policy batch recorded fault.OutOfMemory first shown row = absurd (cc row)
 

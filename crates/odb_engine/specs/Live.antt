@@ -8,13 +8,12 @@ use Rattle.odb_doc.specs.recorded.Events.{EventValue}
 use Rattle.odb_sched.specs.declared.event.Event.{Event}
 use Rattle.odb_sched.specs.declared.policy.Policy.{Policy}
 use Rattle.odb_sched.specs.declared.refusal.RunRefusal.{RunRefusal}
-use Rattle.odb_sched.specs.declared.resolving.ResolveFault.TheVariants.{UnknownEvent}
-use Rattle.odb_sched.specs.Refusals.{run_row}
-use Rattle.odb_sched.specs.ResolveFaults.{resolve_row}
-use Rattle.odb_sched.specs.Resolving.{IsFirstUnknown}
-use Rattle.odb_sched.specs.Runs.{IsRunFrom, StopsAt}
-use Rattle.odb_sched.specs.State.{State, first_state, with_requests, without_requests}
-use Rattle.odb_sched.specs.Steps.{is_finished}
+use Rattle.odb_sched.specs.declared.event.ResolveFault.TheVariants.{UnknownEvent}
+use Rattle.odb_sched.specs.run.Refusals.{run_row, resolve_row}
+use Rattle.odb_sched.specs.run.Resolving.{IsFirstUnknown}
+use Rattle.odb_sched.specs.run.Runs.{IsRunFrom, StopsAt}
+use Rattle.odb_sched.specs.run.State.{State, first_state, with_requests, without_requests}
+use Rattle.odb_sched.specs.run.Steps.{is_finished}
 use Rattle.odb_reply.specs.NotWhole.{IsFirstNotWhole}
 use Rattle.odb_engine.specs.Cascade.{Writes, Prints, Reports, IsLeast, Accepts}
 use Rattle.odb_engine.specs.Lines.{response_line}

@@ -8,13 +8,13 @@ use Rattle.odb_doc.specs.recorded.Outcomes.{Recorded, AreOutcomesOf}
 use Rattle.odb_doc.specs.batch.Records.{Record}
 use Rattle.odb_sched.specs.declared.policy.Policy.{Policy}
 use Rattle.odb_sched.specs.declared.service.ServiceFault.TheVariants.{NoOutcome}
-use Rattle.odb_sched.specs.declared.step.Step.{Step}
-use Rattle.odb_sched.specs.State.{State, first_state}
-use Rattle.odb_sched.specs.Courses.{Allowance, Offer, IsDue, IsFinishedBy}
-use Rattle.odb_sched.specs.Recordings.{recorded_for, OffersRecorded}
+use Rattle.odb_sched.specs.declared.event.Step.{Step}
+use Rattle.odb_sched.specs.run.State.{State, first_state}
+use Rattle.odb_sched.specs.run.Courses.{Allowance, Offer, IsReportEnabled, IsFinishedBy}
+use Rattle.odb_sched.specs.run.Recordings.{recorded_for, OffersRecorded}
 use Rattle.odb_reply.specs.Responses.{response_value}
 use Rattle.odb_reply.specs.OnePerId.{HasOnePerId}
-use Rattle.odb_sched.specs.Laws.{StartsLast}
+use Rattle.odb_sched.specs.run.Laws.{StartsAfterDependencies}
 use Rattle.odb_engine.specs.declared.ending.Ended.{Ended}
 use Rattle.odb_engine.specs.declared.ending.Ended.TheVariants.{Done, Refused}
 use Rattle.odb_engine.specs.Lines.{response_line}
@@ -45,14 +45,14 @@ pub record IsResult (allows : Allowance) (policy : Policy) (traced : Bool) (batc
   pub last : State
   pub course : IsFinishedBy allows (offers_of batch entries) (first_state batch policy) steps last
   pub result : text ≡ result_text traced last steps
-  pub dependencies_first : StartsLast batch course.events
+  pub dependencies_first : StartsAfterDependencies batch course.events
   pub one_per_id : HasOnePerId batch (response_value last)
   pub read_again : All (λ (entry : Recorded). IsRecordable entry.1) entries → IsReadAgain batch (response_line last)
 
 -- a request whose report is due after some course has no outcome
 pub record LacksOutcome (allows : Allowance) (policy : Policy) (batch : List Record) (entries : List Recorded) (ended : Ended) (text : List ℕ) : Type 0 where
   pub at : ℕ
-  pub due : IsDue allows (offers_of batch entries) (first_state batch policy) at
+  pub due : IsReportEnabled allows (offers_of batch entries) (first_state batch policy) at
   pub none : offers_of batch entries at (Err NoOutcome)
   pub ends : ended ≡ Refused
   pub line : text ≡ line_of (record { code = codes "F80"; name = codes "NoOutcome"; place = places.Request at })

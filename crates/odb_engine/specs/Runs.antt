@@ -9,14 +9,13 @@ use Rattle.odb_doc.specs.batch.Records.{Record}
 use Rattle.odb_sched.specs.declared.event.Event.{Event}
 use Rattle.odb_sched.specs.declared.policy.Policy.{Policy}
 use Rattle.odb_sched.specs.declared.refusal.RunRefusal.{RunRefusal}
-use Rattle.odb_sched.specs.declared.resolving.ResolveFault.TheVariants.{UnknownEvent}
-use Rattle.odb_sched.specs.Laws.{StartsLast}
-use Rattle.odb_sched.specs.Refusals.{run_row}
-use Rattle.odb_sched.specs.ResolveFaults.{resolve_row}
-use Rattle.odb_sched.specs.Resolving.{IsResolved, IsFirstUnknown}
-use Rattle.odb_sched.specs.Runs.{IsRunFrom, StopsAt, after_all}
-use Rattle.odb_sched.specs.State.{State, first_state}
-use Rattle.odb_sched.specs.Steps.{is_finished}
+use Rattle.odb_sched.specs.declared.event.ResolveFault.TheVariants.{UnknownEvent}
+use Rattle.odb_sched.specs.run.Laws.{StartsAfterDependencies}
+use Rattle.odb_sched.specs.run.Refusals.{run_row, resolve_row}
+use Rattle.odb_sched.specs.run.Resolving.{IsResolved, IsFirstUnknown}
+use Rattle.odb_sched.specs.run.Runs.{IsRunFrom, StopsAt, after_all}
+use Rattle.odb_sched.specs.run.State.{State, first_state}
+use Rattle.odb_sched.specs.run.Steps.{is_finished}
 use Rattle.odb_reply.specs.OnePerId.{HasOnePerId}
 use Rattle.odb_reply.specs.Responses.{response_value}
 use Rattle.odb_engine.specs.declared.ending.Ended.{Ended}
@@ -64,7 +63,7 @@ pub record IsResult (policy : Policy) (batch : List Record) (named : List EventV
   pub run : IsRunFrom (first_state batch policy) events
   pub finished : is_finished (end_of policy batch events) ≡ true
   pub result : text ≡ response_line (end_of policy batch events)
-  pub dependencies_first : StartsLast batch events
+  pub dependencies_first : StartsAfterDependencies batch events
   pub one_per_id : HasOnePerId batch (response_value (end_of policy batch events))
   pub read_again : All IsRecordableEvent named → IsReadAgain batch (response_line (end_of policy batch events))
 

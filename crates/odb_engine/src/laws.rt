@@ -5,8 +5,8 @@
 //! clauses `ends` of the engines cite.
 
 ghost use Rattle.std.specs.Prelude.{◌≡◌, ℕ, Bool, false, List, Some};
-ghost use Rattle.odb_sched.specs.Choosing.{AllowsOrder};
-ghost use Rattle.odb_sched.specs.declared.order.Order.{Order};
+ghost use Rattle.odb_sched.specs.run.Choosing.{AllowsOrder};
+ghost use Rattle.odb_sched.specs.declared.chooser.Order.{Order};
 ghost use Rattle.odb_sched.specs.declared.policy.Policy.{Policy};
 ghost use Rattle.odb_engine.specs.Cascade.{Accepts, Answers, IsOne};
 ghost use Rattle.odb_engine.specs.declared.form.Form.{Form};

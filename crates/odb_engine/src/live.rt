@@ -1,8 +1,8 @@
 ghost use Rattle.std.specs.Prelude.{◌≡◌, ◌++◌, ◌∷◌, [], true, IfOk, IfErr, string_bytes};
 ghost use Rattle.odb_check.specs.Plans.{plan_records};
 ghost use Rattle.odb_check.specs.Texts.{newline};
-ghost use Rattle.odb_sched.specs.State.{with_requests, without_requests};
-ghost use Rattle.odb_sched.specs.Steps.{is_finished};
+ghost use Rattle.odb_sched.specs.run.State.{with_requests, without_requests};
+ghost use Rattle.odb_sched.specs.run.Steps.{is_finished};
 ghost use Rattle.odb_engine.specs.Cascade.{Accepts, Answers};
 ghost use Rattle.odb_engine.specs.Halts.{Found, Halted};
 ghost use Rattle.odb_engine.specs.Lines.{response_line};

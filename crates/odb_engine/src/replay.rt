@@ -1,8 +1,8 @@
 ghost use Rattle.std.specs.Prelude.{◌≡◌, ◌≢◌, ◌<◌, ◌↔◌, ◌⊎◌, Bool, All, false, Err, IsTrue, IfErr, IfOk};
 ghost use Rattle.odb_doc.specs.recorded.OutcomeLists.{entries};
 ghost use Rattle.odb_check.specs.Plans.{plan_records};
-ghost use Rattle.odb_sched.specs.State.{size};
-ghost use Rattle.odb_sched.specs.Courses.{position_in};
+ghost use Rattle.odb_sched.specs.run.State.{size};
+ghost use Rattle.odb_sched.specs.run.Courses.{position_in};
 ghost use Rattle.odb_reply.specs.NotWhole.{HasWholeBodies};
 ghost use Rattle.odb_engine.specs.declared.ending.Ended.TheVariants.{Done};
 ghost use Rattle.odb_engine.specs.declared.halt.Halt.TheVariants as halts;

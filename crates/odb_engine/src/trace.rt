@@ -1,8 +1,8 @@
 ghost use Rattle.std.specs.Prelude.{◌≡◌, ◌<◌, All, IfOk, string_bytes};
-ghost use Rattle.odb_sched.specs.Answers.{reported, status_of};
+ghost use Rattle.odb_sched.specs.run.Answers.{reported, status_of};
 ghost use Rattle.std.specs.List.{flat_map};
-ghost use Rattle.odb_sched.specs.State.{size};
-ghost use Rattle.odb_sched.specs.Courses.{position_in};
+ghost use Rattle.odb_sched.specs.run.State.{size};
+ghost use Rattle.odb_sched.specs.run.Courses.{position_in};
 ghost use Rattle.odb_engine.specs.Replays as replays;
 ghost use Rattle.odb_engine.specs.Traces as traces;
 

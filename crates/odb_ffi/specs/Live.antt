@@ -9,9 +9,8 @@ use Rattle.odb_doc.specs.recorded.Parts.{HasParts, AreNoParts}
 use Rattle.odb_sched.specs.declared.policy.Policy.{Policy}
 use Rattle.odb_sched.specs.declared.refusal.StartRefusal.{StartRefusal}
 use Rattle.odb_sched.specs.declared.refusal.ReportRefusal.{ReportRefusal}
-use Rattle.odb_sched.specs.Causes.{IsStartCause, IsReportCause, start_number, report_number}
-use Rattle.odb_sched.specs.State.{State, size, started, reported, without_requests}
-use Rattle.odb_sched.specs.Steps.{may_start, may_report}
+use Rattle.odb_sched.specs.run.Steps.{IsStartCause, IsReportCause, start_number, report_number, may_start, may_report}
+use Rattle.odb_sched.specs.run.State.{State, size, started, reported, without_requests}
 use Rattle.odb_engine.specs.Cascade as cascade
 use Rattle.odb_engine.specs.Live.{Opens, IsLeastOfOpening}
 use Rattle.odb_ffi.specs.declared.session.Session.{Session}

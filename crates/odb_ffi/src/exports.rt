@@ -3,7 +3,7 @@
 //! A slice is a pointer and then a length for C, and `alloc` is nothing.
 
 ghost use Rattle.std.specs.Prelude.{◌≡◌, Some};
-ghost use Rattle.odb_sched.specs.Choosing.{AllowsOrder};
+ghost use Rattle.odb_sched.specs.run.Choosing.{AllowsOrder};
 ghost use Rattle.odb_engine.specs.Cascade.{Answers};
 ghost use Rattle.odb_engine.specs.Commands as commands;
 ghost use Rattle.odb_engine.specs.Matches.{Matches};

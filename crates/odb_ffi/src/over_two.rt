@@ -2,7 +2,7 @@
 //! memory fails, and a write does only if the text cannot grow.
 
 ghost use Rattle.std.specs.Prelude.{Some, IfSome};
-ghost use Rattle.odb_sched.specs.Choosing.{AllowsOrder};
+ghost use Rattle.odb_sched.specs.run.Choosing.{AllowsOrder};
 ghost use Rattle.odb_engine.specs.Cascade.{Answers};
 ghost use Rattle.odb_engine.specs.Commands.{BySecond};
 ghost use Rattle.odb_engine.specs.Inputs.{SomeDocument};

@@ -7,9 +7,8 @@ ghost use Rattle.odb_dense.specs.Lists.{ListsOnce};
 ghost use Rattle.odb_engine.specs.Cascade.{Answers};
 ghost use Rattle.odb_engine.specs.Halts.{Halted};
 ghost use Rattle.odb_engine.specs.Live as engines;
-ghost use Rattle.odb_sched.specs.Phases as tests;
-ghost use Rattle.odb_sched.specs.State as states;
-ghost use Rattle.odb_sched.specs.Steps as steps;
+ghost use Rattle.odb_sched.specs.run.State as state;
+ghost use Rattle.odb_sched.specs.run.Steps as steps;
 ghost use Rattle.odb_ffi.specs.Live as live;
 ghost use Rattle.odb_ffi.specs.Options as options;
 ghost use Rattle.odb_ffi.specs.Positions.{GivesPositions};
@@ -109,7 +108,7 @@ pub extern "C" fn odb_run_open(
 /// more than `positions` has room for, and `positions` is as it was. Takes O(positions).
 #[unsafe(no_mangle)]
 pub extern "C" fn odb_run_ready(run: &mut Handle, positions: &mut [u32], count: &mut usize) -> u32
-    ensures positions { GivesPositions (ListsOnce (states.size run.old.value.run)
+    ensures positions { GivesPositions (ListsOnce (state.size run.old.value.run)
         (steps.may_start run.old.value.run)) result count.new positions.old positions.new }
     ensures same { run.new.value ≡ run.old.value }
 {
@@ -119,8 +118,8 @@ pub extern "C" fn odb_run_ready(run: &mut Handle, positions: &mut [u32], count: 
 /// Copies the positions of the requests that run now to a buffer, as [`odb_run_ready`] does.
 #[unsafe(no_mangle)]
 pub extern "C" fn odb_run_running(run: &mut Handle, positions: &mut [u32], count: &mut usize) -> u32
-    ensures positions { GivesPositions (ListsOnce (states.size run.old.value.run)
-        (λ i. tests.is_running (states.phase_at run.old.value.run i)))
+    ensures positions { GivesPositions (ListsOnce (state.size run.old.value.run)
+        (λ i. state.is_running (state.phase_at run.old.value.run i)))
         result count.new positions.old positions.new }
     ensures same { run.new.value ≡ run.old.value }
 {

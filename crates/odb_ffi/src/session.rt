@@ -3,10 +3,9 @@ ghost use Rattle.odb_dense.specs.Lists.{ListsOnce};
 ghost use Rattle.odb_engine.specs.Cascade.{Answers};
 ghost use Rattle.odb_engine.specs.Halts.{Halted};
 ghost use Rattle.odb_engine.specs.Live as engines;
-ghost use Rattle.odb_sched.specs.Causes.{report_number};
-ghost use Rattle.odb_sched.specs.Phases as tests;
-ghost use Rattle.odb_sched.specs.State as states;
-ghost use Rattle.odb_sched.specs.Steps as steps;
+ghost use Rattle.odb_sched.specs.run.Steps.{report_number};
+ghost use Rattle.odb_sched.specs.run.State as state;
+ghost use Rattle.odb_sched.specs.run.Steps as steps;
 ghost use Rattle.odb_ffi.specs.Live as live;
 ghost use Rattle.odb_ffi.specs.Options as options;
 ghost use Rattle.odb_ffi.specs.Positions.{GivesPositions};
@@ -65,7 +64,7 @@ impl Session {
 
     /// Copies the ready positions to a buffer.
     pub fn ready(&self, positions: &mut [u32], count: &mut usize) -> u32
-        ensures { GivesPositions (ListsOnce (states.size self.now.run)
+        ensures { GivesPositions (ListsOnce (state.size self.now.run)
             (steps.may_start self.now.run)) result count.new positions.old positions.new }
     {
         give_positions(self.run.ready(), positions, count)
@@ -73,8 +72,8 @@ impl Session {
 
     /// Copies the running positions to a buffer.
     pub fn running(&self, positions: &mut [u32], count: &mut usize) -> u32
-        ensures { GivesPositions (ListsOnce (states.size self.now.run)
-            (λ i. tests.is_running (states.phase_at self.now.run i)))
+        ensures { GivesPositions (ListsOnce (state.size self.now.run)
+            (λ i. state.is_running (state.phase_at self.now.run i)))
             result count.new positions.old positions.new }
     {
         give_positions(self.run.running(), positions, count)
@@ -95,7 +94,7 @@ impl Session {
 
     /// Takes an outcome of a request.
     fn take(&mut self, position: u32, outcome: Outcome) -> u32
-        requires { position < states.size self.old.run }
+        requires { position < state.size self.old.run }
         ensures { live.Takes self.old self.new position outcome result }
     {
         match self.run.report(position, outcome) {

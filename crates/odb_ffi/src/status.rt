@@ -1,7 +1,7 @@
 //! What a call returns.
 
 ghost use Rattle.std.specs.Prelude.{◌≡◌, ◌+◌};
-ghost use Rattle.odb_sched.specs.Causes.{report_number, start_number};
+ghost use Rattle.odb_sched.specs.run.Steps.{report_number, start_number};
 ghost use Rattle.odb_ffi.specs.Returns as returns;
 
 use odb_engine::Ended;

@@ -13,9 +13,9 @@ use Rattle.odb_check.specs.Needs.{needs_at}
 use Rattle.odb_check.specs.Positions.{id_at, group_at}
 use Rattle.odb_check.specs.Shape.{IsShapeOf, needs_of, unit_of}
 use Rattle.odb_check.specs.Units.{unit_at}
-use Rattle.odb_sched.specs.Answers.{answer, status_of, is_answered_2xx}
-use Rattle.odb_sched.specs.Laws.{IsSound}
-use Rattle.odb_sched.specs.State.{State, size}
+use Rattle.odb_sched.specs.run.Answers.{answer, status_of, is_answered_2xx}
+use Rattle.odb_sched.specs.run.Laws.{RestsOnSuccesses}
+use Rattle.odb_sched.specs.run.State.{State, size}
 use Rattle.odb_doc.specs.Statuses.{is_success, is_status}
 use Rattle.odb_reply.specs.Fits.{id_in, Responds, Succeeds, IsSatisfied, Fits, ListsFit}
 use Rattle.odb_reply.specs.ResponseDocuments.{Entry, IsResponse, IsResponseDocument, IsStatus, Says}
@@ -112,7 +112,7 @@ unit_there : (state : State) (i : ℕ) → IsShapeOf state.requests state.shape 
 unit_there state i same within = same.units i within
 
 -- a response to a member of the unit is to a request of the run
-satisfied_answered : (state : State) (i : ℕ) (need : Need) → IsOnce state.requests → IsSound state → IsShapeOf state.requests state.shape → size state ≡ length state.requests
+satisfied_answered : (state : State) (i : ℕ) (need : Need) → IsOnce state.requests → RestsOnSuccesses state → IsShapeOf state.requests state.shape → size state ≡ length state.requests
     → i < length state.requests → is_answered_2xx (answer state i) ≡ true → Contains (needs_at state.requests i) need → IsSatisfied state.requests (listed state) need
 satisfied_answered state i (One r) once sound same count within answered needed =
     let inside : i < size state = omega (arith, count) in
@@ -123,7 +123,7 @@ satisfied_answered state i (Group u) once sound same count within answered neede
     let here : r < size state = omega (arith, count) in
     succeeds_answered state r once ((sound i inside answered).1 u r (needs_there state i (Group u) same within needed) here (unit_there state r same member ∙ unit)) e responds
 
-fits_answered : (state : State) → IsOnce state.requests → IsSound state → IsShapeOf state.requests state.shape → size state ≡ length state.requests → Fits state.requests (listed state)
+fits_answered : (state : State) → IsOnce state.requests → RestsOnSuccesses state → IsShapeOf state.requests state.shape → size state ≡ length state.requests → Fits state.requests (listed state)
 fits_answered state once sound same count = record {
   one = λ i id is. (i, record { has = place_of_id state i id is; only = λ j has. once j i id (id_of_place state j id has) is });
   known = λ k id has. (k, id_of_place state k id has);
@@ -135,7 +135,7 @@ fits_answered state once sound same count = record {
       satisfied_answered state i need once sound same count (id_within rs i e.id responds.id) answered needed;
 }
 
-pub ListsFit-answered : (state : State) → IsOnce state.requests → IsSound state → IsShapeOf state.requests state.shape → size state ≡ length state.requests
+pub ListsFit-answered : (state : State) → IsOnce state.requests → RestsOnSuccesses state → IsShapeOf state.requests state.shape → size state ≡ length state.requests
     → ListsFit state.requests (response_value state)
 ListsFit-answered state once sound same count = record {
   listed = listed state;

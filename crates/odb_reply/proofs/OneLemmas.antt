@@ -8,8 +8,8 @@ use Rattle.odb_doc.specs.Members.{text_at}
 use Rattle.odb_doc.specs.batch.Records.{Record}
 use Rattle.odb_doc.specs.declared.recorded.outcome.Outcome.{Outcome}
 use Rattle.odb_check.specs.Positions.{id_at, IsId}
-use Rattle.odb_sched.specs.Answers.{answer, status_of}
-use Rattle.odb_sched.specs.State.{State}
+use Rattle.odb_sched.specs.run.Answers.{answer, status_of}
+use Rattle.odb_sched.specs.run.State.{State}
 use Rattle.odb_doc.specs.canonical.Canonical.{headers_value, with_some}
 use Rattle.odb_reply.specs.Responses.{answer_body, answer_headers, response, responses_from, responses, response_value}
 use Rattle.odb_reply.specs.Places.{IsOnce}

@@ -5,7 +5,7 @@ use Rattle.serde_json.specs.Written.{compact_text, comma_if}
 use Rattle.serde_json.proofs.OnLiterals.{serde_json_on_literals}
 use Rattle.odb_doc.specs.batch.Records.{Record}
 use Rattle.odb_doc.specs.declared.recorded.outcome.Outcome.{Outcome}
-use Rattle.odb_sched.specs.Answers.{status_of}
+use Rattle.odb_sched.specs.run.Answers.{status_of}
 use Rattle.odb_doc.specs.canonical.Canonical.{with_some, headers_value}
 use Rattle.odb_reply.specs.Responses.{response, answer_body, answer_headers}
 use Rattle.odb_doc.specs.Texts.{member_part}

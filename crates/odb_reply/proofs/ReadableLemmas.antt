@@ -9,8 +9,8 @@ use Rattle.odb_doc.specs.canonical.Canonical.{headers_value}
 use Rattle.odb_doc.specs.batch.Records.{Record}
 use Rattle.odb_doc.specs.WholeNumbers.{IsWhole}
 use Rattle.odb_doc.proofs.SafeLemmas.{IsSafe, AreSafe, AreItemsSafe, safe-put, safe-string, safe-none, safe-with_some, safe-group, safe-headers, safe-body}
-use Rattle.odb_sched.specs.Answers.{answer, status_of}
-use Rattle.odb_sched.specs.State.{State, size}
+use Rattle.odb_sched.specs.run.Answers.{answer, status_of}
+use Rattle.odb_sched.specs.run.State.{State, size}
 use Rattle.odb_doc.specs.Statuses.{is_status}
 use Rattle.odb_reply.specs.NotWhole.{HasWholeBodies}
 use Rattle.odb_doc.specs.recorded.OutcomeValues.{IsHeldOutcome, IsShallow}

@@ -8,8 +8,8 @@ use Rattle.serde_json.proofs.OnLiterals.{serde_json_on_literals}
 use Rattle.odb_doc.specs.batch.Records.{Record}
 use Rattle.odb_doc.specs.Texts.{member_part}
 use Rattle.serde_json.specs.Data.{string}
-use Rattle.odb_sched.specs.Answers.{answer, status_of}
-use Rattle.odb_sched.specs.State.{State}
+use Rattle.odb_sched.specs.run.Answers.{answer, status_of}
+use Rattle.odb_sched.specs.run.State.{State}
 use Rattle.odb_doc.specs.canonical.Canonical.{headers_value}
 use Rattle.odb_reply.specs.Responses.{response, response_text, answer_body, answer_headers}
 use Rattle.odb_reply.specs.Parts.{rest_text, end_part}

@@ -6,8 +6,8 @@ use Rattle.odb_doc.specs.Refusals.{Printed}
 use Rattle.odb_doc.specs.WholeNumbers as whole
 use Rattle.odb_doc.specs.declared.fault.TextFault.TheVariants as texts
 use Rattle.odb_doc.specs.declared.recorded.outcome.Outcome.{Outcome}
-use Rattle.odb_sched.specs.Answers.{answer}
-use Rattle.odb_sched.specs.State.{State, size}
+use Rattle.odb_sched.specs.run.Answers.{answer}
+use Rattle.odb_sched.specs.run.State.{State, size}
 use Rattle.odb_reply.specs.declared.reply.ReplyFault.{ReplyFault}
 use Rattle.odb_reply.specs.declared.reply.ReplyFault.TheVariants.{NotWhole, Write, OutOfMemory}
 use Rattle.odb_reply.specs.Responses.{answer_body}

@@ -3,7 +3,7 @@ use Rattle.std.specs.Prelude.{ℕ, List, ◌++◌, nat_lt, decimal, drop, codes}
 use Rattle.serde_json.specs.Data.{string}
 use Rattle.serde_json.specs.View.{items_of}
 use Rattle.serde_json.specs.Written.{compact_text, items_text}
-use Rattle.odb_sched.specs.State.{State}
+use Rattle.odb_sched.specs.run.State.{State}
 use Rattle.odb_reply.specs.Responses.{responses_from}
 
 -- the last two members, and the end of the object

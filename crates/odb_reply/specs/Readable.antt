@@ -3,8 +3,8 @@ use Rattle.std.specs.Prelude.{◌≡◌, ◌<◌, ℕ, Some, IfSome}
 use Rattle.odb_doc.specs.declared.recorded.outcome.Outcome.{Outcome}
 use Rattle.odb_doc.specs.recorded.OutcomeValues.{IsHeldOutcome, IsShallow}
 use Rattle.odb_doc.specs.WholeNumbers.{IsWhole}
-use Rattle.odb_sched.specs.Answers.{answer}
-use Rattle.odb_sched.specs.State.{State, size}
+use Rattle.odb_sched.specs.run.Answers.{answer}
+use Rattle.odb_sched.specs.run.State.{State, size}
 use Rattle.odb_reply.specs.Responses.{answer_body}
 
 -- The outcome is read again: memory can hold it, and its body has whole numbers and nests at most 124 deep, since a response

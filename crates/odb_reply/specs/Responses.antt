@@ -7,8 +7,8 @@ use Rattle.odb_doc.specs.canonical.Canonical.{headers_value, with_some}
 use Rattle.odb_doc.specs.Headers.{Header}
 use Rattle.odb_doc.specs.batch.Records.{Record}
 use Rattle.odb_doc.specs.declared.recorded.outcome.Outcome.{Outcome}
-use Rattle.odb_sched.specs.Answers.{answer, status_of}
-use Rattle.odb_sched.specs.State.{State}
+use Rattle.odb_sched.specs.run.Answers.{answer, status_of}
+use Rattle.odb_sched.specs.run.State.{State}
 
 -- the headers of an answer. A failed dependency has none
 abbrev pub answer_headers : Option Outcome → List Header

@@ -2,7 +2,7 @@ ghost use Rattle.std.specs.Prelude.{◌≡◌, ◌<◌, ◌+◌, ◌++◌, codes
 ghost use Rattle.serde_json.specs.View.{view};
 ghost use Rattle.odb_doc.specs.canonical.Canonical.{headers_value};
 ghost use Rattle.odb_doc.specs.Texts.{member_part};
-ghost use Rattle.odb_sched.specs.Answers.{shown};
+ghost use Rattle.odb_sched.specs.run.Answers.{shown};
 ghost use Rattle.odb_reply.specs.NotWhole.{HasWholeBodies};
 ghost use Rattle.odb_reply.specs.Parts as parts;
 ghost use Rattle.odb_reply.specs.Responses as responses;

@@ -1,6 +1,6 @@
 ghost use Rattle.std.specs.Prelude.{◌≡◌, ◌↔◌, None, Some, IsTrue, IfSome};
 ghost use Rattle.odb_doc.specs.declared.recorded.outcome.Outcome as values;
-ghost use Rattle.odb_sched.specs.Answers.{shown};
+ghost use Rattle.odb_sched.specs.run.Answers.{shown};
 ghost use Rattle.odb_reply.specs.NotWhole.{HasWholeBody, HasWholeBodies, IsFirstNotWhole};
 ghost use Rattle.odb_doc.specs.recorded.OutcomeValues.{IsHeldOutcome};
 ghost use Rattle.odb_reply.specs.Readable.{AnswersBy};

@@ -6,7 +6,7 @@ use Rattle.std.proofs.lemmas.Bool.Decides.{Decides-below_or, Decides-below_and}
 use Rattle.std.proofs.lemmas.List.Folds.{list_any_at, Any-from_list_any}
 use Rattle.std.proofs.lemmas.List.Sums.{list_all-from_AllPass, AllPass-from_list_all, sum_by-le}
 use Rattle.std.proofs.lemmas.List.Elements.{All-contains, Contains-get_or}
-use Rattle.odb_sched.specs.Below.{any_below, all_below, passing_below}
+use Rattle.odb_check.specs.Firsts.{any_below, all_below, passing_below}
 
 pub any_below-Decides : (n : ℕ) (test : ℕ → Bool) → Decides (any_below n test) ((k : ℕ) × (k < n) × (test k ≡ true))
 any_below-Decides n test = Decides-below_or test (λ k. test k ≡ true) (λ m. any_below m test) (λ k. ((λ e. e), (λ e. e))) refl (λ _. refl) n

@@ -3,8 +3,8 @@ use Rattle.std.proofs.Common.{◌≡◌, ◌∙◌, ap, sym, refl, List, [], ◌
 use Rattle.odb_doc.specs.batch.Records.{Record}
 use Rattle.odb_sched.specs.declared.event.Event.{Event}
 use Rattle.odb_sched.specs.declared.event.Event.TheVariants.{Start, Report}
-use Rattle.odb_sched.specs.Courses.{step_of}
-use Rattle.odb_sched.specs.Calls.{Performing, AsksAll, Call, call_at, calls_of, reported_by, Writes}
+use Rattle.odb_sched.specs.run.Courses.{step_of}
+use Rattle.odb_sched.specs.run.Calls.{Performing, AsksAll, Call, call_at, calls_of, reported_by, Writes}
 
 module _ {S : Type 0} (performs : Performing S) (requests : List Record) where
   -- if each call writes one entry, events write those of their calls

@@ -9,11 +9,9 @@ use Rattle.odb_sched.specs.declared.refusal.StartRefusal.{StartRefusal}
 use Rattle.odb_sched.specs.declared.refusal.StartRefusal.TheVariants as start
 use Rattle.odb_sched.specs.declared.refusal.ReportRefusal.{ReportRefusal}
 use Rattle.odb_sched.specs.declared.refusal.ReportRefusal.TheVariants as report
-use Rattle.odb_sched.specs.Statuses.{is_status}
-use Rattle.odb_sched.specs.Phases.{is_unstarted, is_running}
-use Rattle.odb_sched.specs.State.{State, size, phase_at}
-use Rattle.odb_sched.specs.Steps.{is_stopped, unit_failed, is_satisfied, all_satisfied, running_count, may_start, may_report}
-use Rattle.odb_sched.specs.Causes.{start_number, BarsStart, IsStartCause, report_number, BarsReport, IsReportCause}
+use Rattle.odb_doc.specs.Statuses.{is_status}
+use Rattle.odb_sched.specs.run.State.{is_unstarted, is_running, State, size, phase_at}
+use Rattle.odb_sched.specs.run.Steps.{is_stopped, unit_failed, is_satisfied, all_satisfied, running_count, may_start, may_report, start_number, BarsStart, IsStartCause, report_number, BarsReport, IsReportCause}
 use Rattle.odb_sched.proofs.BelowLemmas.{find-all}
 use Rattle.odb_sched.proofs.StartLemmas.{MayStart, may_start-from, may_start-parts, fewer_run, Unstarted-not_running}
 

@@ -9,9 +9,9 @@ use Rattle.std.proofs.lemmas.List.Folds.{list_any_at, Any-from_list_any}
 use Rattle.std.proofs.lemmas.List.Sums.{sum_by-cons}
 use Rattle.std.proofs.lemmas.List.Elements.{Contains-get_or}
 use Rattle.odb_dense.specs.Lists.{ListsOnce}
-use Rattle.odb_sched.specs.Below.{passing_below}
+use Rattle.odb_check.specs.Firsts.{passing_below}
 use Rattle.odb_sched.proofs.ListLemmas.{none_listed}
-use Rattle.odb_sched.specs.Choosing.{positions_of, IsLeast, IsGreatest, IsNone}
+use Rattle.odb_sched.specs.run.Choosing.{positions_of, IsLeast, IsGreatest, IsNone}
 
 -- some element passes exactly when more than none is counted
 any_counted : (test : ℕ → Bool) (xs : List ℕ) → list_any test xs ≡ nat_lt 0 (count_by test xs)

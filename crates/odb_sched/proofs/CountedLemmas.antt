@@ -9,13 +9,11 @@ use Rattle.odb_check.specs.Shape.{unit_of, needs_of}
 use Rattle.odb_sched.specs.declared.phase.Phase.TheVariants.{Unstarted}
 use Rattle.odb_sched.specs.declared.counts.Counts.{Counts}
 use Rattle.odb_dense.specs.Lists.{ListsOnce}
-use Rattle.odb_sched.specs.Below.{any_below}
-use Rattle.odb_sched.specs.Phases.{is_unstarted, is_running}
-use Rattle.odb_sched.specs.State.{State, size, phase_at}
-use Rattle.odb_sched.specs.Steps.{satisfied_in, all_satisfied, unit_failed, is_stopped, running_count, may_start, is_finished}
-use Rattle.odb_sched.specs.Reached.{IsReached}
-use Rattle.odb_sched.specs.ProgressCounts.{is_skipped}
-use Rattle.odb_sched.specs.Kept.{IsCounted}
+use Rattle.odb_check.specs.Firsts.{any_below}
+use Rattle.odb_sched.specs.run.State.{is_unstarted, is_running, State, size, phase_at}
+use Rattle.odb_sched.specs.run.Steps.{satisfied_in, all_satisfied, unit_failed, is_stopped, running_count, may_start, is_finished}
+use Rattle.odb_sched.specs.invariants.Kept.{IsReached, IsCounted}
+use Rattle.odb_sched.specs.invariants.Counts.{is_skipped}
 use Rattle.odb_sched.proofs.BelowLemmas.{any_below-Decides, count_by-none}
 use Rattle.odb_sched.proofs.ListLemmas.{lists_alike}
 use Rattle.odb_sched.proofs.PropagateLemmas.{same_test}

@@ -16,32 +16,30 @@ use Rattle.odb_sched.specs.declared.phase.Phase.{Phase}
 use Rattle.odb_sched.specs.declared.phase.Phase.TheVariants.{Unstarted, Running, Reported}
 use Rattle.odb_sched.specs.declared.event.Event.{Event}
 use Rattle.odb_sched.specs.declared.event.Event.TheVariants.{Start, Report}
-use Rattle.odb_sched.specs.declared.step.Step.{Step}
-use Rattle.odb_sched.specs.declared.step.Step.TheVariants as step
-use Rattle.odb_sched.specs.declared.order.Order.{Order}
+use Rattle.odb_sched.specs.declared.event.Step.{Step}
+use Rattle.odb_sched.specs.declared.event.Step.TheVariants as step
+use Rattle.odb_sched.specs.declared.chooser.Order.{Order}
 use Rattle.odb_sched.specs.declared.service.ServiceFault.{ServiceFault}
 use Rattle.odb_sched.specs.declared.service.ServiceFault.TheVariants as service
-use Rattle.odb_sched.specs.declared.fault.ExecFault.{ExecFault}
-use Rattle.odb_sched.specs.declared.fault.ExecFault.TheVariants as fault
+use Rattle.odb_sched.specs.declared.execution.ExecFault.{ExecFault}
+use Rattle.odb_sched.specs.declared.execution.ExecFault.TheVariants as fault
 use Rattle.odb_dense.specs.Lists.{ListsOnce}
-use Rattle.odb_sched.specs.Statuses.{is_status}
-use Rattle.odb_sched.specs.Phases.{is_running, is_reported}
-use Rattle.odb_sched.specs.State.{State, size, phase_at, shape, at_first, after, started, reported}
-use Rattle.odb_sched.specs.Steps.{may_start, may_report, may_come}
-use Rattle.odb_sched.specs.Runs.{event_position, after_all, IsRunFrom}
-use Rattle.odb_sched.specs.Answers.{outcome_of, reported as reported_at}
-use Rattle.odb_sched.specs.Reached.{IsReached}
-use Rattle.odb_sched.specs.Choosing.{Positions, positions_of, IsAmong}
-use Rattle.odb_sched.specs.Courses.{Allowance, Offer, ready_set, running_set, IsAllowed, IsOffered, step_of, AreChosen, IsCourse, IsDue, IsFinishedBy, IsCausedBy, position_in}
-use Rattle.odb_sched.specs.Advances.{MayTake, IsNext, IsTaken, IsTakenBy}
-use Rattle.odb_sched.specs.Calls.{Performing, IsCall, Asks, AsksAll, IsDueNow, Faults, IsCutShort}
-use Rattle.odb_sched.specs.Choices.{Picking, Picks, PicksAll}
-use Rattle.odb_sched.specs.Laws.{StartsLast}
+use Rattle.odb_doc.specs.Statuses.{is_status}
+use Rattle.odb_sched.specs.run.State.{is_running, is_reported, State, size, phase_at, shape, initial, after, started, reported}
+use Rattle.odb_sched.specs.run.Steps.{may_start, may_report, may_come}
+use Rattle.odb_sched.specs.run.Runs.{event_position, after_all, IsRunFrom}
+use Rattle.odb_sched.specs.run.Answers.{outcome_of, reported as reported_at}
+use Rattle.odb_sched.specs.invariants.Kept.{IsReached}
+use Rattle.odb_sched.specs.run.Choosing.{Positions, positions_of, IsAmong}
+use Rattle.odb_sched.specs.run.Courses.{Allowance, Offer, ready_set, running_set, IsAllowed, IsOffered, step_of, AreChosen, IsCourse, IsReportEnabled, IsFinishedBy, IsCausedBy, position_in}
+use Rattle.odb_sched.specs.invariants.Advances.{MayTake, IsNext, IsTaken, IsTakenBy}
+use Rattle.odb_sched.specs.run.Calls.{Performing, IsCall, Asks, AsksAll, IsReportChosen, Faults, IsCutShort, Picking, Picks, PicksAll}
+use Rattle.odb_sched.specs.run.Laws.{StartsAfterDependencies}
 use Rattle.odb_doc.specs.batch.Records.{Record}
 use Rattle.odb_sched.proofs.ChoiceLemmas.{positions-listed, listed-in}
 use Rattle.odb_sched.proofs.PlanLemmas.{length-shape}
 use Rattle.odb_sched.proofs.PhaseLemmas.{get_or-set_cases, get_or-replicate_Unstarted}
-use Rattle.odb_sched.proofs.RunLemmas.{reached_after_all, reached_at_first, joined, after_all-push, shape-after, shape-after_all, policy-after_all, requests-after_all}
+use Rattle.odb_sched.proofs.RunLemmas.{reached_after_all, reached_initial, joined, after_all-push, shape-after, shape-after_all, policy-after_all, requests-after_all}
 use Rattle.odb_sched.proofs.EventLemmas.{left, move_start, move_report}
 
 -- what is picked from the two lists may come next
@@ -88,7 +86,7 @@ module _ {S : Type 0} (performs : Performing S) (requests : List Record) where
 abbrev pub events_left : State → ℕ
 events_left state = sum_by left state.phases
 
-pub left_at_first : (source : Plan) (policy : Policy) → events_left (at_first source policy) ≡ 2 * length (shape source).units
+pub left_at_first : (source : Plan) (policy : Policy) → events_left (initial source policy) ≡ 2 * length (shape source).units
 left_at_first source policy = let all : sum_by left (replicate (length (shape source).units) Unstarted) ≡ length (shape source).units * 2 = sum_by-replicate left (length (shape source).units) Unstarted in omega arith
 
 left-set : (state : State) (i : ℕ) (old new : Phase) → IsReached state → i < size state → phase_at state i ≡ old → left new + 1 ≡ left old → events_left (record state { phases = slice_set state.phases i new }) + 1 ≡ events_left state
@@ -200,7 +198,7 @@ module _ (allows allows_now allows_later : Allowance) (offers offers_now offers_
       }
 
   -- the next step is the report of a request, so it is due
-  due-next : SoFar allows allows_now offers offers_now first state steps → IsNext allows_now state s → (i : ℕ) → s ≡ step.Report i → IsDue allows offers first i
+  due-next : SoFar allows allows_now offers offers_now first state steps → IsNext allows_now state s → (i : ℕ) → s ≡ step.Report i → IsReportEnabled allows offers first i
   due-next far next i same =
       let report : IsNext allows_now state (step.Report i) = subst (IsNext allows_now state) same next in
       let here : state ≡ after_all first far.events = far.state_is in
@@ -216,7 +214,7 @@ module _ (allows allows_now allows_later : Allowance) (offers offers_now offers_
   offered-next : SoFar allows allows_now offers offers_now first state steps → IsNext allows_now state s → (i : ℕ) (answer : Result Outcome ServiceFault) → s ≡ step.Report i → offers_now i answer → offers i answer
   offered-next far next i answer same e = far.offered i answer (running_open (phase_at state i) (subst (IsNext allows_now state) same next).may) e
 
-  pub caused-first : SoFar allows allows_now offers offers_now first state steps → IsNext allows_now state s → (cause : ExecFault) → IsCausedBy offers_now (λ i. s ≡ step.Report i) cause → IsCausedBy offers (IsDue allows offers first) cause
+  pub caused-first : SoFar allows allows_now offers offers_now first state steps → IsNext allows_now state s → (cause : ExecFault) → IsCausedBy offers_now (λ i. s ≡ step.Report i) cause → IsCausedBy offers (IsReportEnabled allows offers first) cause
   caused-first far next (fault.NoOutcome i) (same, e) = (due-next far next i same, offered-next far next i (Err service.NoOutcome) same e)
   caused-first far next (fault.Service i) (same, e) = (due-next far next i same, offered-next far next i (Err service.Failed) same e)
   caused-first far next (fault.BadStatus i) (same, (outcome, e, bad)) = (due-next far next i same, (outcome, offered-next far next i (Ok outcome) same e, bad))
@@ -240,7 +238,7 @@ so_far-first allows offers first state steps here none = record {
 -- the next step is due after what was done so far, and was picked, so its fault is that of the whole
 module _ {S C : Type 0} (performs : Performing S) (chooses : Picking C) (names : C → Option Order) (requests : List Record) (allows allows_now : Allowance) (offers offers_now : Offer) (first state : State) (steps : List Step) (s : Step)
     (far : SoFar allows allows_now offers offers_now first state steps) (next : IsNext allows_now state s) (chooser chooser_new : C) (picked : Picks chooses (names chooser) state s chooser chooser_new) where
-  due-now : (i : ℕ) → s ≡ step.Report i → IsDueNow allows chooses names (after_all first far.events) chooser chooser_new i
+  due-now : (i : ℕ) → s ≡ step.Report i → IsReportChosen allows chooses names (after_all first far.events) chooser chooser_new i
   due-now i same =
       let report : IsNext allows_now state (step.Report i) = subst (IsNext allows_now state) same next in
       rw (← far.state_is) (record {
@@ -251,13 +249,13 @@ module _ {S C : Type 0} (performs : Performing S) (chooses : Picking C) (names :
       })
 
   pub faults-now : (cause : ExecFault) (old new : S) → Faults performs requests (λ i. s ≡ step.Report i) cause old new
-      → Faults performs requests (IsDueNow allows chooses names (after_all first far.events) chooser chooser_new) cause old new
+      → Faults performs requests (IsReportChosen allows chooses names (after_all first far.events) chooser chooser_new) cause old new
   faults-now (fault.NoOutcome i) old new faulty = (due-now i faulty.0, faulty.1)
   faults-now (fault.Service i) old new faulty = (due-now i faulty.0, faulty.1)
   faults-now (fault.BadStatus i) old new (same, outcome, bad, call) = (due-now i same, outcome, bad, call)
   faults-now fault.OutOfMemory old new faulty = (faulty.0, due-now faulty.0 faulty.1, faulty.2)
 
-  cut_short : (cause : ExecFault) (service old new : S) (chooser_first : C) → StartsLast requests far.events → AsksAll performs requests far.events service old → PicksAll chooses names first far.events chooser_first chooser
+  cut_short : (cause : ExecFault) (service old new : S) (chooser_first : C) → StartsAfterDependencies requests far.events → AsksAll performs requests far.events service old → PicksAll chooses names first far.events chooser_first chooser
       → Faults performs requests (λ i. s ≡ step.Report i) cause old new → IsCutShort allows offers performs chooses names requests first service new chooser_first chooser_new cause
   cut_short cause service old new chooser_first ended calls choices faulty = record {
     events = far.events;
@@ -271,7 +269,7 @@ module _ {S C : Type 0} (performs : Performing S) (chooses : Picking C) (names :
   }
 
   -- at the exit of a `?` on that fault
-  pub cut_short_at : {T : Type 0} (returned : Result T ExecFault) (cause : ExecFault) (service old new : S) (chooser_first : C) → IsErrAnd returned (λ other. other ≡ cause) → StartsLast requests far.events
+  pub cut_short_at : {T : Type 0} (returned : Result T ExecFault) (cause : ExecFault) (service old new : S) (chooser_first : C) → IsErrAnd returned (λ other. other ≡ cause) → StartsAfterDependencies requests far.events
       → AsksAll performs requests far.events service old → PicksAll chooses names first far.events chooser_first chooser → Faults performs requests (λ i. s ≡ step.Report i) cause old new
       → IfErr returned (IsCutShort allows offers performs chooses names requests first service new chooser_first chooser_new)
   cut_short_at returned cause service old new chooser_first exit ended calls choices faulty =
@@ -280,32 +278,32 @@ module _ {S C : Type 0} (performs : Performing S) (chooses : Picking C) (names :
       (subst (IsCutShort allows offers performs chooses names requests first service new chooser_first chooser_new) (sym is) (cut_short cause service old new chooser_first ended calls choices faulty))
 
 module _ (source : Plan) (policy : Policy) where
-  left-source : events_left (at_first source policy) ≡ 2 * length (plan_records source)
+  left-source : events_left (initial source policy) ≡ 2 * length (plan_records source)
   left-source = let units : length (shape source).units ≡ length (plan_records source) = length-shape source in let all = left_at_first source policy in omega arith
 
   -- room for two steps per request is enough
-  pub room-first : (state : State) (steps : List Step) (room : ℕ) → state ≡ at_first source policy → steps ≡ [] → 2 * length (plan_records source) ≤ room → length steps + events_left state ≤ room
+  pub room-first : (state : State) (steps : List Step) (room : ℕ) → state ≡ initial source policy → steps ≡ [] → 2 * length (plan_records source) ≤ room → length steps + events_left state ≤ room
   room-first state steps room here none enough =
       let count : length steps ≡ 0 = ap length none in
-      let all : events_left state ≡ events_left (at_first source policy) = ap events_left here in
+      let all : events_left state ≡ events_left (initial source policy) = ap events_left here in
       let most = left-source in
       omega arith
 
-  module _ (allows allows_now : Allowance) (offers offers_now : Offer) (state : State) (steps : List Step) (far : SoFar allows allows_now offers offers_now (at_first source policy) state steps) where
+  module _ (allows allows_now : Allowance) (offers offers_now : Offer) (state : State) (steps : List Step) (far : SoFar allows allows_now offers offers_now (initial source policy) state steps) where
     pub few-steps : length steps ≤ 2 * length (plan_records source)
-    few-steps = let count : length steps + events_left state ≡ events_left (at_first source policy) = far.count in let most = left-source in omega arith
+    few-steps = let count : length steps + events_left state ≡ events_left (initial source policy) = far.count in let most = left-source in omega arith
 
     same-size : size state ≡ length (plan_records source)
-    same-size = ap size far.state_is ∙ ap (λ shape. length shape.units) (shape-after_all (at_first source policy) far.events) ∙ length-shape source
+    same-size = ap size far.state_is ∙ ap (λ shape. length shape.units) (shape-after_all (initial source policy) far.events) ∙ length-shape source
 
     pub next-within : (s : Step) → IsNext allows_now state s → position_in s < length (plan_records source)
     next-within s next = subst (λ n. position_in s < n) same-size next.within
 
     pub reached-so_far : IsPlan (shape source) → IsReached state
-    reached-so_far laws = subst IsReached (sym far.state_is) (reached_after_all (at_first source policy) far.events (reached_at_first source policy laws) far.course.run)
+    reached-so_far laws = subst IsReached (sym far.state_is) (reached_after_all (initial source policy) far.events (reached_initial source policy laws) far.course.run)
 
     pub same-policy : state.policy ≡ policy
-    same-policy = ap (λ s. s.policy) far.state_is ∙ policy-after_all (at_first source policy) far.events
+    same-policy = ap (λ s. s.policy) far.state_is ∙ policy-after_all (initial source policy) far.events
 
 -- each step is of a request that there is
 pub steps-within : (state : State) (events : List Event) → IsRunFrom state events → All (λ s. position_in s < size state) (map step_of events)
@@ -344,20 +342,20 @@ Reported-is Unstarted outcome e = absurd (true≢false (sym (ap is_some e)))
 Reported-is Running outcome e = absurd (true≢false (sym (ap is_some e)))
 Reported-is (Reported other) outcome e = ap (λ found. Reported (unwrap_or found outcome)) e
 
-module _ (source : Plan) (policy : Policy) (allows : Allowance) (offers : Offer) (steps : List Step) (last : State) (course : IsFinishedBy allows offers (at_first source policy) steps last) where
+module _ (source : Plan) (policy : Policy) (allows : Allowance) (offers : Offer) (steps : List Step) (last : State) (course : IsFinishedBy allows offers (initial source policy) steps last) where
   pub finished-within : All (λ s. position_in s < size last) steps
   finished-within = subst (λ xs. All (λ s. position_in s < size last) xs) (sym course.steps_are)
       (subst (λ n. All (λ s. position_in s < n) (map step_of course.events))
-      (sym (ap size course.last_is ∙ ap (λ shape. length shape.units) (shape-after_all (at_first source policy) course.events)))
-      (steps-within (at_first source policy) course.events course.course.run))
+      (sym (ap size course.last_is ∙ ap (λ shape. length shape.units) (shape-after_all (initial source policy) course.events)))
+      (steps-within (initial source policy) course.events course.course.run))
 
   pub finished-requests : last.requests ≡ plan_records source
-  finished-requests = ap (λ s. s.requests) course.last_is ∙ requests-after_all (at_first source policy) course.events
+  finished-requests = ap (λ s. s.requests) course.last_is ∙ requests-after_all (initial source policy) course.events
 
   -- each outcome that is reported was offered
   pub finished-offered : (i : ℕ) (outcome : Outcome) → reported_at last i ≡ Some outcome → offers i (Ok outcome)
   finished-offered i outcome e =
-      elim (offered_after allows offers (at_first source policy) course.events i outcome course.course.chosen
+      elim (offered_after allows offers (initial source policy) course.events i outcome course.course.chosen
       (ap (λ s. phase_at s i) (sym course.last_is) ∙ Reported-is (phase_at last i) outcome e)) [
         | inl early ↦ absurd (true≢false (sym (ap is_reported early) ∙ ap is_reported (get_or-replicate_Unstarted (length (shape source).units) i)))
         | inr offer ↦ offer

@@ -5,14 +5,13 @@ use Rattle.std.proofs.lemmas.List.Sums.{sum_by-cons}
 use Rattle.std.proofs.lemmas.List.Elements.{Contains-get_or}
 use Rattle.odb_check.specs.declared.need.Need.{Need}
 use Rattle.odb_check.specs.declared.need.Need.TheVariants.{One, Group}
-use Rattle.odb_check.specs.Shape.{Shape, IsPlan, unit_of, needs_of}
+use Rattle.odb_check.specs.Shape.{Shape, IsPlan, unit_of, needs_of, IsSpan}
 use Rattle.odb_dense.specs.declared.worklist.Mark.{Mark}
 use Rattle.odb_dense.specs.declared.worklist.Mark.TheVariants.{Unvisited}
 use Rattle.odb_dense.specs.Marks.{is_marked}
-use Rattle.odb_sched.specs.Plans.{IsSpan}
-use Rattle.odb_sched.specs.Failing.{unit_needed}
-use Rattle.odb_sched.specs.ProgressCounts.{AreDependents, key_of}
-use Rattle.odb_sched.specs.Propagation.{NeedsUnit, HaveMarked}
+use Rattle.odb_sched.specs.run.Failing.{unit_needed}
+use Rattle.odb_sched.specs.invariants.Graphs.{AreDependents, key_of}
+use Rattle.odb_sched.specs.invariants.Propagation.{NeedsUnit, HaveMarked}
 
 -- what is counted is in the list
 pub counted_some : {X : Type 0} (test : X → Bool) (xs : List X) (d : X) → 0 < count_by test xs → (k : ℕ) × (k < length xs) × (test (get_or xs k d) ≡ true)

@@ -11,13 +11,12 @@ use Rattle.odb_sched.specs.declared.phase.Phase.{Phase}
 use Rattle.odb_sched.specs.declared.phase.Phase.TheVariants.{Unstarted, Running, Reported}
 use Rattle.odb_sched.specs.declared.event.Event.{Event}
 use Rattle.odb_sched.specs.declared.event.Event.TheVariants.{Start, Report}
-use Rattle.odb_sched.specs.Statuses.{is_success, is_status}
-use Rattle.odb_sched.specs.Phases.{is_running, has_succeeded}
-use Rattle.odb_sched.specs.State.{State, size, phase_at, shape, at_first, after}
-use Rattle.odb_sched.specs.Steps.{may_come}
-use Rattle.odb_sched.specs.Runs.{event_position, after_all, IsRunFrom, starts, report_of, or_later, first_report, phase_by, phase_of, IsRun, state_after}
-use Rattle.odb_sched.specs.Laws.{HasSuccess, HasFewEvents}
-use Rattle.odb_sched.specs.Reached.{IsReached}
+use Rattle.odb_doc.specs.Statuses.{is_success, is_status}
+use Rattle.odb_sched.specs.run.State.{is_running, has_succeeded, State, size, phase_at, shape, initial, after}
+use Rattle.odb_sched.specs.run.Steps.{may_come}
+use Rattle.odb_sched.specs.run.Runs.{event_position, after_all, IsRunFrom, starts, report_of, or_later, first_report, phase_by, phase_of, IsRun, state_after}
+use Rattle.odb_sched.specs.run.Laws.{HasSuccess, HasFewEvents}
+use Rattle.odb_sched.specs.invariants.Kept.{IsReached}
 use Rattle.odb_sched.proofs.PhaseLemmas.{get_or-set_cases, get_or-replicate_Unstarted, Unstarted-from, Running-from}
 use Rattle.odb_sched.proofs.StartLemmas.{may_start-parts}
 use Rattle.odb_sched.proofs.ReachedLemmas.{reached_after}
@@ -124,8 +123,8 @@ phase_after_all state (event ∷ es) i reached run =
     ∙ phase_by_event state event i (first_report i es) (list_any (starts i) es) reached run.0 run.1
 
 -- before any event each request has two events left, and is unstarted
-pub few_events_first : (source : Plan) (policy : Policy) (events : List Event) → IsReached (at_first source policy) → IsRun source policy events → HasFewEvents events
-few_events_first source policy events reached run i = subst (λ phase. count_by (λ e. event_position e == i) events ≤ left phase) (get_or-replicate_Unstarted (length (shape source).units) i) (few_events (at_first source policy) events i reached run)
+pub few_events_first : (source : Plan) (policy : Policy) (events : List Event) → IsReached (initial source policy) → IsRun source policy events → HasFewEvents events
+few_events_first source policy events reached run i = subst (λ phase. count_by (λ e. event_position e == i) events ≤ left phase) (get_or-replicate_Unstarted (length (shape source).units) i) (few_events (initial source policy) events i reached run)
 
-pub phases_first : (source : Plan) (policy : Policy) (events : List Event) (i : ℕ) → IsReached (at_first source policy) → IsRun source policy events → phase_at (state_after source policy events) i ≡ phase_of i events
-phases_first source policy events i reached run = phase_after_all (at_first source policy) events i reached run ∙ ap (λ phase. phase_since phase (first_report i events) (list_any (starts i) events)) (get_or-replicate_Unstarted (length (shape source).units) i)
+pub phases_first : (source : Plan) (policy : Policy) (events : List Event) (i : ℕ) → IsReached (initial source policy) → IsRun source policy events → phase_at (state_after source policy events) i ≡ phase_of i events
+phases_first source policy events i reached run = phase_after_all (initial source policy) events i reached run ∙ ap (λ phase. phase_since phase (first_report i events) (list_any (starts i) events)) (get_or-replicate_Unstarted (length (shape source).units) i)

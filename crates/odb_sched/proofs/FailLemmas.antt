@@ -11,13 +11,13 @@ use Rattle.odb_dense.specs.declared.worklist.Mark.TheVariants.{Unvisited, Queued
 use Rattle.odb_sched.specs.declared.phase.Phase.{Phase}
 use Rattle.odb_sched.specs.declared.phase.Phase.TheVariants.{Unstarted, Running, Reported}
 use Rattle.odb_sched.specs.declared.counts.Progress.{Progress}
-use Rattle.odb_sched.specs.Below.{all_below}
-use Rattle.odb_sched.specs.Phases.{is_running, has_succeeded, has_failed}
-use Rattle.odb_sched.specs.Failing.{own}
-use Rattle.odb_sched.specs.Steps.{satisfied_in, failed_in}
+use Rattle.odb_check.specs.Firsts.{all_below}
+use Rattle.odb_sched.specs.run.State.{is_running, has_succeeded, has_failed}
+use Rattle.odb_sched.specs.run.Failing.{own}
+use Rattle.odb_sched.specs.run.Steps.{satisfied_in, failed_in}
 use Rattle.odb_dense.specs.Marks.{is_marked, is_visited, marked}
-use Rattle.odb_sched.specs.ProgressCounts.{is_skipped, unmet_in, pending_in, ArePropagated, AreReady, AreCounts}
-use Rattle.odb_sched.specs.Propagation.{NeedsUnit, HaveMarked, ArePropagating}
+use Rattle.odb_sched.specs.invariants.Counts.{is_skipped, unmet_in, pending_in, ArePropagated, AreReady, AreCounts}
+use Rattle.odb_sched.specs.invariants.Propagation.{NeedsUnit, HaveMarked, ArePropagating}
 use Rattle.odb_sched.proofs.CountLemmas.{count_same}
 use Rattle.odb_sched.proofs.FailingLemmas.{Fails-from_fails, fails-from_Fails, Fails-as}
 use Rattle.odb_sched.proofs.PropagateLemmas.{own_fails, need_fails}

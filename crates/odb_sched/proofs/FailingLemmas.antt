@@ -4,9 +4,9 @@ use Rattle.std.proofs.lemmas.Bool.{and_parts, and_from, or_cases, or_left, or_ri
 use Rattle.odb_check.specs.declared.need.Need.{Need}
 use Rattle.odb_check.specs.declared.need.Need.TheVariants.{One, Group}
 use Rattle.odb_check.specs.Shape.{Shape, IsPlan, unit_of, needs_of}
-use Rattle.odb_sched.specs.Statuses.{is_success}
-use Rattle.odb_sched.specs.Laws.{SucceedsByMembers}
-use Rattle.odb_sched.specs.Failing.{Fails, own, propagated, fails, fails_within, needs_failed, unit_needed}
+use Rattle.odb_doc.specs.Statuses.{is_success}
+use Rattle.odb_sched.specs.run.Laws.{SucceedsByMembers}
+use Rattle.odb_sched.specs.run.Failing.{Fails, own, propagated, fails, fails_within, needs_failed, unit_needed}
 use Rattle.odb_sched.proofs.BelowLemmas.{any_below-Decides, list_any-from, list_any-some}
 
 -- what a request needs of another unit is of an earlier one

@@ -7,18 +7,16 @@ use Rattle.std.proofs.lemmas.List.Elements.{All-get_or}
 use Rattle.odb_check.specs.declared.need.Need.{Need}
 use Rattle.odb_check.specs.declared.need.Need.TheVariants.{One, Group}
 use Rattle.odb_check.specs.Firsts.{count_below, list_below}
-use Rattle.odb_check.specs.Shape.{Shape, IsPlan, unit_of, needs_of}
+use Rattle.odb_check.specs.Shape.{Shape, IsPlan, unit_of, needs_of, IsSpan, IsNeed}
 use Rattle.odb_dense.specs.declared.worklist.Mark.TheVariants.{Unvisited}
 use Rattle.odb_dense.specs.Marks.{is_marked, is_visited}
 use Rattle.odb_sched.specs.declared.phase.Phase.{Phase}
 use Rattle.odb_sched.specs.declared.phase.Phase.TheVariants.{Unstarted}
 use Rattle.odb_sched.specs.declared.counts.Progress.{Progress}
-use Rattle.odb_sched.specs.Phases.{is_running, is_unstarted, has_succeeded, has_failed}
-use Rattle.odb_sched.specs.Failing.{Fails, own, propagated, unit_needed}
-use Rattle.odb_sched.specs.FirstCounts.{needs_in, members_in, need_counts, member_counts}
-use Rattle.odb_sched.specs.Plans.{IsSpan, IsNeed}
-use Rattle.odb_sched.specs.Steps.{satisfied_in, failed_in}
-use Rattle.odb_sched.specs.ProgressCounts.{AreCounts, AreReady, ArePropagated, is_skipped, pending_in, unmet_in}
+use Rattle.odb_sched.specs.run.State.{is_running, is_unstarted, has_succeeded, has_failed}
+use Rattle.odb_sched.specs.run.Failing.{Fails, own, propagated, unit_needed}
+use Rattle.odb_sched.specs.invariants.Counts.{needs_in, members_in, need_counts, member_counts, AreCounts, AreReady, ArePropagated, is_skipped, pending_in, unmet_in}
+use Rattle.odb_sched.specs.run.Steps.{satisfied_in, failed_in}
 use Rattle.odb_sched.proofs.CountLemmas.{count_same, count_none}
 use Rattle.odb_sched.proofs.FailingLemmas.{Fails-from_fails}
 use Rattle.odb_sched.proofs.PhaseLemmas.{get_or-replicate_Unstarted}

@@ -14,8 +14,7 @@ use Rattle.odb_check.specs.Shape.{Shape, IsPlan, IsShapeOf, IsSpan, unit_of, nee
 use Rattle.odb_check.specs.Walks.{AreNeedsOf}
 use Rattle.odb_check.proofs.OffsetLemmas.{part_of}
 use Rattle.odb_sched.specs.declared.graph.Graph.TheInside.{Inside}
-use Rattle.odb_sched.specs.Graphs.{AreAlike, AreOffsets, AreParts, AreSpans, IsGraph, part_at, shape_kept}
-use Rattle.odb_sched.specs.ProgressCounts.{AreDependents}
+use Rattle.odb_sched.specs.invariants.Graphs.{AreAlike, AreOffsets, AreParts, AreSpans, IsGraph, part_at, shape_kept, AreDependents}
 use Rattle.odb_sched.proofs.PlanLemmas.{length-list_below, get_or-list_below}
 
 -- where the units so far begin and end

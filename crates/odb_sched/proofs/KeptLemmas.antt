@@ -3,10 +3,9 @@ use Rattle.std.proofs.Common.{◌≡◌, ◌↔◌, ◌⊎◌, inl, inr, ℕ, ze
 use Rattle.std.proofs.lemmas.Bool.{both_ways, true_from_ne_false}
 use Rattle.odb_sched.specs.declared.phase.Phase.{Phase}
 use Rattle.odb_sched.specs.declared.phase.Phase.TheVariants.{Unstarted}
-use Rattle.odb_sched.specs.Phases.{is_running}
-use Rattle.odb_sched.specs.State.{State, size, phase_at}
-use Rattle.odb_sched.specs.Steps.{may_start, is_finished}
-use Rattle.odb_sched.specs.Reached.{IsReached}
+use Rattle.odb_sched.specs.run.State.{is_running, State, size, phase_at}
+use Rattle.odb_sched.specs.run.Steps.{may_start, is_finished}
+use Rattle.odb_sched.specs.invariants.Kept.{IsReached}
 use Rattle.odb_sched.proofs.StuckLemmas.{never_stuck, none_runs, none_starts}
 
 -- a second write restores the phase before the first

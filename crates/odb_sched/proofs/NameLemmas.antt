@@ -8,11 +8,10 @@ use Rattle.odb_check.specs.Shape.{HasNamesAsNeeds, unit_of, needs_of}
 use Rattle.odb_sched.specs.declared.policy.Policy.{Policy}
 use Rattle.odb_sched.specs.declared.event.Event.{Event}
 use Rattle.odb_sched.specs.declared.event.Event.TheVariants.{Start}
-use Rattle.odb_sched.specs.Phases.{has_succeeded}
-use Rattle.odb_sched.specs.State.{State, phase_at, shape, at_first}
-use Rattle.odb_sched.specs.Steps.{is_satisfied, all_satisfied}
-use Rattle.odb_sched.specs.Runs.{IsRun, state_after}
-use Rattle.odb_sched.specs.Laws.{HasSuccess, HaveSucceeded, StartsLast}
+use Rattle.odb_sched.specs.run.State.{has_succeeded, State, phase_at, shape, initial}
+use Rattle.odb_sched.specs.run.Steps.{is_satisfied, all_satisfied}
+use Rattle.odb_sched.specs.run.Runs.{IsRun, state_after}
+use Rattle.odb_sched.specs.run.Laws.{HasSuccess, HaveSucceeded, StartsAfterDependencies}
 use Rattle.odb_sched.proofs.PlanLemmas.{length-shape, group_at-within}
 use Rattle.odb_sched.proofs.BelowLemmas.{list_all-each}
 use Rattle.odb_sched.proofs.PhaseLemmas.{get_or-replicate_Unstarted}
@@ -23,7 +22,7 @@ use Rattle.odb_sched.proofs.EventLemmas.{success_among}
 
 -- what has succeeded after a run is reported so in it
 success_in : (source : Plan) (policy : Policy) (events : List Event) (r : ℕ) → has_succeeded (phase_at (state_after source policy events) r) ≡ true → HasSuccess events r
-success_in source policy events r done = elim (success_among (at_first source policy) events r done) [
+success_in source policy events r done = elim (success_among (initial source policy) events r done) [
   | inl early ↦ absurd (both_ways _ (ap has_succeeded (get_or-replicate_Unstarted (length (shape source).units) r)) early)
   | inr among ↦ among
 ]
@@ -42,10 +41,10 @@ named-succeeded source state i named same satisfied =
     one : (r : ℕ) → Contains (needs_of (shape source) i) (One r) → has_succeeded (phase_at state r) ≡ true
     one r has = list_all-each (is_satisfied state) (needs_of state.shape i) (One r) satisfied (rw same has)
 
-pub dependencies_first : (source : Plan) (policy : Policy) (events : List Event) → HasNamesAsNeeds (plan_records source) (shape source) → IsRun source policy events → StartsLast (plan_records source) events
+pub dependencies_first : (source : Plan) (policy : Policy) (events : List Event) → HasNamesAsNeeds (plan_records source) (shape source) → IsRun source policy events → StartsAfterDependencies (plan_records source) events
 dependencies_first source policy events named run before later i whole =
-    let parts = cut (at_first source policy) before (Start i) later (subst (IsRun source policy) whole run) in
-    let done = named-succeeded source (state_after source policy before) i named (shape-after_all (at_first source policy) before) (may_start-parts (state_after source policy before) i parts.may).satisfied in
+    let parts = cut (initial source policy) before (Start i) later (subst (IsRun source policy) whole run) in
+    let done = named-succeeded source (state_after source policy before) i named (shape-after_all (initial source policy) before) (may_start-parts (state_after source policy before) i parts.may).satisfied in
     record {
       ids = λ name r has at. success_in source policy before r (done.ids name r has at);
       groups = λ name j has at. success_in source policy before j (done.groups name j has at);

@@ -6,11 +6,9 @@ use Rattle.std.proofs.lemmas.List.Elements.{All-nil, All-cons, All-head, All-tai
 use Rattle.odb_check.specs.declared.need.Need.{Need}
 use Rattle.odb_check.specs.declared.need.Need.TheVariants.{One, Group}
 use Rattle.odb_check.specs.Firsts.{joined_below}
-use Rattle.odb_check.specs.Shape.{Shape, IsPlan, needs_of}
+use Rattle.odb_check.specs.Shape.{Shape, IsPlan, needs_of, IsNeed}
 use Rattle.odb_dense.specs.ByKey.{of_key, HaveKeys}
-use Rattle.odb_sched.specs.Plans.{IsNeed}
-use Rattle.odb_sched.specs.ProgressCounts.{AreDependents, key_of, need_count}
-use Rattle.odb_sched.specs.NeedPairs.{need_pairs, all_pairs}
+use Rattle.odb_sched.specs.invariants.Graphs.{AreDependents, key_of, need_count, need_pairs, all_pairs}
 use Rattle.odb_sched.proofs.SpanLemmas.{known_needs}
 
 -- the row of two lists of pairs

@@ -8,14 +8,13 @@ use Rattle.odb_sched.specs.declared.event.Event.{Event}
 use Rattle.odb_sched.specs.declared.event.Event.TheVariants as event
 use Rattle.odb_sched.specs.declared.refusal.RunRefusal.{RunRefusal}
 use Rattle.odb_sched.specs.declared.refusal.RunRefusal.TheVariants as refusal
-use Rattle.odb_sched.specs.declared.resolving.ResolveFault.{ResolveFault}
-use Rattle.odb_sched.specs.declared.resolving.ResolveFault.TheVariants.{UnknownEvent, OutOfMemory}
-use Rattle.odb_sched.specs.State.{State, after}
-use Rattle.odb_sched.specs.Steps.{may_come}
-use Rattle.odb_sched.specs.Runs.{after_all, IsRunFrom, RefusesEvent, StopsAt, Refuses}
-use Rattle.odb_sched.specs.Refusals as refusals
-use Rattle.odb_sched.specs.Resolving.{IsKnown, IsFirstUnknown, RefusesNamed}
-use Rattle.odb_sched.specs.ResolveFaults as resolving
+use Rattle.odb_sched.specs.declared.event.ResolveFault.{ResolveFault}
+use Rattle.odb_sched.specs.declared.event.ResolveFault.TheVariants.{UnknownEvent, OutOfMemory}
+use Rattle.odb_sched.specs.run.State.{State, after}
+use Rattle.odb_sched.specs.run.Steps.{may_come}
+use Rattle.odb_sched.specs.run.Runs.{after_all, IsRunFrom, RefusesEvent, StopsAt, Refuses}
+use Rattle.odb_sched.specs.run.Refusals as refusals
+use Rattle.odb_sched.specs.run.Resolving.{IsKnown, IsFirstUnknown, RefusesNamed}
 use Rattle.odb_sched.proofs.CauseLemmas.{one_start, one_report}
 
 -- ---- events that may not come
@@ -60,12 +59,12 @@ one_stop state events a b x y =
     one_event (after_all state y.before) (length y.before) y.event a b
     (subst (λ e. RefusesEvent (after_all state y.before) (length y.before) e a) last (subst (λ (xs : List Event). RefusesEvent (after_all state xs) (length xs) x.event a) front x.refused)) y.refused
 
-stops : (state : State) (events : List Event) (cause : RunRefusal) → refusals.IsNumbered cause → Refuses state events cause → StopsAt state events cause
+stops : (state : State) (events : List Event) (cause : RunRefusal) → refusals.IsNumberedRefusal cause → Refuses state events cause → StopsAt state events cause
 stops state events (refusal.Start at cause) numbered x = x
 stops state events (refusal.Report at cause) numbered x = x
 stops state events refusal.OutOfMemory numbered x = absurd (numbered refl)
 
-pub one_refusal : (state : State) (events : List Event) (cause other : RunRefusal) → refusals.IsNumbered cause → refusals.IsNumbered other → Refuses state events cause → Refuses state events other → cause ≡ other
+pub one_refusal : (state : State) (events : List Event) (cause other : RunRefusal) → refusals.IsNumberedRefusal cause → refusals.IsNumberedRefusal other → Refuses state events cause → Refuses state events other → cause ≡ other
 one_refusal state events cause other numbered also x y = one_stop state events cause other (stops state events cause numbered x) (stops state events other also y)
 
 -- ---- events that name no request
@@ -85,7 +84,7 @@ one_place batch ns a b x y = at (cases_order a b)
     at (inr (inl less)) = absurd (known_before batch ns a b less y.before x.unknown)
     at (inr (inr less)) = absurd (known_before batch ns b a less x.before y.unknown)
 
-pub one_unknown : (batch : List Record) (ns : List EventValue) (fault other : ResolveFault) → resolving.IsNumbered fault → resolving.IsNumbered other → RefusesNamed fault batch ns → RefusesNamed other batch ns → fault ≡ other
+pub one_unknown : (batch : List Record) (ns : List EventValue) (fault other : ResolveFault) → refusals.IsNumberedResolve fault → refusals.IsNumberedResolve other → RefusesNamed fault batch ns → RefusesNamed other batch ns → fault ≡ other
 one_unknown batch ns (UnknownEvent a) (UnknownEvent b) numbered also x y = ap (λ k. UnknownEvent k) (one_place batch ns a b x y)
 one_unknown batch ns (UnknownEvent a) OutOfMemory numbered also x y = absurd (also refl)
 one_unknown batch ns OutOfMemory other numbered also x y = absurd (numbered refl)

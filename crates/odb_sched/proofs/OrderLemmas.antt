@@ -4,23 +4,21 @@ use Rattle.std.proofs.lemmas.Bool.{both_ways, and_parts}
 use Rattle.odb_doc.specs.declared.recorded.outcome.Outcome.{Outcome}
 use Rattle.odb_sched.specs.declared.event.Event.{Event}
 use Rattle.odb_sched.specs.declared.event.Event.TheVariants.{Start, Report}
-use Rattle.odb_sched.specs.declared.order.Order.{Order}
-use Rattle.odb_sched.specs.declared.order.Order.TheVariants as order
-use Rattle.odb_sched.specs.declared.step.Step.{Step}
-use Rattle.odb_sched.specs.declared.step.Step.TheVariants as step
+use Rattle.odb_sched.specs.declared.chooser.Order.{Order}
+use Rattle.odb_sched.specs.declared.chooser.Order.TheVariants as order
+use Rattle.odb_sched.specs.declared.event.Step.{Step}
+use Rattle.odb_sched.specs.declared.event.Step.TheVariants as step
 use Rattle.odb_sched.specs.declared.service.ServiceFault.{ServiceFault}
 use Rattle.odb_sched.specs.declared.service.ServiceFault.TheVariants as service
-use Rattle.odb_sched.specs.declared.fault.ExecFault.{ExecFault}
-use Rattle.odb_sched.specs.declared.fault.ExecFault.TheVariants as fault
-use Rattle.odb_sched.specs.Statuses.{is_status}
-use Rattle.odb_sched.specs.Phases.{is_running}
-use Rattle.odb_sched.specs.State.{State, size, phase_at, after}
-use Rattle.odb_sched.specs.Steps.{may_come, is_finished}
-use Rattle.odb_sched.specs.Runs.{event_position, after_all, IsRunFrom}
-use Rattle.odb_sched.specs.Choosing.{Positions, IsLeast, IsGreatest, AllowsOrder}
-use Rattle.odb_sched.specs.Courses.{Offer, IsAllowed, step_of, IsOffered, AreChosen, IsDue, IsCausedBy, ready_set, running_set}
-use Rattle.odb_sched.specs.Recordings.{OffersRecorded}
-use Rattle.odb_sched.specs.Orders.{HasOneCourse, HasOneFault, FaultsOrFinishes}
+use Rattle.odb_sched.specs.declared.execution.ExecFault.{ExecFault}
+use Rattle.odb_sched.specs.declared.execution.ExecFault.TheVariants as fault
+use Rattle.odb_doc.specs.Statuses.{is_status}
+use Rattle.odb_sched.specs.run.State.{is_running, State, size, phase_at, after}
+use Rattle.odb_sched.specs.run.Steps.{may_come, is_finished}
+use Rattle.odb_sched.specs.run.Runs.{event_position, after_all, IsRunFrom}
+use Rattle.odb_sched.specs.run.Choosing.{Positions, IsLeast, IsGreatest, AllowsOrder}
+use Rattle.odb_sched.specs.run.Courses.{Offer, IsAllowed, step_of, IsOffered, AreChosen, IsReportEnabled, IsCausedBy, ready_set, running_set}
+use Rattle.odb_sched.specs.run.Recordings.{OffersRecorded, HasOneCourse, HasOneFault, FaultsOrFinishes}
 use Rattle.odb_sched.proofs.RunLemmas.{shape-after}
 use Rattle.odb_sched.proofs.StuckLemmas.{none_starts, none_runs}
 
@@ -161,8 +159,8 @@ module _ (name : Order) (noted : List (Option Outcome)) where
 
   pub one_fault : (state : State) → HasOneFault name noted state
   one_fault state cause other (numbered, by) (numbered', by') =
-      let a = fault-from (OffersRecorded noted) (IsDue (AllowsOrder name) (OffersRecorded noted) state) cause numbered by in
-      let b = fault-from (OffersRecorded noted) (IsDue (AllowsOrder name) (OffersRecorded noted) state) other numbered' by' in
+      let a = fault-from (OffersRecorded noted) (IsReportEnabled (AllowsOrder name) (OffersRecorded noted) state) cause numbered by in
+      let b = fault-from (OffersRecorded noted) (IsReportEnabled (AllowsOrder name) (OffersRecorded noted) state) other numbered' by' in
       let place : a.at ≡ b.at = due_one a.here.events b.here.events state a.at b.at a.answer b.answer
       a.here.course.run a.here.course.chosen a.here.allowed a.offered a.refused b.here.course.run b.here.course.chosen b.here.allowed b.offered b.refused in
       let answer : a.answer ≡ b.answer = answer_one a.at b.at a.answer b.answer place a.offered b.offered in
@@ -170,6 +168,6 @@ module _ (name : Order) (noted : List (Option Outcome)) where
 
   pub fault_or_end : (state : State) → FaultsOrFinishes name noted state
   fault_or_end state cause steps last (numbered, by) done =
-      let a = fault-from (OffersRecorded noted) (IsDue (AllowsOrder name) (OffersRecorded noted) state) cause numbered by in
+      let a = fault-from (OffersRecorded noted) (IsReportEnabled (AllowsOrder name) (OffersRecorded noted) state) cause numbered by in
       never_both done.events a.here.events state a.at a.answer done.course.run done.course.chosen (subst (λ s. is_finished s ≡ true) done.last_is done.finished)
       a.here.course.run a.here.course.chosen a.here.within a.here.runs a.here.allowed a.offered a.refused

@@ -9,12 +9,12 @@ use Rattle.odb_sched.specs.declared.refusal.StartRefusal.{StartRefusal}
 use Rattle.odb_sched.specs.declared.refusal.StartRefusal.TheVariants as start
 use Rattle.odb_sched.specs.declared.refusal.ReportRefusal.{ReportRefusal}
 use Rattle.odb_sched.specs.declared.refusal.ReportRefusal.TheVariants as report
-use Rattle.odb_sched.specs.declared.step.Step.{Step}
-use Rattle.odb_sched.specs.declared.step.Step.TheVariants as step
-use Rattle.odb_sched.specs.Advances.{IsNext, MayTake}
-use Rattle.odb_sched.specs.Causes.{BarsStart, IsStartCause, start_number, BarsReport, IsReportCause, report_number}
-use Rattle.odb_sched.specs.Courses.{Allowance}
-use Rattle.odb_sched.specs.State.{State, with_requests}
+use Rattle.odb_sched.specs.declared.event.Step.{Step}
+use Rattle.odb_sched.specs.declared.event.Step.TheVariants as step
+use Rattle.odb_sched.specs.invariants.Advances.{IsNext, MayTake}
+use Rattle.odb_sched.specs.run.Steps.{BarsStart, IsStartCause, start_number, BarsReport, IsReportCause, report_number}
+use Rattle.odb_sched.specs.run.Courses.{Allowance}
+use Rattle.odb_sched.specs.run.State.{State, with_requests}
 
 bars_start : (requests : List Record) (state : State) (i : ℕ) (cause : StartRefusal) → BarsStart cause state i ≡ BarsStart cause (with_requests requests state) i
 bars_start requests state i start.AlreadyStarted = refl

@@ -5,8 +5,8 @@ use Rattle.std.proofs.lemmas.List.{get_or_past, set_past, get_or-replicate, leng
 use Rattle.odb_doc.specs.declared.recorded.outcome.Outcome.{Outcome}
 use Rattle.odb_sched.specs.declared.phase.Phase.{Phase}
 use Rattle.odb_sched.specs.declared.phase.Phase.TheVariants.{Unstarted, Running, Reported}
-use Rattle.odb_sched.specs.Statuses.{is_success}
-use Rattle.odb_sched.specs.Phases.{is_unstarted, is_running, is_reported, has_succeeded, has_failed}
+use Rattle.odb_doc.specs.Statuses.{is_success}
+use Rattle.odb_sched.specs.run.State.{is_unstarted, is_running, is_reported, has_succeeded, has_failed}
 
 pub is_unstarted-from : (phase : Phase) → is_reported phase ≡ false → is_running phase ≡ false → is_unstarted phase ≡ true
 is_unstarted-from Unstarted a b = refl

@@ -3,16 +3,15 @@ use Rattle.std.proofs.Common.{◌≡◌, ◌∙◌, sym, subst, refl, Option, So
 use Rattle.std.proofs.lemmas.Bool.{true≢false}
 use Rattle.odb_doc.specs.batch.Records.{Record}
 use Rattle.odb_sched.specs.declared.event.Event.{Event}
-use Rattle.odb_sched.specs.declared.order.Order.{Order}
-use Rattle.odb_sched.specs.declared.step.Step.{Step}
-use Rattle.odb_sched.specs.declared.step.Step.TheVariants as step
-use Rattle.odb_sched.specs.declared.fault.ExecFault.{ExecFault}
-use Rattle.odb_sched.specs.declared.fault.ExecFault.TheVariants as fault
-use Rattle.odb_sched.specs.State.{State, after}
-use Rattle.odb_sched.specs.Runs.{after_all}
-use Rattle.odb_sched.specs.Courses.{Allowance, Offer, step_of}
-use Rattle.odb_sched.specs.Choices.{Picking, Picks, PicksAll}
-use Rattle.odb_sched.specs.Calls.{Performing, IsDueNow, Faults, IsCutShort}
+use Rattle.odb_sched.specs.declared.chooser.Order.{Order}
+use Rattle.odb_sched.specs.declared.event.Step.{Step}
+use Rattle.odb_sched.specs.declared.event.Step.TheVariants as step
+use Rattle.odb_sched.specs.declared.execution.ExecFault.{ExecFault}
+use Rattle.odb_sched.specs.declared.execution.ExecFault.TheVariants as fault
+use Rattle.odb_sched.specs.run.State.{State, after}
+use Rattle.odb_sched.specs.run.Runs.{after_all}
+use Rattle.odb_sched.specs.run.Courses.{Allowance, Offer, step_of}
+use Rattle.odb_sched.specs.run.Calls.{Picking, Picks, PicksAll, Performing, IsReportChosen, Faults, IsCutShort}
 
 module _ {C : Type 0} (chooses : Picking C) (names : C → Option Order) where
   -- one more step asks once more
@@ -40,7 +39,7 @@ module _ {C : Type 0} (chooses : Picking C) (names : C → Option Order) where
       unasked (after state e) es next new (subst (λ c. IsSome (names c)) (sym same) named) rest ∙ same
 
   module _ {S : Type 0} (allows : Allowance) (offers : Offer) (performs : Performing S) (requests : List Record) (state : State) (between after_it : S) (old new : C) (named : IsSome (names old)) where
-    due-unasked : (cause : ExecFault) → Faults performs requests (IsDueNow allows chooses names state old new) cause between after_it → new ≡ old
+    due-unasked : (cause : ExecFault) → Faults performs requests (IsReportChosen allows chooses names state old new) cause between after_it → new ≡ old
     due-unasked (fault.NoOutcome i) faulty = one-unasked (names old) state (step.Report i) old new named faulty.0.picked
     due-unasked (fault.Service i) faulty = one-unasked (names old) state (step.Report i) old new named faulty.0.picked
     due-unasked (fault.BadStatus i) faulty = one-unasked (names old) state (step.Report i) old new named faulty.0.picked

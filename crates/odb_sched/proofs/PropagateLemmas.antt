@@ -7,13 +7,13 @@ use Rattle.odb_dense.specs.declared.worklist.Mark.{Mark}
 use Rattle.odb_dense.specs.declared.worklist.Mark.TheVariants.{Unvisited, Queued, Visited}
 use Rattle.odb_sched.specs.declared.phase.Phase.{Phase}
 use Rattle.odb_sched.specs.declared.phase.Phase.TheVariants.{Unstarted}
-use Rattle.odb_sched.specs.Phases.{has_failed}
-use Rattle.odb_sched.specs.Failing.{Fails, own, propagated, unit_needed}
-use Rattle.odb_sched.specs.Steps.{failed_in}
+use Rattle.odb_sched.specs.run.State.{has_failed}
+use Rattle.odb_sched.specs.run.Failing.{Fails, own, propagated, unit_needed}
+use Rattle.odb_sched.specs.run.Steps.{failed_in}
 use Rattle.odb_dense.specs.Marks.{is_marked, is_visited}
 use Rattle.odb_sched.specs.declared.counts.Progress.{Progress}
-use Rattle.odb_sched.specs.ProgressCounts.{is_skipped, ArePropagated}
-use Rattle.odb_sched.specs.Propagation.{NeedsUnit, HaveMarked, ArePropagating}
+use Rattle.odb_sched.specs.invariants.Counts.{is_skipped, ArePropagated}
+use Rattle.odb_sched.specs.invariants.Propagation.{NeedsUnit, HaveMarked, ArePropagating}
 use Rattle.odb_sched.proofs.CountLemmas.{count_same, count_less}
 use Rattle.odb_sched.proofs.FailingLemmas.{Fails-from_fails, fails-from_Fails}
 

@@ -12,14 +12,12 @@ use Rattle.odb_sched.specs.declared.phase.Phase.{Phase}
 use Rattle.odb_sched.specs.declared.phase.Phase.TheVariants.{Unstarted, Running, Reported}
 use Rattle.odb_sched.specs.declared.event.Event.{Event}
 use Rattle.odb_sched.specs.declared.event.Event.TheVariants.{Start, Report}
-use Rattle.odb_sched.specs.Statuses.{is_status}
-use Rattle.odb_sched.specs.Phases.{is_unstarted, is_running, has_succeeded}
-use Rattle.odb_sched.specs.State.{State, size, phase_at, with_requests, started, reported, after}
-use Rattle.odb_sched.specs.Steps.{all_satisfied, may_start, may_report, may_come}
-use Rattle.odb_sched.specs.Runs.{event_position}
-use Rattle.odb_sched.specs.Plans.{first_of}
-use Rattle.odb_sched.specs.Reached.{IsReached}
-use Rattle.odb_sched.specs.Answers.{outcome_of}
+use Rattle.odb_doc.specs.Statuses.{is_status}
+use Rattle.odb_sched.specs.run.State.{is_unstarted, is_running, has_succeeded, State, size, phase_at, with_requests, started, reported, after}
+use Rattle.odb_sched.specs.run.Steps.{all_satisfied, may_start, may_report, may_come}
+use Rattle.odb_sched.specs.run.Runs.{event_position}
+use Rattle.odb_sched.specs.invariants.Kept.{first_of, IsReached}
+use Rattle.odb_sched.specs.run.Answers.{outcome_of}
 use Rattle.odb_sched.proofs.PhaseLemmas.{Unstarted-from, Running-from, get_or-replicate_Unstarted}
 use Rattle.odb_sched.proofs.SatisfiedLemmas.{all_satisfied-set}
 use Rattle.odb_sched.proofs.StartLemmas.{may_start-parts}

@@ -12,7 +12,7 @@ use Rattle.odb_check.specs.Firsts.{first_below, or_else, is_text}
 use Rattle.odb_check.specs.LeastNameFault.{HasGoodNames}
 use Rattle.odb_check.specs.Positions.{id_at, IsId, IsIdBefore}
 use Rattle.odb_check.specs.Units.{position_of}
-use Rattle.odb_sched.specs.Recordings.{outcome_for, recorded_for, noted_at}
+use Rattle.odb_sched.specs.run.Recordings.{outcome_for, recorded_for, noted_at}
 
 -- lists of one length with the same elements
 same_lists : {X : Type 0} (d : X) (xs ys : List X) → length xs ≡ length ys → ((k : ℕ) → k < length xs → get_or xs k d ≡ get_or ys k d) → xs ≡ ys

@@ -8,8 +8,8 @@ use Rattle.odb_doc.specs.recorded.Events.{EventValue}
 use Rattle.odb_doc.specs.recorded.Events as named
 use Rattle.odb_sched.specs.declared.event.Event.{Event}
 use Rattle.odb_sched.specs.declared.event.Event.TheVariants as at
-use Rattle.odb_sched.specs.Resolving.{IsKnown, IsResolved, IsFirstUnknown}
-use Rattle.odb_sched.specs.Runs.{event_position}
+use Rattle.odb_sched.specs.run.Resolving.{IsKnown, IsResolved, IsFirstUnknown}
+use Rattle.odb_sched.specs.run.Runs.{event_position}
 
 -- the events before the rest are these by their positions
 pub record HasResolved (rs : List Record) (events rest : List EventValue) (found : List Event) : Type 0 where

@@ -10,15 +10,14 @@ use Rattle.odb_check.specs.Shape.{unit_of, needs_of}
 use Rattle.odb_sched.specs.declared.policy.Mode.TheVariants.{Continue}
 use Rattle.odb_sched.specs.declared.phase.Phase.{Phase}
 use Rattle.odb_sched.specs.declared.phase.Phase.TheVariants.{Unstarted, Running, Reported}
-use Rattle.odb_sched.specs.Below.{any_below, all_below}
-use Rattle.odb_sched.specs.Statuses.{is_success}
-use Rattle.odb_sched.specs.Phases.{is_unstarted, is_running, is_reported, has_succeeded, has_failed}
-use Rattle.odb_sched.specs.State.{State, size, phase_at}
-use Rattle.odb_sched.specs.Failing.{Fails, own, propagated, unit_needed, succeeds}
-use Rattle.odb_sched.specs.Steps.{is_stopped, is_satisfied, unit_succeeded, unit_failed, is_finished}
-use Rattle.odb_sched.specs.Answers.{answer_of, answer, is_answered_2xx}
-use Rattle.odb_sched.specs.Laws.{statuses_of, AgreesInStatus, HasResultByStatuses, Agrees, HasOneResult, HasSoundResult, IsAllOrNone, IsSound}
-use Rattle.odb_sched.specs.Reached.{IsReached}
+use Rattle.odb_check.specs.Firsts.{any_below, all_below}
+use Rattle.odb_doc.specs.Statuses.{is_success}
+use Rattle.odb_sched.specs.run.State.{is_unstarted, is_running, is_reported, has_succeeded, has_failed, State, size, phase_at}
+use Rattle.odb_sched.specs.run.Failing.{Fails, own, propagated, unit_needed, succeeds}
+use Rattle.odb_sched.specs.run.Steps.{is_stopped, is_satisfied, unit_succeeded, unit_failed, is_finished}
+use Rattle.odb_sched.specs.run.Answers.{answer_of, answer, is_answered_2xx}
+use Rattle.odb_sched.specs.run.Laws.{statuses_of, AgreesInStatus, HasResultByStatuses, Agrees, HasOneResult, AgreesWithTable, IsAllOrNone, RestsOnSuccesses}
+use Rattle.odb_sched.specs.invariants.Kept.{IsReached}
 use Rattle.odb_sched.proofs.BelowLemmas.{all_below-Decides, list_all-each}
 use Rattle.odb_sched.proofs.FailingLemmas.{Fails-from_fails, fails-from_Fails, Fails-as}
 use Rattle.odb_sched.proofs.PhaseLemmas.{Reported-from, Failed-from, has_succeeded-from}
@@ -69,8 +68,8 @@ unit_satisfied state i (One r) reached within whole has = elim (reached.laws.lis
 ]
 unit_satisfied state i (Group u) reached within whole has = satisfied_of state i (Group u) reached within whole has
 
-pub sound_answers : (state : State) → IsReached state → IsSound state
-sound_answers state reached i within e =
+pub rests_on_successes : (state : State) → IsReached state → RestsOnSuccesses state
+rests_on_successes state reached i within e =
     let whole = answered-unit state i e in (
       (λ r has.
           let earlier : r < i = reached.laws.earlier i (One r) within has in
@@ -95,8 +94,8 @@ succeeded_sound state table _ reached agrees (propagated i need within has other
 pub succeeds-from : (state : State) (table : ℕ → Outcome) (u : ℕ) → IsReached state → Agrees state table → unit_succeeded state u ≡ true → succeeds state.shape (statuses_of table) u ≡ true
 succeeds-from state table u reached agrees whole = not_from_false _ (false_from_ne_true _ (λ failing. succeeded_sound state table u reached agrees (Fails-from_fails state.shape (is_bad_in table) u failing) whole))
 
-pub sound_result : (state : State) → IsReached state → HasSoundResult state
-sound_result state reached table agrees i within e =
+pub agrees_with_table : (state : State) → IsReached state → AgreesWithTable state
+agrees_with_table state reached table agrees i within e =
     let whole = answered-unit state i e in
     let (good, at) = good_in_table state table i agrees within (member_succeeded state.shape state.phases (unit_of state.shape i) i whole within refl) in
     (succeeds-from state table (unit_of state.shape i) reached agrees whole, rw (whole, at) (kept (is_success (table i).status)))
@@ -139,10 +138,10 @@ never_stopped state mode = rw mode refl
 pub one_result : (state : State) → IsReached state → is_finished state ≡ true → state.policy.mode ≡ Continue → HasOneResult state
 one_result state reached finished mode table agrees i within = (
   (
-    (λ e. (sound_result state reached table agrees i within e).0),
+    (λ e. (agrees_with_table state reached table agrees i within e).0),
     (λ good. answered-from state i within (unit_succeeded-from state table (unit_of state.shape i) reached finished (never_stopped state mode) agrees good)),
   ),
-  (λ e. (sound_result state reached table agrees i within e).1),
+  (λ e. (agrees_with_table state reached table agrees i within e).1),
 )
 
 -- ---- a table of outcomes with given statuses

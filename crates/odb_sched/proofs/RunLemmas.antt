@@ -3,25 +3,24 @@ use Rattle.std.proofs.Common.{◌<◌, ◌≡◌, ◌<◌, ◌∙◌, refl, true
 use Rattle.odb_check.specs.declared.plan.Plan.{Plan}
 use Rattle.odb_check.specs.Plans.{plan_records}
 use Rattle.odb_check.specs.Shape.{IsPlan}
-use Rattle.odb_sched.specs.Plans.{first_of}
+use Rattle.odb_sched.specs.invariants.Kept.{first_of, IsReached}
 use Rattle.odb_sched.specs.declared.policy.Policy.{Policy}
 use Rattle.odb_sched.specs.declared.event.Event.{Event}
 use Rattle.odb_sched.specs.declared.event.Event.TheVariants.{Start, Report}
-use Rattle.odb_sched.specs.State.{State, shape, size, at_first, after}
-use Rattle.odb_sched.specs.Steps.{may_come}
-use Rattle.odb_sched.specs.Runs.{event_position, after_all, IsRunFrom, IsRun, state_after}
-use Rattle.odb_sched.specs.Reached.{IsReached}
+use Rattle.odb_sched.specs.run.State.{State, shape, size, initial, after}
+use Rattle.odb_sched.specs.run.Steps.{may_come}
+use Rattle.odb_sched.specs.run.Runs.{event_position, after_all, IsRunFrom, IsRun, state_after}
 use Rattle.odb_sched.proofs.ReachedLemmas.{reached_first, reached_with, reached_after}
 
 pub reached_after_all : (state : State) (events : List Event) → IsReached state → IsRunFrom state events → IsReached (after_all state events)
 reached_after_all state [] reached run = reached
 reached_after_all state (e ∷ es) reached run = reached_after_all (after state e) es (reached_after state e reached run.0 run.1) run.2
 
-pub reached_at_first : (source : Plan) (policy : Policy) → IsPlan (shape source) → IsReached (at_first source policy)
-reached_at_first source policy laws = reached_with (plan_records source) (first_of (shape source) policy) (reached_first (shape source) policy laws)
+pub reached_initial : (source : Plan) (policy : Policy) → IsPlan (shape source) → IsReached (initial source policy)
+reached_initial source policy laws = reached_with (plan_records source) (first_of (shape source) policy) (reached_first (shape source) policy laws)
 
 pub reached_run : (source : Plan) (policy : Policy) (events : List Event) → IsPlan (shape source) → IsRun source policy events → IsReached (state_after source policy events)
-reached_run source policy events laws run = reached_after_all (at_first source policy) events (reached_at_first source policy laws) run
+reached_run source policy events laws run = reached_after_all (initial source policy) events (reached_initial source policy laws) run
 
 -- events one after another
 pub after_all-push : (state : State) (events : List Event) (event : Event) → after_all state (events ++ event ∷ []) ≡ after (after_all state events) event

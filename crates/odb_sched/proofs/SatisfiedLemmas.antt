@@ -7,8 +7,8 @@ use Rattle.odb_check.specs.declared.need.Need.TheVariants.{One, Group}
 use Rattle.odb_check.specs.Shape.{Shape, unit_of, needs_of}
 use Rattle.odb_sched.specs.declared.phase.Phase.{Phase}
 use Rattle.odb_sched.specs.declared.phase.Phase.TheVariants.{Unstarted}
-use Rattle.odb_sched.specs.Phases.{has_succeeded}
-use Rattle.odb_sched.specs.Steps.{succeeded_in, satisfied_in}
+use Rattle.odb_sched.specs.run.State.{has_succeeded}
+use Rattle.odb_sched.specs.run.Steps.{succeeded_in, satisfied_in}
 use Rattle.odb_sched.proofs.BelowLemmas.{all_below-Decides, list_all-each, list_all-from}
 use Rattle.odb_sched.proofs.PhaseLemmas.{get_or-set_cases}
 

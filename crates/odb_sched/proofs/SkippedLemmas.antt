@@ -2,17 +2,16 @@
 use Rattle.std.proofs.Common.{◌≡◌, ◌≢◌, ℕ, ◌<◌, ◌≤◌, ◌+◌, ◌∙◌, sym, ap, refl, arith, Bool, true, false, ◌&&◌, not, eqb, eq-eqb, ne_eqb, List, length, get_or, set, get_or-set_other, get_or-set_same, length-set, inl, inr}
 use Rattle.std.proofs.Math.Bool.{and-true}
 use Rattle.std.proofs.lemmas.Bool.{cases_eq, cases_lt, le-leb, lt-leb}
-use Rattle.odb_check.specs.Shape.{Shape, unit_of}
+use Rattle.odb_check.specs.Shape.{Shape, unit_of, IsSpan}
 use Rattle.odb_dense.specs.declared.worklist.Mark.{Mark}
 use Rattle.odb_dense.specs.declared.worklist.Mark.TheVariants.{Unvisited}
 use Rattle.odb_sched.specs.declared.phase.Phase.{Phase}
 use Rattle.odb_sched.specs.declared.phase.Phase.TheVariants.{Unstarted}
-use Rattle.odb_sched.specs.Phases.{is_unstarted}
-use Rattle.odb_sched.specs.Plans.{IsSpan}
+use Rattle.odb_sched.specs.run.State.{is_unstarted}
 use Rattle.odb_sched.specs.declared.counts.Progress.{Progress}
 use Rattle.odb_dense.specs.Marks.{is_visited}
-use Rattle.odb_sched.specs.ProgressCounts.{is_skipped, AreReady}
-use Rattle.odb_sched.specs.Propagation.{is_skipped_until}
+use Rattle.odb_sched.specs.invariants.Counts.{is_skipped, AreReady}
+use Rattle.odb_sched.specs.invariants.Propagation.{is_skipped_until}
 
 -- if the same requests are skipped, the same are ready
 pub ready_same : (plan : Shape) (skipped other : ℕ → Bool) (phases : List Phase) (unmet : List ℕ) (ready : List Bool) → ((i : ℕ) → i < length plan.units → skipped i ≡ other i) → AreReady plan skipped phases unmet ready → AreReady plan other phases unmet ready

@@ -3,8 +3,7 @@ use Rattle.std.proofs.Common.{ℕ, ◌<◌, arith, length, get_or, Contains, All
 use Rattle.std.proofs.lemmas.List.Elements.{Contains-get_or}
 use Rattle.odb_check.specs.declared.need.Need.{Need}
 use Rattle.odb_check.specs.declared.need.Need.TheVariants.{One, Group}
-use Rattle.odb_check.specs.Shape.{Shape, IsPlan, unit_of, needs_of}
-use Rattle.odb_sched.specs.Plans.{IsNeed}
+use Rattle.odb_check.specs.Shape.{Shape, IsPlan, unit_of, needs_of, IsNeed}
 
 -- each need of a request is a request or a unit of the plan
 known_need : (plan : Shape) (i : ℕ) (need : Need) → IsPlan plan → i < length plan.units → Contains (needs_of plan i) need → IsNeed plan need

@@ -6,9 +6,8 @@ use Rattle.odb_sched.specs.declared.phase.Phase.{Phase}
 use Rattle.odb_sched.specs.declared.phase.Phase.TheVariants.{Unstarted, Running, Reported}
 use Rattle.std.proofs.lemmas.Bool.{true≢false, and_from, and_parts, not-true, not_from_false}
 use Rattle.odb_check.specs.Shape.{unit_of}
-use Rattle.odb_sched.specs.Phases.{is_unstarted, is_running}
-use Rattle.odb_sched.specs.State.{State, phase_at}
-use Rattle.odb_sched.specs.Steps.{is_stopped, unit_failed, all_satisfied, running_count, may_start}
+use Rattle.odb_sched.specs.run.State.{is_unstarted, is_running, State, phase_at}
+use Rattle.odb_sched.specs.run.Steps.{is_stopped, unit_failed, all_satisfied, running_count, may_start}
 
 pub record MayStart (state : State) (i : ℕ) : Type 0 where
   pub fresh : is_unstarted (phase_at state i) ≡ true

@@ -4,16 +4,15 @@ use Rattle.std.proofs.Common.{◌≡◌, ℕ, zero, suc, ◌<◌, ◌==◌, ◌�
 use Rattle.std.proofs.lemmas.Bool.{cases_eq}
 use Rattle.odb_check.specs.declared.need.Need.{Need}
 use Rattle.odb_check.specs.declared.need.Need.TheVariants.{One, Group}
-use Rattle.odb_check.specs.Firsts.{count_below}
+use Rattle.odb_check.specs.Firsts.{count_below, all_below}
 use Rattle.odb_check.specs.Shape.{Shape, unit_of, needs_of}
 use Rattle.odb_sched.specs.declared.phase.Phase.{Phase}
 use Rattle.odb_sched.specs.declared.phase.Phase.TheVariants.{Unstarted, Running}
 use Rattle.odb_dense.specs.declared.worklist.Mark.{Mark}
-use Rattle.odb_sched.specs.Below.{all_below}
-use Rattle.odb_sched.specs.Failing.{fails}
-use Rattle.odb_sched.specs.Phases.{is_unstarted, is_running, has_succeeded, has_failed}
-use Rattle.odb_sched.specs.Steps.{satisfied_in}
-use Rattle.odb_sched.specs.ProgressCounts.{AreReady, ArePropagated, unmet_in, pending_in}
+use Rattle.odb_sched.specs.run.Failing.{fails}
+use Rattle.odb_sched.specs.run.State.{is_unstarted, is_running, has_succeeded, has_failed}
+use Rattle.odb_sched.specs.run.Steps.{satisfied_in}
+use Rattle.odb_sched.specs.invariants.Counts.{AreReady, ArePropagated, unmet_in, pending_in}
 use Rattle.odb_sched.proofs.PhaseLemmas.{Running-from}
 
 -- a test that is the same for a running request and an unstarted one has the same value before the start

@@ -4,9 +4,9 @@ use Rattle.std.proofs.lemmas.Bool.{true≢false}
 use Rattle.odb_doc.specs.declared.recorded.outcome.Outcome.{Outcome}
 use Rattle.odb_sched.specs.declared.phase.Phase.{Phase}
 use Rattle.odb_sched.specs.declared.phase.Phase.TheVariants.{Unstarted, Running, Reported}
-use Rattle.odb_sched.specs.Statuses.{is_success, is_status}
-use Rattle.odb_sched.specs.Answers.{outcome_of, answer_of, answer, status_of, HasStatuses}
-use Rattle.odb_sched.specs.State.{State, phase_at}
+use Rattle.odb_doc.specs.Statuses.{is_success, is_status}
+use Rattle.odb_sched.specs.run.Answers.{outcome_of, answer_of, answer, status_of, HasStatuses}
+use Rattle.odb_sched.specs.run.State.{State, phase_at}
 use Rattle.odb_sched.proofs.PhaseLemmas.{get_or-set_cases}
 
 -- what a request has reported has such a status, if it has reported

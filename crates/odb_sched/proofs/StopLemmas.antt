@@ -5,8 +5,8 @@ use Rattle.std.proofs.lemmas.Bool.{true≢false}
 use Rattle.odb_sched.specs.declared.policy.Mode.{Mode}
 use Rattle.odb_sched.specs.declared.phase.Phase.{Phase}
 use Rattle.odb_sched.specs.declared.phase.Phase.TheVariants.{Unstarted, Running, Reported}
-use Rattle.odb_sched.specs.Phases.{is_running, has_erred}
-use Rattle.odb_sched.specs.Steps.{stops, stopped_in}
+use Rattle.odb_sched.specs.run.State.{is_running, has_erred}
+use Rattle.odb_sched.specs.run.Steps.{stops, stopped_in}
 
 running_not_erred : (phase : Phase) → is_running phase ≡ true → has_erred phase ≡ false
 running_not_erred Unstarted e = refl

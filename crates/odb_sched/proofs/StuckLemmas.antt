@@ -6,13 +6,12 @@ use Rattle.odb_check.specs.declared.need.Need.{Need}
 use Rattle.odb_check.specs.declared.need.Need.TheVariants.{One, Group}
 use Rattle.odb_check.specs.Shape.{IsPlan, unit_of, needs_of}
 use Rattle.odb_sched.specs.declared.phase.Phase.TheVariants.{Unstarted}
-use Rattle.odb_sched.specs.Below.{any_below, all_below}
-use Rattle.odb_sched.specs.Phases.{is_running, is_reported, has_succeeded, has_failed}
-use Rattle.odb_sched.specs.State.{State, size, phase_at}
-use Rattle.odb_sched.specs.Failing.{own, propagated, unit_needed}
-use Rattle.odb_sched.specs.Steps.{is_stopped, is_satisfied, unit_failed, may_start, running_count, is_finished}
-use Rattle.odb_sched.specs.Laws.{IsNeverStuck}
-use Rattle.odb_sched.specs.Reached.{IsReached}
+use Rattle.odb_check.specs.Firsts.{any_below, all_below}
+use Rattle.odb_sched.specs.run.State.{is_running, is_reported, has_succeeded, has_failed, State, size, phase_at}
+use Rattle.odb_sched.specs.run.Failing.{own, propagated, unit_needed}
+use Rattle.odb_sched.specs.run.Steps.{is_stopped, is_satisfied, unit_failed, may_start, running_count, is_finished}
+use Rattle.odb_sched.specs.run.Laws.{IsNeverStuck}
+use Rattle.odb_sched.specs.invariants.Kept.{IsReached}
 use Rattle.odb_sched.proofs.BelowLemmas.{any_below-Decides, all_below-Decides, IsFirstFalse, first_false, list_all-from, count_by-none}
 use Rattle.odb_sched.proofs.FailingLemmas.{Fails-from_fails, fails-from_Fails}
 use Rattle.odb_sched.proofs.PhaseLemmas.{is_unstarted-from, is_unstarted-reported, has_succeeded-from}

@@ -6,9 +6,10 @@ use Rattle.odb_check.specs.Shape.{Shape, IsPlan, unit_of}
 use Rattle.odb_sched.specs.declared.phase.Phase.{Phase}
 use Rattle.odb_sched.specs.declared.phase.Phase.TheVariants.{Unstarted, Running, Reported}
 use Rattle.odb_dense.specs.declared.worklist.Mark.{Mark}
-use Rattle.odb_sched.specs.Failing.{fails}
-use Rattle.odb_sched.specs.Phases.{has_succeeded, has_failed}
-use Rattle.odb_sched.specs.ProgressCounts.{AreUnmet, ArePending, ArePropagated, need_count, unmet_in, satisfied_by_unit, pending_in}
+use Rattle.odb_sched.specs.run.Failing.{fails}
+use Rattle.odb_sched.specs.run.State.{has_succeeded, has_failed}
+use Rattle.odb_sched.specs.invariants.Counts.{AreUnmet, ArePending, ArePropagated, unmet_in, satisfied_by_unit, pending_in}
+use Rattle.odb_sched.specs.invariants.Graphs.{need_count}
 use Rattle.odb_sched.proofs.UnmetLemmas.{unmet_falls, pending_own, pending_other}
 
 success_failed : (phase : Phase) → has_succeeded phase ≡ true → has_failed phase ≡ false

@@ -5,9 +5,9 @@ use Rattle.odb_sched.specs.declared.event.Event.{Event}
 use Rattle.odb_sched.specs.declared.event.Event.TheVariants as kinds
 use Rattle.odb_sched.specs.declared.refusal.RunRefusal.{RunRefusal}
 use Rattle.odb_sched.specs.declared.refusal.RunRefusal.TheVariants as refusal
-use Rattle.odb_sched.specs.State.{State, size, after}
-use Rattle.odb_sched.specs.Steps.{may_come}
-use Rattle.odb_sched.specs.Runs.{event_position, after_all, IsRunFrom, RefusesEvent, StopsAt, Refuses}
+use Rattle.odb_sched.specs.run.State.{State, size, after}
+use Rattle.odb_sched.specs.run.Steps.{may_come}
+use Rattle.odb_sched.specs.run.Runs.{event_position, after_all, IsRunFrom, RefusesEvent, StopsAt, Refuses}
 use Rattle.odb_sched.proofs.CauseLemmas.{start_barred, report_barred}
 use Rattle.odb_sched.proofs.RunLemmas.{after_all-push, joined, shape-after_all}
 

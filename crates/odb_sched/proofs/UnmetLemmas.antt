@@ -5,15 +5,14 @@ use Rattle.std.proofs.lemmas.List.{get_or_read}
 use Rattle.std.proofs.lemmas.List.Sums.{sum_by-cons}
 use Rattle.odb_check.specs.declared.need.Need.{Need}
 use Rattle.odb_check.specs.declared.need.Need.TheVariants.{One, Group}
-use Rattle.odb_check.specs.Firsts.{count_below}
-use Rattle.odb_check.specs.Shape.{Shape, IsPlan, unit_of, needs_of}
+use Rattle.odb_check.specs.Firsts.{count_below, all_below}
+use Rattle.odb_check.specs.Shape.{Shape, IsPlan, unit_of, needs_of, IsNeed}
 use Rattle.odb_sched.specs.declared.phase.Phase.{Phase}
 use Rattle.odb_sched.specs.declared.phase.Phase.TheVariants.{Unstarted, Running}
-use Rattle.odb_sched.specs.Below.{all_below}
-use Rattle.odb_sched.specs.Phases.{has_succeeded}
-use Rattle.odb_sched.specs.Plans.{IsNeed}
-use Rattle.odb_sched.specs.Steps.{succeeded_in, satisfied_in}
-use Rattle.odb_sched.specs.ProgressCounts.{AreDependents, key_of, need_count, unmet_in, satisfied_by_unit, pending_in}
+use Rattle.odb_sched.specs.run.State.{has_succeeded}
+use Rattle.odb_sched.specs.run.Steps.{succeeded_in, satisfied_in}
+use Rattle.odb_sched.specs.invariants.Graphs.{AreDependents, key_of, need_count}
+use Rattle.odb_sched.specs.invariants.Counts.{unmet_in, satisfied_by_unit, pending_in}
 use Rattle.odb_sched.proofs.BelowLemmas.{count_by-none}
 use Rattle.odb_sched.proofs.CountLemmas.{count_same, count_less}
 use Rattle.odb_sched.proofs.SatisfiedLemmas.{member_succeeded}

@@ -1,7 +1,41 @@
-ghost use Rattle.std.specs.Prelude.{◌<◌, length, slice_index_or};
-ghost use Rattle.odb_sched.specs.Choosing.{positions_of, IsLeast, IsGreatest};
+//! Who decides which step of a run comes next: a chooser, or one of the built-in orders.
 
-use crate::order::Order;
+ghost use Rattle.std.specs.Prelude.{◌≡◌, ℕ, false, None, slice_index_or, IfSome, ◌<◌, length};
+ghost use Rattle.odb_sched.specs.run.Choosing.{IsEndOf, positions_of, IsLeast, IsGreatest};
+
+use odb_dense::OrderedPositions;
+
+/// A built-in order, which an execution follows without a search through all positions.
+#[derive(Clone, Copy, Debug, PartialEq, Eq)]
+pub enum Order {
+    /// The order of [`crate::First`].
+    First,
+    /// The order of [`crate::Last`].
+    Last,
+    /// The order of [`crate::Wide`].
+    Wide,
+}
+
+/// One end of a set of positions.
+#[derive(Clone, Copy, Debug)]
+pub(crate) enum End {
+    Least,
+    Greatest,
+}
+
+impl End {
+    /// Returns the position at this end of a set, or `None` if the set is empty.
+    pub(crate) fn of(self, set: &mut OrderedPositions) -> Option<u32>
+        ensures same { set.new ≡ set.old }
+        ensures none { result ≡ None → (i : ℕ) → slice_index_or set.old i false ≡ false }
+        ensures some { IfSome result (IsEndOf self set.old) }
+    {
+        match self {
+            End::Least => set.least(),
+            End::Greatest => set.greatest(),
+        }
+    }
+}
 
 /// Which step of a run comes next: a place, counted from 0, in one of the two slices.
 #[derive(Clone, Copy, Debug, PartialEq, Eq)]
@@ -21,9 +55,9 @@ pub enum Choice {
 /// nothing of its calls writes `λ _ _ _ _ _. Unit {0}`.
 pub trait Chooser {
     ghost use Rattle.std.specs.Prelude.{◌≡◌, ◌<◌, ◌+◌, length, Option, IfSome};
-    ghost use Rattle.odb_sched.specs.declared.order.Order.{Order};
-    ghost use Rattle.odb_sched.specs.declared.step.Step.{Step};
-    ghost use Rattle.odb_sched.specs.Choosing.{Positions, positions_of, IsInRange, picked, AllowsOrder};
+    ghost use Rattle.odb_sched.specs.declared.chooser.Order.{Order};
+    ghost use Rattle.odb_sched.specs.declared.event.Step.{Step};
+    ghost use Rattle.odb_sched.specs.run.Choosing.{Positions, positions_of, IsInRange, picked, AllowsOrder};
 
     /// Which steps it allows for the ready and the running positions.
     ghost allows: { Self → Positions → Positions → Step → Type 0 };
@@ -92,8 +126,8 @@ pub struct First;
 
 impl Chooser for First {
     ghost use Rattle.std.specs.Prelude.{◌≡◌, Some};
-    ghost use Rattle.odb_sched.specs.declared.order.Order.TheVariants as order;
-    ghost use Rattle.odb_sched.specs.Choosing.{AllowsFirst};
+    ghost use Rattle.odb_sched.specs.declared.chooser.Order.TheVariants as order;
+    ghost use Rattle.odb_sched.specs.run.Choosing.{AllowsFirst};
 
     ghost allows = { λ _. AllowsFirst };
 
@@ -120,8 +154,8 @@ pub struct Last;
 
 impl Chooser for Last {
     ghost use Rattle.std.specs.Prelude.{◌≡◌, Some};
-    ghost use Rattle.odb_sched.specs.declared.order.Order.TheVariants as order;
-    ghost use Rattle.odb_sched.specs.Choosing.{AllowsLast};
+    ghost use Rattle.odb_sched.specs.declared.chooser.Order.TheVariants as order;
+    ghost use Rattle.odb_sched.specs.run.Choosing.{AllowsLast};
 
     ghost allows = { λ _. AllowsLast };
 
@@ -148,8 +182,8 @@ pub struct Wide;
 
 impl Chooser for Wide {
     ghost use Rattle.std.specs.Prelude.{◌≡◌, Some};
-    ghost use Rattle.odb_sched.specs.declared.order.Order.TheVariants as order;
-    ghost use Rattle.odb_sched.specs.Choosing.{AllowsWide};
+    ghost use Rattle.odb_sched.specs.declared.chooser.Order.TheVariants as order;
+    ghost use Rattle.odb_sched.specs.run.Choosing.{AllowsWide};
 
     ghost allows = { λ _. AllowsWide };
 
@@ -173,7 +207,7 @@ impl Chooser for Wide {
 /// Each order is also a chooser, which does what the type of this name does.
 impl Chooser for Order {
     ghost use Rattle.std.specs.Prelude.{◌≡◌, Some};
-    ghost use Rattle.odb_sched.specs.Choosing.{AllowsOrder};
+    ghost use Rattle.odb_sched.specs.run.Choosing.{AllowsOrder};
 
     ghost allows = { AllowsOrder };
 

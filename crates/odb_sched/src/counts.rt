@@ -1,18 +1,20 @@
+//! How far a run has come: the phases of its requests, and what is counted beside them.
+
 ghost use Rattle.std.specs.Prelude.{◌≡◌, ◌<◌, ◌&&◌, ◌||◌, ◌==◌, ℕ, true, false, not, nat_lt, length, find, replicate, slice_index_or, slice_set, count_by, IfOk, IfSome, IsSome, None, All};
 ghost use Rattle.odb_check.specs.Shape as shapes;
 ghost use Rattle.odb_dense.specs.declared.worklist.Mark.TheVariants.{Unvisited};
 ghost use Rattle.odb_dense.specs.Lists.{ListsOnce};
 ghost use Rattle.odb_dense.specs.Marks.{is_visited};
 ghost use Rattle.odb_sched.specs.declared.phase.Phase.TheVariants.{Unstarted, Running};
-ghost use Rattle.odb_sched.specs.Ends.{IsEndOf};
-ghost use Rattle.odb_sched.specs.FirstCounts as first;
-ghost use Rattle.odb_sched.specs.Phases as tests;
-ghost use Rattle.odb_sched.specs.Plans.{IsNeed, state_of, first_of};
-ghost use Rattle.odb_sched.specs.ProgressCounts as counting;
-ghost use Rattle.odb_sched.specs.Steps.{satisfied_in};
+ghost use Rattle.odb_sched.specs.run.Choosing.{IsEndOf};
+ghost use Rattle.odb_sched.specs.invariants.Counts as counts;
+ghost use Rattle.odb_sched.specs.run.State as state;
+ghost use Rattle.odb_check.specs.Shape.{IsNeed};
+ghost use Rattle.odb_sched.specs.invariants.Kept.{state_of, first_of};
+ghost use Rattle.odb_sched.specs.run.Steps.{satisfied_in};
 
+use crate::chooser::End;
 use crate::graph::Graph;
-use crate::order::End;
 use crate::phase::Phase;
 use crate::policy::Policy;
 use odb_check::Need;
@@ -36,7 +38,7 @@ pub(crate) struct Progress {
 
 /// Returns for each request the number of its dependencies.
 fn need_counts(alloc: Global, graph: &Graph) -> Result<Vec<usize>, AllocError>
-    ensures { IfOk result (λ counts. counts.items ≡ first.need_counts graph.now.shape) }
+    ensures { IfOk result (λ found. found.items ≡ counts.need_counts graph.now.shape) }
 {
     let mut counts = Vec::with_capacity(alloc, graph.len() as usize)?;
     for i in 0..graph.len() {
@@ -47,7 +49,7 @@ fn need_counts(alloc: Global, graph: &Graph) -> Result<Vec<usize>, AllocError>
 
 /// Returns for each unit the number of its members.
 fn member_counts(alloc: Global, graph: &Graph) -> Result<Vec<u32>, AllocError>
-    ensures counts { IfOk result (λ counts. counts.items ≡ first.member_counts graph.now.shape) }
+    ensures counts { IfOk result (λ found. found.items ≡ counts.member_counts graph.now.shape) }
     ensures some { IfOk result (λ counts. All (λ count. 0 < count) counts.items) }
 {
     let mut counts = Vec::with_capacity(alloc, graph.unit_count() as usize)?;
@@ -62,7 +64,7 @@ fn member_counts(alloc: Global, graph: &Graph) -> Result<Vec<u32>, AllocError>
 fn without_needs(alloc: Global, graph: &Graph) -> Result<OrderedPositions, AllocError>
     ensures each { IfOk result (λ free. length free ≡ length graph.now.shape.units) }
     ensures exact { IfOk result (λ free. (i : ℕ) → i < length graph.now.shape.units
-        → slice_index_or free i false ≡ (first.needs_in graph.now.shape i == 0)) }
+        → slice_index_or free i false ≡ (counts.needs_in graph.now.shape i == 0)) }
 {
     let mut free = OrderedPositions::new(alloc, graph.len())?;
     for i in 0..graph.len() {
@@ -81,7 +83,7 @@ impl Progress {
     ///
     /// If memory for the requests and the units cannot be allocated.
     pub(crate) fn new(alloc: Global, graph: &Graph) -> Result<Progress, AllocError>
-        ensures { IfOk result (counting.AreCounts graph.now.shape
+        ensures { IfOk result (counts.AreCounts graph.now.shape
             (replicate (length graph.now.shape.units) Unstarted)) }
     {
         graph.laws();
@@ -111,9 +113,9 @@ fn all_unstarted(alloc: Global, count: u32) -> Result<Vec<Phase>, AllocError>
 fn begin(graph: &Graph, phases: &[Phase], i: u32, progress: &mut Progress)
     requires each { length phases.now ≡ length graph.now.shape.units }
     requires request { i < length graph.now.shape.units }
-    requires runs { tests.is_running (slice_index_or phases.now i Unstarted) ≡ true }
-    requires counts { counting.AreCounts graph.now.shape (slice_set phases.now i Unstarted) progress.old }
-    ensures { counting.AreCounts graph.now.shape phases.now progress.new }
+    requires runs { state.is_running (slice_index_or phases.now i Unstarted) ≡ true }
+    requires counts { counts.AreCounts graph.now.shape (slice_set phases.now i Unstarted) progress.old }
+    ensures { counts.AreCounts graph.now.shape phases.now progress.new }
 {
     progress.ready.remove(i);
     progress.running.insert(i);
@@ -124,7 +126,7 @@ fn begin(graph: &Graph, phases: &[Phase], i: u32, progress: &mut Progress)
 fn is_satisfied(graph: &Graph, phases: &[Phase], pending: &[u32], need: Need) -> bool
     requires each { length phases.now ≡ length graph.now.shape.units }
     requires members { length pending.now ≡ graph.now.shape.unit_count }
-    requires pending { counting.ArePending graph.now.shape phases.now pending.now }
+    requires pending { counts.ArePending graph.now.shape phases.now pending.now }
     requires known { IsNeed graph.now.shape need }
     ensures { result ≡ satisfied_in graph.now.shape phases.now need }
 {
@@ -139,7 +141,7 @@ fn is_satisfied(graph: &Graph, phases: &[Phase], pending: &[u32], need: Need) ->
 pub(crate) fn first_unmet(graph: &Graph, phases: &[Phase], pending: &[u32], i: u32) -> Option<Need>
     requires each { length phases.now ≡ length graph.now.shape.units }
     requires members { length pending.now ≡ graph.now.shape.unit_count }
-    requires pending { counting.ArePending graph.now.shape phases.now pending.now }
+    requires pending { counts.ArePending graph.now.shape phases.now pending.now }
     requires request { i < length graph.now.shape.units }
     ensures { result
         ≡ find (λ need. not (satisfied_in graph.now.shape phases.now need))
@@ -164,7 +166,7 @@ pub(crate) struct Counts {
 }
 
 impl Counts {
-    ghost use Rattle.odb_sched.specs.Kept.{IsCounted};
+    ghost use Rattle.odb_sched.specs.invariants.Kept.{IsCounted};
 
     /// Returns the counts before the first event.
     pub(crate) fn new(alloc: Global, graph: &Graph, policy: Policy) -> Result<Counts, AllocError>
@@ -192,7 +194,7 @@ impl Counts {
     pub(crate) fn start(&mut self, graph: &Graph, policy: Policy, i: u32)
         requires each { length self.old.phases.items ≡ length graph.now.shape.units }
         requires request { i < length graph.now.shape.units }
-        requires unstarted { tests.is_unstarted (slice_index_or self.old.phases.items i Unstarted) ≡ true }
+        requires unstarted { state.is_unstarted (slice_index_or self.old.phases.items i Unstarted) ≡ true }
         requires counts { IsCounted (state_of graph.now.shape policy self.old.phases.items) self.old }
         ensures phases { self.new.phases.items ≡ slice_set self.old.phases.items i Running }
         ensures counts { IsCounted (state_of graph.now.shape policy self.new.phases.items) self.new }

@@ -1,9 +1,11 @@
+//! A finished run, and what each of its requests is answered.
+
 ghost use Rattle.std.specs.Prelude.{All, option_map, ℕ, ◌≡◌, ◌<◌, true, length, IfOk};
 ghost use Rattle.odb_check.specs.Plans.{plan_records};
 ghost use Rattle.odb_sched.specs.declared.policy.Mode.TheVariants.{Continue};
-ghost use Rattle.odb_sched.specs.State as states;
-ghost use Rattle.odb_sched.specs.Steps as steps;
-ghost use Rattle.odb_sched.specs.Laws as laws;
+ghost use Rattle.odb_sched.specs.run.State as state;
+ghost use Rattle.odb_sched.specs.run.Steps as steps;
+ghost use Rattle.odb_sched.specs.run.Laws as laws;
 
 use crate::phase::{Phase, is_success};
 use crate::scheduler::Scheduler;
@@ -23,7 +25,7 @@ pub enum Answer<'a> {
 }
 
 impl Answer<'_> {
-    ghost use Rattle.odb_sched.specs.Answers.{shown, status_of};
+    ghost use Rattle.odb_sched.specs.run.Answers.{shown, status_of};
 
     /// Returns the HTTP status, which is 424 for a failed dependency. That of an answer of a finished
     /// run is from 200 to 599 ([`Done::answer`]).
@@ -45,7 +47,7 @@ pub struct Done<'p> {
 
 impl<'p> Model for Done<'p> {
     ghost use Rattle.odb_doc.specs.DataCodes.{data_code, method_code};
-    ghost use Rattle.odb_sched.specs.State.{State};
+    ghost use Rattle.odb_sched.specs.run.State.{State};
 
     ghost Value = { State };
 
@@ -55,7 +57,7 @@ impl<'p> Model for Done<'p> {
 
     ghost coded = { Prim.hlevel (codes, data_code, method_code, policies.the_row.coded, phase.the_row.coded) };
 
-    ghost use Rattle.odb_sched.specs.Kept.{last_state, HasFinished};
+    ghost use Rattle.odb_sched.specs.invariants.Kept.{last_state, HasFinished};
 
     ghost view = { last_state };
 
@@ -64,8 +66,8 @@ impl<'p> Model for Done<'p> {
 
 impl<'p> Done<'p> {
     ghost use Rattle.std.specs.Prelude.{IsTrue};
-    ghost use Rattle.odb_sched.specs.Answers as answers;
-    ghost use Rattle.odb_sched.specs.Statuses.{is_status};
+    ghost use Rattle.odb_sched.specs.run.Answers as answers;
+    ghost use Rattle.odb_doc.specs.Statuses.{is_status};
 
     /// Returns the finished run, which a caller keeps that has read its answers.
     pub fn into_scheduler(self) -> Scheduler<'p>
@@ -77,8 +79,8 @@ impl<'p> Done<'p> {
     /// Returns the plan that was run.
     pub fn plan(&self) -> &'p Plan<'p>
         ensures plan { plan_records result.now ≡ self.now.requests }
-        ensures shape { states.shape result.now ≡ self.now.shape }
-        ensures size { states.size self.now ≡ length self.now.requests }
+        ensures shape { state.shape result.now ≡ self.now.shape }
+        ensures size { state.size self.now ≡ length self.now.requests }
     {
         self.run.plan()
     }
@@ -90,9 +92,9 @@ impl<'p> Done<'p> {
         ensures one_result { self.now.policy.mode ≡ Continue → laws.HasOneResult self.now }
         ensures by_statuses { self.now.policy.mode ≡ Continue
             → laws.HasResultByStatuses self.now }
-        ensures sound_result { laws.HasSoundResult self.now }
+        ensures agrees_with_table { laws.AgreesWithTable self.now }
         ensures all_or_none { laws.IsAllOrNone self.now }
-        ensures sound { laws.IsSound self.now }
+        ensures rests_on_successes { laws.RestsOnSuccesses self.now }
         ensures statuses { answers.HasStatuses self.now }
         ensures answered { (i : ℕ) → is_status (answers.status_of (answers.answer self.now i)) ≡ true }
     {
@@ -101,7 +103,7 @@ impl<'p> Done<'p> {
 
     /// Returns the answer to request `i`, counted from 0. Its status is from 200 to 599.
     pub fn answer(&self, i: u32) -> Answer<'_>
-        requires { i < states.size self.now }
+        requires { i < state.size self.now }
         ensures value { answers.shown result ≡ answers.answer self.now i }
         ensures status { IsTrue (is_status (answers.status_of (answers.shown result))) }
     {
@@ -120,7 +122,7 @@ impl<'p> Done<'p> {
 
     /// Returns the outcome that request `i` reported, if it did: also one that has to be undone.
     pub fn reported(&self, i: u32) -> Option<&Outcome>
-        requires { i < states.size self.now }
+        requires { i < state.size self.now }
         ensures { option_map (λ outcome. outcome.now) result ≡ answers.reported self.now i }
     {
         match self.run.phase(i) {
@@ -131,7 +133,7 @@ impl<'p> Done<'p> {
 
     /// Returns whether a request reported a success that has to be undone.
     fn is_undone(&self, i: u32) -> bool
-        requires { i < states.size self.now }
+        requires { i < state.size self.now }
         ensures { result ≡ answers.is_undone self.now i }
     {
         self.run.phase(i).has_succeeded() && !self.run.unit_succeeded(i)
@@ -142,7 +144,7 @@ impl<'p> Done<'p> {
     pub fn undone(&self, alloc: Global) -> Result<Vec<u32>, AllocError>
         ensures value { IfOk result (λ positions. positions.items ≡ answers.undone self.now) }
         ensures within { IfOk result (λ positions.
-            All (λ i. i < states.size self.now) positions.items) }
+            All (λ i. i < state.size self.now) positions.items) }
     {
         let mut positions = Vec::new(alloc);
         for i in (0..self.plan().len()).rev() {

@@ -1,17 +1,28 @@
-ghost use Rattle.std.specs.Prelude.{◌≡◌, ◌<◌, true, length, All, OnOk, IfOk, IfErr};
+//! Events of a run: lists of them, recorded ones, and the steps that they leave without outcomes.
+
+ghost use Rattle.std.specs.Prelude.{◌≡◌, ◌<◌, true, length, All, OnOk, IfOk, IfErr, List, Some};
 ghost use Rattle.odb_check.specs.Plans.{plan_records};
-ghost use Rattle.odb_sched.specs.State as states;
-ghost use Rattle.odb_sched.specs.Steps.{may_come};
-ghost use Rattle.odb_sched.specs.Runs.{event_position, IsRun, state_after, RefusesEvent, Refuses};
-ghost use Rattle.odb_sched.specs.Laws.{StartsLast, HasFewEvents};
+ghost use Rattle.odb_sched.specs.run.State as state;
+ghost use Rattle.odb_sched.specs.run.Steps.{may_come};
+ghost use Rattle.odb_sched.specs.run.Runs.{event_position, IsRun, state_after, RefusesEvent, Refuses};
+ghost use Rattle.odb_sched.specs.run.Laws.{StartsAfterDependencies, HasFewEvents};
+ghost use Rattle.std.specs.List.{AllZip};
+ghost use Rattle.odb_doc.specs.recorded.EventLists.{entries};
+ghost use Rattle.odb_doc.specs.recorded.Events.{event_value};
+ghost use Rattle.odb_doc.specs.batch.Records.{Record};
+ghost use Rattle.odb_check.specs.Positions.{id_at};
+ghost use Rattle.odb_sched.specs.declared.event.ResolveFault.TheVariants.{OutOfMemory};
+ghost use Rattle.odb_sched.specs.run.Refusals.{resolve_row};
+ghost use Rattle.odb_sched.specs.run.Resolving.{IsKnown, IsResolved, RefusesNamed, named_id};
 
 use crate::laws::every_run;
 use crate::policy::Policy;
 use crate::refusal::RunRefusal;
 use crate::scheduler::Scheduler;
 use odb_check::Plan;
-use odb_doc::Outcome;
-use std::alloc::Global;
+use odb_doc::{Events, Fault, NamedEvent, Outcome, Place, Refusal};
+use std::alloc::{AllocError, AllocFailed, Global};
+use thiserror::Error;
 
 /// An event of a run, at the position of its request, counted from 0.
 #[derive(Debug, Drop)]
@@ -24,9 +35,9 @@ pub enum Event {
 
 /// Takes the event at index `at` of its list, if it may come.
 fn take(scheduler: &mut Scheduler<'_>, at: usize, event: Event) -> Result<(), RunRefusal>
-    requires { event_position event < states.size scheduler.old }
+    requires { event_position event < state.size scheduler.old }
     ensures allowed { OnOk result (may_come scheduler.old event ≡ true) }
-    ensures state { OnOk result (scheduler.new ≡ states.after scheduler.old event) }
+    ensures state { OnOk result (scheduler.new ≡ state.after scheduler.old event) }
     ensures refused { IfErr result (RefusesEvent scheduler.old at event) }
 {
     match event {
@@ -58,8 +69,8 @@ pub fn run<'a: 'p, 'p>(
     ensures state { IfOk result (λ scheduler. scheduler
         ≡ state_after plan.now policy events.items) }
     ensures refused { IfErr result (Refuses
-        (states.at_first plan.now policy) events.items) }
-    ensures dependencies_first { OnOk result (StartsLast (plan_records plan.now) events.items) }
+        (state.initial plan.now policy) events.items) }
+    ensures dependencies_first { OnOk result (StartsAfterDependencies (plan_records plan.now) events.items) }
     ensures few_events { OnOk result (HasFewEvents events.items) }
 {
     every_run(plan);
@@ -68,4 +79,101 @@ pub fn run<'a: 'p, 'p>(
         take(&mut scheduler, at, event)?;
     }
     Ok(scheduler)
+}
+
+/// A step of an execution, at the position of a request, counted from 0: an event without its
+/// outcome.
+#[derive(Clone, Copy, Debug, PartialEq, Eq)]
+pub enum Step {
+    /// The request was sent.
+    Start(u32),
+    /// The service was asked for the outcome of the request.
+    Report(u32),
+}
+
+/// Why recorded events are not events of a batch.
+#[derive(Clone, Copy, Debug, PartialEq, Eq, Error)]
+pub enum ResolveFault {
+    /// F65: the batch has no request with the id of the event at this index.
+    #[error("event {at}: the batch has no such request")]
+    UnknownEvent { at: usize },
+    /// An allocation failed. That says nothing about the events.
+    #[error("out of memory")]
+    OutOfMemory,
+}
+
+impl Fault for ResolveFault {
+    ghost row = { resolve_row };
+
+    fn refusal(&self) -> Option<Refusal> {
+        match *self {
+            ResolveFault::UnknownEvent { at } => {
+                Some(Refusal::new(("F65", "UnknownEvent"), Place::Event(at)))
+            }
+            ResolveFault::OutOfMemory => None,
+        }
+    }
+}
+
+impl From<AllocError> for ResolveFault {
+    ghost from_gives = { λ _ fault. fault ≡ OutOfMemory };
+
+    fn from(_error: AllocError) -> Self {
+        ResolveFault::OutOfMemory
+    }
+}
+
+impl<T: Drop> From<AllocFailed<T>> for ResolveFault {
+    ghost from_gives = { λ _ fault. fault ≡ OutOfMemory };
+
+    fn from(_error: AllocFailed<T>) -> Self {
+        ResolveFault::OutOfMemory
+    }
+}
+
+/// Returns the id that the event names.
+fn id_of(event: &NamedEvent) -> &str
+    ensures { result.now ≡ named_id (event_value event.now) }
+{
+    match event {
+        NamedEvent::Start(id) | NamedEvent::Report(id, _) => id.as_str(),
+    }
+}
+
+/// Returns the event at the position of its request.
+fn at_position(event: NamedEvent, i: u32) -> Event
+    ensures place { event_position result ≡ i }
+    ensures same { (batch : List Record) → id_at batch i ≡ Some (named_id (event_value event))
+        → IsResolved batch (event_value event) result }
+{
+    match event {
+        NamedEvent::Start(_) => Event::Start(i),
+        NamedEvent::Report(_, outcome) => Event::Report(i, outcome),
+    }
+}
+
+/// Returns the events by the positions of their requests, in their order. The outcomes are moved.
+///
+/// Costs O(number of events).
+///
+/// # Errors
+///
+/// F65 for the first event whose id the plan does not have; `OutOfMemory` if an allocation fails.
+pub fn resolve(alloc: Global, plan: &Plan<'_>, events: Events) -> Result<Vec<Event>, ResolveFault>
+    ensures known { OnOk result (All (IsKnown (plan_records plan.now)) (entries events)) }
+    ensures events { IfOk result (λ found. AllZip (IsResolved (plan_records plan.now))
+        (entries events) found.items) }
+    ensures within { IfOk result (λ found. All (λ event. event_position event
+        < length (plan_records plan.now)) found.items) }
+    ensures least { IfErr result (λ fault. RefusesNamed fault (plan_records plan.now)
+        (entries events)) }
+{
+    let mut found = Vec::with_capacity(alloc, events.len())?;
+    for event in events.into_vec() {
+        match plan.position_of(id_of(&event)) {
+            Some(i) => found.push(at_position(event, i))?,
+            None => return Err(ResolveFault::UnknownEvent { at: found.len() }),
+        }
+    }
+    Ok(found)
 }

@@ -1,31 +1,81 @@
+//! An execution of a plan: its chooser, its service, its steps, and its faults.
+
 ghost use Rattle.std.specs.Prelude.{◌≡◌, ◌≢◌, ◌<◌, ◌≤◌, ◌+◌, ◌*◌, ℕ, true, List, [], length, Result, IfOk, IfErr, OnOk, Option, IfSome, IsSome, None, Some, Ok, All, IsTrue, ◌↔◌};
+ghost use Rattle.odb_doc.specs.declared.fault.Place.TheVariants.{Request};
+ghost use Rattle.odb_sched.specs.run.Refusals.{exec_row};
+ghost use Rattle.odb_sched.specs.declared.execution.ExecFault.TheVariants.{OutOfMemory};
 ghost use Rattle.std.specs.Vec.{vec_capacity};
 ghost use Rattle.odb_check.specs.Plans.{plan_records};
 ghost use Rattle.odb_sched.specs.declared.policy.Mode.TheVariants.{Continue};
-ghost use Rattle.odb_sched.specs.declared.fault.ExecFault.TheVariants as faults;
-ghost use Rattle.odb_sched.specs.declared.step.Step.TheVariants as kinds;
-ghost use Rattle.odb_sched.specs.State.{size, at_first};
-ghost use Rattle.odb_sched.specs.Steps.{is_finished};
-ghost use Rattle.odb_sched.specs.Choosing.{Positions, positions_of, IsAmong};
-ghost use Rattle.odb_sched.specs.Choices.{Behind, Picks};
-ghost use Rattle.odb_sched.specs.Courses.{IsDue, IsCausedBy, position_in, ready_set, running_set};
-ghost use Rattle.odb_sched.specs.Calls.{IsExecution, IsCutShort, IsBrokenOff, Faults};
-ghost use Rattle.odb_sched.specs.Advances.{MayTake, IsNext, IsTakenBy};
-ghost use Rattle.odb_sched.specs.Answers.{reported};
-ghost use Rattle.odb_sched.specs.Laws as laws;
+ghost use Rattle.odb_sched.specs.declared.execution.ExecFault.TheVariants as faults;
+ghost use Rattle.odb_sched.specs.declared.event.Step.TheVariants as kinds;
+ghost use Rattle.odb_sched.specs.run.State.{size, initial};
+ghost use Rattle.odb_sched.specs.run.Steps.{is_finished};
+ghost use Rattle.odb_sched.specs.run.Choosing.{Positions, positions_of, IsAmong};
+ghost use Rattle.odb_sched.specs.run.Calls.{Behind, Picks, IsExecution, IsCutShort, IsBrokenOff, Faults};
+ghost use Rattle.odb_sched.specs.run.Courses.{IsReportEnabled, IsCausedBy, position_in, ready_set, running_set};
+ghost use Rattle.odb_sched.specs.invariants.Advances.{MayTake, IsNext, IsTakenBy};
+ghost use Rattle.odb_sched.specs.run.Answers.{reported};
+ghost use Rattle.odb_sched.specs.run.Laws as laws;
 
 use crate::chooser::{Choice, Chooser};
 use crate::done::Done;
-use crate::fault::ExecFault;
+use crate::event::Step;
 use crate::laws::every_run;
 use crate::policy::Policy;
 use crate::refusal::ReportRefusal;
 use crate::scheduler::Scheduler;
 use crate::service::{Service, ServiceFault};
-use crate::step::Step;
 use odb_check::Plan;
-use odb_doc::Outcome;
+use odb_doc::{Fault, Outcome, Place, Refusal};
 use std::alloc::{AllocError, Global};
+use thiserror::Error;
+
+/// Why an execution could not be completed. Each names the position of a request, counted from 0,
+/// whose report was chosen.
+#[derive(Clone, Copy, Debug, PartialEq, Eq, Error)]
+pub enum ExecFault {
+    /// F80: the service has no outcome for it.
+    #[error("request {0}: there is no outcome")]
+    NoOutcome(u32),
+    /// F81: the service failed.
+    #[error("request {0}: the service failed")]
+    Service(u32),
+    /// F82: the service returned a status that is not from 200 to 599.
+    #[error("request {0}: the status is not from 200 to 599")]
+    BadStatus(u32),
+    /// Allocation failed, here or in the service. That says nothing of the requests.
+    #[error("out of memory")]
+    OutOfMemory,
+}
+
+impl Fault for ExecFault {
+    ghost row = { exec_row };
+
+    fn refusal(&self) -> Option<Refusal> {
+        match *self {
+            ExecFault::NoOutcome(i) => Some(Refusal::new(("F80", "NoOutcome"), request_at(i))),
+            ExecFault::Service(i) => Some(Refusal::new(("F81", "Service"), request_at(i))),
+            ExecFault::BadStatus(i) => Some(Refusal::new(("F82", "BadStatus"), request_at(i))),
+            ExecFault::OutOfMemory => None,
+        }
+    }
+}
+
+/// Returns the place of the request at this position of its batch.
+fn request_at(i: u32) -> Place
+    ensures { result ≡ Request i }
+{
+    Place::Request(i as usize)
+}
+
+impl From<AllocError> for ExecFault {
+    ghost from_gives = { λ _ fault. fault ≡ OutOfMemory };
+
+    fn from(_error: AllocError) -> Self {
+        ExecFault::OutOfMemory
+    }
+}
 
 /// A finished execution: its answers, and its steps.
 #[derive(Drop)]
@@ -161,21 +211,21 @@ fn take_all<S: Service>(
     service: &mut S,
     steps: &mut Vec<Step>,
 ) -> Result<(), ExecFault>
-    requires first { scheduler.old ≡ at_first plan.now policy }
+    requires first { scheduler.old ≡ initial plan.now policy }
     requires unlisted { steps.old.items ≡ [] }
     requires room { 2 * length (plan_records plan.now) ≤ vec_capacity steps.old }
     ensures execution { OnOk result (IsExecution (allows chooser.old) (S.offers service.old)
-        S.performs (Behind chooses) names (plan_records plan.now) (at_first plan.now policy)
+        S.performs (Behind chooses) names (plan_records plan.now) (initial plan.now policy)
         service.old service.new chooser.old chooser.new steps.new.items scheduler.new) }
     ensures cut_short { IfErr result (IsCutShort (allows chooser.old) (S.offers service.old)
-        S.performs (Behind chooses) names (plan_records plan.now) (at_first plan.now policy)
+        S.performs (Behind chooses) names (plan_records plan.now) (initial plan.now policy)
         service.old service.new chooser.old chooser.new) }
     ensures finished { OnOk result (is_finished scheduler.new ≡ true) }
     ensures few_steps { OnOk result
         (length steps.new.items ≤ 2 * length (plan_records plan.now)) }
     ensures mode { OnOk result (scheduler.new.policy.mode ≡ policy.mode) }
-    ensures fault { IfErr result (IsCausedBy (S.offers service.old) (IsDue (allows chooser.old)
-        (S.offers service.old) (at_first plan.now policy))) }
+    ensures fault { IfErr result (IsCausedBy (S.offers service.old) (IsReportEnabled (allows chooser.old)
+        (S.offers service.old) (initial plan.now policy))) }
 {
     every_run(plan);
     odb_check::laws::every_plan(plan);
@@ -192,7 +242,7 @@ fn prepared<'a: 'p, 'p>(
     plan: &'p Plan<'a>,
     policy: Policy,
 ) -> Result<(Scheduler<'p>, Vec<Step>), AllocError>
-    ensures first { IfOk result (λ run. run.0 ≡ at_first plan.now policy) }
+    ensures first { IfOk result (λ run. run.0 ≡ initial plan.now policy) }
     ensures unlisted { IfOk result (λ run. run.1.items ≡ []) }
     ensures room { IfOk result (λ run. 2 * length (plan_records plan.now) ≤ vec_capacity run.1) }
 {
@@ -226,10 +276,10 @@ pub fn execute<'a: 'p, 'p, S: Service>(
 ) -> Result<Trace<'p>, ExecFault>
     ensures execution { IfOk result (λ trace. IsExecution (allows chooser.old)
         (S.offers service.old) S.performs (Behind chooses) names (plan_records plan.now)
-        (at_first plan.now policy) service.old service.new chooser.old chooser.new
+        (initial plan.now policy) service.old service.new chooser.old chooser.new
         trace.steps.items trace.done) }
     ensures broken_off { IfErr result (IsBrokenOff (allows chooser.old) (S.offers service.old)
-        S.performs (Behind chooses) names (plan_records plan.now) (at_first plan.now policy)
+        S.performs (Behind chooses) names (plan_records plan.now) (initial plan.now policy)
         service.old service.new chooser.old chooser.new) }
     ensures unasked { IsSome (names chooser.old) → chooser.new ≡ chooser.old }
     ensures plan { IfOk result (λ trace. trace.done.requests ≡ plan_records plan.now) }
@@ -239,13 +289,13 @@ pub fn execute<'a: 'p, 'p, S: Service>(
         → reported trace.done i ≡ Some outcome → S.offers service.old i (Ok outcome)) }
     ensures few_steps { IfOk result (λ trace.
         length trace.steps.items ≤ 2 * length (plan_records plan.now)) }
-    ensures fault { IfErr result (IsCausedBy (S.offers service.old) (IsDue (allows chooser.old)
-        (S.offers service.old) (at_first plan.now policy))) }
+    ensures fault { IfErr result (IsCausedBy (S.offers service.old) (IsReportEnabled (allows chooser.old)
+        (S.offers service.old) (initial plan.now policy))) }
     ensures one_result { policy.mode ≡ Continue
         → IfOk result (λ trace. laws.HasOneResult trace.done) }
-    ensures sound_result { IfOk result (λ trace. laws.HasSoundResult trace.done) }
+    ensures agrees_with_table { IfOk result (λ trace. laws.AgreesWithTable trace.done) }
     ensures all_or_none { IfOk result (λ trace. laws.IsAllOrNone trace.done) }
-    ensures sound { IfOk result (λ trace. laws.IsSound trace.done) }
+    ensures rests_on_successes { IfOk result (λ trace. laws.RestsOnSuccesses trace.done) }
 {
     let (mut scheduler, mut steps) = prepared(alloc, plan, policy)?;
     take_all(&mut scheduler, plan, policy, chooser, service, &mut steps)?;

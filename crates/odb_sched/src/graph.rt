@@ -1,11 +1,12 @@
+//! The numbers of a plan, and which requests depend on which.
+
 ghost use Rattle.std.specs.Prelude.{◌≡◌, ◌<◌, ◌≤◌, ◌+◌, ◌++◌, ◌↔◌, ℕ, [], All, length, slice_index_or, IfOk, OnOk, IsTrue};
 ghost use Rattle.odb_check.specs.Plans.{plan_records};
 ghost use Rattle.odb_check.specs.Shape as shapes;
 ghost use Rattle.odb_check.specs.Shape.{IsNeed, IsSpan};
-ghost use Rattle.odb_sched.specs.Graphs.{AreAlike, AreParts, AreSpans};
-ghost use Rattle.odb_sched.specs.NeedPairs.{need_pairs, all_pairs};
-ghost use Rattle.odb_sched.specs.State.{shape};
-ghost use Rattle.odb_sched.specs.ProgressCounts as counting;
+ghost use Rattle.odb_sched.specs.invariants.Graphs as graphs;
+ghost use Rattle.odb_sched.specs.invariants.Graphs.{AreAlike, AreParts, AreSpans, need_pairs, all_pairs};
+ghost use Rattle.odb_sched.specs.run.State.{shape};
 
 use odb_check::laws::every_plan;
 use odb_check::{Need, Plan};
@@ -37,7 +38,7 @@ pub(crate) struct Graph {
 
 impl Model for Graph {
     ghost use Rattle.std.specs.Coded.{codes};
-    ghost use Rattle.odb_sched.specs.Graphs.{Numbers, numbers_of, IsGraph};
+    ghost use Rattle.odb_sched.specs.invariants.Graphs.{Numbers, numbers_of, IsGraph};
 
     ghost Value = { Numbers };
 
@@ -100,7 +101,7 @@ fn unit_key(plan: &Plan<'_>, u: u32) -> u32
 /// Returns the key of a dependency.
 fn key_of(plan: &Plan<'_>, need: Need) -> u32
     requires { IsNeed (shape plan.now) need }
-    ensures { result ≡ counting.key_of (shape plan.now) need }
+    ensures { result ≡ graphs.key_of (shape plan.now) need }
 {
     match need {
         Need::One(r) => r,
@@ -132,7 +133,7 @@ fn pairs_of(alloc: Global, plan: &Plan<'_>) -> Result<Vec<(u32, u32)>, AllocErro
 
 /// Returns the dependents of each request and of each unit, by their keys.
 fn dependents_of(alloc: Global, plan: &Plan<'_>) -> Result<Rows, AllocError>
-    ensures { IfOk result (counting.AreDependents (shape plan.now)) }
+    ensures { IfOk result (graphs.AreDependents (shape plan.now)) }
 {
     every_plan(plan);
     let keys = plan.len() as usize + plan.unit_count() as usize;
@@ -160,7 +161,7 @@ impl Graph {
     /// What holds of the numbers of every plan. It changes nothing.
     pub(crate) fn laws(&self)
         ensures order { shapes.IsPlan self.now.shape }
-        ensures dependents { counting.AreDependents self.now.shape self.now.dependents }
+        ensures dependents { graphs.AreDependents self.now.shape self.now.dependents }
     {
         let _ = &self.units;
     }

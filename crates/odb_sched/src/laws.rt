@@ -10,27 +10,25 @@ ghost use Rattle.odb_check.specs.Plans.{plan_records};
 ghost use Rattle.odb_sched.specs.declared.policy.Mode.TheVariants.{Continue};
 ghost use Rattle.odb_sched.specs.declared.policy.Policy.{Policy};
 ghost use Rattle.odb_sched.specs.declared.event.Event.{Event};
-ghost use Rattle.odb_sched.specs.declared.order.Order.{Order};
+ghost use Rattle.odb_sched.specs.declared.chooser.Order.{Order};
 ghost use Rattle.odb_sched.specs.declared.refusal.StartRefusal.{StartRefusal};
 ghost use Rattle.odb_sched.specs.declared.refusal.StartRefusal.TheVariants.{WidthReached};
 ghost use Rattle.odb_sched.specs.declared.refusal.ReportRefusal.{ReportRefusal};
 ghost use Rattle.odb_sched.specs.declared.refusal.RunRefusal.{RunRefusal};
-ghost use Rattle.odb_sched.specs.Refusals as refusals;
+ghost use Rattle.odb_sched.specs.run.Refusals as refusals;
 ghost use Rattle.odb_doc.specs.recorded.Events.{EventValue};
-ghost use Rattle.odb_sched.specs.declared.resolving.ResolveFault.{ResolveFault};
-ghost use Rattle.odb_sched.specs.Resolving.{RefusesNamed};
-ghost use Rattle.odb_sched.specs.ResolveFaults as resolving;
-ghost use Rattle.odb_sched.specs.State.{State, size, shape, phase_at, at_first};
-ghost use Rattle.odb_sched.specs.Failing.{Fails, fails};
-ghost use Rattle.odb_sched.specs.Steps.{may_start, may_report, is_finished};
-ghost use Rattle.odb_sched.specs.Causes.{BarsStart, IsStartCause, BarsReport, IsReportCause};
-ghost use Rattle.odb_sched.specs.Runs.{IsRun, state_after, phase_of, Refuses};
-ghost use Rattle.odb_sched.specs.Laws.{HaveSucceeded, StartsLast, IsNeverStuck, HasFewEvents, HasOneResult, HasResultByStatuses, HasSoundResult, IsAllOrNone, IsSound, SucceedsByMembers};
+ghost use Rattle.odb_sched.specs.declared.event.ResolveFault.{ResolveFault};
+ghost use Rattle.odb_sched.specs.run.Resolving.{RefusesNamed};
+ghost use Rattle.odb_sched.specs.run.State.{State, size, shape, phase_at, initial};
+ghost use Rattle.odb_sched.specs.run.Failing.{Fails, fails};
+ghost use Rattle.odb_sched.specs.run.Steps.{may_start, may_report, is_finished, BarsStart, IsStartCause, BarsReport, IsReportCause};
+ghost use Rattle.odb_sched.specs.run.Runs.{IsRun, state_after, phase_of, Refuses};
+ghost use Rattle.odb_sched.specs.run.Laws.{HaveSucceeded, StartsAfterDependencies, IsNeverStuck, HasFewEvents, HasOneResult, HasResultByStatuses, AgreesWithTable, IsAllOrNone, RestsOnSuccesses, SucceedsByMembers};
 ghost use Rattle.odb_doc.specs.batch.Records.{Record};
-ghost use Rattle.odb_sched.specs.Courses.{step_of};
-ghost use Rattle.odb_sched.specs.Calls.{AsksAll, Call, calls_of, reported_by, Writes};
-ghost use Rattle.odb_sched.specs.Answers.{HasStatuses};
-ghost use Rattle.odb_sched.specs.Orders.{HasOneCourse, HasOneFault, FaultsOrFinishes};
+ghost use Rattle.odb_sched.specs.run.Courses.{step_of};
+ghost use Rattle.odb_sched.specs.run.Calls.{AsksAll, Call, calls_of, reported_by, Writes};
+ghost use Rattle.odb_sched.specs.run.Answers.{HasStatuses};
+ghost use Rattle.odb_sched.specs.run.Recordings.{HasOneCourse, HasOneFault, FaultsOrFinishes};
 
 use crate::service::Service;
 use odb_check::Plan;
@@ -41,7 +39,7 @@ use odb_check::laws::every_plan;
 pub fn every_run(plan: &Plan<'_>)
     ensures dependencies_first { (policy : Policy) (events : List Event)
         → IsRun plan.now policy events
-        → StartsLast (plan_records plan.now) events }
+        → StartsAfterDependencies (plan_records plan.now) events }
     ensures never_stuck { (policy : Policy) (events : List Event)
         → IsRun plan.now policy events
         → IsNeverStuck (state_after plan.now policy events) }
@@ -80,10 +78,10 @@ pub fn every_cause()
         → IsReportCause state i outcome cause → IsReportCause state i outcome other
         → cause ≡ other }
     ensures one_refusal { (state : State) (events : List Event) (cause other : RunRefusal)
-        → refusals.IsNumbered cause → refusals.IsNumbered other
+        → refusals.IsNumberedRefusal cause → refusals.IsNumberedRefusal other
         → Refuses state events cause → Refuses state events other → cause ≡ other }
     ensures one_unknown { (requests : List Record) (events : List EventValue)
-        (fault other : ResolveFault) → resolving.IsNumbered fault → resolving.IsNumbered other
+        (fault other : ResolveFault) → refusals.IsNumberedResolve fault → refusals.IsNumberedResolve other
         → RefusesNamed fault requests events → RefusesNamed other requests events
         → fault ≡ other }
 {}
@@ -115,15 +113,15 @@ pub fn every_result(plan: &Plan<'_>)
         → policy.mode ≡ Continue → IsRun plan.now policy events
         → is_finished (state_after plan.now policy events) ≡ true
         → HasResultByStatuses (state_after plan.now policy events) }
-    ensures sound_result { (policy : Policy) (events : List Event)
+    ensures agrees_with_table { (policy : Policy) (events : List Event)
         → IsRun plan.now policy events
-        → HasSoundResult (state_after plan.now policy events) }
+        → AgreesWithTable (state_after plan.now policy events) }
     ensures all_or_none { (policy : Policy) (events : List Event)
         → IsRun plan.now policy events
         → IsAllOrNone (state_after plan.now policy events) }
-    ensures sound { (policy : Policy) (events : List Event)
+    ensures rests_on_successes { (policy : Policy) (events : List Event)
         → IsRun plan.now policy events
-        → IsSound (state_after plan.now policy events) }
+        → RestsOnSuccesses (state_after plan.now policy events) }
     ensures statuses { (policy : Policy) (events : List Event)
         → IsRun plan.now policy events
         → HasStatuses (state_after plan.now policy events) }
@@ -134,7 +132,7 @@ pub fn every_result(plan: &Plan<'_>)
 /// Shows that the definitions above that compute mean what they should: the phase of a request is that
 /// of its start and its first report, `fails` is the least relation closed under its two rules, and a
 /// unit succeeds under a table of statuses if its members do and the other units that they depend on.
-pub fn every_word(plan: &Plan<'_>)
+pub fn definitions_agree(plan: &Plan<'_>)
     ensures phases { (policy : Policy) (events : List Event) (i : ℕ)
         → IsRun plan.now policy events
         → phase_at (state_after plan.now policy events) i ≡ phase_of i events }

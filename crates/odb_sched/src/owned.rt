@@ -1,27 +1,26 @@
+//! A run that borrows nothing: which event may come, and what it changes.
+
 ghost use Rattle.std.specs.Prelude.{◌≡◌, ◌≢◌, ◌<◌, ◌≤◌, ◌↔◌, ℕ, [], true, false, None, All, length, slice_set, replicate, IsTrue, IsOk, IfOk, IfErr, IfSome, OnOk, OnErr};
 ghost use Rattle.odb_check.specs.Plans.{plan_records};
 ghost use Rattle.odb_check.specs.Shape.{unit_of};
 ghost use Rattle.odb_dense.specs.Lists.{ListsOnce};
 ghost use Rattle.odb_sched.specs.declared.phase.Phase.TheVariants.{Unstarted};
 ghost use Rattle.odb_sched.specs.declared.refusal.StartRefusal.TheVariants.{WidthReached};
-ghost use Rattle.odb_sched.specs.Advances.{IsNext};
-ghost use Rattle.odb_sched.specs.Causes.{IsStartCause, IsReportCause};
-ghost use Rattle.odb_sched.specs.Choosing.{IsNone, AllowsOrder};
-ghost use Rattle.odb_sched.specs.Courses as courses;
-ghost use Rattle.odb_sched.specs.Ends.{IsAt, ReportsFirst, StartsFirst};
-ghost use Rattle.odb_sched.specs.Phases as tests;
-ghost use Rattle.odb_sched.specs.Plans.{first_of};
-ghost use Rattle.odb_sched.specs.Reached.{IsReached};
-ghost use Rattle.odb_sched.specs.State as states;
-ghost use Rattle.odb_sched.specs.Steps as steps;
+ghost use Rattle.odb_sched.specs.invariants.Advances.{IsNext};
+ghost use Rattle.odb_sched.specs.run.Steps.{IsStartCause, IsReportCause};
+ghost use Rattle.odb_sched.specs.run.Choosing.{IsNone, AllowsOrder, IsAt, ReportsFirst, StartsFirst};
+ghost use Rattle.odb_sched.specs.run.Courses as courses;
+ghost use Rattle.odb_sched.specs.run.State as state;
+ghost use Rattle.odb_sched.specs.invariants.Kept.{first_of, IsReached};
+ghost use Rattle.odb_sched.specs.run.Steps as steps;
 
+use crate::chooser::{End, Order};
 use crate::counts::{Counts, first_unmet};
+use crate::event::Step;
 use crate::graph::Graph;
-use crate::order::{End, Order};
 use crate::phase::{Phase, is_status};
 use crate::policy::Policy;
 use crate::refusal::{ReportRefusal, StartRefusal};
-use crate::step::Step;
 use odb_check::Plan;
 use odb_doc::Outcome;
 use std::alloc::{AllocError, Global};
@@ -42,7 +41,7 @@ pub struct OwnedRun {
 
 impl Model for OwnedRun {
     ghost use Rattle.odb_doc.specs.DataCodes.{data_code, method_code};
-    ghost use Rattle.odb_sched.specs.State.{State};
+    ghost use Rattle.odb_sched.specs.run.State.{State};
 
     ghost Value = { State };
 
@@ -52,7 +51,7 @@ impl Model for OwnedRun {
 
     ghost coded = { Prim.hlevel (codes, data_code, method_code, policies.the_row.coded, phase.the_row.coded) };
 
-    ghost use Rattle.odb_sched.specs.Kept.{kept_state, IsKept};
+    ghost use Rattle.odb_sched.specs.invariants.Kept.{kept_state, IsKept};
 
     ghost view = { kept_state };
 
@@ -68,8 +67,8 @@ impl OwnedRun {
     /// If memory for the requests, the units and the dependencies cannot be allocated.
     pub fn new(alloc: Global, plan: &Plan<'_>, policy: Policy) -> Result<OwnedRun, AllocError>
         ensures state { IfOk result (λ run. run
-            ≡ states.without_requests (states.at_first plan.now policy)) }
-        ensures size { IfOk result (λ run. states.size run ≡ length (plan_records plan.now)) }
+            ≡ state.without_requests (state.initial plan.now policy)) }
+        ensures size { IfOk result (λ run. state.size run ≡ length (plan_records plan.now)) }
     {
         OwnedRun::of_graph(alloc, Graph::new(alloc, plan)?, policy)
     }
@@ -89,7 +88,7 @@ impl OwnedRun {
 
     /// Returns the number of requests: 10,000 at most.
     pub fn len(&self) -> u32
-        ensures size { result ≡ states.size self.now }
+        ensures size { result ≡ state.size self.now }
         ensures small { result ≤ 10000 }
     {
         self.graph.len()
@@ -97,14 +96,14 @@ impl OwnedRun {
 
     /// Returns whether the numbers of the run are those of a plan.
     pub(crate) fn is_of(&self, plan: &Plan<'_>) -> bool
-        ensures { IsTrue result ↔ (self.now.shape ≡ states.shape plan.now) }
+        ensures { IsTrue result ↔ (self.now.shape ≡ state.shape plan.now) }
     {
         self.graph.is_of(plan)
     }
 
     /// Returns the first cause why a request may not start.
     fn start_refusal(&self, i: u32) -> Option<StartRefusal>
-        requires { i < states.size self.now }
+        requires { i < state.size self.now }
         ensures cause { IfSome result (IsStartCause self.now i) }
         ensures none { result ≡ None → steps.may_start self.now i ≡ true }
     {
@@ -137,8 +136,8 @@ impl OwnedRun {
     ///
     /// The first of the causes S1 to S5 that applies; the run is unchanged.
     pub fn start(&mut self, i: u32) -> Result<(), StartRefusal>
-        requires { i < states.size self.old }
-        ensures ok { OnOk result (self.new ≡ states.started self.old i) }
+        requires { i < state.size self.old }
+        ensures ok { OnOk result (self.new ≡ state.started self.old i) }
         ensures allowed { IsOk result ↔ IsTrue (steps.may_start self.old i) }
         ensures cause { IfErr result (IsStartCause self.old i) }
         ensures err { OnErr result (self.new ≡ self.old) }
@@ -154,7 +153,7 @@ impl OwnedRun {
 
     /// Returns the first cause why an outcome is not accepted.
     fn report_refusal(&self, i: u32, outcome: &Outcome) -> Option<ReportRefusal>
-        requires { i < states.size self.now }
+        requires { i < state.size self.now }
         ensures cause { IfSome result (IsReportCause self.now i outcome.now) }
         ensures none { result ≡ None → steps.may_report self.now i outcome.now ≡ true }
     {
@@ -173,8 +172,8 @@ impl OwnedRun {
     ///
     /// The first of P1 and P2 that applies, with the outcome; the run is unchanged.
     pub fn report(&mut self, i: u32, outcome: Outcome) -> Result<(), (ReportRefusal, Outcome)>
-        requires { i < states.size self.old }
-        ensures ok { OnOk result (self.new ≡ states.reported self.old i outcome) }
+        requires { i < state.size self.old }
+        ensures ok { OnOk result (self.new ≡ state.reported self.old i outcome) }
         ensures allowed { IsOk result ↔ IsTrue (steps.may_report self.old i outcome) }
         ensures cause { IfErr result (λ e. IsReportCause self.old i outcome e.0) }
         ensures back { IfErr result (λ e. e.1 ≡ outcome) }
@@ -189,17 +188,17 @@ impl OwnedRun {
 
     /// Returns the ready positions, each once, in no particular order.
     pub fn ready(&self) -> &[u32]
-        ensures listed { ListsOnce (states.size self.now) (steps.may_start self.now) result.now }
-        ensures within { All (λ i. i < states.size self.now) result.now }
+        ensures listed { ListsOnce (state.size self.now) (steps.may_start self.now) result.now }
+        ensures within { All (λ i. i < state.size self.now) result.now }
     {
         self.counts.ready(self.policy)
     }
 
     /// Returns the running positions, each once, in no particular order.
     pub fn running(&self) -> &[u32]
-        ensures listed { ListsOnce (states.size self.now)
-            (λ i. tests.is_running (states.phase_at self.now i)) result.now }
-        ensures within { All (λ i. i < states.size self.now) result.now }
+        ensures listed { ListsOnce (state.size self.now)
+            (λ i. state.is_running (state.phase_at self.now i)) result.now }
+        ensures within { All (λ i. i < state.size self.now) result.now }
         ensures width { length result.now ≤ self.now.policy.width }
     {
         self.counts.running()
@@ -211,7 +210,7 @@ impl OwnedRun {
         ensures none { result ≡ None → IsNone (courses.ready_set self.old) }
         ensures finished { result ≡ None → IsNone (courses.running_set self.old)
             → steps.is_finished self.old ≡ true }
-        ensures some { IfSome result (λ i. (i < states.size self.old)
+        ensures some { IfSome result (λ i. (i < state.size self.old)
             × (steps.may_start self.old i ≡ true) × IsAt end (courses.ready_set self.old) i) }
     {
         self.counts.ready_at(self.policy, end)
@@ -223,8 +222,8 @@ impl OwnedRun {
         ensures none { result ≡ None → IsNone (courses.running_set self.old) }
         ensures finished { result ≡ None → IsNone (courses.ready_set self.old)
             → steps.is_finished self.old ≡ true }
-        ensures some { IfSome result (λ i. (i < states.size self.old)
-            × (tests.is_running (states.phase_at self.old i) ≡ true)
+        ensures some { IfSome result (λ i. (i < state.size self.old)
+            × (state.is_running (state.phase_at self.old i) ≡ true)
             × IsAt end (courses.running_set self.old) i) }
     {
         self.counts.running_at(end)
@@ -279,24 +278,24 @@ impl OwnedRun {
     /// each request was reported or will never start.
     pub fn is_finished(&self) -> bool
         ensures value { result ≡ steps.is_finished self.now }
-        ensures idle { IsTrue result ↔ ((i : ℕ) → i < states.size self.now
+        ensures idle { IsTrue result ↔ ((i : ℕ) → i < state.size self.now
             → (steps.may_start self.now i ≡ false)
-            × (tests.is_running (states.phase_at self.now i) ≡ false)) }
+            × (state.is_running (state.phase_at self.now i) ≡ false)) }
     {
         self.counts.is_finished()
     }
 
     /// Returns what has happened to a request.
     pub(crate) fn phase(&self, i: u32) -> &Phase
-        requires { i < states.size self.now }
-        ensures { result.now ≡ states.phase_at self.now i }
+        requires { i < state.size self.now }
+        ensures { result.now ≡ state.phase_at self.now i }
     {
         &self.counts.phases[i as usize]
     }
 
     /// Returns whether all members of the request's unit have succeeded.
     pub(crate) fn unit_succeeded(&self, i: u32) -> bool
-        requires { i < states.size self.now }
+        requires { i < state.size self.now }
         ensures { result ≡ steps.unit_succeeded self.now (unit_of self.now.shape i) }
     {
         self.counts.progress.pending[self.graph.unit_of(i) as usize] == 0

@@ -1,5 +1,7 @@
+//! What has happened to a request, and what its status means.
+
 ghost use Rattle.std.specs.Prelude.{◌≡◌};
-ghost use Rattle.odb_sched.specs.Statuses as statuses;
+ghost use Rattle.odb_doc.specs.Statuses as statuses;
 
 use odb_doc::Outcome;
 
@@ -26,29 +28,29 @@ pub(crate) fn is_status(status: u16) -> bool
 }
 
 impl Phase {
-    ghost use Rattle.odb_sched.specs.Phases as phases;
+    ghost use Rattle.odb_sched.specs.run.State as state;
 
     pub(crate) fn is_unstarted(&self) -> bool
-        ensures { result ≡ phases.is_unstarted self.now }
+        ensures { result ≡ state.is_unstarted self.now }
     {
         matches!(self, Phase::Unstarted)
     }
 
     pub(crate) fn is_running(&self) -> bool
-        ensures { result ≡ phases.is_running self.now }
+        ensures { result ≡ state.is_running self.now }
     {
         matches!(self, Phase::Running)
     }
 
     pub(crate) fn is_reported(&self) -> bool
-        ensures { result ≡ phases.is_reported self.now }
+        ensures { result ≡ state.is_reported self.now }
     {
         matches!(self, Phase::Reported(_))
     }
 
     /// Returns whether a status from 200 to 299 was reported.
     pub(crate) fn has_succeeded(&self) -> bool
-        ensures { result ≡ phases.has_succeeded self.now }
+        ensures { result ≡ state.has_succeeded self.now }
     {
         match self {
             Phase::Reported(outcome) => is_success(outcome.status),
@@ -58,7 +60,7 @@ impl Phase {
 
     /// Returns whether a status from 300 to 599 was reported.
     pub(crate) fn has_failed(&self) -> bool
-        ensures { result ≡ phases.has_failed self.now }
+        ensures { result ≡ state.has_failed self.now }
     {
         match self {
             Phase::Reported(outcome) => !is_success(outcome.status),
@@ -68,7 +70,7 @@ impl Phase {
 
     /// Returns whether a status from 400 to 599 was reported.
     pub(crate) fn has_erred(&self) -> bool
-        ensures { result ≡ phases.has_erred self.now }
+        ensures { result ≡ state.has_erred self.now }
     {
         match self {
             Phase::Reported(outcome) => (400..600).contains(&outcome.status),

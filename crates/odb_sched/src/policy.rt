@@ -1,3 +1,5 @@
+//! How a batch is run: whether an error stops it, and how many requests run at once.
+
 ghost use Rattle.std.specs.Prelude.{◌≡◌, ◌<◌, ◌↔◌, IsSome, IfSome};
 
 /// The greatest width that makes a difference: a batch has no more requests.

@@ -1,5 +1,7 @@
+//! Why an event may not come, with its code and its name.
+
 ghost use Rattle.std.specs.Prelude.{◌≡◌};
-ghost use Rattle.odb_sched.specs.Refusals.{run_row};
+ghost use Rattle.odb_sched.specs.run.Refusals.{run_row};
 ghost use Rattle.odb_sched.specs.declared.refusal.RunRefusal.TheVariants.{OutOfMemory};
 
 use odb_check::Need;
@@ -54,7 +56,7 @@ pub enum RunRefusal {
 }
 
 impl StartRefusal {
-    ghost use Rattle.odb_sched.specs.Refusals.{start_row};
+    ghost use Rattle.odb_sched.specs.run.Refusals.{start_row};
 
     /// Returns the code, from `S1` to `S5`, and the name, such as `Waiting`.
     fn row(&self) -> (&'static str, &'static str)
@@ -86,7 +88,7 @@ impl StartRefusal {
 }
 
 impl ReportRefusal {
-    ghost use Rattle.odb_sched.specs.Refusals.{report_row};
+    ghost use Rattle.odb_sched.specs.run.Refusals.{report_row};
 
     /// Returns the code, `P1` or `P2`, and the name, such as `NotRunning`.
     fn row(&self) -> (&'static str, &'static str)

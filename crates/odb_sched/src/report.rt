@@ -1,13 +1,15 @@
+//! What the outcome of a request changes: needs that are satisfied, units that fail.
+
 ghost use Rattle.std.specs.Prelude.{◌≡◌, ◌<◌, ◌≤◌, ◌+◌, ◌-◌, ◌==◌, ◌&&◌, ◌||◌, ◌⊎◌, ℕ, true, not, length, slice_index_or, slice_set, count_by, All};
 ghost use Rattle.odb_check.specs.Shape as shapes;
 ghost use Rattle.odb_dense.specs.declared.worklist.Mark.TheVariants.{Unvisited};
 ghost use Rattle.odb_dense.specs.Marks.{is_marked, is_visited};
 ghost use Rattle.odb_sched.specs.declared.phase.Phase.TheVariants.{Unstarted, Running, Reported};
-ghost use Rattle.odb_sched.specs.Phases as tests;
-ghost use Rattle.odb_sched.specs.Plans.{state_of};
-ghost use Rattle.odb_sched.specs.ProgressCounts as counting;
-ghost use Rattle.odb_sched.specs.Propagation as propagation;
-ghost use Rattle.odb_sched.specs.Steps.{stops};
+ghost use Rattle.odb_sched.specs.run.State as state;
+ghost use Rattle.odb_sched.specs.invariants.Kept.{state_of};
+ghost use Rattle.odb_sched.specs.invariants.Counts as counts;
+ghost use Rattle.odb_sched.specs.invariants.Propagation as propagation;
+ghost use Rattle.odb_sched.specs.run.Steps.{stops};
 
 use crate::counts::{Counts, Progress};
 use crate::graph::Graph;
@@ -22,9 +24,9 @@ fn satisfy(graph: &Graph, phases: &[Phase], i: u32, progress: &mut Progress)
     requires request { i < length graph.now.shape.units }
     requires units { length progress.old.units ≡ graph.now.shape.unit_count }
     requires some { 0 < slice_index_or progress.old.unmet.items i 0 }
-    requires ready { counting.AreReady graph.now.shape (counting.is_skipped graph.now.shape progress.old.units)
+    requires ready { counts.AreReady graph.now.shape (counts.is_skipped graph.now.shape progress.old.units)
         phases.now progress.old.unmet.items progress.old.ready }
-    ensures ready { counting.AreReady graph.now.shape (counting.is_skipped graph.now.shape progress.old.units)
+    ensures ready { counts.AreReady graph.now.shape (counts.is_skipped graph.now.shape progress.old.units)
         phases.now progress.new.unmet.items progress.new.ready }
     ensures unmet { progress.new.unmet.items
         ≡ slice_set progress.old.unmet.items i (slice_index_or progress.old.unmet.items i 0 - 1) }
@@ -47,9 +49,9 @@ fn satisfy_each(graph: &Graph, phases: &[Phase], list: &[u32], progress: &mut Pr
     requires within { All (λ i. i < length graph.now.shape.units) list.now }
     requires enough { (i : ℕ) → i < length graph.now.shape.units
         → count_by (λ j. j == i) list.now ≤ slice_index_or progress.old.unmet.items i 0 }
-    requires ready { counting.AreReady graph.now.shape (counting.is_skipped graph.now.shape progress.old.units)
+    requires ready { counts.AreReady graph.now.shape (counts.is_skipped graph.now.shape progress.old.units)
         phases.now progress.old.unmet.items progress.old.ready }
-    ensures ready { counting.AreReady graph.now.shape (counting.is_skipped graph.now.shape progress.old.units)
+    ensures ready { counts.AreReady graph.now.shape (counts.is_skipped graph.now.shape progress.old.units)
         phases.now progress.new.unmet.items progress.new.ready }
     ensures fallen { (i : ℕ) → i < length graph.now.shape.units
         → slice_index_or progress.new.unmet.items i 0 + count_by (λ j. j == i) list.now
@@ -68,17 +70,17 @@ fn satisfy_unit(graph: &Graph, phases: &[Phase], u: u32, progress: &mut Progress
     requires units { length progress.old.units ≡ graph.now.shape.unit_count }
     requires members { length progress.old.pending.items ≡ graph.now.shape.unit_count }
     requires pending { slice_index_or progress.old.pending.items u 0
-        ≡ counting.pending_in graph.now.shape phases.now u }
+        ≡ counts.pending_in graph.now.shape phases.now u }
     requires enough { (i : ℕ) → i < length graph.now.shape.units
-        → counting.satisfied_by_unit graph.now.shape phases.now u i
+        → counts.satisfied_by_unit graph.now.shape phases.now u i
         ≤ slice_index_or progress.old.unmet.items i 0 }
-    requires ready { counting.AreReady graph.now.shape (counting.is_skipped graph.now.shape progress.old.units)
+    requires ready { counts.AreReady graph.now.shape (counts.is_skipped graph.now.shape progress.old.units)
         phases.now progress.old.unmet.items progress.old.ready }
-    ensures ready { counting.AreReady graph.now.shape (counting.is_skipped graph.now.shape progress.old.units)
+    ensures ready { counts.AreReady graph.now.shape (counts.is_skipped graph.now.shape progress.old.units)
         phases.now progress.new.unmet.items progress.new.ready }
     ensures fallen { (i : ℕ) → i < length graph.now.shape.units
         → slice_index_or progress.new.unmet.items i 0
-        + counting.satisfied_by_unit graph.now.shape phases.now u i
+        + counts.satisfied_by_unit graph.now.shape phases.now u i
         ≡ slice_index_or progress.old.unmet.items i 0 }
     ensures rest { progress.new ≡ record progress.old { unmet = progress.new.unmet; ready = progress.new.ready } }
 {
@@ -104,9 +106,9 @@ fn count_success(u: u32, progress: &mut Progress)
 fn succeed(graph: &Graph, phases: &[Phase], i: u32, progress: &mut Progress)
     requires each { length phases.now ≡ length graph.now.shape.units }
     requires request { i < length graph.now.shape.units }
-    requires succeeded { tests.has_succeeded (slice_index_or phases.now i Unstarted) ≡ true }
-    requires counts { counting.AreCounts graph.now.shape (slice_set phases.now i Running) progress.old }
-    ensures { counting.AreCounts graph.now.shape phases.now progress.new }
+    requires succeeded { state.has_succeeded (slice_index_or phases.now i Unstarted) ≡ true }
+    requires counts { counts.AreCounts graph.now.shape (slice_set phases.now i Running) progress.old }
+    ensures { counts.AreCounts graph.now.shape phases.now progress.new }
 {
     graph.laws();
     progress.running.remove(i);
@@ -120,10 +122,10 @@ fn succeed(graph: &Graph, phases: &[Phase], i: u32, progress: &mut Progress)
 fn skip_members(graph: &Graph, phases: &[Phase], u: u32, progress: &mut Progress)
     requires unit { u < graph.now.shape.unit_count }
     requires visited { is_visited (slice_index_or progress.old.units u Unvisited) ≡ true }
-    requires ready { counting.AreReady graph.now.shape
-        (λ i. counting.is_skipped graph.now.shape progress.old.units i && not (shapes.unit_of graph.now.shape i == u))
+    requires ready { counts.AreReady graph.now.shape
+        (λ i. counts.is_skipped graph.now.shape progress.old.units i && not (shapes.unit_of graph.now.shape i == u))
         phases.now progress.old.unmet.items progress.old.ready }
-    ensures ready { counting.AreReady graph.now.shape (counting.is_skipped graph.now.shape progress.old.units)
+    ensures ready { counts.AreReady graph.now.shape (counts.is_skipped graph.now.shape progress.old.units)
         phases.now progress.new.unmet.items progress.new.ready }
     ensures rest { progress.new ≡ record progress.old { ready = progress.new.ready } }
 {
@@ -176,10 +178,10 @@ fn mark_dependents(graph: &Graph, u: u32, progress: &mut Progress)
 fn propagate(graph: &Graph, phases: &[Phase], progress: &mut Progress)
     requires each { length phases.now ≡ length graph.now.shape.units }
     requires propagating { propagation.ArePropagating graph.now.shape phases.now progress.old.units }
-    requires ready { counting.AreReady graph.now.shape (counting.is_skipped graph.now.shape progress.old.units)
+    requires ready { counts.AreReady graph.now.shape (counts.is_skipped graph.now.shape progress.old.units)
         phases.now progress.old.unmet.items progress.old.ready }
-    ensures propagated { counting.ArePropagated graph.now.shape phases.now progress.new.units }
-    ensures ready { counting.AreReady graph.now.shape (counting.is_skipped graph.now.shape progress.new.units)
+    ensures propagated { counts.ArePropagated graph.now.shape phases.now progress.new.units }
+    ensures ready { counts.AreReady graph.now.shape (counts.is_skipped graph.now.shape progress.new.units)
         phases.now progress.new.unmet.items progress.new.ready }
     ensures rest { progress.new
         ≡ record progress.old { units = progress.new.units; ready = progress.new.ready } }
@@ -196,9 +198,9 @@ fn propagate(graph: &Graph, phases: &[Phase], progress: &mut Progress)
 fn fail(graph: &Graph, phases: &[Phase], i: u32, progress: &mut Progress)
     requires each { length phases.now ≡ length graph.now.shape.units }
     requires request { i < length graph.now.shape.units }
-    requires failed { tests.has_failed (slice_index_or phases.now i Unstarted) ≡ true }
-    requires counts { counting.AreCounts graph.now.shape (slice_set phases.now i Running) progress.old }
-    ensures { counting.AreCounts graph.now.shape phases.now progress.new }
+    requires failed { state.has_failed (slice_index_or phases.now i Unstarted) ≡ true }
+    requires counts { counts.AreCounts graph.now.shape (slice_set phases.now i Running) progress.old }
+    ensures { counts.AreCounts graph.now.shape phases.now progress.new }
 {
     graph.laws();
     progress.running.remove(i);
@@ -208,7 +210,7 @@ fn fail(graph: &Graph, phases: &[Phase], i: u32, progress: &mut Progress)
 
 /// Returns whether the run was stopped before, or this report stops it.
 fn is_stopped(stopped: bool, policy: Policy, phase: &Phase) -> bool
-    ensures { result ≡ (stopped || (stops policy.mode && tests.has_erred phase.now)) }
+    ensures { result ≡ (stopped || (stops policy.mode && state.has_erred phase.now)) }
 {
     stopped || (policy.mode == Mode::Stop && phase.has_erred())
 }
@@ -217,9 +219,9 @@ fn is_stopped(stopped: bool, policy: Policy, phase: &Phase) -> bool
 fn take_report(graph: &Graph, phases: &[Phase], i: u32, progress: &mut Progress)
     requires each { length phases.now ≡ length graph.now.shape.units }
     requires request { i < length graph.now.shape.units }
-    requires reported { tests.is_reported (slice_index_or phases.now i Unstarted) ≡ true }
-    requires counts { counting.AreCounts graph.now.shape (slice_set phases.now i Running) progress.old }
-    ensures { counting.AreCounts graph.now.shape phases.now progress.new }
+    requires reported { state.is_reported (slice_index_or phases.now i Unstarted) ≡ true }
+    requires counts { counts.AreCounts graph.now.shape (slice_set phases.now i Running) progress.old }
+    ensures { counts.AreCounts graph.now.shape phases.now progress.new }
 {
     if phases[i as usize].has_succeeded() {
         succeed(graph, phases, i, progress);
@@ -229,13 +231,13 @@ fn take_report(graph: &Graph, phases: &[Phase], i: u32, progress: &mut Progress)
 }
 
 impl Counts {
-    ghost use Rattle.odb_sched.specs.Kept.{IsCounted};
+    ghost use Rattle.odb_sched.specs.invariants.Kept.{IsCounted};
 
     /// Takes the outcome of a running request.
     pub(crate) fn report(&mut self, graph: &Graph, policy: Policy, i: u32, outcome: Outcome)
         requires each { length self.old.phases.items ≡ length graph.now.shape.units }
         requires request { i < length graph.now.shape.units }
-        requires running { tests.is_running (slice_index_or self.old.phases.items i Unstarted) ≡ true }
+        requires running { state.is_running (slice_index_or self.old.phases.items i Unstarted) ≡ true }
         requires counts { IsCounted (state_of graph.now.shape policy self.old.phases.items) self.old }
         ensures phases { self.new.phases.items ≡ slice_set self.old.phases.items i (Reported outcome) }
         ensures counts { IsCounted (state_of graph.now.shape policy self.new.phases.items) self.new }

@@ -1,26 +1,27 @@
+//! A run of a plan, with the requests of the plan.
+
 ghost use Rattle.std.specs.Prelude.{◌≡◌, ◌≢◌, ◌<◌, ◌≤◌, ◌↔◌, ℕ, true, false, List, Some, length, slice_set, replicate, IsTrue, IsOk, IfOk, IfErr, IfSome, OnOk, OnErr, None, All};
 ghost use Rattle.odb_check.specs.Plans.{plan_records};
 ghost use Rattle.odb_check.specs.Shape.{unit_of};
 ghost use Rattle.odb_sched.specs.declared.policy.Mode.TheVariants as modes;
 ghost use Rattle.odb_sched.specs.declared.refusal.StartRefusal.TheVariants.{WidthReached};
 ghost use Rattle.odb_dense.specs.Lists.{ListsOnce};
-ghost use Rattle.odb_sched.specs.Phases as tests;
-ghost use Rattle.odb_sched.specs.State as states;
-ghost use Rattle.odb_sched.specs.Steps as steps;
-ghost use Rattle.odb_sched.specs.Causes.{IsStartCause, IsReportCause};
-ghost use Rattle.odb_sched.specs.Advances.{IsNext};
-ghost use Rattle.odb_sched.specs.Choosing.{AllowsOrder};
-ghost use Rattle.odb_sched.specs.Laws as laws;
-ghost use Rattle.odb_sched.specs.Reached.{IsReached};
+ghost use Rattle.odb_sched.specs.run.State as state;
+ghost use Rattle.odb_sched.specs.run.Steps as steps;
+ghost use Rattle.odb_sched.specs.run.Steps.{IsStartCause, IsReportCause};
+ghost use Rattle.odb_sched.specs.invariants.Advances.{IsNext};
+ghost use Rattle.odb_sched.specs.run.Choosing.{AllowsOrder};
+ghost use Rattle.odb_sched.specs.run.Laws as laws;
+ghost use Rattle.odb_sched.specs.invariants.Kept.{IsReached};
 
+use crate::chooser::Order;
 use crate::done::Done;
+use crate::event::Step;
 use crate::laws::every_start;
-use crate::order::Order;
 use crate::owned::OwnedRun;
 use crate::phase::Phase;
 use crate::policy::Policy;
 use crate::refusal::{ReportRefusal, StartRefusal};
-use crate::step::Step;
 use odb_check::Plan;
 use odb_doc::Outcome;
 use std::alloc::{AllocError, Global};
@@ -38,7 +39,7 @@ pub struct Scheduler<'p> {
 
 impl<'p> Model for Scheduler<'p> {
     ghost use Rattle.odb_doc.specs.DataCodes.{data_code, method_code};
-    ghost use Rattle.odb_sched.specs.State.{State};
+    ghost use Rattle.odb_sched.specs.run.State.{State};
 
     ghost Value = { State };
 
@@ -48,7 +49,7 @@ impl<'p> Model for Scheduler<'p> {
 
     ghost coded = { Prim.hlevel (codes, data_code, method_code, policies.the_row.coded, phase.the_row.coded) };
 
-    ghost use Rattle.odb_sched.specs.Kept.{planned_state, IsOfPlan};
+    ghost use Rattle.odb_sched.specs.invariants.Kept.{planned_state, IsOfPlan};
 
     ghost view = { planned_state };
 
@@ -64,8 +65,8 @@ impl<'p> Scheduler<'p> {
         policy: Policy,
     ) -> Result<Scheduler<'p>, AllocError>
         ensures state { IfOk result (λ scheduler. scheduler
-            ≡ states.at_first plan.now policy) }
-        ensures size { IfOk result (λ scheduler. states.size scheduler
+            ≡ state.initial plan.now policy) }
+        ensures size { IfOk result (λ scheduler. state.size scheduler
             ≡ length (plan_records plan.now)) }
     {
         let run = OwnedRun::new(alloc, plan, policy)?;
@@ -81,9 +82,9 @@ impl<'p> Scheduler<'p> {
     ///
     /// The run, unchanged, if its numbers are not those of the plan.
     pub fn of<'a: 'p>(plan: &'p Plan<'a>, run: OwnedRun) -> Result<Scheduler<'p>, OwnedRun>
-        ensures allowed { IsOk result ↔ (run.shape ≡ states.shape plan.now) }
+        ensures allowed { IsOk result ↔ (run.shape ≡ state.shape plan.now) }
         ensures state { IfOk result (λ scheduler. scheduler
-            ≡ states.with_requests (plan_records plan.now) run) }
+            ≡ state.with_requests (plan_records plan.now) run) }
         ensures back { IfErr result (λ back. back ≡ run) }
     {
         if !run.is_of(plan) {
@@ -94,7 +95,7 @@ impl<'p> Scheduler<'p> {
 
     /// Returns the run without its requests.
     pub fn into_owned(self) -> OwnedRun
-        ensures { result ≡ states.without_requests self.entry }
+        ensures { result ≡ state.without_requests self.entry }
     {
         self.run.reached();
         self.run
@@ -106,8 +107,8 @@ impl<'p> Scheduler<'p> {
     ///
     /// The first of the causes S1 to S5 that applies; the run is unchanged.
     pub fn start(&mut self, i: u32) -> Result<(), StartRefusal>
-        requires { i < states.size self.old }
-        ensures ok { OnOk result (self.new ≡ states.started self.old i) }
+        requires { i < state.size self.old }
+        ensures ok { OnOk result (self.new ≡ state.started self.old i) }
         ensures allowed { IsOk result ↔ IsTrue (steps.may_start self.old i) }
         ensures cause { IfErr result (IsStartCause self.old i) }
         ensures err { OnErr result (self.new ≡ self.old) }
@@ -126,8 +127,8 @@ impl<'p> Scheduler<'p> {
     ///
     /// The first of P1 and P2 that applies, with the outcome; the run is unchanged.
     pub fn report(&mut self, i: u32, outcome: Outcome) -> Result<(), (ReportRefusal, Outcome)>
-        requires { i < states.size self.old }
-        ensures ok { OnOk result (self.new ≡ states.reported self.old i outcome) }
+        requires { i < state.size self.old }
+        ensures ok { OnOk result (self.new ≡ state.reported self.old i outcome) }
         ensures allowed { IsOk result ↔ IsTrue (steps.may_report self.old i outcome) }
         ensures cause { IfErr result (λ e. IsReportCause self.old i outcome e.0) }
         ensures back { IfErr result (λ e. e.1 ≡ outcome) }
@@ -138,17 +139,17 @@ impl<'p> Scheduler<'p> {
 
     /// Returns the ready positions, each once, in no particular order.
     pub fn ready(&self) -> &[u32]
-        ensures listed { ListsOnce (states.size self.now) (steps.may_start self.now) result.now }
-        ensures within { All (λ i. i < states.size self.now) result.now }
+        ensures listed { ListsOnce (state.size self.now) (steps.may_start self.now) result.now }
+        ensures within { All (λ i. i < state.size self.now) result.now }
     {
         self.run.ready()
     }
 
     /// Returns the running positions, each once, in no particular order.
     pub fn running(&self) -> &[u32]
-        ensures listed { ListsOnce (states.size self.now)
-            (λ i. tests.is_running (states.phase_at self.now i)) result.now }
-        ensures within { All (λ i. i < states.size self.now) result.now }
+        ensures listed { ListsOnce (state.size self.now)
+            (λ i. state.is_running (state.phase_at self.now i)) result.now }
+        ensures within { All (λ i. i < state.size self.now) result.now }
         ensures width { length result.now ≤ self.now.policy.width }
     {
         self.run.running()
@@ -167,9 +168,9 @@ impl<'p> Scheduler<'p> {
     /// each request was reported or will never start.
     pub fn is_finished(&self) -> bool
         ensures value { result ≡ steps.is_finished self.now }
-        ensures idle { IsTrue result ↔ ((i : ℕ) → i < states.size self.now
+        ensures idle { IsTrue result ↔ ((i : ℕ) → i < state.size self.now
             → (steps.may_start self.now i ≡ false)
-            × (tests.is_running (states.phase_at self.now i) ≡ false)) }
+            × (state.is_running (state.phase_at self.now i) ≡ false)) }
     {
         self.run.is_finished()
     }
@@ -179,9 +180,9 @@ impl<'p> Scheduler<'p> {
         requires { steps.is_finished self ≡ true }
         ensures state { result ≡ self.entry }
         ensures one_result { self.entry.policy.mode ≡ modes.Continue → laws.HasOneResult result }
-        ensures sound_result { laws.HasSoundResult result }
+        ensures agrees_with_table { laws.AgreesWithTable result }
         ensures all_or_none { laws.IsAllOrNone result }
-        ensures sound { laws.IsSound result }
+        ensures rests_on_successes { laws.RestsOnSuccesses result }
     {
         let done = Done { run: self };
         done.laws();
@@ -191,23 +192,23 @@ impl<'p> Scheduler<'p> {
     /// Returns the plan of the run.
     pub(crate) fn plan(&self) -> &'p Plan<'p>
         ensures plan { plan_records result.now ≡ self.now.requests }
-        ensures shape { states.shape result.now ≡ self.now.shape }
-        ensures size { states.size self.now ≡ length self.now.requests }
+        ensures shape { state.shape result.now ≡ self.now.shape }
+        ensures size { state.size self.now ≡ length self.now.requests }
     {
         self.plan
     }
 
     /// Returns what has happened to a request.
     pub(crate) fn phase(&self, i: u32) -> &Phase
-        requires { i < states.size self.now }
-        ensures { result.now ≡ states.phase_at self.now i }
+        requires { i < state.size self.now }
+        ensures { result.now ≡ state.phase_at self.now i }
     {
         self.run.phase(i)
     }
 
     /// Returns whether all members of the request's unit have succeeded.
     pub(crate) fn unit_succeeded(&self, i: u32) -> bool
-        requires { i < states.size self.now }
+        requires { i < state.size self.now }
         ensures { result ≡ steps.unit_succeeded self.now (unit_of self.now.shape i) }
     {
         self.run.unit_succeeded(i)

@@ -6,7 +6,7 @@ mod writers;
 
 ghost use Rattle.std.specs.Prelude.{◌≡◌, length};
 ghost use Rattle.odb_check.specs.Plans.{plan_records};
-ghost use Rattle.odb_sched.specs.State.{size};
+ghost use Rattle.odb_sched.specs.run.State.{size};
 
 use crate::running::{OnPlan, on_document};
 use odb_check::Plan;

@@ -14,7 +14,7 @@ mod plain;
 mod recordings;
 
 ghost use Rattle.std.specs.Prelude.{◌≡◌, ◌<◌};
-ghost use Rattle.odb_sched.specs.State.{size};
+ghost use Rattle.odb_sched.specs.run.State.{size};
 
 use odb_check::{Plan, check};
 use odb_doc::{Batch, Outcome, parse};

@@ -2,8 +2,8 @@
 //! response that they write is read again.
 
 ghost use Rattle.std.specs.Prelude.{◌≡◌, true, false, Some, IfSome};
-ghost use Rattle.odb_sched.specs.Choosing.{AllowsOrder};
-ghost use Rattle.odb_sched.specs.declared.order.Order.TheVariants as orders;
+ghost use Rattle.odb_sched.specs.run.Choosing.{AllowsOrder};
+ghost use Rattle.odb_sched.specs.declared.chooser.Order.TheVariants as orders;
 ghost use Rattle.odb_engine.specs.declared.ending.Ended.TheVariants.{Done};
 ghost use Rattle.odb_engine.specs.Cascade.{Accepts, Answers};
 ghost use Rattle.odb_engine.specs.Commands.{BySecond, Canonical, Counts, Plans};

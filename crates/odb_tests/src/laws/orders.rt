@@ -3,10 +3,9 @@
 ghost use Rattle.std.specs.Prelude.{◌≡◌, IfOk, IfSome};
 ghost use Rattle.odb_doc.specs.recorded.OutcomeLists.{entries};
 ghost use Rattle.odb_check.specs.Plans.{plan_records};
-ghost use Rattle.odb_sched.specs.Orders.{Faults, Finishes};
-ghost use Rattle.odb_sched.specs.Recordings.{recorded_for};
-ghost use Rattle.odb_sched.specs.State.{at_first};
-ghost use Rattle.odb_sched.specs.declared.order.Order.TheVariants as orders;
+ghost use Rattle.odb_sched.specs.run.Recordings.{Faults, Finishes, recorded_for};
+ghost use Rattle.odb_sched.specs.run.State.{initial};
+ghost use Rattle.odb_sched.specs.declared.chooser.Order.TheVariants as orders;
 ghost use Rattle.odb_tests.specs.Readings.{IsReading};
 
 use odb_check::Plan;
@@ -24,9 +23,9 @@ fn executed<'a: 'p, 'p>(
 ) -> Option<Result<Trace<'p>, ExecFault>>
     ensures { IfSome result (IsReading
         (λ trace. Finishes orders.Last (recorded_for (plan_records plan.now) (entries outcomes))
-        (at_first plan.now policy) trace.steps.items trace.done)
+        (initial plan.now policy) trace.steps.items trace.done)
         (λ cause. Faults orders.Last (recorded_for (plan_records plan.now) (entries outcomes))
-        (at_first plan.now policy) cause)) }
+        (initial plan.now policy) cause)) }
 {
     let Ok(mut service) = Recorded::new(alloc, plan, outcomes) else {
         return None;

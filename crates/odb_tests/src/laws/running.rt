@@ -2,18 +2,17 @@
 
 ghost use Rattle.std.specs.Prelude.{◌≡◌, ◌≢◌, ◌<◌, ℕ, true, length, All, IfErr, IfSome, OnOk, OnSome};
 ghost use Rattle.odb_check.specs.Plans.{plan_records};
-ghost use Rattle.odb_sched.specs.Answers.{HasStatuses};
-ghost use Rattle.odb_sched.specs.Causes.{BarsStart};
-ghost use Rattle.odb_sched.specs.Laws.{HasFewEvents, HasOneResult, HasResultByStatuses, HasSoundResult, HaveSucceeded, IsAllOrNone, IsNeverStuck, IsSound, StartsLast};
-ghost use Rattle.odb_sched.specs.Runs.{event_position, phase_of};
-ghost use Rattle.odb_sched.specs.State.{at_first, phase_at, size};
-ghost use Rattle.odb_sched.specs.Steps.{is_finished};
+ghost use Rattle.odb_sched.specs.run.Answers.{HasStatuses};
+ghost use Rattle.odb_sched.specs.run.Steps.{BarsStart, is_finished};
+ghost use Rattle.odb_sched.specs.run.Laws.{HasFewEvents, HasOneResult, HasResultByStatuses, AgreesWithTable, HaveSucceeded, IsAllOrNone, IsNeverStuck, RestsOnSuccesses, StartsAfterDependencies};
+ghost use Rattle.odb_sched.specs.run.Runs.{event_position, phase_of};
+ghost use Rattle.odb_sched.specs.run.State.{initial, phase_at, size};
 ghost use Rattle.odb_sched.specs.declared.policy.Mode.TheVariants.{Continue};
 ghost use Rattle.odb_sched.specs.declared.refusal.StartRefusal.TheVariants.{WidthReached};
 
 use odb_check::Plan;
 use odb_doc::Outcome;
-use odb_sched::laws::{every_cause, every_result, every_run, every_start, every_word};
+use odb_sched::laws::{definitions_agree, every_cause, every_result, every_run, every_start};
 use odb_sched::{Event, Policy, ReportRefusal, Scheduler, StartRefusal, run};
 use std::alloc::Global;
 
@@ -25,13 +24,13 @@ fn ran<'a: 'p, 'p>(
     events: Vec<Event>,
 ) -> Option<Scheduler<'p>>
     requires { All (λ event. event_position event < length (plan_records plan.now)) events.items }
-    ensures dependencies_first { OnSome result (StartsLast (plan_records plan.now) events.items) }
+    ensures dependencies_first { OnSome result (StartsAfterDependencies (plan_records plan.now) events.items) }
     ensures few_events { OnSome result (HasFewEvents events.items) }
     ensures never_stuck { IfSome result (λ state. IsNeverStuck state) }
     ensures phases { IfSome result (λ state. (i : ℕ) → phase_at state i ≡ phase_of i events.items) }
-    ensures sound_result { IfSome result (λ state. HasSoundResult state) }
+    ensures agrees_with_table { IfSome result (λ state. AgreesWithTable state) }
     ensures all_or_none { IfSome result (λ state. IsAllOrNone state) }
-    ensures sound { IfSome result (λ state. IsSound state) }
+    ensures rests_on_successes { IfSome result (λ state. RestsOnSuccesses state) }
     ensures statuses { IfSome result (λ state. HasStatuses state) }
     ensures one_result { IfSome result (λ state. policy.mode ≡ Continue
         → is_finished state ≡ true → HasOneResult state) }
@@ -39,7 +38,7 @@ fn ran<'a: 'p, 'p>(
         → is_finished state ≡ true → HasResultByStatuses state) }
 {
     every_run(plan);
-    every_word(plan);
+    definitions_agree(plan);
     every_result(plan);
     match run(alloc, plan, policy, events) {
         Ok(state) => Some(state),
@@ -89,7 +88,7 @@ fn started_first(
     i: u32,
 ) -> Option<Result<(), StartRefusal>>
     ensures first { IfSome result (λ it. OnOk it (HaveSucceeded (plan_records plan.now)
-        (at_first plan.now policy) i)) }
+        (initial plan.now policy) i)) }
     ensures free { policy.width ≡ 10000
         → IfSome result (λ it. IfErr it (λ cause. cause ≢ WidthReached)) }
 {

@@ -1,7 +1,7 @@
 //! The body of a report that is refused: it is handed back.
 
 ghost use Rattle.std.specs.Prelude.{◌<◌};
-ghost use Rattle.odb_sched.specs.State.{size};
+ghost use Rattle.odb_sched.specs.run.State.{size};
 
 use super::{OnPlan, on_document};
 use odb_check::Plan;

@@ -2,7 +2,7 @@
 //! no other. And lists of events that `run` refuses.
 
 ghost use Rattle.std.specs.Prelude.{◌≡◌, IfOk};
-ghost use Rattle.odb_sched.specs.Calls.{reported_by};
+ghost use Rattle.odb_sched.specs.run.Calls.{reported_by};
 
 use super::events::events_of;
 use super::{GROUP, OnPlan, PASSED_ON, REFERENCE, THREE, on_document, outcome};

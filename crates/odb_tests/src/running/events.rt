@@ -3,8 +3,8 @@
 
 ghost use Rattle.std.specs.Prelude.{◌≡◌, ◌<◌, length, All, IfOk};
 ghost use Rattle.odb_check.specs.Plans.{plan_records};
-ghost use Rattle.odb_sched.specs.State.{size};
-ghost use Rattle.odb_sched.specs.Runs.{event_position};
+ghost use Rattle.odb_sched.specs.run.State.{size};
+ghost use Rattle.odb_sched.specs.run.Runs.{event_position};
 
 use super::notes::note_done;
 use super::{GROUP, OnPlan, PASSED_ON, REFERENCE, THREE, code_of, on_document, outcome, policy};

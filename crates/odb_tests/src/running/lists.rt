@@ -2,7 +2,7 @@
 
 ghost use Rattle.std.specs.Prelude.{◌≡◌, length};
 ghost use Rattle.odb_check.specs.Plans.{plan_records};
-ghost use Rattle.odb_sched.specs.State.{size};
+ghost use Rattle.odb_sched.specs.run.State.{size};
 
 use super::plain::Plain;
 use super::{OnPlan, on_document, policy};

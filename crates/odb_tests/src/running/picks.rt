@@ -1,7 +1,7 @@
 //! The choosers of the tests.
 
 ghost use Rattle.std.specs.Prelude.{◌<◌, ◌+◌, length};
-ghost use Rattle.odb_sched.specs.Choosing.{IsInRange};
+ghost use Rattle.odb_sched.specs.run.Choosing.{IsInRange};
 
 use odb_sched::{Choice, Chooser, First, Last, Order, Wide};
 

@@ -2,7 +2,7 @@
 //! through that.
 
 ghost use Rattle.std.specs.Prelude.{◌≡◌, ◌<◌};
-ghost use Rattle.odb_sched.specs.State.{size};
+ghost use Rattle.odb_sched.specs.run.State.{size};
 
 use super::code_of;
 use odb_sched::{Done, Mode, Policy, Scheduler};

@@ -1,5 +1,5 @@
 use Rattle.std.proofs.Common.{Some}
-use Rattle.odb_sched.specs.Choosing.{AllowsOrder}
+use Rattle.odb_sched.specs.run.Choosing.{AllowsOrder}
 use Rattle.odb_engine.specs.Replays.{Replays}
 use Rattle.odb_engine.proofs.CourseLemmas.{AreOneRecord, replays_one}
 use Rattle.odb_engine.proofs.LawLemmas.{AreFunctional, answers_one}

@@ -1,7 +1,7 @@
 -- What is written of a run.
 use Rattle.std.proofs.Common.{inr}
 use Rattle.odb_check.specs.Plans.{plan_records}
-use Rattle.odb_sched.specs.State.{with_requests}
+use Rattle.odb_sched.specs.run.State.{with_requests}
 use Rattle.odb_engine.specs.Cascade.{Answers}
 use Rattle.odb_engine.specs.Halts.{Found}
 use Rattle.odb_engine.specs.Live.{Shows, ShowsState}

@@ -3,11 +3,11 @@ use Rattle.std.proofs.Common.{◌≡◌, subst, refl, Some, Ok, ℕ, IfErr}
 use Rattle.odb_doc.specs.declared.recorded.outcome.Outcome.{Outcome}
 use Rattle.odb_doc.specs.recorded.OutcomeLists.{entries}
 use Rattle.odb_check.specs.Plans.{plan_records}
-use Rattle.odb_sched.specs.Answers.{reported}
-use Rattle.odb_sched.specs.Courses.{IsDue, IsCausedBy, IsFinishedBy}
-use Rattle.odb_sched.specs.Laws.{StartsLast}
-use Rattle.odb_sched.specs.Recordings.{OffersRecorded}
-use Rattle.odb_sched.specs.State.{first_state}
+use Rattle.odb_sched.specs.run.Answers.{reported}
+use Rattle.odb_sched.specs.run.Courses.{IsReportEnabled, IsCausedBy, IsFinishedBy}
+use Rattle.odb_sched.specs.run.Laws.{StartsAfterDependencies}
+use Rattle.odb_sched.specs.run.Recordings.{OffersRecorded}
+use Rattle.odb_sched.specs.run.State.{first_state}
 use Rattle.odb_reply.specs.Fits.{ListsFit}
 use Rattle.odb_reply.specs.OnePerId.{HasOnePerId}
 use Rattle.odb_reply.specs.Responses.{response_value}
@@ -26,7 +26,7 @@ returns-in_err-trace-clause-lacks g c =
     let recorded = entries c.args.outcomes in
     let cause = c.in_err-trace.field-0.0 in
     let lacks = LacksOutcome allows c.args.replay.now.policy batch recorded in
-    let caused = subst (λ s. IsCausedBy (OffersRecorded s) (IsDue allows (OffersRecorded s) (first_state batch c.args.replay.now.policy)) cause) c.in_ok-new.ensures c.in_err-trace.ensures.fault in
+    let caused = subst (λ s. IsCausedBy (OffersRecorded s) (IsReportEnabled allows (OffersRecorded s) (first_state batch c.args.replay.now.policy)) cause) c.in_ok-new.ensures c.in_err-trace.ensures.fault in
     at-exit (λ r. IfErr r (Refuses lacks)) _ _ c.from_residual-in_err-trace.ensures.1
     (halted-by (λ refusal. lacks Refused (line_of refusal)) _ (lacks-outcome allows c.args.replay.now.policy batch recorded cause c.len-count.ensures.sound caused))
 
@@ -37,7 +37,7 @@ returns-clause-result g c =
     let first = first_state batch c.args.replay.now.policy in
     let trace = c.in_ok-trace.trace in
     let execution = c.in_ok-trace.ensures.execution in
-    let (course, ended) = subst (λ s. (course : IsFinishedBy allows (OffersRecorded s) first trace.steps.items trace.done) × StartsLast batch course.events) c.in_ok-new.ensures
+    let (course, ended) = subst (λ s. (course : IsFinishedBy allows (OffersRecorded s) first trace.steps.items trace.done) × StartsAfterDependencies batch course.events) c.in_ok-new.ensures
     (execution.course, execution.dependencies_first) in
     let offers = subst (λ s. (i : ℕ) (outcome : Outcome) → reported trace.done i ≡ Some outcome → OffersRecorded s i (Ok outcome)) c.in_ok-new.ensures c.in_ok-trace.ensures.offered in
     λ traced. record {

@@ -3,8 +3,8 @@ use Rattle.std.proofs.Common.{◌≡◌, ◌∙◌, Some, subst, refl, sym, ap, 
 use Rattle.serde_json.specs.Read.{read}
 use Rattle.odb_doc.specs.recorded.EventLists.{entries}
 use Rattle.odb_check.specs.Plans.{plan_records}
-use Rattle.odb_sched.specs.State.{State, first_state}
-use Rattle.odb_sched.specs.Steps.{is_finished}
+use Rattle.odb_sched.specs.run.State.{State, first_state}
+use Rattle.odb_sched.specs.run.Steps.{is_finished}
 use Rattle.odb_reply.specs.NotWhole.{HasWholeBodies}
 use Rattle.odb_reply.specs.Fits.{ListsFit}
 use Rattle.odb_reply.specs.OnePerId.{HasOnePerId}

@@ -1,5 +1,5 @@
 use Rattle.std.proofs.Common.{Some}
-use Rattle.odb_sched.specs.Choosing.{AllowsOrder}
+use Rattle.odb_sched.specs.run.Choosing.{AllowsOrder}
 use Rattle.odb_engine.specs.Cascade.{Answers}
 use Rattle.odb_engine.specs.Replays.{Replays}
 use Rattle.odb_ffi.specs.Returns.{WritesOf}

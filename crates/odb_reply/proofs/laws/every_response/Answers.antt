@@ -18,7 +18,7 @@ returns c =
     let same : IsShapeOf state.requests state.shape = rw (← c.plan.ensures.shape, ← c.plan.ensures.plan) c.every_plan.ensures.shape in
     record {
       one_per_id = one_per_id state once;
-      fits = ListsFit-answered state once c.laws.ensures.sound same c.plan.ensures.size;
+      fits = ListsFit-answered state once c.laws.ensures.rests_on_successes same c.plan.ensures.size;
       document = IsResponseDocument-answered state c.laws.ensures.answered;
       reads_back = λ readable. let value = safe readable in c.every_value.ensures.reads_back (response_value state) value.held value.whole value.shallow;
       line = λ readable. let value = safe readable in c.every_value.ensures.line (response_value state) value.held value.whole value.shallow;

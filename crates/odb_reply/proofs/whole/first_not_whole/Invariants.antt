@@ -1,6 +1,6 @@
 use Rattle.std.proofs.Common.{◌≡◌, ℕ, ◌<◌, Some}
 use Rattle.odb_doc.specs.declared.recorded.outcome.Outcome.{Outcome}
-use Rattle.odb_sched.specs.Answers.{answer}
+use Rattle.odb_sched.specs.run.Answers.{answer}
 use Rattle.odb_reply.specs.NotWhole.{HasWholeBody}
 use Rattle.odb_doc.specs.recorded.OutcomeValues.{IsHeldOutcome}
 use Rattle.odb_reply.proofs.whole.first_not_whole.Given as goal

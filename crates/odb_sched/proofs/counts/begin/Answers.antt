@@ -1,6 +1,6 @@
 -- The request moves from the ready ones to the running ones, and nothing else changes.
 use Rattle.std.proofs.Common.{◌<◌, ◌∙◌, sym, ap, subst, true, set, length}
-use Rattle.odb_sched.specs.ProgressCounts.{AreReady, is_skipped}
+use Rattle.odb_sched.specs.invariants.Counts.{AreReady, is_skipped}
 use Rattle.odb_sched.proofs.StartingLemmas.{unmet_by_start, pending_by_start, propagated_by_start, running_in, ready_out}
 use Rattle.odb_sched.proofs.counts.begin.Goals as goal
 

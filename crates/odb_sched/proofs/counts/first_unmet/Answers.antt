@@ -1,7 +1,7 @@
 -- The needs before the one that is found are satisfied, and all are if none is found.
 use Rattle.std.proofs.Common.{sym, ◌∙◌}
 use Rattle.odb_check.specs.declared.need.Need.TheVariants.{One}
-use Rattle.odb_sched.specs.Steps.{satisfied_in}
+use Rattle.odb_sched.specs.run.Steps.{satisfied_in}
 use Rattle.odb_sched.proofs.ListLemmas.{find_first, find_nothing}
 use Rattle.odb_sched.proofs.counts.first_unmet.Goals as goal
 

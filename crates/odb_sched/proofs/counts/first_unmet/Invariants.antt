@@ -1,6 +1,6 @@
 use Rattle.std.proofs.Common.{◌≡◌, true, take}
 use Rattle.std.specs.List.{list_all}
-use Rattle.odb_sched.specs.Steps.{satisfied_in}
+use Rattle.odb_sched.specs.run.Steps.{satisfied_in}
 use Rattle.odb_sched.proofs.counts.first_unmet.Given as goal
 
 -- the needs so far are satisfied

@@ -1,7 +1,7 @@
 -- A group is satisfied if and only if none of its members is pending.
 use Rattle.std.proofs.Common.{◌==◌, ◌∙◌, sym, ap, subst}
-use Rattle.odb_sched.specs.Plans.{IsNeed}
-use Rattle.odb_sched.specs.Steps.{satisfied_in}
+use Rattle.odb_check.specs.Shape.{IsNeed}
+use Rattle.odb_sched.specs.run.Steps.{satisfied_in}
 use Rattle.odb_sched.proofs.UnmetLemmas.{none_pending}
 use Rattle.odb_sched.proofs.counts.is_satisfied.Goals as goal
 

@@ -1,6 +1,6 @@
 use Rattle.std.proofs.Common.{◌≡◌, ◌<◌, All}
 use Rattle.odb_check.specs.Firsts.{list_below}
-use Rattle.odb_sched.specs.FirstCounts.{members_in}
+use Rattle.odb_sched.specs.invariants.Counts.{members_in}
 use Rattle.odb_sched.proofs.counts.member_counts.Given as goal
 
 -- the members of the units so far are counted

@@ -1,5 +1,5 @@
 use Rattle.std.proofs.Common.{◌≡◌, ◌<◌, ◌≤◌, ◌==◌, ℕ, false, length, slice_index_or}
-use Rattle.odb_sched.specs.FirstCounts.{needs_in}
+use Rattle.odb_sched.specs.invariants.Counts.{needs_in}
 use Rattle.odb_sched.proofs.counts.without_needs.Given as goal
 
 -- the requests so far that need nothing are in the set, and none of the later ones

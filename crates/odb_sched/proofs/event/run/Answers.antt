@@ -3,7 +3,7 @@ use Rattle.std.proofs.Common.{refl, ◌≡◌, ◌∙◌, sym, ap, arith, rules,
 use Rattle.std.proofs.lemmas.List.{nil_from_length}
 use Rattle.std.specs.Iterator.Adapters.{enumerate_source, enumerate_count}
 use Rattle.std.specs.Vec.Iter.{into_iter_items, into_iter_len}
-use Rattle.odb_sched.specs.State.{at_first}
+use Rattle.odb_sched.specs.run.State.{initial}
 use Rattle.odb_sched.proofs.PlanLemmas.{length-shape}
 use Rattle.odb_sched.proofs.TakenLemmas.{taken_none, taken_as, next_within, taken_more, taken_all, taken_refused, sized}
 use Rattle.odb_sched.proofs.event.run.Goals as goal
@@ -24,7 +24,7 @@ loop-at-init c =
 
 pub take-requires : goal.take-requires
 take-requires c =
-    let first = at_first c.args.plan.now c.args.policy in
+    let first = initial c.args.plan.now c.args.policy in
     let count = enumerate_count c.loop-at.at-iterator in
     let later = into_iter_items (enumerate_source c.next.new.self) in
     next_within first c.args.events.items c.in-Some.event later count c.loop-at.scheduler
@@ -33,7 +33,7 @@ take-requires c =
 
 pub loop-at-preserved : goal.loop-at-preserved
 loop-at-preserved c =
-    let first = at_first c.args.plan.now c.args.policy in
+    let first = initial c.args.plan.now c.args.policy in
     let count = enumerate_count c.loop-at.at-iterator in
     let later = into_iter_items (enumerate_source c.next.new.self) in
     let taken = taken_as first c.args.events.items _ _ count count c.loop-at.scheduler c.in-Some.ensures.steps.0.0 refl c.loop-at.invariant.taken in
@@ -48,7 +48,7 @@ loop-at-preserved c =
 
 pub returns-in_err-take-clause-refused : goal.returns-in_err-take-clause-refused
 returns-in_err-take-clause-refused c =
-    let first = at_first c.args.plan.now c.args.policy in
+    let first = initial c.args.plan.now c.args.policy in
     let count = enumerate_count c.loop-at.at-iterator in
     let later = into_iter_items (enumerate_source c.next.new.self) in
     let taken = taken_as first c.args.events.items _ _ count count c.loop-at.scheduler c.in-Some.ensures.steps.0.0 refl c.loop-at.invariant.taken in
@@ -57,7 +57,7 @@ returns-in_err-take-clause-refused c =
 
 pub returns-clause-run : goal.returns-clause-run
 returns-clause-run c =
-    let first = at_first c.args.plan.now c.args.policy in
+    let first = initial c.args.plan.now c.args.policy in
     let count = enumerate_count c.loop-at.at-iterator in
     (taken_all first c.args.events.items count c.loop-at.scheduler
     (taken_as first c.args.events.items _ _ count count c.loop-at.scheduler (nil_from_length _ (sym c.loop-at.invariant.left ∙ c.in-None.ensures.steps.0.0)) refl c.loop-at.invariant.taken)).0

@@ -1,7 +1,7 @@
 use Rattle.std.proofs.Common.{◌≡◌, length}
 use Rattle.std.specs.Iterator.Adapters.{enumerate_source, enumerate_count}
 use Rattle.std.specs.Vec.Iter.{into_iter_items, into_iter_len}
-use Rattle.odb_sched.specs.State.{at_first}
+use Rattle.odb_sched.specs.run.State.{initial}
 use Rattle.odb_sched.proofs.TakenLemmas.{HasTaken}
 use Rattle.odb_sched.proofs.event.run.Given as goal
 
@@ -11,5 +11,5 @@ invariant-loop-at l = record {
   next : (goal.iterator-loop-at).can_next l.at-iterator;
   ends : (goal.iterator-loop-at).is_finite l.at-iterator;
   left : into_iter_len (enumerate_source l.at-iterator) ≡ length (into_iter_items (enumerate_source l.at-iterator));
-  taken : HasTaken (at_first l.plan l.fn.policy) l.fn.events.items (into_iter_items (enumerate_source l.at-iterator)) (enumerate_count l.at-iterator) l.scheduler;
+  taken : HasTaken (initial l.plan l.fn.policy) l.fn.events.items (into_iter_items (enumerate_source l.at-iterator)) (enumerate_count l.at-iterator) l.scheduler;
 }

@@ -1,6 +1,5 @@
-use Rattle.odb_sched.specs.State.{size, phase_at}
-use Rattle.odb_sched.specs.Steps.{may_start}
-use Rattle.odb_sched.specs.Phases.{is_running}
+use Rattle.odb_sched.specs.run.State.{size, phase_at, is_running}
+use Rattle.odb_sched.specs.run.Steps.{may_start}
 use Rattle.odb_sched.proofs.ChoiceLemmas.{some_listed, positions-listed}
 use Rattle.odb_sched.proofs.CourseLemmas.{next-from}
 use Rattle.odb_sched.proofs.execution.next_choice.Goals as goal

@@ -1,6 +1,6 @@
 use Rattle.std.proofs.Common.{subst, OnOk, ◌≡◌}
 use Rattle.odb_check.specs.Plans.{plan_records}
-use Rattle.odb_sched.specs.State.{started}
+use Rattle.odb_sched.specs.run.State.{started}
 use Rattle.odb_sched.proofs.CourseLemmas.{taken-start_by}
 use Rattle.odb_sched.proofs.execution.take.Goals as goal
 

@@ -3,14 +3,14 @@ use Rattle.std.proofs.Common.{refl, ◌≡◌, ◌≤◌, ◌+◌, ◌∙◌, ap
 use Rattle.std.proofs.lemmas.List.{length-append}
 use Rattle.std.specs.Vec.{vec_capacity, vec_len}
 use Rattle.odb_sched.specs.declared.policy.Policy.{Policy}
-use Rattle.odb_sched.specs.State.{State, at_first}
+use Rattle.odb_sched.specs.run.State.{State, initial}
 use Rattle.odb_check.specs.Plans.{plan_records}
-use Rattle.odb_sched.specs.Steps.{is_finished}
-use Rattle.odb_sched.specs.Advances.{IsTakenBy}
-use Rattle.odb_sched.proofs.RunLemmas.{reached_at_first}
+use Rattle.odb_sched.specs.run.Steps.{is_finished}
+use Rattle.odb_sched.specs.invariants.Advances.{IsTakenBy}
+use Rattle.odb_sched.proofs.RunLemmas.{reached_initial}
 use Rattle.odb_sched.proofs.CourseLemmas.{events_left, so_far-first, room-first, one_more, fewer-left, caused-first, asks-push, cut_short_at, few-steps, next-within, reached-so_far, same-policy}
-use Rattle.odb_sched.specs.Choices.{Behind}
-use Rattle.odb_sched.specs.Runs.{after_all}
+use Rattle.odb_sched.specs.run.Calls.{Behind}
+use Rattle.odb_sched.specs.run.Runs.{after_all}
 use Rattle.odb_sched.proofs.PickLemmas.{picks-push, picked-event, no_step}
 use Rattle.odb_sched.proofs.execution.take_all.Goals as goal
 
@@ -19,7 +19,7 @@ unfolding so_far-first
 loop-step-init g c =
     record {
       far = so_far-first ((goal.Chooser-dyn g c.args.chooser.now).allows c.args.chooser.now.1) (g.S.Service.offers c.args.service.now)
-          (at_first c.args.plan.now c.args.policy) c.args.scheduler.now c.args.steps.now.items c.requires.first c.requires.unlisted;
+          (initial c.args.plan.now c.args.policy) c.args.scheduler.now c.args.steps.now.items c.requires.first c.requires.unlisted;
       calls = refl;
       choices = refl;
       room = room-first c.args.plan.now c.args.policy c.args.scheduler.now c.args.steps.now.items (vec_capacity c.args.steps.now)
@@ -39,7 +39,7 @@ returns-in_err-take-clause-fault g c =
     ((goal.Chooser-dyn g c.args.chooser.now).allows c.args.chooser.now.1) ((goal.Chooser-dyn g c.loop-step.chooser.now).allows c.loop-step.chooser.now.1)
     ((goal.Chooser-dyn g c.loop-step.chooser.now).allows c.loop-step.chooser.now.1)
     (g.S.Service.offers c.args.service.now) (g.S.Service.offers c.loop-step.service) (g.S.Service.offers c.loop-step.service)
-    (at_first c.args.plan.now c.args.policy) c.loop-step.scheduler c.loop-step.scheduler c.loop-step.steps.items c.in-Some.step
+    (initial c.args.plan.now c.args.policy) c.loop-step.scheduler c.loop-step.scheduler c.loop-step.steps.items c.in-Some.step
     c.loop-step.invariant.far c.in-Some.ensures.next c.in_err-take.field-0.0 c.in_err-take.ensures.fault in
     search (rules, cause)
 
@@ -86,14 +86,14 @@ loop-step-preserved g c =
     let room : length c.loop-step.steps.items + events_left c.loop-step.scheduler ≤ vec_capacity c.loop-step.steps = c.loop-step.invariant.room in
     let allows_later = (goal.Chooser-dyn g (c.loop-step.chooser.now.0, c.next_step.new.chooser)).allows c.next_step.new.chooser in
     let offers_later = g.S.Service.offers c.take.new.service in
-    let first = at_first plan c.args.policy in
+    let first = initial plan c.args.policy in
     let items : c.push.new.self.items ≡ c.loop-step.steps.items ++ c.in-Some.step ∷ [] =
     subst (λ returned. c.push.new.self.items ≡ (if is_ok returned then c.loop-step.steps.items ++ c.in-Some.step ∷ [] else c.loop-step.steps.items)) c.unwrap.ensures c.push.ensures.items in
     let longer : length c.push.new.self.items ≡ length c.loop-step.steps.items + 1 = ap length items ∙ length-append c.loop-step.steps.items (c.in-Some.step ∷ []) in
     let more : vec_capacity c.loop-step.steps ≤ vec_capacity c.push.new.self = c.push.ensures.capacity in
     record {
       far = one_more allows allows_now allows_later offers offers_now offers_later first c.loop-step.scheduler c.take.new.scheduler c.loop-step.steps.items c.in-Some.step
-          c.push.new.self.items items (reached_at_first plan c.args.policy c.every_plan.ensures.order)
+          c.push.new.self.items items (reached_initial plan c.args.policy c.every_plan.ensures.order)
           c.loop-step.invariant.far c.in-Some.ensures.next taken c.in-Some.ensures.narrows c.in_ok-take.ensures.narrows;
       calls = asks-push g.S.Service.performs (plan_records plan) c.loop-step.invariant.far.events taken.event c.args.service.now c.loop-step.service c.take.new.service c.loop-step.invariant.calls taken_by.asked;
       choices = picks-push (Behind (λ z. (goal.Chooser-dyn g z).chooses z.1)) (λ z. (goal.Chooser-dyn g z).names z.1) first c.loop-step.invariant.far.events taken.event
@@ -116,7 +116,7 @@ returns-clause-execution g c =
       };
       dependencies_first = c.every_run.ensures.dependencies_first c.args.policy far.events far.course.run;
       calls = c.loop-step.invariant.calls;
-      choices = no_step (Behind (λ z. (goal.Chooser-dyn g z).chooses z.1)) (λ z. (goal.Chooser-dyn g z).names z.1) (at_first c.args.plan.now c.args.policy) far.events
+      choices = no_step (Behind (λ z. (goal.Chooser-dyn g z).chooses z.1)) (λ z. (goal.Chooser-dyn g z).names z.1) (initial c.args.plan.now c.args.policy) far.events
           c.args.chooser.now c.loop-step.chooser.now (c.loop-step.chooser.now.0, c.next_step.new.chooser) (c.next_step.ensures.unasked c.in_default.is) c.loop-step.invariant.choices;
     }
 
@@ -126,7 +126,7 @@ returns-in_err-take-clause-cut_short g c =
     cut_short_at g.S.Service.performs (Behind (λ z. (goal.Chooser-dyn g z).chooses z.1)) (λ z. (goal.Chooser-dyn g z).names z.1) (plan_records c.args.plan.now)
     ((goal.Chooser-dyn g c.args.chooser.now).allows c.args.chooser.now.1) ((goal.Chooser-dyn g c.loop-step.chooser.now).allows c.loop-step.chooser.now.1)
     (g.S.Service.offers c.args.service.now) (g.S.Service.offers c.loop-step.service)
-    (at_first c.args.plan.now c.args.policy) c.loop-step.scheduler c.loop-step.steps.items c.in-Some.step
+    (initial c.args.plan.now c.args.policy) c.loop-step.scheduler c.loop-step.steps.items c.in-Some.step
     far c.in-Some.ensures.next c.loop-step.chooser.now (c.loop-step.chooser.now.0, c.next_step.new.chooser) c.in-Some.ensures.picked
     c.from_residual.result c.in_err-take.field-0.0 c.args.service.now c.loop-step.service c.take.new.service c.args.chooser.now c.from_residual.ensures.1
     (c.every_run.ensures.dependencies_first c.args.policy far.events far.course.run)

@@ -1,6 +1,6 @@
 -- The rows of the pairs are those of the dependents.
 use Rattle.std.proofs.Common.{◌≡◌, ◌+◌, ◌∙◌, arith, length}
-use Rattle.odb_sched.specs.State.{shape}
+use Rattle.odb_sched.specs.run.State.{shape}
 use Rattle.odb_sched.proofs.NeedPairLemmas.{pairs_keyed, dependents_are}
 use Rattle.odb_sched.proofs.graph.dependents_of.Goals as goal
 

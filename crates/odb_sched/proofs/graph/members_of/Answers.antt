@@ -1,5 +1,5 @@
 use Rattle.std.proofs.Common.{arith}
-use Rattle.odb_sched.specs.State.{shape}
+use Rattle.odb_sched.specs.run.State.{shape}
 use Rattle.odb_sched.proofs.GraphLemmas.{spans_more}
 use Rattle.odb_sched.proofs.graph.members_of.Goals as goal
 

@@ -1,4 +1,4 @@
-use Rattle.odb_sched.specs.State.{shape}
+use Rattle.odb_sched.specs.run.State.{shape}
 use Rattle.odb_sched.proofs.GraphLemmas.{AreSpansBelow}
 use Rattle.odb_sched.proofs.graph.members_of.Given as goal
 

@@ -1,7 +1,7 @@
 use Rattle.std.proofs.Common.{◌≡◌}
 use Rattle.odb_check.specs.Firsts.{joined_below}
-use Rattle.odb_sched.specs.State.{shape}
-use Rattle.odb_sched.specs.NeedPairs.{need_pairs}
+use Rattle.odb_sched.specs.run.State.{shape}
+use Rattle.odb_sched.specs.invariants.Graphs.{need_pairs}
 use Rattle.odb_sched.proofs.graph.pairs_of.Given as goal
 
 -- the requests so far have their pairs

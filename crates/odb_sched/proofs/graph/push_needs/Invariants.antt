@@ -1,6 +1,6 @@
 use Rattle.std.proofs.Common.{◌≡◌, ◌++◌, map, take}
-use Rattle.odb_sched.specs.State.{shape}
-use Rattle.odb_sched.specs.ProgressCounts.{key_of}
+use Rattle.odb_sched.specs.run.State.{shape}
+use Rattle.odb_sched.specs.invariants.Graphs.{key_of}
 use Rattle.odb_sched.proofs.graph.push_needs.Given as goal
 
 -- the needs so far have their pairs

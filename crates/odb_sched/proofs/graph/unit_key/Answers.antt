@@ -1,6 +1,6 @@
 -- The keys of all requests and all units fit.
 use Rattle.std.proofs.Common.{◌≡◌, ◌<◌, ◌≤◌, length, arith}
-use Rattle.odb_sched.specs.State.{shape}
+use Rattle.odb_sched.specs.run.State.{shape}
 use Rattle.odb_sched.proofs.graph.unit_key.Goals as goal
 
 pub overflow_add-result : goal.overflow_add-result

@@ -1,6 +1,6 @@
 use Rattle.std.proofs.Common.{◌∙◌, ◌++◌, ◌∷◌, [], sym, ap, arith, take}
 use Rattle.std.proofs.lemmas.List.{take_all, take_more}
-use Rattle.odb_sched.specs.State.{shape}
+use Rattle.odb_sched.specs.run.State.{shape}
 use Rattle.odb_sched.proofs.graph.units_of.Goals as goal
 
 pub loop-i-preserved : goal.loop-i-preserved

@@ -1,5 +1,5 @@
 use Rattle.std.proofs.Common.{◌≡◌, take}
-use Rattle.odb_sched.specs.State.{shape}
+use Rattle.odb_sched.specs.run.State.{shape}
 use Rattle.odb_sched.proofs.graph.units_of.Given as goal
 
 -- the units of the requests so far

@@ -1,6 +1,6 @@
 -- The clauses are the laws of the lemmas, at the requests of the plan.
 use Rattle.std.proofs.Common.{◌≡◌, ◌≤◌, ap, arith, length}
-use Rattle.odb_sched.specs.State.{size, shape}
+use Rattle.odb_sched.specs.run.State.{size, shape}
 use Rattle.odb_sched.proofs.CauseLemmas.{not_held_back}
 use Rattle.odb_sched.proofs.NameLemmas.{named-succeeded}
 use Rattle.odb_sched.proofs.StartLemmas.{may_start-parts}

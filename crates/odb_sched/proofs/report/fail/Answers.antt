@@ -1,7 +1,7 @@
 -- The request completes, its unit is put on the worklist, and the failure is propagated.
 use Rattle.std.proofs.Common.{ap, ◌∙◌, refl, sym, subst, arith, false, set}
 use Rattle.odb_sched.specs.declared.counts.Progress.{Progress}
-use Rattle.odb_sched.specs.Propagation.{ArePropagating}
+use Rattle.odb_sched.specs.invariants.Propagation.{ArePropagating}
 use Rattle.odb_sched.proofs.PhaseLemmas.{failed_idle}
 use Rattle.odb_sched.proofs.StartingLemmas.{running_out}
 use Rattle.odb_sched.proofs.FailLemmas.{propagating_failed, counts_failed, put_unit}

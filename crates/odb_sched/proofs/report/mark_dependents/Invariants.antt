@@ -1,7 +1,7 @@
 use Rattle.std.proofs.Common.{◌≡◌, ◌⊎◌, ℕ, ◌<◌, ◌≤◌, true, slice_index_or}
 use Rattle.odb_dense.specs.declared.worklist.Mark.TheVariants.{Unvisited}
 use Rattle.odb_dense.specs.Marks.{is_marked}
-use Rattle.odb_sched.specs.Propagation.{HaveMarked, NeedsUnit}
+use Rattle.odb_sched.specs.invariants.Propagation.{HaveMarked, NeedsUnit}
 use Rattle.odb_sched.proofs.DependentLemmas.{IsMarkedRow}
 use Rattle.odb_sched.proofs.report.mark_dependents.Given as goal
 

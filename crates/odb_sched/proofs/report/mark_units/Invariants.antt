@@ -2,7 +2,7 @@ use Rattle.std.proofs.Common.{◌≡◌, ◌⊎◌, ℕ, ◌<◌, true, slice_in
 use Rattle.odb_check.specs.Shape.{unit_of}
 use Rattle.odb_dense.specs.declared.worklist.Mark.TheVariants.{Unvisited}
 use Rattle.odb_dense.specs.Marks.{is_marked}
-use Rattle.odb_sched.specs.Propagation.{HaveMarked}
+use Rattle.odb_sched.specs.invariants.Propagation.{HaveMarked}
 use Rattle.odb_sched.proofs.report.mark_units.Given as goal
 
 -- the units of the requests so far are marked

@@ -3,8 +3,8 @@ use Rattle.std.proofs.Common.{◌≡◌, ◌⊎◌, ℕ, true, ◌∙◌, ap, su
 use Rattle.odb_sched.specs.declared.counts.Progress.{Progress}
 use Rattle.odb_dense.specs.declared.worklist.Mark.TheVariants.{Unvisited}
 use Rattle.odb_dense.specs.Marks.{is_marked}
-use Rattle.odb_sched.specs.ProgressCounts.{AreReady, ArePropagated, is_skipped}
-use Rattle.odb_sched.specs.Propagation.{HaveMarked, NeedsUnit}
+use Rattle.odb_sched.specs.invariants.Counts.{AreReady, ArePropagated, is_skipped}
+use Rattle.odb_sched.specs.invariants.Propagation.{HaveMarked, NeedsUnit}
 use Rattle.odb_sched.proofs.SkippedLemmas.{ready_same}
 use Rattle.odb_sched.proofs.PropagateLemmas.{all_propagated, propagating_on, fewer_wait, skipped_marked, others_kept}
 use Rattle.odb_sched.proofs.report.propagate.Goals as goal

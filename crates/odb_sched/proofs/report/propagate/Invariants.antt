@@ -1,6 +1,6 @@
 use Rattle.std.proofs.Common.{◌≡◌}
-use Rattle.odb_sched.specs.ProgressCounts.{AreReady, is_skipped}
-use Rattle.odb_sched.specs.Propagation.{ArePropagating}
+use Rattle.odb_sched.specs.invariants.Counts.{AreReady, is_skipped}
+use Rattle.odb_sched.specs.invariants.Propagation.{ArePropagating}
 use Rattle.odb_sched.proofs.PropagateLemmas.{waiting_count}
 use Rattle.odb_sched.proofs.report.propagate.Given as goal
 

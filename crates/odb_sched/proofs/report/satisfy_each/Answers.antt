@@ -2,7 +2,7 @@
 use Rattle.std.proofs.Common.{◌≡◌, ◌∙◌, ◌+◌, ◌==◌, sym, ap, subst, ◌<◌, length, get_or, take, count_by}
 use Rattle.std.proofs.lemmas.List.{take_all}
 use Rattle.odb_sched.specs.declared.counts.Progress.{Progress}
-use Rattle.odb_sched.specs.ProgressCounts.{AreReady, is_skipped}
+use Rattle.odb_sched.specs.invariants.Counts.{AreReady, is_skipped}
 use Rattle.odb_sched.proofs.SatisfyingLemmas.{some_left, fallen_more}
 use Rattle.odb_sched.proofs.report.satisfy_each.Goals as goal
 

@@ -1,5 +1,5 @@
 use Rattle.std.proofs.Common.{◌≡◌, ℕ, ◌<◌, ◌+◌, ◌==◌, length, take, count_by, slice_index_or}
-use Rattle.odb_sched.specs.ProgressCounts.{AreReady, is_skipped}
+use Rattle.odb_sched.specs.invariants.Counts.{AreReady, is_skipped}
 use Rattle.odb_sched.proofs.report.satisfy_each.Given as goal
 
 -- the counts have fallen by the entries so far, and nothing else has changed but what is ready

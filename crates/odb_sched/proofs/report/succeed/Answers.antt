@@ -2,7 +2,8 @@
 use Rattle.std.proofs.Common.{◌≡◌, ◌+◌, ◌-◌, ◌∙◌, suc, sym, ap, subst, arith, false, length, length-set, get_or, set}
 use Rattle.odb_check.specs.Shape.{unit_of}
 use Rattle.odb_sched.specs.declared.counts.Progress.{Progress}
-use Rattle.odb_sched.specs.ProgressCounts.{ArePending, AreReady, ArePropagated, is_skipped, need_count, unmet_in, satisfied_by_unit, pending_in}
+use Rattle.odb_sched.specs.invariants.Counts.{ArePending, AreReady, ArePropagated, is_skipped, unmet_in, satisfied_by_unit, pending_in}
+use Rattle.odb_sched.specs.invariants.Graphs.{need_count}
 use Rattle.odb_sched.proofs.PhaseLemmas.{succeeded_idle}
 use Rattle.odb_sched.proofs.StartingLemmas.{running_out}
 use Rattle.odb_sched.proofs.UnmetLemmas.{unmet_falls, pending_own, request_row}

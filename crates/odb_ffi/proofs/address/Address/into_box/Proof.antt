@@ -27,13 +27,12 @@ use denote.Triple.Table.{framed}
 use denote.Triple.Walked.{Stays, stay_dropped, walk_of}
 use Rattle.std.proofs.alloc.Calls.{Goes-blank}
 use Rattle.std.proofs.VecSteps.Shapes.{after}
-use Rattle.odb_ffi.proofs.AddressLemmas.{Good}
+use Rattle.odb_ffi.proofs.AddressLemmas.{Good, word, word_good, apart}
 use Rattle.std.proofs.BoxSteps.Form as box
 use Rattle.std.proofs.BoxSteps.Steps.{box_out, box_in}
 use Rattle.std.proofs.raw_atomic.Walks.{proved_at, leaves}
 use Rattle.std.specs.contracts.boxed.Box.from_raw as callee
 use Rattle.std.proofs.boxed.Box.from_raw.Met.{met}
-use Rattle.odb_ffi.proofs.AddressLemmas.{word, word_good, apart}
 use Rattle.odb_ffi.specs.contracts.address.Address as address
 use Rattle.odb_ffi.specs.contracts.address.Address.into_box.{ended, clauses}
 use Rattle.odb_ffi.specs.contracts.address.Address.into_box.Key.{name as #self}

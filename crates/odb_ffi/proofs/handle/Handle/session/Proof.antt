@@ -15,7 +15,7 @@ use types.ByLocal.{alloc_all, pass_all, free_all, look_at, get, through, sets, s
 use contract.Monad.{fact}
 use contract.Running.{tables}
 use denote.RattleType.{RattleType, owns}
-use denote.Memory.{part_at, mem, cell_at, part_of}
+use denote.Memory.{part_at, mem, cell_at, part_of, lone}
 use denote.RawPtr.{Ptr, block_ptr}
 use denote.Ref.{MutRef, MutBor, mut_vals, mut_Tells}
 use denote.Signature.{types_at, plain, mut_ref_to}
@@ -23,7 +23,6 @@ use denote.Steps.{nothing, opens}
 use denote.Follow.{follows, Part, lends_Part}
 use denote.Triple.Walked.{says, Stays, stay_dropped, walk_of, ends_at, Goes-spent_ref}
 use mir.Raw.{raw as bare}
-use denote.Memory.{lone}
 use Rattle.std.proofs.raw_atomic.Walks.{proved}
 use Rattle.std.proofs.VecSteps.Shapes.{after}
 use Rattle.std.specs.contracts.alloc.Global as global

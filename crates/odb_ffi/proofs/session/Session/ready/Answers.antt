@@ -1,6 +1,6 @@
 use Rattle.odb_dense.specs.Lists.{ListsOnce}
-use Rattle.odb_sched.specs.State.{size}
-use Rattle.odb_sched.specs.Steps.{may_start}
+use Rattle.odb_sched.specs.run.State.{size}
+use Rattle.odb_sched.specs.run.Steps.{may_start}
 use Rattle.odb_ffi.proofs.PositionLemmas.{given-by}
 use Rattle.odb_ffi.proofs.session.Session.ready.Goals as goal
 

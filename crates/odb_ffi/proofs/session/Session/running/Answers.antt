@@ -1,6 +1,5 @@
 use Rattle.odb_dense.specs.Lists.{ListsOnce}
-use Rattle.odb_sched.specs.Phases.{is_running}
-use Rattle.odb_sched.specs.State.{size, phase_at}
+use Rattle.odb_sched.specs.run.State.{is_running, size, phase_at}
 use Rattle.odb_ffi.proofs.PositionLemmas.{given-by}
 use Rattle.odb_ffi.proofs.session.Session.running.Goals as goal
 

@@ -1,5 +1,5 @@
 use Rattle.std.proofs.Common.{ap}
-use Rattle.odb_sched.specs.State.{State}
+use Rattle.odb_sched.specs.run.State.{State}
 use Rattle.odb_ffi.specs.Live.Takes.{Refused}
 use Rattle.odb_ffi.proofs.session.Session.take.Goals as goal
 

@@ -4,9 +4,9 @@ use Rattle.std.proofs.lemmas.List.{get_or_read}
 use Rattle.odb_sched.specs.declared.counts.Counts.{Counts}
 use Rattle.odb_sched.specs.declared.counts.Progress.{Progress}
 use Rattle.odb_sched.specs.declared.phase.Phase.TheVariants.{Unstarted, Running, Reported}
-use Rattle.odb_sched.specs.Phases.{has_erred}
-use Rattle.odb_sched.specs.ProgressCounts.{AreCounts}
-use Rattle.odb_sched.specs.Steps.{stops, stopped_in}
+use Rattle.odb_sched.specs.run.State.{has_erred}
+use Rattle.odb_sched.specs.invariants.Counts.{AreCounts}
+use Rattle.odb_sched.specs.run.Steps.{stops, stopped_in}
 use Rattle.odb_sched.proofs.KeptLemmas.{written_back}
 use Rattle.odb_sched.proofs.PhaseLemmas.{Running-from}
 use Rattle.odb_sched.proofs.StopLemmas.{stopped_by_report}

@@ -3,9 +3,9 @@ use Rattle.std.proofs.Common.{◌≡◌, ◌<◌, ◌∙◌, ap, set, subst, sym
 use Rattle.odb_sched.specs.declared.counts.Counts.{Counts}
 use Rattle.odb_sched.specs.declared.counts.Progress.{Progress}
 use Rattle.odb_sched.specs.declared.phase.Phase.TheVariants.{Unstarted, Running}
-use Rattle.odb_sched.specs.Phases.{is_running}
-use Rattle.odb_sched.specs.ProgressCounts.{AreCounts}
-use Rattle.odb_sched.specs.Steps.{stopped_in}
+use Rattle.odb_sched.specs.run.State.{is_running}
+use Rattle.odb_sched.specs.invariants.Counts.{AreCounts}
+use Rattle.odb_sched.specs.run.Steps.{stopped_in}
 use Rattle.odb_sched.proofs.KeptLemmas.{written_at, written_back}
 use Rattle.odb_sched.proofs.PhaseLemmas.{Unstarted-from}
 use Rattle.odb_sched.proofs.StopLemmas.{stopped_by_start}

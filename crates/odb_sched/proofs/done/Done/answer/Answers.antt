@@ -1,6 +1,6 @@
 -- What was reported has a status from 200 to 599.
 use Rattle.std.proofs.Common.{◌∙◌, ap, sym}
-use Rattle.odb_sched.specs.Answers.{outcome_of}
+use Rattle.odb_sched.specs.run.Answers.{outcome_of}
 use Rattle.odb_sched.proofs.done.Done.answer.Goals as goal
 
 pub returns-else-is_success-clause-status : goal.returns-else-is_success-clause-status

@@ -1,10 +1,10 @@
 -- The answers of a reached state have one result, are all or none in a group, and are sound.
 use Rattle.std.proofs.Common.{◌≡◌, subst}
 use Rattle.odb_sched.specs.declared.policy.Mode.TheVariants.{Continue}
-use Rattle.odb_sched.specs.Laws.{HasOneResult, HasResultByStatuses, HasSoundResult, IsSound}
-use Rattle.odb_sched.specs.State.{State}
-use Rattle.odb_sched.specs.Answers.{HasStatuses}
-use Rattle.odb_sched.proofs.ResultLemmas.{one_result, result_by_statuses, sound_result, all_or_none, sound_answers}
+use Rattle.odb_sched.specs.run.Laws.{HasOneResult, HasResultByStatuses, AgreesWithTable, RestsOnSuccesses}
+use Rattle.odb_sched.specs.run.State.{State}
+use Rattle.odb_sched.specs.run.Answers.{HasStatuses}
+use Rattle.odb_sched.proofs.ResultLemmas.{one_result, result_by_statuses, agrees_with_table, all_or_none, rests_on_successes}
 use Rattle.odb_sched.proofs.StatusLemmas.{status-answer}
 use Rattle.odb_sched.proofs.done.Done.laws.Goals as goal
 
@@ -14,14 +14,14 @@ returns-clause-one_result c = subst (λ (state : State). state.policy.mode ≡ C
 pub returns-clause-by_statuses : goal.returns-clause-by_statuses
 returns-clause-by_statuses c = subst (λ (state : State). state.policy.mode ≡ Continue → HasResultByStatuses state) c.self.view_is (λ continues. result_by_statuses _ c.reached.ensures c.self.invariant continues)
 
-pub returns-clause-sound_result : goal.returns-clause-sound_result
-returns-clause-sound_result c = subst HasSoundResult c.self.view_is (sound_result _ c.reached.ensures)
+pub returns-clause-agrees_with_table : goal.returns-clause-agrees_with_table
+returns-clause-agrees_with_table c = subst AgreesWithTable c.self.view_is (agrees_with_table _ c.reached.ensures)
 
 pub returns-clause-all_or_none : goal.returns-clause-all_or_none
 returns-clause-all_or_none c = all_or_none c.args.self.now
 
-pub returns-clause-sound : goal.returns-clause-sound
-returns-clause-sound c = subst IsSound c.self.view_is (sound_answers _ c.reached.ensures)
+pub returns-clause-rests_on_successes : goal.returns-clause-rests_on_successes
+returns-clause-rests_on_successes c = subst RestsOnSuccesses c.self.view_is (rests_on_successes _ c.reached.ensures)
 
 pub returns-clause-statuses : goal.returns-clause-statuses
 returns-clause-statuses c = subst HasStatuses c.self.view_is c.reached.ensures.statuses

@@ -1,6 +1,6 @@
 use Rattle.std.proofs.Common.{◌<◌, All, subst, sym, rules}
-use Rattle.odb_sched.specs.Answers.{is_undone}
-use Rattle.odb_sched.specs.State.{size}
+use Rattle.odb_sched.specs.run.Answers.{is_undone}
+use Rattle.odb_sched.specs.run.State.{size}
 use Rattle.odb_sched.proofs.BelowLemmas.{passing_below-within}
 use Rattle.odb_sched.proofs.done.Done.undone.Goals as goal
 

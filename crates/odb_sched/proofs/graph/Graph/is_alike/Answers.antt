@@ -1,5 +1,5 @@
 use Rattle.std.proofs.Common.{◌∙◌, sym}
-use Rattle.odb_sched.specs.State.{shape}
+use Rattle.odb_sched.specs.run.State.{shape}
 use Rattle.odb_sched.proofs.GraphLemmas.{alike_by_needs}
 use Rattle.odb_sched.proofs.graph.Graph.is_alike.Goals as goal
 

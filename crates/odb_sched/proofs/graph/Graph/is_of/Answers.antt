@@ -1,6 +1,6 @@
 -- Plans of as many requests and units are the same if their requests are alike.
 use Rattle.std.proofs.Common.{◌≡◌, ◌∙◌, sym, refl, arith, length}
-use Rattle.odb_sched.specs.State.{shape}
+use Rattle.odb_sched.specs.run.State.{shape}
 use Rattle.odb_sched.proofs.GraphLemmas.{same_plans}
 use Rattle.odb_sched.proofs.graph.Graph.is_of.Goals as goal
 

@@ -1,6 +1,6 @@
 use Rattle.std.proofs.Common.{ℕ, ◌<◌}
-use Rattle.odb_sched.specs.Graphs.{AreAlike}
-use Rattle.odb_sched.specs.State.{shape}
+use Rattle.odb_sched.specs.invariants.Graphs.{AreAlike}
+use Rattle.odb_sched.specs.run.State.{shape}
 use Rattle.odb_sched.proofs.graph.Graph.is_of.Given as goal
 
 -- the requests so far are alike

@@ -1,6 +1,6 @@
 use Rattle.std.proofs.Common.{subst}
 use Rattle.odb_check.specs.Shape.{IsPlan}
-use Rattle.odb_sched.specs.ProgressCounts.{AreDependents}
+use Rattle.odb_sched.specs.invariants.Graphs.{AreDependents}
 use Rattle.odb_sched.proofs.graph.Graph.laws.Goals as goal
 
 pub returns-clause-order : goal.returns-clause-order

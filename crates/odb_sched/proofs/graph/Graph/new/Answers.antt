@@ -1,4 +1,4 @@
-use Rattle.odb_sched.specs.State.{shape}
+use Rattle.odb_sched.specs.run.State.{shape}
 use Rattle.odb_sched.specs.declared.graph.Graph.TheInside.{Inside}
 use Rattle.odb_sched.proofs.GraphLemmas.{graph_is, kept_is}
 use Rattle.odb_sched.proofs.graph.Graph.new.Goals as goal

@@ -1,9 +1,8 @@
 -- No position may start and none runs exactly when the run is finished.
 use Rattle.std.proofs.Common.{◌↔◌, ◌∙◌, ap, sym, subst, ℕ, ◌<◌, ◌≡◌, false, IsTrue}
-use Rattle.odb_sched.specs.Phases.{is_running}
-use Rattle.odb_sched.specs.State.{size, phase_at}
-use Rattle.odb_sched.specs.Steps.{is_finished, may_start}
-use Rattle.odb_sched.specs.Reached.{IsReached}
+use Rattle.odb_sched.specs.run.State.{is_running, size, phase_at}
+use Rattle.odb_sched.specs.run.Steps.{is_finished, may_start}
+use Rattle.odb_sched.specs.invariants.Kept.{IsReached}
 use Rattle.odb_sched.proofs.KeptLemmas.{finished_idle}
 use Rattle.odb_sched.proofs.CountedLemmas.{finished_is}
 use Rattle.odb_sched.proofs.owned.OwnedRun.is_finished.Goals as goal

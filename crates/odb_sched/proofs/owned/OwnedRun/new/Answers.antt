@@ -1,6 +1,6 @@
 use Rattle.std.proofs.Common.{◌∙◌, ap, length}
 use Rattle.odb_check.specs.Shape.{Shape}
-use Rattle.odb_sched.specs.State.{size}
+use Rattle.odb_sched.specs.run.State.{size}
 use Rattle.odb_sched.proofs.OwnedLemmas.{if_ok}
 use Rattle.odb_sched.proofs.PlanLemmas.{length-shape}
 use Rattle.odb_sched.proofs.owned.OwnedRun.new.Goals as goal

@@ -1,8 +1,6 @@
 -- Before any event the state is reached, and the counts are those of it.
 use Rattle.std.proofs.Common.{subst, sym}
-use Rattle.odb_sched.specs.Kept.{IsCounted}
-use Rattle.odb_sched.specs.Plans.{state_of}
-use Rattle.odb_sched.specs.Reached.{IsReached}
+use Rattle.odb_sched.specs.invariants.Kept.{IsCounted, state_of, IsReached}
 use Rattle.odb_sched.proofs.ReachedLemmas.{reached_first}
 use Rattle.odb_sched.proofs.owned.OwnedRun.of_graph.Goals as goal
 

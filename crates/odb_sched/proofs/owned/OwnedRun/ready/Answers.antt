@@ -1,7 +1,7 @@
 use Rattle.std.proofs.Common.{subst}
 use Rattle.odb_dense.specs.Lists.{ListsOnce}
-use Rattle.odb_sched.specs.State.{size}
-use Rattle.odb_sched.specs.Steps.{may_start}
+use Rattle.odb_sched.specs.run.State.{size}
+use Rattle.odb_sched.specs.run.Steps.{may_start}
 use Rattle.odb_sched.proofs.ChoiceLemmas.{listed_within}
 use Rattle.odb_sched.proofs.CountedLemmas.{ready_listed}
 use Rattle.odb_sched.proofs.owned.OwnedRun.ready.Goals as goal

@@ -1,14 +1,10 @@
 -- A report that is not refused may come, and the counts follow.
 use Rattle.std.proofs.Common.{◌≡◌, ◌<◌, sym, subst, true, IfSome}
 use Rattle.std.proofs.lemmas.Bool.{and_parts}
-use Rattle.odb_sched.specs.Statuses.{is_status}
-use Rattle.odb_sched.specs.Phases.{is_running}
-use Rattle.odb_sched.specs.State.{size, phase_at}
-use Rattle.odb_sched.specs.Steps.{may_report}
-use Rattle.odb_sched.specs.Plans.{state_of}
-use Rattle.odb_sched.specs.Kept.{kept_state}
-use Rattle.odb_sched.specs.Reached.{IsReached}
-use Rattle.odb_sched.specs.Causes.{IsReportCause}
+use Rattle.odb_doc.specs.Statuses.{is_status}
+use Rattle.odb_sched.specs.run.State.{is_running, size, phase_at}
+use Rattle.odb_sched.specs.run.Steps.{may_report, IsReportCause}
+use Rattle.odb_sched.specs.invariants.Kept.{state_of, kept_state, IsReached}
 use Rattle.odb_sched.proofs.ReachedLemmas.{reached_reported}
 use Rattle.odb_sched.proofs.owned.OwnedRun.report.Goals as goal
 

@@ -1,9 +1,8 @@
 use Rattle.std.proofs.Common.{◌≡◌, ◌≤◌, ◌∙◌, ap, subst, arith, length}
 use Rattle.odb_dense.specs.Lists.{ListsOnce}
-use Rattle.odb_sched.specs.Phases.{is_running}
-use Rattle.odb_sched.specs.Kept.{kept_state}
-use Rattle.odb_sched.specs.State.{State, size, phase_at}
-use Rattle.odb_sched.specs.Steps.{running_count}
+use Rattle.odb_sched.specs.run.State.{is_running, State, size, phase_at}
+use Rattle.odb_sched.specs.invariants.Kept.{kept_state}
+use Rattle.odb_sched.specs.run.Steps.{running_count}
 use Rattle.odb_sched.proofs.ChoiceLemmas.{listed_within}
 use Rattle.odb_sched.proofs.CountedLemmas.{running_is, running_listed}
 use Rattle.odb_sched.proofs.owned.OwnedRun.running.Goals as goal

@@ -1,11 +1,9 @@
 -- The end of the running positions is that of the positions that run.
 use Rattle.std.proofs.Common.{◌≡◌, ◌<◌, true, subst, sym, IfSome}
-use Rattle.odb_sched.specs.Choosing.{IsNone}
-use Rattle.odb_sched.specs.Courses.{ready_set, running_set}
-use Rattle.odb_sched.specs.Ends.{IsAt}
-use Rattle.odb_sched.specs.Phases.{is_running}
-use Rattle.odb_sched.specs.State.{size, phase_at}
-use Rattle.odb_sched.specs.Steps.{is_finished}
+use Rattle.odb_sched.specs.run.Choosing.{IsNone, IsAt}
+use Rattle.odb_sched.specs.run.Courses.{ready_set, running_set}
+use Rattle.odb_sched.specs.run.State.{is_running, size, phase_at}
+use Rattle.odb_sched.specs.run.Steps.{is_finished}
 use Rattle.odb_sched.proofs.EndLemmas.{none_runs, runs_at, finished_none}
 use Rattle.odb_sched.proofs.owned.OwnedRun.running_at.Goals as goal
 

@@ -1,14 +1,11 @@
 -- A start that is not refused may come, and the counts follow.
 use Rattle.std.proofs.Common.{◌≡◌, sym, subst, true, length, refl, ◌<◌, ◌≤◌, arith, IfSome}
 use Rattle.std.proofs.lemmas.Bool.{both_ways, false≢true}
-use Rattle.odb_sched.specs.State.{State, size}
-use Rattle.odb_sched.specs.Steps.{may_start}
-use Rattle.odb_sched.specs.Plans.{state_of}
-use Rattle.odb_sched.specs.Kept.{kept_state}
-use Rattle.odb_sched.specs.Reached.{IsReached}
+use Rattle.odb_sched.specs.run.State.{State, size}
+use Rattle.odb_sched.specs.run.Steps.{may_start, IsStartCause}
+use Rattle.odb_sched.specs.invariants.Kept.{state_of, kept_state, IsReached}
 use Rattle.odb_sched.proofs.StartLemmas.{may_start-parts}
 use Rattle.odb_sched.proofs.CauseLemmas.{not_held_back, start_barred}
-use Rattle.odb_sched.specs.Causes.{IsStartCause}
 use Rattle.odb_sched.proofs.ReachedLemmas.{reached_started}
 use Rattle.odb_sched.proofs.owned.OwnedRun.start.Goals as goal
 

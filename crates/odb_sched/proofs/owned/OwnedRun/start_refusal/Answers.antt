@@ -1,10 +1,9 @@
 -- The last cause against a start, and that there is none.
 use Rattle.std.proofs.Common.{rules, ◌≡◌, ◌<◌, ◌≤◌, ◌∙◌, ap, arith, length, true, false, not, None, find}
 use Rattle.odb_check.specs.Shape.{unit_of, needs_of}
-use Rattle.odb_sched.specs.Phases.{is_unstarted}
-use Rattle.odb_sched.specs.State.{State, phase_at}
-use Rattle.odb_sched.specs.Steps.{is_stopped, unit_failed, is_satisfied, running_count}
-use Rattle.odb_sched.specs.Kept.{kept_state}
+use Rattle.odb_sched.specs.run.State.{is_unstarted, State, phase_at}
+use Rattle.odb_sched.specs.run.Steps.{is_stopped, unit_failed, is_satisfied, running_count}
+use Rattle.odb_sched.specs.invariants.Kept.{kept_state}
 use Rattle.odb_sched.proofs.CountedLemmas.{running_is}
 use Rattle.odb_sched.proofs.CauseLemmas.{first_full, none_bars}
 use Rattle.odb_sched.proofs.owned.OwnedRun.start_refusal.Goals as goal

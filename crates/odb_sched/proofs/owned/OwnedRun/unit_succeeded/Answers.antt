@@ -2,7 +2,7 @@
 use Rattle.std.proofs.Common.{◌≡◌, ◌<◌, ◌==◌, ◌∙◌, ap, subst, length}
 use Rattle.std.proofs.lemmas.List.{get_or_read}
 use Rattle.odb_check.specs.Shape.{unit_of}
-use Rattle.odb_sched.specs.Steps.{succeeded_in, unit_succeeded}
+use Rattle.odb_sched.specs.run.Steps.{succeeded_in, unit_succeeded}
 use Rattle.odb_sched.proofs.UnmetLemmas.{none_pending}
 use Rattle.odb_sched.proofs.owned.OwnedRun.unit_succeeded.Goals as goal
 

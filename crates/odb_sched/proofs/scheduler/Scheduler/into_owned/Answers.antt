@@ -1,6 +1,6 @@
 -- The run has no requests of its own.
 use Rattle.std.proofs.Common.{◌∙◌, ap}
-use Rattle.odb_sched.specs.State.{with_requests, without_requests}
+use Rattle.odb_sched.specs.run.State.{with_requests, without_requests}
 use Rattle.odb_sched.proofs.scheduler.Scheduler.into_owned.Goals as goal
 
 pub returns : goal.returns

@@ -1,7 +1,6 @@
 use Rattle.std.proofs.Common.{◌↔◌, ◌≡◌, ◌<◌, ℕ, false, subst, IsTrue}
-use Rattle.odb_sched.specs.Phases.{is_running}
-use Rattle.odb_sched.specs.State.{size, phase_at}
-use Rattle.odb_sched.specs.Steps.{is_finished, may_start}
+use Rattle.odb_sched.specs.run.State.{is_running, size, phase_at}
+use Rattle.odb_sched.specs.run.Steps.{is_finished, may_start}
 use Rattle.odb_sched.proofs.scheduler.Scheduler.is_finished.Goals as goal
 
 pub returns-clause-value : goal.returns-clause-value

@@ -1,6 +1,6 @@
 use Rattle.std.proofs.Common.{ap}
 use Rattle.odb_check.specs.Plans.{plan_records}
-use Rattle.odb_sched.specs.State.{State, with_requests}
+use Rattle.odb_sched.specs.run.State.{State, with_requests}
 use Rattle.odb_sched.proofs.scheduler.Scheduler.new.Goals as goal
 
 pub invariant_of-result : goal.invariant_of-result

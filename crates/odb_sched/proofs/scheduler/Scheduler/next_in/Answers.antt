@@ -1,9 +1,9 @@
 use Rattle.std.proofs.Common.{◌≡◌, ◌∙◌, ap, subst, true, IfSome}
 use Rattle.odb_check.specs.Plans.{plan_records}
-use Rattle.odb_sched.specs.Advances.{IsNext}
-use Rattle.odb_sched.specs.Choosing.{AllowsOrder}
-use Rattle.odb_sched.specs.State.{State, with_requests}
-use Rattle.odb_sched.specs.Steps.{is_finished}
+use Rattle.odb_sched.specs.invariants.Advances.{IsNext}
+use Rattle.odb_sched.specs.run.Choosing.{AllowsOrder}
+use Rattle.odb_sched.specs.run.State.{State, with_requests}
+use Rattle.odb_sched.specs.run.Steps.{is_finished}
 use Rattle.odb_sched.proofs.OwnedLemmas.{if_some, next_with}
 use Rattle.odb_sched.proofs.scheduler.Scheduler.next_in.Goals as goal
 

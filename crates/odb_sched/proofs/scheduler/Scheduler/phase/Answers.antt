@@ -1,5 +1,5 @@
 use Rattle.std.proofs.Common.{◌≡◌, subst}
-use Rattle.odb_sched.specs.State.{phase_at}
+use Rattle.odb_sched.specs.run.State.{phase_at}
 use Rattle.odb_sched.proofs.scheduler.Scheduler.phase.Goals as goal
 
 pub returns : goal.returns

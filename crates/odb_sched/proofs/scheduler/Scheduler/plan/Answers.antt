@@ -1,6 +1,6 @@
 use Rattle.std.proofs.Common.{◌≡◌, ◌∙◌, ap, sym, length, subst}
 use Rattle.odb_check.specs.Shape.{Shape}
-use Rattle.odb_sched.specs.State.{shape, size}
+use Rattle.odb_sched.specs.run.State.{shape, size}
 use Rattle.odb_sched.proofs.PlanLemmas.{length-shape}
 use Rattle.odb_sched.proofs.scheduler.Scheduler.plan.Goals as goal
 

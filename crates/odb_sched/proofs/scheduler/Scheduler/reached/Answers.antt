@@ -1,6 +1,6 @@
 use Rattle.std.proofs.Common.{subst}
 use Rattle.odb_check.specs.Plans.{plan_records}
-use Rattle.odb_sched.specs.Reached.{IsReached}
+use Rattle.odb_sched.specs.invariants.Kept.{IsReached}
 use Rattle.odb_sched.proofs.ReachedLemmas.{reached_with}
 use Rattle.odb_sched.proofs.scheduler.Scheduler.reached.Goals as goal
 

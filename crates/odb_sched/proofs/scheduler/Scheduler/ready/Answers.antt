@@ -1,7 +1,7 @@
 use Rattle.std.proofs.Common.{subst, All, ◌<◌}
 use Rattle.odb_dense.specs.Lists.{ListsOnce}
-use Rattle.odb_sched.specs.State.{size}
-use Rattle.odb_sched.specs.Steps.{may_start}
+use Rattle.odb_sched.specs.run.State.{size}
+use Rattle.odb_sched.specs.run.Steps.{may_start}
 use Rattle.odb_sched.proofs.scheduler.Scheduler.ready.Goals as goal
 
 pub returns-clause-listed : goal.returns-clause-listed

@@ -2,9 +2,8 @@
 use Rattle.std.proofs.Common.{◌≡◌, ◌↔◌, ◌∙◌, ap, subst, IsOk, IsTrue}
 use Rattle.std.specs.Prelude.{IfErr, OnErr, OnOk}
 use Rattle.odb_check.specs.Plans.{plan_records}
-use Rattle.odb_sched.specs.Causes.{IsReportCause}
-use Rattle.odb_sched.specs.State.{State, reported, with_requests}
-use Rattle.odb_sched.specs.Steps.{may_report}
+use Rattle.odb_sched.specs.run.Steps.{IsReportCause, may_report}
+use Rattle.odb_sched.specs.run.State.{State, reported, with_requests}
 use Rattle.odb_sched.proofs.OwnedLemmas.{either_way, if_err, on_err, on_ok, report_cause_with}
 use Rattle.odb_sched.proofs.scheduler.Scheduler.report.Goals as goal
 

@@ -1,7 +1,6 @@
 use Rattle.std.proofs.Common.{subst, All, ◌<◌, ◌≤◌, length}
 use Rattle.odb_dense.specs.Lists.{ListsOnce}
-use Rattle.odb_sched.specs.Phases.{is_running}
-use Rattle.odb_sched.specs.State.{size, phase_at}
+use Rattle.odb_sched.specs.run.State.{is_running, size, phase_at}
 use Rattle.odb_sched.proofs.scheduler.Scheduler.running.Goals as goal
 
 pub returns-clause-listed : goal.returns-clause-listed

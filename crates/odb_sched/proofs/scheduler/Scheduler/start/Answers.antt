@@ -3,10 +3,9 @@ use Rattle.std.proofs.Common.{◌≡◌, ◌≢◌, ◌≤◌, ◌↔◌, ◌∙
 use Rattle.std.specs.Prelude.{IfErr, OnErr, OnOk}
 use Rattle.odb_check.specs.Plans.{plan_records}
 use Rattle.odb_sched.specs.declared.refusal.StartRefusal.TheVariants.{WidthReached}
-use Rattle.odb_sched.specs.Causes.{IsStartCause}
-use Rattle.odb_sched.specs.Laws.{HaveSucceeded}
-use Rattle.odb_sched.specs.State.{State, shape, started, with_requests}
-use Rattle.odb_sched.specs.Steps.{may_start}
+use Rattle.odb_sched.specs.run.Steps.{IsStartCause, may_start}
+use Rattle.odb_sched.specs.run.Laws.{HaveSucceeded}
+use Rattle.odb_sched.specs.run.State.{State, shape, started, with_requests}
 use Rattle.odb_sched.proofs.OwnedLemmas.{either_way, if_err, on_err, on_ok, ok_so, start_cause_with}
 use Rattle.odb_sched.proofs.scheduler.Scheduler.start.Goals as goal
 

@@ -1,6 +1,6 @@
 use Rattle.std.proofs.Common.{◌≡◌, subst}
 use Rattle.odb_check.specs.Shape.{unit_of}
-use Rattle.odb_sched.specs.Steps.{unit_succeeded}
+use Rattle.odb_sched.specs.run.Steps.{unit_succeeded}
 use Rattle.odb_sched.proofs.scheduler.Scheduler.unit_succeeded.Goals as goal
 
 pub returns : goal.returns

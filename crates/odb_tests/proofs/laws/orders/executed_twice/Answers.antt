@@ -2,12 +2,11 @@ use Rattle.std.proofs.Common.{◌≡◌, List, Option, Some, None, Result, Ok, E
 use Rattle.odb_doc.specs.recorded.OutcomeLists.{entries}
 use Rattle.odb_doc.specs.declared.recorded.outcome.Outcome.{Outcome}
 use Rattle.odb_check.specs.Plans.{plan_records}
-use Rattle.odb_sched.specs.declared.order.Order.TheVariants as orders
+use Rattle.odb_sched.specs.declared.chooser.Order.TheVariants as orders
 use Rattle.odb_sched.specs.declared.execution.Trace.{Trace}
-use Rattle.odb_sched.specs.declared.fault.ExecFault.{ExecFault}
-use Rattle.odb_sched.specs.Orders.{Faults, Finishes, HasOneCourse}
-use Rattle.odb_sched.specs.Recordings.{recorded_for}
-use Rattle.odb_sched.specs.State.{State, at_first}
+use Rattle.odb_sched.specs.declared.execution.ExecFault.{ExecFault}
+use Rattle.odb_sched.specs.run.Recordings.{Faults, Finishes, HasOneCourse, recorded_for}
+use Rattle.odb_sched.specs.run.State.{State, initial}
 use Rattle.odb_tests.specs.Readings.{IsReading}
 use Rattle.odb_tests.proofs.laws.orders.executed_twice.Goals as goal
 
@@ -25,6 +24,6 @@ same_steps recorded first one (Some (Err f)) (Some b) p q = tt
 pub returns : goal.returns
 returns c =
     let recorded = recorded_for (plan_records c.args.plan.now) (entries c.args.other) in
-    let first = at_first c.args.plan.now c.args.policy in
+    let first = initial c.args.plan.now c.args.policy in
     same_steps recorded first (c.every_order.ensures.one_course orders.Last recorded first) c.executed.result c.executed-2.result
     (subst (λ es. IfSome c.executed.result (Reads (recorded_for (plan_records c.args.plan.now) es) first)) c.requires c.executed.ensures) c.executed-2.ensures

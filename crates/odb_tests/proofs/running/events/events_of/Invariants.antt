@@ -1,6 +1,6 @@
 use Rattle.std.proofs.Common.{◌<◌, length, All}
 use Rattle.odb_check.specs.Plans.{plan_records}
-use Rattle.odb_sched.specs.Runs.{event_position}
+use Rattle.odb_sched.specs.run.Runs.{event_position}
 use Rattle.odb_tests.proofs.running.events.events_of.Given as goal
 
 abbrev pub invariant-loop-i : goal.invariant-loop-i

@@ -1,6 +1,6 @@
 use Rattle.std.proofs.Common.{◌≡◌, length}
 use Rattle.odb_check.specs.Plans.{plan_records}
-use Rattle.odb_sched.specs.State.{size}
+use Rattle.odb_sched.specs.run.State.{size}
 use Rattle.odb_tests.proofs.running.lists.events_taken.Given as goal
 
 -- an event changes nothing of how many requests the run has

@@ -1,0 +1,13 @@
+-- The meaning of a run, which has to be believed.
+pub mod State
+pub mod Failing
+pub mod Steps
+pub mod Runs
+pub mod Answers
+pub mod Laws
+pub mod Choosing
+pub mod Courses
+pub mod Calls
+pub mod Recordings
+pub mod Resolving
+pub mod Refusals

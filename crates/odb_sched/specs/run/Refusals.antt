@@ -1,0 +1,58 @@
+-- What is printed of a refusal of events, and of a fault of named events or of an execution.
+use Rattle.std.specs.Prelude.{◌≢◌, ℕ, List, Option, Some, None, codes}
+use Rattle.odb_doc.specs.Refusals.{Printed, fault_at}
+use Rattle.odb_doc.specs.declared.fault.Place.TheVariants as places
+use Rattle.odb_sched.specs.declared.refusal.StartRefusal.{StartRefusal}
+use Rattle.odb_sched.specs.declared.refusal.StartRefusal.TheVariants as start
+use Rattle.odb_sched.specs.declared.refusal.ReportRefusal.{ReportRefusal}
+use Rattle.odb_sched.specs.declared.refusal.ReportRefusal.TheVariants as report
+use Rattle.odb_sched.specs.declared.refusal.RunRefusal.{RunRefusal}
+use Rattle.odb_sched.specs.declared.refusal.RunRefusal.TheVariants as refusal
+use Rattle.odb_sched.specs.declared.event.ResolveFault.{ResolveFault}
+use Rattle.odb_sched.specs.declared.event.ResolveFault.TheVariants.{UnknownEvent, OutOfMemory}
+use Rattle.odb_sched.specs.declared.execution.ExecFault.{ExecFault}
+use Rattle.odb_sched.specs.declared.execution.ExecFault.TheVariants as fault
+
+-- the code and the name of a cause against a start
+abbrev pub start_row : StartRefusal → List ℕ × List ℕ
+start_row start.AlreadyStarted = (codes "S1", codes "AlreadyStarted")
+start_row start.Stopped = (codes "S2", codes "Stopped")
+start_row start.UnitFailed = (codes "S3", codes "UnitFailed")
+start_row (start.Waiting need) = (codes "S4", codes "Waiting")
+start_row start.WidthReached = (codes "S5", codes "WidthReached")
+
+-- the code and the name of a cause against a report
+abbrev pub report_row : ReportRefusal → List ℕ × List ℕ
+report_row report.NotRunning = (codes "P1", codes "NotRunning")
+report_row report.BadStatus = (codes "P2", codes "BadStatus")
+
+-- what is printed of a cause against the event at this place
+abbrev pub row_at : List ℕ × List ℕ → ℕ → Printed
+row_at row at = record { code = row.0; name = row.1; place = places.Event at }
+
+-- any refusal but out of memory
+abbrev pub IsNumberedRefusal : RunRefusal → Type 0
+IsNumberedRefusal cause = cause ≢ refusal.OutOfMemory
+
+abbrev pub run_row : RunRefusal → Option Printed
+run_row (refusal.Start at cause) = Some (row_at (start_row cause) at)
+run_row (refusal.Report at cause) = Some (row_at (report_row cause) at)
+run_row refusal.OutOfMemory = None
+
+-- any fault but out of memory
+abbrev pub IsNumberedResolve : ResolveFault → Type 0
+IsNumberedResolve fault = fault ≢ OutOfMemory
+
+abbrev pub resolve_row : ResolveFault → Option Printed
+resolve_row (UnknownEvent at) = Some (fault_at 65 (codes "UnknownEvent") (places.Event at))
+resolve_row OutOfMemory = None
+
+-- any fault but out of memory
+abbrev pub IsNumberedExec : ExecFault → Type 0
+IsNumberedExec cause = cause ≢ fault.OutOfMemory
+
+abbrev pub exec_row : ExecFault → Option Printed
+exec_row (fault.NoOutcome i) = Some (fault_at 80 (codes "NoOutcome") (places.Request i))
+exec_row (fault.Service i) = Some (fault_at 81 (codes "Service") (places.Request i))
+exec_row (fault.BadStatus i) = Some (fault_at 82 (codes "BadStatus") (places.Request i))
+exec_row fault.OutOfMemory = None
