@@ -166,6 +166,11 @@ class Parts:
         run("cc", "-std=gnu99", *STRICT, "-pthread", "-o", self.path("stack"), source, self.archive)
         run(self.path("stack"))
 
+    def cost_of_a_check(self):
+        need("valgrind")
+        need("callgrind_annotate")
+        run(sys.executable, os.path.join(HERE, "cost.py"), self.folder)
+
     def header_in_other_dialects(self):
         use = self.write("use.c", '#include "odb_batch.h"\nint main(void) { return odb_version() != ODB_VERSION; }\n')
         for dialect in ("c99", "c11"):

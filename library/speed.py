@@ -22,6 +22,7 @@ from runners.program import add_program, ready
 
 SIZES = (300, 1_000, 100_000, 10_000_000)
 MOST_REQUESTS = 10_000
+MOST_RATIO = 1.5  # of the processor time of a live run and of its replay
 
 
 def document_of(size):
@@ -52,16 +53,20 @@ def live_documents():
 
 
 def measure_live(folder, program, seconds):
-    """Prints what a live run takes in C, and what a replay by the program takes."""
+    """Prints what a live run takes in C, and what a replay by the program takes; returns whether that is in its bound."""
     paths = [os.path.join(folder, name) for name in ("batch", "outcomes")]
     for path, text in zip(paths, live_documents()):
         with open(path, "w", encoding="utf-8") as file:
             file.write(text)
     binary = compiled(folder, "live_speed")
     tries = [subprocess.run([binary, paths[0]], capture_output=True, text=True, check=True).stdout for _ in range(5)]
-    print(f"a live run: {min(tries, key=lambda it: float(it.split()[-2])).strip()}")
+    best = min(tries, key=lambda it: float(it.split()[-2])).strip()
     replay = lambda: subprocess.run([program, "replay", *paths], capture_output=True, check=True)
-    print(f"a replay by the program: {repeated(replay, seconds) / 1e3:.1f} ms")
+    replayed = repeated(replay, seconds) / 1e3
+    ratio = float(best.split()[-2]) / replayed
+    print(f"a live run: {best}\na replay by the program: {replayed:.1f} ms")
+    print(f"the run takes {ratio:.2f} times the replay, and {MOST_RATIO} times at most")
+    return ratio <= MOST_RATIO
 
 
 def compiled(folder, name):
@@ -96,8 +101,8 @@ def main():
             started = lambda: subprocess.run([program, "check", path], capture_output=True, check=True)
             by_process = repeated(started, options.seconds)
             print(f"| {len(document):,} | {in_c} | {in_python:.1f} | {by_process:.0f} |", flush=True)
-        measure_live(folder, program, options.seconds)
+        return 0 if measure_live(folder, program, options.seconds) else 1
 
 
 if __name__ == "__main__":
-    main()
+    sys.exit(main())
