@@ -128,21 +128,21 @@ fn width_of(text: &str) -> Option<u32> {
 }
 
 /// Returns the policy that the options of a run ask for, or `None` if the width is not valid.
-fn policy_of(words: &ArgMatches<'_>) -> Option<Policy> {
-    let mode = if words.get_flag("stop") {
+fn policy_of(args: &ArgMatches<'_>) -> Option<Policy> {
+    let mode = if args.get_flag("stop") {
         Mode::Stop
     } else {
         Mode::Continue
     };
-    match words.get_str(WIDTH) {
+    match args.get_str(WIDTH) {
         None => Some(Policy::free(mode)),
         Some(text) => Policy::new(mode, width_of(text)?),
     }
 }
 
 /// Returns the form that a command over documents is asked for.
-fn form_of(words: &ArgMatches<'_>) -> Form {
-    if words.get_flag("json") {
+fn form_of(args: &ArgMatches<'_>) -> Form {
+    if args.get_flag("json") {
         Form::Json
     } else {
         Form::Lines
@@ -150,76 +150,76 @@ fn form_of(words: &ArgMatches<'_>) -> Form {
 }
 
 /// Returns the value of an argument that `clap` demands.
-fn value_of<'a>(words: &ArgMatches<'a>, id: &str) -> &'a str {
-    words.get_str(id).unwrap_or("")
+fn value_of<'a>(args: &ArgMatches<'a>, id: &str) -> &'a str {
+    args.get_str(id).unwrap_or("")
 }
 
 /// Returns the replay that its command asks for, or `None` if the width is not valid.
-fn replay_of<'a>(words: &ArgMatches<'a>) -> Option<Task<'a>> {
+fn replay_of<'a>(args: &ArgMatches<'a>) -> Option<Task<'a>> {
     Some(Task::Replay(Replay {
-        file: value_of(words, "FILE"),
-        outcomes: value_of(words, "OUTCOMES"),
-        order: order_of(words.get_str(ORDER)),
-        policy: policy_of(words)?,
-        traced: words.get_flag("trace"),
-        form: form_of(words),
+        file: value_of(args, "FILE"),
+        outcomes: value_of(args, "OUTCOMES"),
+        order: order_of(args.get_str(ORDER)),
+        policy: policy_of(args)?,
+        traced: args.get_flag("trace"),
+        form: form_of(args),
     }))
 }
 
 /// Returns the run that its command asks for, or `None` if the width is not valid.
-fn run_of<'a>(words: &ArgMatches<'a>) -> Option<Task<'a>> {
+fn run_of<'a>(args: &ArgMatches<'a>) -> Option<Task<'a>> {
     Some(Task::Run(Run {
-        file: value_of(words, "FILE"),
-        events: value_of(words, "EVENTS"),
-        policy: policy_of(words)?,
-        form: form_of(words),
+        file: value_of(args, "FILE"),
+        events: value_of(args, "EVENTS"),
+        policy: policy_of(args)?,
+        form: form_of(args),
     }))
 }
 
 /// Returns the match that its command asks for.
-fn match_of<'a>(words: &ArgMatches<'a>) -> Task<'a> {
+fn match_of<'a>(args: &ArgMatches<'a>) -> Task<'a> {
     Task::Match {
-        file: value_of(words, "FILE"),
-        responses: value_of(words, "RESPONSES"),
-        form: form_of(words),
+        file: value_of(args, "FILE"),
+        responses: value_of(args, "RESPONSES"),
+        form: form_of(args),
     }
 }
 
 /// Returns the explanations that their command asks for.
-fn explanation_of<'a>(words: &ArgMatches<'a>) -> Text<'a> {
-    match words.get_str("CODE") {
+fn explanation_of<'a>(args: &ArgMatches<'a>) -> Text<'a> {
+    match args.get_str("CODE") {
         Some(code) => Text::Explanation(code),
         None => Text::Faults,
     }
 }
 
 /// Returns the task of the command of this name, or `None` if a width is not valid.
-fn task_named<'a>(name: &str, words: &ArgMatches<'a>) -> Option<Task<'a>> {
+fn task_named<'a>(name: &str, args: &ArgMatches<'a>) -> Option<Task<'a>> {
     match name {
         "plan" => Some(Task::Plan {
-            file: value_of(words, "FILE"),
-            form: form_of(words),
+            file: value_of(args, "FILE"),
+            form: form_of(args),
         }),
         "canon" => Some(Task::Canon {
-            file: value_of(words, "FILE"),
-            form: form_of(words),
+            file: value_of(args, "FILE"),
+            form: form_of(args),
         }),
-        "replay" => replay_of(words),
-        "match" => Some(match_of(words)),
-        "run" => run_of(words),
-        "explain" => Some(Task::Print(explanation_of(words))),
-        "completions" => Some(Task::Print(Text::Completions(shell_of(words.get_str("SHELL"))))),
+        "replay" => replay_of(args),
+        "match" => Some(match_of(args)),
+        "run" => run_of(args),
+        "explain" => Some(Task::Print(explanation_of(args))),
+        "completions" => Some(Task::Print(Text::Completions(shell_of(args.get_str("SHELL"))))),
         "man" => Some(Task::Print(Text::Manual)),
         _ => Some(Task::Check {
-            file: words.get_str("FILE"),
-            form: form_of(words),
+            file: args.get_str("FILE"),
+            form: form_of(args),
         }),
     }
 }
 
 /// Returns the task that these arguments ask for, or `None` if a width is not valid.
-fn task_of<'a>(words: &ArgMatches<'a>) -> Option<Task<'a>> {
-    match words.subcommand() {
+fn task_of<'a>(args: &ArgMatches<'a>) -> Option<Task<'a>> {
+    match args.subcommand() {
         Some((name, command)) => task_named(name, command),
         None => Some(Task::Check {
             file: None,
@@ -235,8 +235,8 @@ impl<'a> Task<'a> {
     ///
     /// `Width` for a width that is not valid; `Arguments` for all else that `clap` rejects, for help
     /// and the version, and out of memory.
-    pub fn read(alloc: Global, words: &'a [String]) -> Result<Task<'a>, BadArguments> {
-        let matches = program(alloc)?.try_get_matches_from(words)?;
+    pub fn read(alloc: Global, args: &'a [String]) -> Result<Task<'a>, BadArguments> {
+        let matches = program(alloc)?.try_get_matches_from(args)?;
         task_of(&matches).ok_or(BadArguments::Width)
     }
 }

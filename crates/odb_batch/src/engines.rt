@@ -14,14 +14,14 @@ use std::{fs, io};
 
 /// What the commands take of where the program runs.
 #[derive(Clone, Copy, Drop)]
-pub struct Surroundings {
+pub struct Environment {
     /// What each engine is passed beside its documents and options.
     pub setup: Setup,
     /// Whether standard error is a terminal: then it is also printed why a file cannot be opened.
-    pub is_watched: bool,
+    pub stderr_is_terminal: bool,
 }
 
-impl Surroundings {
+impl Environment {
     /// Returns what an engine takes that writes in this form.
     fn options(self, form: Form) -> Options {
         Options {
@@ -32,36 +32,41 @@ impl Surroundings {
 }
 
 /// Prints that the file cannot be opened, and why if a person reads it. Returns the status.
-fn not_opened<R: Runtime>(rt: &R, around: Surroundings, path: &str, error: io::Error) -> Status {
+fn not_opened<R: Runtime>(
+    rt: &R,
+    environment: Environment,
+    path: &str,
+    error: io::Error,
+) -> Status {
     if error.kind() == io::ErrorKind::OutOfMemory {
         return failed(rt, "memory", Status::Memory);
     }
     let status = failed(rt, "open", Status::Device);
-    if around.is_watched {
+    if environment.stderr_is_terminal {
         let _ = eprintln!(rt; "{path}: {error}");
     }
     status
 }
 
 /// Opens the file as an input, or returns the status of a program that cannot open it.
-fn open<R: Runtime>(rt: &R, around: Surroundings, path: &str) -> Result<Input<R::File>, Status>
+fn open<R: Runtime>(rt: &R, environment: Environment, path: &str) -> Result<Input<R::File>, Status>
     ensures { IfOk result IsFresh }
 {
     match fs::open(rt, path) {
         Ok(file) => Ok(Input::new(file)),
-        Err(error) => Err(not_opened(rt, around, path, error)),
+        Err(error) => Err(not_opened(rt, environment, path, error)),
     }
 }
 
 /// Checks the batch in a file, or on standard input.
 pub fn check<R: Runtime + AllocGlobal>(
     rt: &R,
-    around: Surroundings,
+    environment: Environment,
     file: Option<&str>,
     form: Form,
 ) -> Status {
     let mut output = Output::new(io::writer(rt));
-    let options = around.options(form);
+    let options = environment.options(form);
     let ended = match file {
         None => check_batch_as(
             rt.alloc(),
@@ -69,7 +74,7 @@ pub fn check<R: Runtime + AllocGlobal>(
             &mut output,
             options,
         ),
-        Some(path) => match open(rt, around, path) {
+        Some(path) => match open(rt, environment, path) {
             Ok(mut input) => check_batch_as(rt.alloc(), &mut input, &mut output, options),
             Err(status) => return status,
         },
@@ -80,15 +85,20 @@ pub fn check<R: Runtime + AllocGlobal>(
 /// Plans the batch in a file.
 pub fn plan<R: Runtime + AllocGlobal>(
     rt: &R,
-    around: Surroundings,
+    environment: Environment,
     path: &str,
     form: Form,
 ) -> Status {
     let mut output = Output::new(io::writer(rt));
-    match open(rt, around, path) {
+    match open(rt, environment, path) {
         Ok(mut input) => finish(
             rt,
-            plan_batch_as(rt.alloc(), &mut input, &mut output, around.options(form)),
+            plan_batch_as(
+                rt.alloc(),
+                &mut input,
+                &mut output,
+                environment.options(form),
+            ),
         ),
         Err(status) => status,
     }
@@ -97,33 +107,38 @@ pub fn plan<R: Runtime + AllocGlobal>(
 /// Prints the canonical text of the batch in a file.
 pub fn canon<R: Runtime + AllocGlobal>(
     rt: &R,
-    around: Surroundings,
+    environment: Environment,
     path: &str,
     form: Form,
 ) -> Status {
     let mut output = Output::new(io::writer(rt));
-    match open(rt, around, path) {
+    match open(rt, environment, path) {
         Ok(mut input) => finish(
             rt,
-            canon_batch_as(rt.alloc(), &mut input, &mut output, around.options(form)),
+            canon_batch_as(
+                rt.alloc(),
+                &mut input,
+                &mut output,
+                environment.options(form),
+            ),
         ),
         Err(status) => status,
     }
 }
 
 /// Matches the responses in a file against the batch in another.
-pub fn fit<R: Runtime + AllocGlobal>(
+pub fn match_responses<R: Runtime + AllocGlobal>(
     rt: &R,
-    around: Surroundings,
+    environment: Environment,
     file: &str,
     responses: &str,
     form: Form,
 ) -> Status {
-    let mut batch = match open(rt, around, file) {
+    let mut batch = match open(rt, environment, file) {
         Ok(input) => input,
         Err(status) => return status,
     };
-    let mut responses = match open(rt, around, responses) {
+    let mut responses = match open(rt, environment, responses) {
         Ok(input) => input,
         Err(status) => return status,
     };
@@ -133,7 +148,7 @@ pub fn fit<R: Runtime + AllocGlobal>(
         &mut batch,
         &mut responses,
         &mut output,
-        around.options(form),
+        environment.options(form),
     );
     finish(rt, ended)
 }
@@ -141,14 +156,14 @@ pub fn fit<R: Runtime + AllocGlobal>(
 /// Replays the batch in a file by the outcomes in another.
 pub fn replay<R: Runtime + AllocGlobal>(
     rt: &R,
-    around: Surroundings,
+    environment: Environment,
     replay: Replay<'_>,
 ) -> Status {
-    let mut batch = match open(rt, around, replay.file) {
+    let mut batch = match open(rt, environment, replay.file) {
         Ok(input) => input,
         Err(status) => return status,
     };
-    let mut outcomes = match open(rt, around, replay.outcomes) {
+    let mut outcomes = match open(rt, environment, replay.outcomes) {
         Ok(input) => input,
         Err(status) => return status,
     };
@@ -161,18 +176,22 @@ pub fn replay<R: Runtime + AllocGlobal>(
         replay.policy,
         &mut order,
         replay.traced,
-        around.options(replay.form),
+        environment.options(replay.form),
     );
     finish(rt, ended)
 }
 
 /// Runs the batch in a file by the events in another.
-pub fn run_events<R: Runtime + AllocGlobal>(rt: &R, around: Surroundings, run: Run<'_>) -> Status {
-    let mut batch = match open(rt, around, run.file) {
+pub fn run_events<R: Runtime + AllocGlobal>(
+    rt: &R,
+    environment: Environment,
+    run: Run<'_>,
+) -> Status {
+    let mut batch = match open(rt, environment, run.file) {
         Ok(input) => input,
         Err(status) => return status,
     };
-    let mut events = match open(rt, around, run.events) {
+    let mut events = match open(rt, environment, run.events) {
         Ok(input) => input,
         Err(status) => return status,
     };
@@ -183,7 +202,7 @@ pub fn run_events<R: Runtime + AllocGlobal>(rt: &R, around: Surroundings, run: R
         &mut events,
         &mut output,
         run.policy,
-        around.options(run.form),
+        environment.options(run.form),
     );
     finish(rt, ended)
 }

@@ -18,9 +18,9 @@ mod texts;
 use clap::error::ErrorKind;
 use command_line::{BadArguments, Task, Text};
 use ending::{Status, failed};
-use engines::{Surroundings, canon, check, fit, plan, replay, run_events};
+use engines::{Environment, canon, check, match_responses, plan, replay, run_events};
 use odb_check::Seed;
-use odb_engine::{Remains, Setup};
+use odb_engine::{Disposal, Setup};
 use std::io::IsTerminal;
 use std::process::ExitCode;
 use std::random::RandomSource;
@@ -63,18 +63,18 @@ fn print_text<R: Runtime + AllocGlobal>(rt: &R, text: Text<'_>) -> Status {
 }
 
 /// Performs a task.
-fn perform<R: Runtime + AllocGlobal>(rt: &R, around: Surroundings, task: Task<'_>) -> Status {
+fn perform<R: Runtime + AllocGlobal>(rt: &R, environment: Environment, task: Task<'_>) -> Status {
     match task {
-        Task::Check { file, form } => check(rt, around, file, form),
-        Task::Plan { file, form } => plan(rt, around, file, form),
-        Task::Canon { file, form } => canon(rt, around, file, form),
-        Task::Replay(task) => replay(rt, around, task),
+        Task::Check { file, form } => check(rt, environment, file, form),
+        Task::Plan { file, form } => plan(rt, environment, file, form),
+        Task::Canon { file, form } => canon(rt, environment, file, form),
+        Task::Replay(task) => replay(rt, environment, task),
         Task::Match {
             file,
             responses,
             form,
-        } => fit(rt, around, file, responses, form),
-        Task::Run(task) => run_events(rt, around, task),
+        } => match_responses(rt, environment, file, responses, form),
+        Task::Run(task) => run_events(rt, environment, task),
         Task::Print(text) => print_text(rt, text),
     }
 }
@@ -87,30 +87,30 @@ fn seed<R: RandomSource>(rt: &R) -> Seed {
     }
 }
 
-fn run<R: Runtime + AllocGlobal>(rt: &R, around: Surroundings, words: &[String]) -> Status {
-    match Task::read(rt.alloc(), words) {
-        Ok(task) => perform(rt, around, task),
+fn run<R: Runtime + AllocGlobal>(rt: &R, environment: Environment, args: &[String]) -> Status {
+    match Task::read(rt.alloc(), args) {
+        Ok(task) => perform(rt, environment, task),
         Err(wrong) => reject(rt, &wrong),
     }
 }
 
-fn surroundings(rt: &HostRuntime) -> Surroundings {
-    Surroundings {
+fn environment_of(rt: &HostRuntime) -> Environment {
+    Environment {
         setup: Setup {
             seed: seed(rt),
             // The process is about to exit: what was read is not worth dropping.
-            remains: Remains::Left,
+            disposal: Disposal::Leak,
         },
-        is_watched: rt.stderr().is_terminal(),
+        stderr_is_terminal: rt.stderr().is_terminal(),
     }
 }
 
 fn main(rt: HostRuntime) -> ExitCode {
-    let words: io::Result<Vec<String>> = env::args(&rt).and_then(|words| Ok(words.collect(
+    let args: io::Result<Vec<String>> = env::args(&rt).and_then(|args| Ok(args.collect(
         rt.alloc(),
     )?));
-    let status = match words {
-        Ok(words) => run(&rt, surroundings(&rt), words.as_slice()),
+    let status = match args {
+        Ok(args) => run(&rt, environment_of(&rt), args.as_slice()),
         Err(error) if error.kind() == io::ErrorKind::OutOfMemory => {
             failed(&rt, "memory", Status::Memory)
         }

@@ -10,7 +10,7 @@ use Rattle.odb_check.specs.declared.need.Need.{Need}
 use Rattle.odb_check.specs.declared.need.Need.TheVariants.{One, Group}
 use Rattle.odb_check.specs.Levels.{greatest_of, greatest_below, unit_level, level_needed, next_level, levels_below, level_at, level_of_unit, HasLevels}
 use Rattle.odb_check.specs.Needs.{needs_at}
-use Rattle.odb_check.specs.Shape.{IsNeedAmong}
+use Rattle.odb_check.specs.PlanGraph.{IsNeedAmong}
 use Rattle.odb_check.specs.Units.{unit_at, unit_count}
 use Rattle.odb_check.proofs.AnyLemmas.{Contains-head, Contains-tail}
 use Rattle.odb_check.proofs.BelowLemmas.{set_cases}

@@ -9,7 +9,7 @@ use Rattle.odb_doc.specs.batch.Records.{Record}
 use Rattle.odb_check.specs.declared.need.Need.{Need}
 use Rattle.odb_check.specs.declared.need.Need.TheVariants.{One, Group}
 use Rattle.odb_check.specs.Marks.{ones_with, groups_with, same_need, AreMarksOf}
-use Rattle.odb_check.specs.Shape.{IsNeedAmong}
+use Rattle.odb_check.specs.PlanGraph.{IsNeedAmong}
 use Rattle.odb_check.specs.Units.{unit_count}
 use Rattle.odb_check.proofs.AnyLemmas.{any_more}
 use Rattle.odb_check.proofs.BelowLemmas.{set_cases}

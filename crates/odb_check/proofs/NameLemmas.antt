@@ -9,11 +9,11 @@ use Rattle.std.proofs.lemmas.List.Elements.{Contains-get_or}
 use Rattle.std.proofs.lemmas.Option.{same_Some}
 use Rattle.odb_doc.specs.batch.Records.{Record}
 use Rattle.odb_check.specs.declared.fault.NameRule.TheVariants.{IdTwice, IdIsGroup, GroupSplit, UnknownName}
-use Rattle.odb_check.specs.declared.names.Judged.{Judged}
+use Rattle.odb_check.specs.declared.names.Resolved.{Resolved}
 use Rattle.odb_check.specs.declared.need.Need.{Need}
 use Rattle.odb_check.specs.declared.need.Need.TheVariants.{One, Group}
-use Rattle.odb_check.specs.Judged.{IsAnswer, MissesGroupOf, batch_of}
-use Rattle.odb_check.specs.Walks.{HasSoundIds, named_at}
+use Rattle.odb_check.specs.Resolved.{IsAnswer, MissesGroupOf, batch_of}
+use Rattle.odb_check.specs.Walks.{HasValidIds, named_at}
 use Rattle.odb_check.specs.Marks.{same_need}
 use Rattle.odb_check.specs.NameFaults.{SomeName, IsBrokenAt, IsMemberAlone}
 use Rattle.odb_check.specs.Needs.{need_of}
@@ -24,14 +24,14 @@ use Rattle.odb_check.proofs.NeedLemmas.{IsMeant, is_meant, group_need, means_not
 use Rattle.odb_check.proofs.PositionLemmas.{IsFirstAt}
 use Rattle.odb_check.proofs.UnitLemmas.{unit_before, has_units, begin_of_group, in_group, in_unit, in_order}
 
-pub once : (rs : List Record) → HasSoundIds rs → (i : ℕ) → ¬ IsBrokenAt IdTwice rs i
+pub once : (rs : List Record) → HasValidIds rs → (i : ℕ) → ¬ IsBrokenAt IdTwice rs i
 once rs sound i h = sound IdTwice i (refl, h)
 
-pub apart : (rs : List Record) → HasSoundIds rs → (i : ℕ) → ¬ IsBrokenAt IdIsGroup rs i
+pub apart : (rs : List Record) → HasValidIds rs → (i : ℕ) → ¬ IsBrokenAt IdIsGroup rs i
 apart rs sound i h = sound IdIsGroup i (refl, h)
 
 -- a later unit has later positions
-pub later_unit : (rs : List Record) → HasSoundIds rs → (i j : ℕ) → unit_at rs i < unit_at rs j → i < j
+pub later_unit : (rs : List Record) → HasValidIds rs → (i j : ℕ) → unit_at rs i < unit_at rs j → i < j
 later_unit rs sound i j less =
     elim (cases_lt i j) [ inl before ↦ before | inr more ↦ absurd (omega (arith, in_order rs (λ k h. sound GroupSplit k (refl, h)) j i more)) ]
 
@@ -67,17 +67,17 @@ any_case rs i P known true h = ((λ e. answered_yes rs i h.0 P h.1 h.2), λ some
 any_case rs i P known false h = Decides-none (λ some. answered_no rs i P known h some (need_of rs some.name) refl)
 
 -- what is answered of the needs holds of the names, if the names are known
-pub any_Decides : (j : Judged) (P : List ℕ → Type 0) (answer : Bool) → IsAnyAnswer (λ need b. IsAnswer (batch_of j) need b P) j.named.now answer → Decides answer (SomeName (batch_of j) j.i P)
+pub any_Decides : (j : Resolved) (P : List ℕ → Type 0) (answer : Bool) → IsAnyAnswer (λ need b. IsAnswer (batch_of j) need b P) j.named.now answer → Decides answer (SomeName (batch_of j) j.i P)
 any_Decides j P answer h = any_case (batch_of j) j.i P j.known answer (subst (λ xs. IsAnyAnswer (λ need b. IsAnswer (batch_of j) need b P) xs answer) j.names h)
 
 -- ---- names that appear later
 
-pub later_one : (j : Judged) (p : ℕ) (name : List ℕ) → IsMeant (batch_of j) name (One p) → Decides (nat_le j.i p) (IsIdFrom (batch_of j) name j.i ⊎ IsGroupAfter (batch_of j) name j.i)
+pub later_one : (j : Resolved) (p : ℕ) (name : List ℕ) → IsMeant (batch_of j) name (One p) → Decides (nat_le j.i p) (IsIdFrom (batch_of j) name j.i ⊎ IsGroupAfter (batch_of j) name j.i)
 later_one j p name is = (
   (λ e. inl (p, leb-true j.i p e, is.1.here)),
   (λ h. elim h [
-    | inl from ↦ let same : p ≡ from.0 = one_id (batch_of j) (once (batch_of j) j.sound) name p from.0 is.1.here from.2 in le-leb j.i p (omega (arith, from.1))
-    | inr after ↦ absurd (no_group (batch_of j) (apart (batch_of j) j.sound) name p after.0.0 is.1.here after.0.1)
+    | inl from ↦ let same : p ≡ from.0 = one_id (batch_of j) (once (batch_of j) j.valid_ids) name p from.0 is.1.here from.2 in le-leb j.i p (omega (arith, from.1))
+    | inr after ↦ absurd (no_group (batch_of j) (apart (batch_of j) j.valid_ids) name p after.0.0 is.1.here after.0.1)
   ]),
 )
 
@@ -86,12 +86,12 @@ start_unit rs name i j there after =
     let first : IsFirstAt (group_at rs) name (unit_begin rs j) = begin_of_group rs j name there in
     unit_before rs i (unit_begin rs j) (after (unit_begin rs j) first.here)
 
-pub later_group : (j : Judged) (u : ℕ) (name : List ℕ) → IsMeant (batch_of j) name (Group u) → Decides (nat_lt (unit_at (batch_of j) j.i) u) (IsIdFrom (batch_of j) name j.i ⊎ IsGroupAfter (batch_of j) name j.i)
+pub later_group : (j : Resolved) (u : ℕ) (name : List ℕ) → IsMeant (batch_of j) name (Group u) → Decides (nat_lt (unit_at (batch_of j) j.i) u) (IsIdFrom (batch_of j) name j.i ⊎ IsGroupAfter (batch_of j) name j.i)
 later_group j u name is =
     let rs = batch_of j in (
       (λ e.
           let less : unit_at rs j.i < u = ltb-true (unit_at rs j.i) u e in
-          inr ((is.unit.start, is.unit.first.here), (λ k there. later_unit rs j.sound j.i k (let at_u : unit_at rs k ≡ u = in_unit rs name u k is.unit there in omega arith)))),
+          inr ((is.unit.start, is.unit.first.here), (λ k there. later_unit rs j.valid_ids j.i k (let at_u : unit_at rs k ≡ u = in_unit rs name u k is.unit there in omega arith)))),
       (λ h. elim h [
         | inl from ↦ absurd (is.no_id from.0 from.2)
         | inr after ↦ lt-ltb (unit_at rs j.i) u (subst (λ v. unit_at rs j.i < v) (in_unit rs name u after.0.0 is.unit after.0.1) (start_unit rs name j.i after.0.0 after.0.1 after.1))
@@ -100,10 +100,10 @@ later_group j u name is =
 
 -- ---- the own group
 
-pub own_one : (j : Judged) (p : ℕ) (name : List ℕ) → IsMeant (batch_of j) name (One p) → ¬ (group_at (batch_of j) j.i ≡ Some name)
-own_one j p name is = no_group (batch_of j) (apart (batch_of j) j.sound) name p j.i is.1.here
+pub own_one : (j : Resolved) (p : ℕ) (name : List ℕ) → IsMeant (batch_of j) name (One p) → ¬ (group_at (batch_of j) j.i ≡ Some name)
+own_one j p name is = no_group (batch_of j) (apart (batch_of j) j.valid_ids) name p j.i is.1.here
 
-pub own_group : (j : Judged) (u : ℕ) (name : List ℕ) → IsMeant (batch_of j) name (Group u) → Decides (u == unit_at (batch_of j) j.i) (group_at (batch_of j) j.i ≡ Some name)
+pub own_group : (j : Resolved) (u : ℕ) (name : List ℕ) → IsMeant (batch_of j) name (Group u) → Decides (u == unit_at (batch_of j) j.i) (group_at (batch_of j) j.i ≡ Some name)
 own_group j u name is =
     let rs = batch_of j in
     ((λ e. in_group rs name u j.i is.unit (sym (eqb-true u (unit_at rs j.i) e))), (λ here. eq-eqb u (unit_at rs j.i) (sym (in_unit rs name u j.i is.unit here))))
@@ -116,7 +116,7 @@ outside_Decides rs i p less = Decides-like (not (unit_at rs p == unit_at rs i)) 
     (λ h same. elim (((has_units rs).together i p).0 (sym same)) [ inl one ↦ absurd (omega arith) | inr both ↦ h.1 both ])
     (Decides-not (unit_at rs p == unit_at rs i) (Decides-eqb (unit_at rs p) (unit_at rs i)))
 
-group_listed : (rs : List Record) → HasSoundIds rs → (i p : ℕ) → Decides (list_any (same_need (Group (unit_at rs p))) (named_at rs i)) (NamesGroupOf rs i p)
+group_listed : (rs : List Record) → HasValidIds rs → (i p : ℕ) → Decides (list_any (same_need (Group (unit_at rs p))) (named_at rs i)) (NamesGroupOf rs i p)
 group_listed rs sound i p = Decides-like _
     (λ inside.
     let u = unit_at rs p in
@@ -126,8 +126,8 @@ group_listed rs sound i p = Decides-like _
     (need_listed (Group (unit_at rs p)) (named_at rs i))
 
 -- a group is listed where its unit has the stamp
-pub group_marked : (j : Judged) (p : ℕ) → Decides (slice_index j.marks.now.groups.items (unit_at (batch_of j) p) == j.i + 1) (NamesGroupOf (batch_of j) j.i p)
-group_marked j p = Decides-at _ _ (j.marked.groups_are (unit_at (batch_of j) p)) (group_listed (batch_of j) j.sound j.i p)
+pub group_marked : (j : Resolved) (p : ℕ) → Decides (slice_index j.marks.now.groups.items (unit_at (batch_of j) p) == j.i + 1) (NamesGroupOf (batch_of j) j.i p)
+group_marked j p = Decides-at _ _ (j.marked.groups_are (unit_at (batch_of j) p)) (group_listed (batch_of j) j.valid_ids j.i p)
 
 -- p is in a group that is neither that of i nor listed
 alone_cases : (rs : List Record) (i p : ℕ) (group : Option (List ℕ)) → group_at rs p ≡ group
@@ -142,13 +142,13 @@ alone_cases rs i p (Some g) e = (
   )),
 )
 
-pub alone_Decides : (j : Judged) (p : ℕ) (name : List ℕ) (answer : Bool) → IsMeant (batch_of j) name (One p) → Decides answer (MissesGroupOf (batch_of j) j.i p × (is_some (group_at (batch_of j) p) ≡ true))
+pub alone_Decides : (j : Resolved) (p : ℕ) (name : List ℕ) (answer : Bool) → IsMeant (batch_of j) name (One p) → Decides answer (MissesGroupOf (batch_of j) j.i p × (is_some (group_at (batch_of j) p) ≡ true))
     → Decides answer (IsMemberAlone (batch_of j) j.i name)
 alone_Decides j p name answer is =
     let rs = batch_of j in
     Decides-like answer (λ m. (p, m.0.0, is.1.here, (alone_cases rs j.i p (group_at rs p) refl).0 (m.1, m.0.1, m.0.2)))
     (λ h.
-    let same : h.0 ≡ p = one_id rs (once rs j.sound) name h.0 p h.2 is.1.here in
+    let same : h.0 ≡ p = one_id rs (once rs j.valid_ids) name h.0 p h.2 is.1.here in
     let there : IsSomeAnd (group_at rs p) (λ g. ¬ (group_at rs j.i ≡ Some g) × ¬ Contains (names_at rs j.i) g) = rw same at h.3 in
     let missed = (alone_cases rs j.i p (group_at rs p) refl).1 there in
     ((omega (arith, h.1), missed.1, missed.2), missed.0))

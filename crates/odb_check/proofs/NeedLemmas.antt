@@ -13,7 +13,7 @@ use Rattle.odb_check.specs.Marks.{same_need}
 use Rattle.odb_check.specs.NameFaults.{IsBrokenAt}
 use Rattle.odb_check.specs.Needs.{need_at, need_of}
 use Rattle.odb_check.specs.Positions.{id_at, group_at, IsIdBefore, IsGroup}
-use Rattle.odb_check.specs.Shape.{IsNeedAmong}
+use Rattle.odb_check.specs.PlanGraph.{IsNeedAmong}
 use Rattle.odb_check.specs.Units.{begins_unit, unit_at, unit_count, position_of, unit_of_group}
 use Rattle.odb_check.proofs.AnyLemmas.{Contains-Decides, Decides-none}
 use Rattle.odb_check.proofs.FirstLemmas.{count_less}

@@ -18,11 +18,11 @@ use Rattle.odb_check.specs.Firsts.{list_below}
 use Rattle.odb_check.specs.LeastNameFault.{HasGoodNames}
 use Rattle.odb_check.specs.NameFaults.{IsBrokenAt}
 use Rattle.odb_check.specs.Laws.{HasPositions, NeedsGroups}
-use Rattle.odb_check.specs.Walks.{HasSoundIds}
+use Rattle.odb_check.specs.Walks.{HasValidIds}
 use Rattle.odb_check.specs.Needs.{need_of, further_names, needed_names, needs_at}
-use Rattle.odb_check.specs.Plans.{plan_records, shape, batch_shape}
+use Rattle.odb_check.specs.Plans.{plan_records, plan_graph, batch_plan_graph}
 use Rattle.odb_check.specs.Positions.{id_at, group_at, names_at, reference_at, IsId, IsIdFrom, IsInGroupOf, NamesGroupOf}
-use Rattle.odb_check.specs.Shape.{unit_of, needs_of, shape_of, IsEarlier, IsAlone, IsNeed, IsNeedAmong, IsPlan, IsShapeOf, IsSpan, HasNamesAsNeeds}
+use Rattle.odb_check.specs.PlanGraph.{unit_of, needs_of, plan_graph_of, IsEarlier, IsAlone, IsNeed, IsNeedAmong, IsPlan, IsPlanGraphOf, IsSpan, HasNamesAsNeeds}
 use Rattle.odb_check.specs.Tables.{IsStartOf}
 use Rattle.odb_check.specs.Units.{begins_unit, unit_at, unit_count, units_before}
 use Rattle.odb_check.proofs.AnyLemmas.{ElementMeaning, element_meaning, Contains-meaning, Contains-head, Contains-none, Contains-cases, text_listed, listed_cases}
@@ -34,7 +34,7 @@ use Rattle.odb_check.proofs.NeedLemmas.{IsMeant, is_meant, need_within, position
 use Rattle.odb_check.proofs.PositionLemmas.{group_within, reference_within, position_first}
 use Rattle.odb_check.proofs.UnitLemmas.{IsUnitOf, unit_before, same_group, one_unit, has_units, in_group, in_unit, in_order, unit_at_begin, unit_at_start}
 
-pub good_ids : (rs : List Record) → HasGoodNames rs → HasSoundIds rs
+pub good_ids : (rs : List Record) → HasGoodNames rs → HasValidIds rs
 good_ids rs good rule i broken = good rule i broken.1
 
 name_inside : (rs : List Record) (i : ℕ) (name : List ℕ) → Contains (names_at rs i) name → i < length rs
@@ -173,34 +173,34 @@ needs_apart rs (name ∷ names) apart =
     ]) refl
 
 -- units and needs of the plan as data
-pub is_shape : (rs : List Record) → IsShapeOf rs (shape_of rs)
-is_shape rs = record {
+pub is_plan_graph : (rs : List Record) → IsPlanGraphOf rs (plan_graph_of rs)
+is_plan_graph rs = record {
   size = length-list_below (length rs) (unit_at rs);
   unit_count = refl;
   units = λ i h. get_or-list_below (length rs) (unit_at rs) i 0 h;
   needs = λ i h. get_or-list_below (length rs) (needs_at rs) i [] h;
 }
 
-pub shaped : (plan : Plan) → IsShapeOf (plan_records plan) (shape plan)
-unfolding batch_shape
-shaped plan = is_shape (plan_records plan)
+pub shaped : (plan : Plan) → IsPlanGraphOf (plan_records plan) (plan_graph plan)
+unfolding batch_plan_graph
+shaped plan = is_plan_graph (plan_records plan)
 
-unit_there : (rs : List Record) (i : ℕ) → i < length rs → unit_of (shape_of rs) i ≡ unit_at rs i
-unit_there rs i h = (is_shape rs).units i h
+unit_there : (rs : List Record) (i : ℕ) → i < length rs → unit_of (plan_graph_of rs) i ≡ unit_at rs i
+unit_there rs i h = (is_plan_graph rs).units i h
 
-needs_there : (rs : List Record) (i : ℕ) → i < length rs → needs_of (shape_of rs) i ≡ needs_at rs i
-needs_there rs i h = (is_shape rs).needs i h
+needs_there : (rs : List Record) (i : ℕ) → i < length rs → needs_of (plan_graph_of rs) i ≡ needs_at rs i
+needs_there rs i h = (is_plan_graph rs).needs i h
 
-pub in_shape : (rs : List Record) (i : ℕ) → i < length (list_below (length rs) (unit_at rs)) → i < length rs
-in_shape rs i h = omega (arith, length-list_below (length rs) (unit_at rs))
+pub in_plan_graph : (rs : List Record) (i : ℕ) → i < length (list_below (length rs) (unit_at rs)) → i < length rs
+in_plan_graph rs i h = omega (arith, length-list_below (length rs) (unit_at rs))
 
 -- a unit reaches from its first position to where the next unit begins, or the batch ends
 pub has_span : (rs : List Record) → ((i : ℕ) → ¬ IsBrokenAt GroupSplit rs i) → (u start end : ℕ) → IsStartOf rs u start → end ≤ length rs → units_before rs end ≡ u + 1
-    → ((i : ℕ) → i < length rs → end ≤ i → u < unit_at rs i) → IsSpan (shape_of rs) u start end
+    → ((i : ℕ) → i < length rs → end ≤ i → u < unit_at rs i) → IsSpan (plan_graph_of rs) u start end
 has_span rs adjacent u start end is within count past = record {
   begins = elim (cases_lt start end) [ inl less ↦ less | inr more ↦ absurd (omega (arith, count_more (begins_unit rs) end start more, is.number)) ];
   within = omega (arith, within, length-list_below (length rs) (unit_at rs));
-  exact = λ i h. let here : i < length rs = in_shape rs i h in subst (λ v. (v ≡ u) ↔ ((start ≤ i) × (i < end))) (sym (unit_there rs i here)) (
+  exact = λ i h. let here : i < length rs = in_plan_graph rs i h in subst (λ v. (v ≡ u) ↔ ((start ≤ i) × (i < end))) (sym (unit_there rs i here)) (
     (λ e. (
       elim (cases_lt i start) [ inl less ↦ absurd (omega (arith, unit_before rs i start less, is.number)) | inr more ↦ more ],
       elim (cases_lt i end) [ inl less ↦ less | inr more ↦ absurd (omega (arith, past i here more)) ],
@@ -216,44 +216,44 @@ needs_within rs i k d h =
     let name : ElementMeaning (need_of rs) (needed_names rs i) need = element_meaning (need_of rs) (needed_names rs i) need (Contains-get_or (needs_at rs i) k d h) in
     need_within rs name.element need name.means
 
-pub needs_known : (plan : Plan) (i : ℕ) → All (IsNeed (shape plan)) (needs_at (plan_records plan) i)
-unfolding batch_shape
+pub needs_known : (plan : Plan) (i : ℕ) → All (IsNeed (plan_graph plan)) (needs_at (plan_records plan) i)
+unfolding batch_plan_graph
 needs_known plan i =
     let rs = plan_records plan in
     subst (λ n. All (IsNeedAmong n (unit_count rs)) (needs_at rs i)) (sym (length-list_below (length rs) (unit_at rs))) (needs_within rs i)
 
 pub ruleset plan_needs = (shaped, needs_known)
 
-earlier_case : (rs : List Record) → HasGoodNames rs → (i : ℕ) → i < length rs → (need : Need) → Contains (needs_at rs i) need → IsEarlier (shape_of rs) i need
+earlier_case : (rs : List Record) → HasGoodNames rs → (i : ℕ) → i < length rs → (need : Need) → Contains (needs_at rs i) need → IsEarlier (plan_graph_of rs) i need
 earlier_case rs good i h (One r) inside = (needs_before rs good).one i r inside
 earlier_case rs good i h (Group u) inside = omega (arith, unit_there rs i h, (needs_before rs good).group i u inside)
 
 plan_listed : (rs : List Record) → HasGoodNames rs → (i r : ℕ) → i < length rs → r < length rs → Contains (needs_at rs i) (One r)
-    → (unit_of (shape_of rs) r ≡ unit_of (shape_of rs) i) ⊎ (IsAlone (shape_of rs) r ⊎ Contains (needs_of (shape_of rs) i) (Group (unit_of (shape_of rs) r)))
+    → (unit_of (plan_graph_of rs) r ≡ unit_of (plan_graph_of rs) i) ⊎ (IsAlone (plan_graph_of rs) r ⊎ Contains (needs_of (plan_graph_of rs) i) (Group (unit_of (plan_graph_of rs) r)))
 plan_listed rs good i r h inside needs =
     rw (unit_there rs r inside, unit_there rs i h, needs_there rs i h) (elim (cases_eq (unit_at rs r) (unit_at rs i)) [
       | inl same ↦ inl same
-      | inr other ↦ inr (elim (listed_case rs good i r needs other (group_at rs r) refl) [ inl alone ↦ inl (λ j less same. alone j (sym (unit_there rs j (in_shape rs j less)) ∙ same)) | inr group ↦ inr group ])
+      | inr other ↦ inr (elim (listed_case rs good i r needs other (group_at rs r) refl) [ inl alone ↦ inl (λ j less same. alone j (sym (unit_there rs j (in_plan_graph rs j less)) ∙ same)) | inr group ↦ inr group ])
     ])
 
-pub is_plan : (rs : List Record) → HasGoodNames rs → length rs ≤ 10000 → ((k : ℕ) → k < length rs → IsDistinct bytes_eq (names_at rs k)) → IsPlan (shape_of rs)
+pub is_plan : (rs : List Record) → HasGoodNames rs → length rs ≤ 10000 → ((k : ℕ) → k < length rs → IsDistinct bytes_eq (names_at rs k)) → IsPlan (plan_graph_of rs)
 is_plan rs good few distinct =
     let before : HasNeedsBefore rs = needs_before rs good in
-    let needs : (i : ℕ) (need : Need) → i < length rs → Contains (needs_of (shape_of rs) i) need → Contains (needs_at rs i) need = λ i need h inside. subst (λ xs. Contains xs need) (needs_there rs i h) inside in
+    let needs : (i : ℕ) (need : Need) → i < length rs → Contains (needs_of (plan_graph_of rs) i) need → Contains (needs_at rs i) need = λ i need h inside. subst (λ xs. Contains xs need) (needs_there rs i h) inside in
     record {
       few = omega (arith, length-list_below (length rs) (unit_at rs));
       as_long = length-list_below (length rs) (needs_at rs) ∙ sym (length-list_below (length rs) (unit_at rs));
       few_units = omega (arith, count_few (length rs) (begins_unit rs), length-list_below (length rs) (unit_at rs));
-      counted = λ i h. let inside : i < length rs = in_shape rs i h in omega (arith, unit_there rs i inside, unit_before rs i (length rs) inside);
-      in_order = λ i j h less. let inside : j < length rs = in_shape rs j less in omega (arith, unit_there rs i (omega arith), unit_there rs j inside, before.order i j h);
-      earlier = λ i need h inside. earlier_case rs good i (in_shape rs i h) need (needs i need (in_shape rs i h) inside);
+      counted = λ i h. let inside : i < length rs = in_plan_graph rs i h in omega (arith, unit_there rs i inside, unit_before rs i (length rs) inside);
+      in_order = λ i j h less. let inside : j < length rs = in_plan_graph rs j less in omega (arith, unit_there rs i (omega arith), unit_there rs j inside, before.order i j h);
+      earlier = λ i need h inside. earlier_case rs good i (in_plan_graph rs i h) need (needs i need (in_plan_graph rs i h) inside);
       earlier_unit = λ i r h inside other.
-          let here : i < length rs = in_shape rs i h in
+          let here : i < length rs = in_plan_graph rs i h in
           let less : r < i = before.one i r (needs i (One r) here inside) in
-          let low : unit_of (shape_of rs) r ≤ unit_of (shape_of rs) i = omega (arith, unit_there rs r (omega arith), unit_there rs i here, before.order r i (omega arith)) in
-          elim (cases_lt (unit_of (shape_of rs) r) (unit_of (shape_of rs) i)) [ inl smaller ↦ smaller | inr more ↦ absurd (other (omega arith)) ];
-      listed = λ i r h inside. let here : i < length rs = in_shape rs i h in let need : Contains (needs_at rs i) (One r) = needs i (One r) here inside in plan_listed rs good i r here (let less : r < i = before.one i r need in omega arith) need;
-      distinct = λ i h. let here : i < length rs = in_shape rs i h in subst (AllPairs (λ need other. need ≢ other)) (sym (needs_there rs i here))
+          let low : unit_of (plan_graph_of rs) r ≤ unit_of (plan_graph_of rs) i = omega (arith, unit_there rs r (omega arith), unit_there rs i here, before.order r i (omega arith)) in
+          elim (cases_lt (unit_of (plan_graph_of rs) r) (unit_of (plan_graph_of rs) i)) [ inl smaller ↦ smaller | inr more ↦ absurd (other (omega arith)) ];
+      listed = λ i r h inside. let here : i < length rs = in_plan_graph rs i h in let need : Contains (needs_at rs i) (One r) = needs i (One r) here inside in plan_listed rs good i r here (let less : r < i = before.one i r need in omega arith) need;
+      distinct = λ i h. let here : i < length rs = in_plan_graph rs i h in subst (AllPairs (λ need other. need ≢ other)) (sym (needs_there rs i here))
           (needs_apart rs (needed_names rs i) (needed_apart (names_at rs i) (reference_at rs i) (AllPairs-from_IsDistinct bytes_eq-Decides (names_at rs i) (distinct i here))));
     }
 
@@ -264,12 +264,12 @@ further_there names id false e = Contains-append_right names (id ∷ []) id (Con
 reference_needed : (rs : List Record) (i : ℕ) (id : List ℕ) → reference_at rs i ≡ Some id → Contains (needed_names rs i) id
 reference_needed rs i id here = subst (λ o. Contains (names_at rs i ++ further_names (names_at rs i) o) id) (sym here) (further_there (names_at rs i) id (list_any (bytes_eq id) (names_at rs i)) refl)
 
-pub names_as_needs : (plan : Plan) → HasNamesAsNeeds (plan_records plan) (shape plan)
-unfolding batch_shape
+pub names_as_needs : (plan : Plan) → HasNamesAsNeeds (plan_records plan) (plan_graph plan)
+unfolding batch_plan_graph
 names_as_needs plan = let rs = plan_records plan in record {
   names_id = λ i name r listed here. subst (λ xs. Contains xs (One r)) (sym (needs_there rs i (name_inside rs i name listed))) (listed_need rs i name (One r) listed (id_need rs (plan.good IdTwice) name r here));
   names_group = λ i name j listed here.
-      subst (λ u. Contains (needs_of (shape_of rs) i) (Group u)) (sym (unit_there rs j (group_within rs j name here)))
+      subst (λ u. Contains (needs_of (plan_graph_of rs) i) (Group u)) (sym (unit_there rs j (group_within rs j name here)))
       (subst (λ xs. Contains xs (Group (unit_at rs j))) (sym (needs_there rs i (name_inside rs i name listed))) (listed_need rs i name (Group (unit_at rs j)) listed (group_need rs (plan.good IdIsGroup) name j here)));
   refers = λ i id r refers here. subst (λ xs. Contains xs (One r)) (sym (needs_there rs i (reference_within rs i id refers)))
       (Contains-meaning (need_of rs) (needed_names rs i) id (One r) (reference_needed rs i id refers) (id_need rs (plan.good IdTwice) id r here));

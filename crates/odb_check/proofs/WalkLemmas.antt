@@ -21,7 +21,7 @@ use Rattle.odb_check.specs.Marks.{ones_with, groups_with, AreMarksOf}
 use Rattle.odb_check.specs.NameFaults.{IsBrokenAt}
 use Rattle.odb_check.specs.Needs.{need_of, further_names, needs_at}
 use Rattle.odb_check.specs.Positions.{names_at, reference_at}
-use Rattle.odb_check.specs.Walks.{BreaksIn, BreaksFirst, FailsAt, HasSoundIds, further_needs, named_at}
+use Rattle.odb_check.specs.Walks.{BreaksIn, BreaksFirst, FailsAt, HasValidIds, further_needs, named_at}
 use Rattle.odb_check.proofs.AnyLemmas.{Contains-none}
 use Rattle.odb_check.proofs.MarkLemmas.{marks_more}
 use Rattle.odb_check.proofs.NameLemmas.{meant_known, unknown}
@@ -92,12 +92,12 @@ broken_inside rs rule i h = grind (arith, slice_get_cases rs i, Contains-none)
 pub unknown_least : (rs : List Record) (i : ℕ) → IsBrokenAt UnknownName rs i → BreaksFirst 4 rs i UnknownName
 unknown_least rs i broken_here = record { broken = (refl, broken_here); least = λ other less broken. omega (arith, less, broken.0) }
 
-pub names_refused : (rs : List Record) (i : ℕ) → HasSoundIds rs → ((rule : NameRule) (k : ℕ) → k < i → ¬ BreaksIn 4 rs rule k) → (fault : CheckFault) → FailsAt 4 rs i fault → RefusesNames fault rs
+pub names_refused : (rs : List Record) (i : ℕ) → HasValidIds rs → ((rule : NameRule) (k : ℕ) → k < i → ¬ BreaksIn 4 rs rule k) → (fault : CheckFault) → FailsAt 4 rs i fault → RefusesNames fault rs
 names_refused rs i sound before faults.OutOfMemory fails = tt
 names_refused rs i sound before (faults.Request at_place rule) fails =
     by_phase phase number (λ r k. IsBrokenAt r rs k) 4 at_place rule
     (λ ph less other j broken. elim (two_phases other) [ inl third ↦ sound other j (third, broken.1) | inr fourth ↦ omega (arith, less, fourth, broken.0) ])
     (subst (λ k. IsFirst number (BreaksIn 4 rs) k rule) (sym fails.0) (record { here = fails.1; before = before }))
 
-pub all_good : (rs : List Record) → HasSoundIds rs → ((rule : NameRule) (k : ℕ) → k < length rs → ¬ BreaksIn 4 rs rule k) → HasGoodNames rs
+pub all_good : (rs : List Record) → HasValidIds rs → ((rule : NameRule) (k : ℕ) → k < length rs → ¬ BreaksIn 4 rs rule k) → HasGoodNames rs
 all_good rs sound none rule i broken_here = elim (two_phases rule) [ inl third ↦ sound rule i (third, broken_here) | inr fourth ↦ none rule i (broken_inside rs rule i broken_here) (fourth, broken_here) ]

@@ -1,6 +1,6 @@
 -- Which fault of names is reported: the least by phase, position and number.
 use Rattle.std.specs.Prelude.{List}
-use Rattle.odb_doc.specs.LeastRules.{AreSound, IsFirstByPhase}
+use Rattle.odb_doc.specs.LeastRules.{NoneBroken, IsFirstByPhase}
 use Rattle.odb_doc.specs.batch.Records.{Record}
 use Rattle.odb_check.specs.declared.fault.CheckFault.{CheckFault}
 use Rattle.odb_check.specs.declared.fault.CheckFault.TheVariants as faults
@@ -9,7 +9,7 @@ use Rattle.odb_check.specs.NameFaults.{IsBrokenAt}
 
 -- no rule is broken anywhere
 abbrev pub HasGoodNames : List Record → Type 0
-HasGoodNames rs = AreSound (λ rule i. IsBrokenAt rule rs i)
+HasGoodNames rs = NoneBroken (λ rule i. IsBrokenAt rule rs i)
 
 -- the fault is the least one of the names. Out of memory says nothing about them.
 abbrev pub RefusesNames : CheckFault → List Record → Type 0

@@ -10,12 +10,12 @@ pub mod Levels
 pub mod Texts
 pub mod Requests
 pub mod Plans
-pub mod Shape
+pub mod PlanGraph
 pub mod Seeds
 pub mod Starts
 pub mod Laws
 -- What serves invariants and private clauses: no public clause cites it.
 pub mod Tables
-pub mod Judged
+pub mod Resolved
 pub mod Walks
 pub mod Marks

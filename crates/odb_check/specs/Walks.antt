@@ -2,8 +2,8 @@
 -- that over names and references.
 use Rattle.std.specs.Prelude.{◌≡◌, ℕ, suc, List, length}
 use Rattle.std.specs.List.{filter_map}
-use Rattle.odb_doc.specs.LeastRules.{AreSound, IsLeast}
-use Rattle.odb_doc.specs.LeastRules as phases
+use Rattle.odb_doc.specs.LeastRules.{NoneBroken, IsLeast}
+use Rattle.odb_doc.specs.LeastRules as least_rules
 use Rattle.odb_doc.specs.batch.Records.{Record}
 use Rattle.odb_check.specs.declared.fault.NameRule.{NameRule}
 use Rattle.odb_check.specs.declared.fault.CheckFault.{CheckFault}
@@ -18,11 +18,11 @@ use Rattle.odb_check.specs.Positions.{names_at, reference_at}
 
 -- the rule belongs to the phase, and is broken at i
 abbrev pub BreaksIn : ℕ → List Record → NameRule → ℕ → Type 0
-BreaksIn ph rs rule i = phases.BreaksIn phase (λ rule i. IsBrokenAt rule rs i) ph rule i
+BreaksIn ph rs rule i = least_rules.BreaksIn phase (λ rule i. IsBrokenAt rule rs i) ph rule i
 
 -- no identifier and no group breaks a rule
-abbrev pub HasSoundIds : List Record → Type 0
-HasSoundIds rs = AreSound (BreaksIn 3 rs)
+abbrev pub HasValidIds : List Record → Type 0
+HasValidIds rs = NoneBroken (BreaksIn 3 rs)
 
 -- no rule of the phase is broken at i
 abbrev pub BreaksNone : ℕ → List Record → ℕ → Type 0

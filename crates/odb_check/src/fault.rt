@@ -1,3 +1,5 @@
+//! The rules that names can break, F30 to F46, and where one is broken.
+
 ghost use Rattle.std.specs.Prelude.{◌≡◌};
 ghost use Rattle.odb_check.specs.FaultTable.{check_row};
 ghost use Rattle.odb_check.specs.declared.fault.CheckFault.TheVariants.{OutOfMemory};

@@ -1,10 +1,11 @@
-ghost use Rattle.std.specs.Prelude.{◌≡◌, ◌<◌, length, None, IsSome, IfSome, OnOk, IfErr};
-ghost use Rattle.std.specs.Bool.{Decides};
+//! The rules of ids and groups: F30, F31 and F32.
+
+ghost use Rattle.std.specs.Prelude.{IsTrue, ◌↔◌, ◌≡◌, ◌<◌, length, None, IsSome, IfSome, OnOk, IfErr};
 ghost use Rattle.odb_check.specs.FaultTable.{check_row};
 ghost use Rattle.odb_check.specs.LeastNameFault.{RefusesNames};
 ghost use Rattle.odb_check.specs.NameFaults.{IsBrokenAt};
 ghost use Rattle.odb_check.specs.Requests.{requests};
-ghost use Rattle.odb_check.specs.Walks.{BreaksFirst, BreaksNone, HasSoundIds};
+ghost use Rattle.odb_check.specs.Walks.{BreaksFirst, BreaksNone, HasValidIds};
 ghost use Rattle.odb_check.specs.declared.fault.NameRule.TheVariants as rules;
 
 use crate::fault::{CheckFault, NameRule};
@@ -13,7 +14,7 @@ use crate::tables::Tables;
 /// F30: whether an earlier request has the same identifier.
 fn repeats_id(tables: &Tables<'_>, i: u32) -> bool
     requires { i < length (requests tables.now) }
-    ensures { Decides result (IsBrokenAt rules.IdTwice (requests tables.now) i) }
+    ensures { IsTrue result ↔ IsBrokenAt rules.IdTwice (requests tables.now) i }
 {
     match tables.position_of(tables.id(i)) {
         Some(first) => first < i,
@@ -24,7 +25,7 @@ fn repeats_id(tables: &Tables<'_>, i: u32) -> bool
 /// F31: whether the identifier is a group.
 fn has_id_of_group(tables: &Tables<'_>, i: u32) -> bool
     requires { i < length (requests tables.now) }
-    ensures { Decides result (IsBrokenAt rules.IdIsGroup (requests tables.now) i) }
+    ensures { IsTrue result ↔ IsBrokenAt rules.IdIsGroup (requests tables.now) i }
 {
     tables.unit_of_group(tables.id(i)).is_some()
 }
@@ -32,7 +33,7 @@ fn has_id_of_group(tables: &Tables<'_>, i: u32) -> bool
 /// F32: whether the group of the request is that of earlier ones, but not of the one just before.
 fn splits_group(tables: &Tables<'_>, i: u32) -> bool
     requires { i < length (requests tables.now) }
-    ensures { Decides result (IsBrokenAt rules.GroupSplit (requests tables.now) i) }
+    ensures { IsTrue result ↔ IsBrokenAt rules.GroupSplit (requests tables.now) i }
 {
     tables.begin_of(i) < i && tables.unit_of(i - 1) != tables.unit_of(i)
 }
@@ -57,7 +58,7 @@ fn broken_id(tables: &Tables<'_>, i: u32) -> Option<NameRule>
 
 /// Looks for the first request whose identifier or group breaks a rule.
 pub(crate) fn check_ids(tables: &Tables<'_>) -> Result<(), CheckFault>
-    ensures sound { OnOk result (HasSoundIds (requests tables.now)) }
+    ensures valid_ids { OnOk result (HasValidIds (requests tables.now)) }
     ensures least { IfErr result (λ fault. RefusesNames fault (requests tables.now)) }
     ensures numbered { IfErr result (λ fault. IsSome (check_row fault)) }
 {

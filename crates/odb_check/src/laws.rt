@@ -12,8 +12,8 @@ ghost use Rattle.odb_check.specs.FaultTable.{check_row};
 ghost use Rattle.odb_check.specs.Laws.{HasPositions, HasUnits, NeedsGroups};
 ghost use Rattle.odb_check.specs.LeastNameFault.{HasGoodNames, RefusesNames};
 ghost use Rattle.odb_check.specs.Levels.{HasLevels};
-ghost use Rattle.odb_check.specs.Plans.{plan_records, shape};
-ghost use Rattle.odb_check.specs.Shape.{HasNamesAsNeeds, IsPlan, IsShapeOf};
+ghost use Rattle.odb_check.specs.Plans.{plan_records, plan_graph};
+ghost use Rattle.odb_check.specs.PlanGraph.{HasNamesAsNeeds, IsPlan, IsPlanGraphOf};
 
 use crate::plan::Plan;
 
@@ -41,9 +41,9 @@ pub fn every_plan(plan: &Plan<'_>)
     ensures positions { HasPositions (plan_records plan.now) }
     ensures groups { NeedsGroups (plan_records plan.now) }
     ensures levels { HasLevels (plan_records plan.now) }
-    ensures shape { IsShapeOf (plan_records plan.now) (shape plan.now) }
-    ensures order { IsPlan (shape plan.now) }
-    ensures names { HasNamesAsNeeds (plan_records plan.now) (shape plan.now) }
+    ensures plan_graph { IsPlanGraphOf (plan_records plan.now) (plan_graph plan.now) }
+    ensures order { IsPlan (plan_graph plan.now) }
+    ensures names { HasNamesAsNeeds (plan_records plan.now) (plan_graph plan.now) }
 {
     let _count = plan.len();
 }

@@ -1,8 +1,10 @@
+//! The level of each unit: one more than the greatest level that it needs.
+
 ghost use Rattle.std.specs.Prelude.{◌≡◌, ◌≤◌, ◌<◌, ◌+◌, ℕ, length, slice_index, All, IfOk};
 ghost use Rattle.odb_check.specs.LeastNameFault.{HasGoodNames};
 ghost use Rattle.odb_check.specs.Levels.{level_needed, levels_below, next_level};
 ghost use Rattle.odb_check.specs.Requests.{requests};
-ghost use Rattle.odb_check.specs.Shape.{IsNeedAmong};
+ghost use Rattle.odb_check.specs.PlanGraph.{IsNeedAmong};
 ghost use Rattle.odb_check.specs.Walks.{AreNeeds};
 
 use crate::need::Need;

@@ -6,7 +6,6 @@
 //! start. A gateway that reads documents of strangers calls [`check_with`] with [`Seed::random`].
 #![tactic(auto)]
 
-mod checking;
 mod fault;
 mod ids;
 pub mod laws;
@@ -20,10 +19,11 @@ mod seed;
 mod table;
 mod tables;
 mod text;
+mod verdict;
 mod walk;
 
-pub use checking::{check, check_with};
 pub use fault::{CheckFault, NameRule};
 pub use need::Need;
 pub use plan::Plan;
 pub use seed::Seed;
+pub use verdict::{check, check_with};

@@ -1,7 +1,9 @@
+//! Which requests and units a request has named in its `dependsOn`.
+
 ghost use Rattle.std.specs.Prelude.{◌≡◌, ◌<◌, ◌==◌, length, slice_index, IfOk};
 ghost use Rattle.odb_check.specs.Marks.{AreUpTo, ones_with, groups_with};
 ghost use Rattle.odb_check.specs.Requests.{requests};
-ghost use Rattle.odb_check.specs.Shape.{IsNeedAmong};
+ghost use Rattle.odb_check.specs.PlanGraph.{IsNeedAmong};
 
 use crate::need::Need;
 use crate::tables::Tables;

@@ -1,11 +1,12 @@
-ghost use Rattle.std.specs.Prelude.{◌≡◌, ◌<◌, ◌+◌, ◌⊎◌, ◌∷◌, [], ℕ, List, length, Some, None, IfSome, Contains};
-ghost use Rattle.std.specs.Bool.{Decides};
+//! The rules of `dependsOn` and of references, F40 to F46, for one request whose names are looked up.
+
+ghost use Rattle.std.specs.Prelude.{IsTrue, ◌↔◌, ◌≡◌, ◌<◌, ◌+◌, ◌⊎◌, ◌∷◌, [], ℕ, List, length, Some, None, IfSome, Contains};
 ghost use Rattle.std.proofs.Props.{props};
 ghost use Rattle.odb_check.specs.Marks.{AreMarksOf};
 ghost use Rattle.odb_check.specs.NameFaults.{IsBrokenAt, IsMemberAlone};
 ghost use Rattle.odb_check.specs.Positions.{id_at, group_at, names_at, IsIdFrom, IsGroupAfter, IsInGroupOf, NamesGroupOf};
 ghost use Rattle.odb_check.specs.Requests.{requests};
-ghost use Rattle.odb_check.specs.Walks.{BreaksFirst, BreaksNone, HasSoundIds, named_at, further_needs};
+ghost use Rattle.odb_check.specs.Walks.{BreaksFirst, BreaksNone, HasValidIds, named_at, further_needs};
 ghost use Rattle.odb_check.specs.declared.fault.NameRule.TheVariants as rules;
 
 use crate::fault::NameRule;
@@ -15,7 +16,7 @@ use crate::tables::Tables;
 
 /// A request of a batch whose identifiers and groups break no rule, once each of its names is known.
 #[derive(Clone, Copy)]
-pub(crate) struct Judged<'w, 'b> {
+pub(crate) struct Resolved<'w, 'b> {
     pub(crate) tables: &'w Tables<'b>,
     pub(crate) i: u32,
     /// What its names resolve to.
@@ -23,15 +24,15 @@ pub(crate) struct Judged<'w, 'b> {
     /// The marks, among which that has the stamp `i + 1`.
     pub(crate) marks: &'w Marks,
     ghost within: { i < length (requests tables.now) },
-    ghost sound: { HasSoundIds (requests tables.now) },
+    ghost valid_ids: { HasValidIds (requests tables.now) },
     ghost known: { ¬ IsBrokenAt rules.UnknownName (requests tables.now) i },
     ghost names: { named.now ≡ named_at (requests tables.now) i },
     ghost marked: { AreMarksOf (requests tables.now) (named_at (requests tables.now) i) (i + 1)
         marks.now.ones.items marks.now.groups.items } by { Prim.hlevel props },
 }
 
-impl Judged<'_, '_> {
-    ghost use Rattle.odb_check.specs.Judged.{IsAnswer, MissesGroupOf, batch_of, referred_by};
+impl Resolved<'_, '_> {
+    ghost use Rattle.odb_check.specs.Resolved.{IsAnswer, MissesGroupOf, batch_of, referred_by};
 
     /// Whether what is needed is this request or a later one, or a group that begins later.
     fn is_later(&self, need: Need) -> bool
@@ -58,7 +59,7 @@ impl Judged<'_, '_> {
     /// Whether the other request precedes this one and is not in its group.
     #[tactic(auto, using(crate::proofs::NameLemmas::outside_Decides))]
     fn is_outside(&self, position: u32) -> bool
-        ensures { Decides result ((position < self.now.i)
+        ensures { IsTrue result ↔ ((position < self.now.i)
             × ¬ IsInGroupOf (batch_of self.now) self.now.i position) }
     {
         position < self.i && self.tables.unit_of(position) != self.tables.unit_of(self.i)
@@ -68,7 +69,7 @@ impl Judged<'_, '_> {
     #[tactic(auto, using(crate::proofs::NameLemmas::group_marked))]
     fn lists_group_of(&self, position: u32) -> bool
         requires { position < length (batch_of self.now) }
-        ensures { Decides result (NamesGroupOf (batch_of self.now) self.now.i position) }
+        ensures { IsTrue result ↔ NamesGroupOf (batch_of self.now) self.now.i position }
     {
         self.marks
             .has_group(self.tables.unit_of(position), self.i + 1)
@@ -79,7 +80,7 @@ impl Judged<'_, '_> {
     fn lists(&self, position: u32) -> bool
         requires { position < length (batch_of self.now) }
         ensures { (id : List ℕ) → id_at (batch_of self.now) position ≡ Some id
-            → Decides result (Contains (names_at (batch_of self.now) self.now.i) id) }
+            → (IsTrue result ↔ Contains (names_at (batch_of self.now) self.now.i) id) }
     {
         self.marks.has_one(position, self.i + 1)
     }
@@ -87,7 +88,7 @@ impl Judged<'_, '_> {
     /// Whether the other request precedes this one, is not in its group, and `dependsOn` does not list
     /// the group of the other.
     fn misses_group_of(&self, position: u32) -> bool
-        ensures { Decides result (MissesGroupOf (batch_of self.now) self.now.i position) }
+        ensures { IsTrue result ↔ MissesGroupOf (batch_of self.now) self.now.i position }
     {
         self.is_outside(position) && !self.lists_group_of(position)
     }
@@ -114,28 +115,28 @@ impl Judged<'_, '_> {
 
     /// F41: whether `dependsOn` lists a request or a group that does not precede.
     fn names_later(&self) -> bool
-        ensures { Decides result (IsBrokenAt rules.ForwardName (batch_of self.now) self.now.i) }
+        ensures { IsTrue result ↔ IsBrokenAt rules.ForwardName (batch_of self.now) self.now.i }
     {
         self.named.iter().any(|need| self.is_later(*need))
     }
 
     /// F42: whether `dependsOn` lists the group of the request.
     fn names_own_group(&self) -> bool
-        ensures { Decides result (IsBrokenAt rules.OwnGroup (batch_of self.now) self.now.i) }
+        ensures { IsTrue result ↔ IsBrokenAt rules.OwnGroup (batch_of self.now) self.now.i }
     {
         self.named.iter().any(|need| self.is_own(*need))
     }
 
     /// F43: whether `dependsOn` lists a member of another group without that group.
     fn names_member_alone(&self) -> bool
-        ensures { Decides result (IsBrokenAt rules.GroupNotListed (batch_of self.now) self.now.i) }
+        ensures { IsTrue result ↔ IsBrokenAt rules.GroupNotListed (batch_of self.now) self.now.i }
     {
         self.named.iter().any(|need| self.is_member_alone(*need))
     }
 
     /// F44: whether the URL refers to a request that the batch does not have.
     fn has_unknown_reference(&self) -> bool
-        ensures { Decides result (IsBrokenAt rules.UnknownReference (batch_of self.now) self.now.i) }
+        ensures { IsTrue result ↔ IsBrokenAt rules.UnknownReference (batch_of self.now) self.now.i }
     {
         match self.referred() {
             Some(_) => false,
@@ -146,7 +147,7 @@ impl Judged<'_, '_> {
     /// F45: whether the URL refers to a request that does not precede.
     #[tactic(auto, using(crate::proofs::ReferenceLemmas::where_it_refers))]
     fn has_forward_reference(&self) -> bool
-        ensures { Decides result (IsBrokenAt rules.ForwardReference (batch_of self.now) self.now.i) }
+        ensures { IsTrue result ↔ IsBrokenAt rules.ForwardReference (batch_of self.now) self.now.i }
     {
         match self.referred() {
             Some(position) => self.i <= position,
@@ -157,7 +158,7 @@ impl Judged<'_, '_> {
     /// F46: whether the URL refers to an earlier request outside the group, and `dependsOn` lists
     /// neither that request nor its group.
     fn lacks_reference(&self) -> bool
-        ensures { Decides result (IsBrokenAt rules.ReferenceNotListed (batch_of self.now) self.now.i) }
+        ensures { IsTrue result ↔ IsBrokenAt rules.ReferenceNotListed (batch_of self.now) self.now.i }
     {
         match self.referred() {
             Some(position) => !self.lists(position) && self.misses_group_of(position),

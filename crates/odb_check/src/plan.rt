@@ -1,6 +1,8 @@
-ghost use Rattle.std.specs.Prelude.{◌≡◌, ◌≤◌, ◌<◌, length, slice_get, All, Some};
+//! The plan of a batch: its units, and what each request needs.
+
+ghost use Rattle.std.specs.Prelude.{◌==◌, ◌≡◌, ◌≤◌, ◌<◌, length, slice_get, All, Some};
 ghost use Rattle.std.proofs.Props.{props};
-ghost use Rattle.odb_doc.specs.batch.Records.{IsSoundRecord, record_of};
+ghost use Rattle.odb_doc.specs.batch.Records.{IsWellFormedRecord, record_of};
 ghost use Rattle.odb_check.specs.LeastNameFault.{HasGoodNames};
 ghost use Rattle.odb_check.specs.Levels.{level_at, levels_below};
 ghost use Rattle.odb_check.specs.Requests.{requests};
@@ -31,25 +33,32 @@ pub struct Plan<'b> {
 impl<'b> Plan<'b> {
     ghost use Rattle.odb_check.specs.Units.{groups_of};
     ghost use Rattle.odb_check.specs.Needs.{needs_at};
-    ghost use Rattle.odb_check.specs.Plans.{plan_records, shape};
-    ghost use Rattle.odb_check.specs.Shape.{IsNeed, IsSpan};
-    ghost use Rattle.odb_check.specs.Shape as shapes;
+    ghost use Rattle.odb_check.specs.Plans.{plan_records, plan_graph};
+    ghost use Rattle.odb_check.specs.PlanGraph.{IsNeed, IsSpan};
+    ghost use Rattle.odb_check.specs.PlanGraph as plan_graphs;
 
     /// Returns the number of requests: 10,000 at most.
     #[tactic(auto, using(crate::proofs::PlanLemmas::shaped))]
     pub fn len(&self) -> u32
         ensures count { result ≡ length (plan_records self.now) }
-        ensures size { result ≡ length (shape self.now).units }
+        ensures size { result ≡ length (plan_graph self.now).units }
         ensures small { result ≤ 10000 }
     {
         self.tables.len()
+    }
+
+    /// Returns whether there are no requests.
+    pub fn is_empty(&self) -> bool
+        ensures { result ≡ (length (plan_records self.now) == 0) }
+    {
+        self.len() == 0
     }
 
     /// Returns the request at a position, counted from 0.
     pub fn request(&self, i: u32) -> &Request<'b>
         requires { i < length (plan_records self.now) }
         ensures value { slice_get (plan_records self.now) i ≡ Some (record_of result.now) }
-        ensures sound { IsSoundRecord (record_of result.now) }
+        ensures well_formed { IsWellFormedRecord (record_of result.now) }
     {
         self.tables.request(i)
     }
@@ -57,7 +66,7 @@ impl<'b> Plan<'b> {
     /// Returns the number of units.
     pub fn unit_count(&self) -> u32
         ensures count { result ≡ units.unit_count (plan_records self.now) }
-        ensures size { result ≡ (shape self.now).unit_count }
+        ensures size { result ≡ (plan_graph self.now).unit_count }
         ensures few { result ≤ length (plan_records self.now) }
     {
         self.tables.unit_count()
@@ -73,19 +82,19 @@ impl<'b> Plan<'b> {
     /// Returns the unit of the request at a position.
     #[tactic(auto, using(crate::proofs::PlanLemmas::shaped))]
     pub fn unit_of(&self, i: u32) -> u32
-        requires { i < length (shape self.now).units }
+        requires { i < length (plan_graph self.now).units }
         ensures value { result ≡ units.unit_at (plan_records self.now) i }
         ensures within { result < units.unit_count (plan_records self.now) }
-        ensures unit { result ≡ shapes.unit_of (shape self.now) i }
-        ensures counted { result < (shape self.now).unit_count }
+        ensures unit { result ≡ plan_graphs.unit_of (plan_graph self.now) i }
+        ensures counted { result < (plan_graph self.now).unit_count }
     {
         self.tables.unit_of(i)
     }
 
     /// Returns the positions of a unit, which are adjacent.
     pub fn members(&self, u: u32) -> Range<u32>
-        requires { u < (shape self.now).unit_count }
-        ensures span { IsSpan (shape self.now) u result.start result.end }
+        requires { u < (plan_graph self.now).unit_count }
+        ensures span { IsSpan (plan_graph self.now) u result.start result.end }
     {
         let count = self.unit_count();
         let start = self.tables.start_of(u);
@@ -101,10 +110,10 @@ impl<'b> Plan<'b> {
     /// without repeats, then the request that its URL refers to unless it is already among them.
     #[tactic(auto, using(crate::proofs::PlanLemmas::plan_needs))]
     pub fn needs(&self, i: u32) -> &[Need]
-        requires { i < length (shape self.now).units }
+        requires { i < length (plan_graph self.now).units }
         ensures value { result.now ≡ needs_at (plan_records self.now) i }
-        ensures needs { result.now ≡ shapes.needs_of (shape self.now) i }
-        ensures known { All (IsNeed (shape self.now)) result.now }
+        ensures needs { result.now ≡ plan_graphs.needs_of (plan_graph self.now) i }
+        ensures known { All (IsNeed (plan_graph self.now)) result.now }
     {
         needs_of_request(&self.tables, &self.needs, i)
     }

@@ -1,3 +1,5 @@
+//! The seed of the tables of names, so that a crafted batch cannot crowd them.
+
 ghost use Rattle.std.specs.Prelude.{◌≡◌, Some, None, IfOk, IsSome, option_map};
 ghost use Rattle.odb_check.specs.Starts.{start_of};
 

@@ -1,3 +1,5 @@
+//! A table from a text to a number.
+
 ghost use Rattle.std.specs.Prelude.{◌≡◌, ◌+◌, ℕ, List, Some, None, cond, bytes_eq, OnOk};
 ghost use Rattle.odb_check.specs.Firsts.{or_else};
 ghost use Rattle.odb_check.specs.Starts.{table_start};

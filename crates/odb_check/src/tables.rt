@@ -1,6 +1,8 @@
+//! The tables of a batch: ids and groups by name, and the units of requests.
+
 ghost use Rattle.std.specs.Prelude.{◌≡◌, ◌≤◌, ◌<◌, ◌==◌, ◌+◌, ◌∷◌, ◌++◌, [], ℕ, List, length, cond, Some, None, option_copied, option_map, OnOk, IfOk, slice_get};
 ghost use Rattle.std.proofs.Props.{props};
-ghost use Rattle.odb_doc.specs.batch.Records.{IsSoundRecord, record_of};
+ghost use Rattle.odb_doc.specs.batch.Records.{IsWellFormedRecord, record_of};
 ghost use Rattle.odb_doc.specs.batch.Batches.{records};
 ghost use Rattle.odb_doc.specs.batch.Names.{texts_in};
 ghost use Rattle.odb_check.specs.Firsts.{or_else, is_text};
@@ -165,7 +167,7 @@ impl<'b> Tables<'b> {
     pub(crate) fn request(&self, i: u32) -> &'b Request<'b>
         requires { i < length (requests self.now) }
         ensures value { slice_get (requests self.now) i ≡ Some (record_of result.now) }
-        ensures sound { IsSoundRecord (record_of result.now) }
+        ensures well_formed { IsWellFormedRecord (record_of result.now) }
     {
         self.batch.request(i)
     }

@@ -1,6 +1,8 @@
+//! The lines that `plan` prints.
+
 ghost use Rattle.std.specs.Prelude.{◌≡◌, ◌<◌, ◌++◌, [], length, All, Some, IfOk, OnOk, option_copied, string_bytes};
-ghost use Rattle.odb_check.specs.Plans.{plan_records, shape};
-ghost use Rattle.odb_check.specs.Shape.{IsNeed};
+ghost use Rattle.odb_check.specs.Plans.{plan_records, plan_graph};
+ghost use Rattle.odb_check.specs.PlanGraph.{IsNeed};
 ghost use Rattle.odb_check.specs.Texts as texts;
 
 use crate::need::Need;
@@ -30,7 +32,7 @@ impl Plan<'_> {
     /// Returns the name of a dependency: the identifier of a request, or the name of a group.
     #[tactic(auto, using(crate::proofs::PlanLemmas::shaped))]
     pub fn name_of(&self, need: Need) -> &str
-        requires { IsNeed (shape self.now) need }
+        requires { IsNeed (plan_graph self.now) need }
         ensures { result.now ≡ texts.need_name (plan_records self.now) need }
     {
         match need {
@@ -41,7 +43,7 @@ impl Plan<'_> {
 
     /// Appends names, each after a comma.
     fn push_further(&self, text: &mut String, needs: &[Need]) -> Result<(), AllocError>
-        requires { All (IsNeed (shape self.now)) needs.now }
+        requires { All (IsNeed (plan_graph self.now)) needs.now }
         ensures { OnOk result (string_bytes text.new
             ≡ string_bytes text.old ++ texts.further_text (plan_records self.now) needs.now) }
     {
@@ -54,7 +56,7 @@ impl Plan<'_> {
 
     /// Appends names with commas between them, or `*` for none.
     fn push_names(&self, text: &mut String, needs: &[Need]) -> Result<(), AllocError>
-        requires { All (IsNeed (shape self.now)) needs.now }
+        requires { All (IsNeed (plan_graph self.now)) needs.now }
         ensures { OnOk result (string_bytes text.new
             ≡ string_bytes text.old ++ texts.names_text (plan_records self.now) needs.now) }
     {

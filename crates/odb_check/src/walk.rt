@@ -1,3 +1,5 @@
+//! The walk over all requests that looks up what each names, and stops at the first fault.
+
 ghost use Rattle.std.specs.Prelude.{◌≡◌, ◌<◌, ◌+◌, ◌++◌, length, OnOk, IfOk, IfErr};
 ghost use Rattle.odb_doc.specs.batch.Names.{texts_in};
 ghost use Rattle.odb_check.specs.LeastNameFault.{HasGoodNames, RefusesNames};
@@ -6,12 +8,12 @@ ghost use Rattle.odb_check.specs.NameFaults.{IsBrokenAt};
 ghost use Rattle.odb_check.specs.Needs.{needs_at};
 ghost use Rattle.odb_check.specs.Positions.{names_at};
 ghost use Rattle.odb_check.specs.Requests.{requests};
-ghost use Rattle.odb_check.specs.Walks.{BreaksNone, FailsAt, HasSoundIds, AreNeeds, named_at};
+ghost use Rattle.odb_check.specs.Walks.{BreaksNone, FailsAt, HasValidIds, AreNeeds, named_at};
 ghost use Rattle.odb_check.specs.declared.fault.NameRule.TheVariants as rules;
 
 use crate::fault::{CheckFault, NameRule};
 use crate::marks::Marks;
-use crate::names::Judged;
+use crate::names::Resolved;
 use crate::need::Need;
 use crate::needs::Needs;
 use crate::tables::Tables;
@@ -56,7 +58,7 @@ fn add_request(
     marks: &mut Marks,
 ) -> Result<(), CheckFault>
     requires position { i < length (requests tables.now) }
-    requires sound { HasSoundIds (requests tables.now) }
+    requires valid_ids { HasValidIds (requests tables.now) }
     requires marks { AreUpTo (requests tables.now) i marks.old.ones.items marks.old.groups.items }
     ensures none { OnOk result (BreaksNone 4 (requests tables.now) i) }
     ensures needs { OnOk result (list.new.items ≡ list.old.items ++ needs_at (requests tables.now) i) }
@@ -66,17 +68,17 @@ fn add_request(
 {
     let from = list.len();
     add_names(tables, i, tables.names(i), list, marks)?;
-    let judged = Judged {
+    let resolved = Resolved {
         tables,
         i,
         named: &list[from..],
         marks,
     };
-    if let Some(rule) = judged.broken_rule() {
+    if let Some(rule) = resolved.broken_rule() {
         let at = i as usize;
         return Err(CheckFault::Request { at, rule });
     }
-    if let Some(need) = judged.further_need() {
+    if let Some(need) = resolved.further_need() {
         list.push(need)?;
     }
     Ok(())
@@ -84,7 +86,7 @@ fn add_request(
 
 /// The needs of the requests, or the first of them that breaks a rule on names and references.
 pub(crate) fn all_needs(alloc: Global, tables: &Tables<'_>) -> Result<Needs, CheckFault>
-    requires { HasSoundIds (requests tables.now) }
+    requires { HasValidIds (requests tables.now) }
     ensures good { OnOk result (HasGoodNames (requests tables.now)) }
     ensures needs { IfOk result (AreNeeds (requests tables.now)) }
     ensures least { IfErr result (λ fault. RefusesNames fault (requests tables.now)) }

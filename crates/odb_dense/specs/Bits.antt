@@ -1,7 +1,7 @@
 -- What a set keeps that returns its least and its greatest number: for its invariant, nothing to believe.
 use Rattle.std.specs.Prelude.{◌≡◌, ℕ, ◌<◌, ◌≤◌, ◌*◌, ◌/◌, ◌%◌, ◌==◌, Bool, true, false, nat_lt, List, length, slice_index_or}
 use Rattle.std.specs.Int.{bit_at}
-use Rattle.odb_dense.specs.declared.ordered.OrderedPositions.TheInside.{Inside}
+use Rattle.odb_dense.specs.declared.min_max_set.MinMaxSet.TheInside.{Inside}
 
 -- whether a number is among the bits of words, 64 to a word
 abbrev pub has : List ℕ → ℕ → Bool

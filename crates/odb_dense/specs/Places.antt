@@ -1,6 +1,6 @@
 -- What a set of numbers is made of: for its invariant, nothing to believe.
 use Rattle.std.specs.Prelude.{◌≡◌, ℕ, ◌<◌, ◌≤◌, Bool, List, Option, Some, None, length, map, is_some, count_by, slice_index, slice_index_or}
-use Rattle.odb_dense.specs.declared.positions.Positions.TheInside.{Inside}
+use Rattle.odb_dense.specs.declared.sparse_set.SparseSet.TheInside.{Inside}
 
 -- which numbers are in a set
 abbrev pub members : Inside → List Bool

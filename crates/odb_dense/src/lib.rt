@@ -6,13 +6,13 @@
 #![tactic(auto)]
 
 mod bits;
-mod ordered;
-mod positions;
+mod min_max_set;
 mod rows;
+mod sparse_set;
 #[cfg(test)]
 mod tests;
 mod worklist;
 
-pub use ordered::OrderedPositions;
+pub use min_max_set::MinMaxSet;
 pub use rows::Rows;
 pub use worklist::{Mark, Worklist};

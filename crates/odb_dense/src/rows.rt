@@ -1,3 +1,5 @@
+//! Lists of numbers by key, in one list.
+
 ghost use Rattle.std.specs.Prelude.{◌≡◌, ◌<◌, ◌+◌, ◌-◌, ℕ, [], length, slice_index_or, IfOk};
 ghost use Rattle.odb_dense.specs.ByKey.{of_key, HaveKeys};
 ghost use Rattle.odb_dense.specs.Starts.{AreStarts, AreRowsOf};

@@ -4,7 +4,7 @@ mod extremes;
 
 ghost use Rattle.std.specs.Prelude.{◌≡◌, length};
 
-use crate::positions::Positions;
+use crate::sparse_set::SparseSet;
 use crate::{Rows, Worklist};
 use std::alloc::{AllocError, Global};
 use std::process::Abort;
@@ -106,7 +106,7 @@ const SETS: &[Changed] = &[
 ];
 
 /// Makes these changes of a set.
-fn make_changes(rt: &impl Abort, set: &mut Positions, changes: &[Change])
+fn make_changes(rt: &impl Abort, set: &mut SparseSet, changes: &[Change])
     requires { length set.old ≡ 6 }
     ensures { length set.new ≡ 6 }
 {
@@ -125,7 +125,7 @@ fn make_changes(rt: &impl Abort, set: &mut Positions, changes: &[Change])
 }
 
 /// Whether the set lists these numbers, in ascending order.
-fn lists(alloc: Global, set: &Positions, wanted: &[u32]) -> Result<bool, AllocError> {
+fn lists(alloc: Global, set: &SparseSet, wanted: &[u32]) -> Result<bool, AllocError> {
     let mut items = Vec::from_slice(alloc, set.as_slice())?;
     items.sort()?;
     Ok(items.as_slice() == wanted)
@@ -133,7 +133,7 @@ fn lists(alloc: Global, set: &Positions, wanted: &[u32]) -> Result<bool, AllocEr
 
 /// Whether an empty set has just these numbers after the changes.
 fn has_after(rt: &impl Abort, alloc: Global, changed: &Changed) -> Result<bool, AllocError> {
-    let mut set = Positions::new(alloc, BOUND)?;
+    let mut set = SparseSet::new(alloc, BOUND)?;
     make_changes(rt, &mut set, changed.changes);
     Ok(set.is_empty() == changed.wanted.is_empty() && lists(alloc, &set, changed.wanted)?)
 }

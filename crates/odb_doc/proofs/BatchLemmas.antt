@@ -9,7 +9,7 @@ use Rattle.odb_names.specs.declared.method.Method.{Method}
 use Rattle.odb_doc.specs.Headers.{Header}
 use Rattle.odb_doc.specs.Members.{given}
 use Rattle.odb_doc.proofs.OneLeast.{one_list}
-use Rattle.odb_doc.specs.batch.Records.{Record, Says}
+use Rattle.odb_doc.specs.batch.Records.{Record, ReadsAs}
 use Rattle.odb_doc.specs.batch.References.{RefersTo}
 use Rattle.odb_doc.specs.batch.Shapes.{HasMethod, HasGroup}
 use Rattle.odb_doc.proofs.OneHeaders.{one_headers}
@@ -59,7 +59,7 @@ made id method url group names referred headers body = record {
   body = body;
 }
 
-one_record : AreOneReading → (d : Data) (r s : Record) → Says d r → Says d s → r ≡ s
+one_record : AreOneReading → (d : Data) (r s : Record) → ReadsAs d r → ReadsAs d s → r ≡ s
 one_record texts d r s one two =
     let id : r.id ≡ s.id = cc (one.id.text, two.id.text) in
     let method = one_method texts d r.method s.method one.method two.method in
@@ -72,5 +72,5 @@ one_record texts d r s one two =
     let same : made r.id r.method r.url r.group r.names r.reference r.headers r.body ≡ made s.id s.method s.url s.group s.names s.reference s.headers s.body = cc (id, method, url, group, names, referred, headers, body) in
     same
 
-pub one_batch : AreOneReading → (ds : List Data) (rs ss : List Record) → AllZip Says ds rs → AllZip Says ds ss → rs ≡ ss
-one_batch texts ds rs ss one two = one_list Says (one_record texts) ds rs ss one two
+pub one_batch : AreOneReading → (ds : List Data) (rs ss : List Record) → AllZip ReadsAs ds rs → AllZip ReadsAs ds ss → rs ≡ ss
+one_batch texts ds rs ss one two = one_list ReadsAs (one_record texts) ds rs ss one two

@@ -16,7 +16,7 @@ use Rattle.odb_doc.specs.canonical.Canonical.{HasWholeBodies, HasHeldBodies, bod
 use Rattle.odb_doc.specs.canonical.HeldValues.{IsHeld, AreItemsHeld, AreMembersHeld}
 use Rattle.odb_doc.specs.batch.Bodies.{body_of}
 use Rattle.odb_doc.specs.Members.{elements_at, list_of, given}
-use Rattle.odb_doc.specs.batch.Records.{Record, Says, IsBatchOf}
+use Rattle.odb_doc.specs.batch.Records.{Record, ReadsAs, IsBatchOf}
 use Rattle.odb_doc.specs.batch.Shapes.{elements}
 use Rattle.odb_doc.proofs.ReadBackLemmas.{by_order}
 use Rattle.odb_doc.proofs.SafeLemmas.{IsSafe, AreSafe, safe-put, safe-string, safe-none, safe-with_some, safe-group, safe-headers, safe-body, AreItemsSafe}
@@ -94,7 +94,7 @@ module _ (P : ℕ → Data → Type 0)
   at-elements : (n : ℕ) (d : Data) → P (suc (suc n)) d → AllByRecursion (P n) (elements d)
   at-elements n d holds = at-elements_of n (get (codes "requests") d) (at-get (suc n) (codes "requests") d holds)
 
-  at-bodies : (n : ℕ) (ds : List Data) (rs : List Record) → AllZip Says ds rs → AllByRecursion (P (suc n)) ds → (i : ℕ) → i < length rs → IfSome (body_at rs i) (P n)
+  at-bodies : (n : ℕ) (ds : List Data) (rs : List Record) → AllZip ReadsAs ds rs → AllByRecursion (P (suc n)) ds → (i : ℕ) → i < length rs → IfSome (body_at rs i) (P n)
   at-bodies n [] [] says holds i within = absurd (omega (arith, within))
   at-bodies n [] (r ∷ rs) says holds i within = absurd says
   at-bodies n (d ∷ ds) [] says holds i within = absurd says
@@ -157,7 +157,7 @@ held-body = at-body Holds (λ n k ms held. held-member k ms held.1) (λ n ds hel
 
 -- ---- the whole
 
-safe-requests : (n : ℕ) (ds : List Data) (rs : List Record) → 1 ≤ n → AllZip Says ds rs → ((i : ℕ) → i < length rs → IfSome (body_at rs i) (IsSafe n)) → AreItemsSafe (suc n) (items_of (map request_value rs))
+safe-requests : (n : ℕ) (ds : List Data) (rs : List Record) → 1 ≤ n → AllZip ReadsAs ds rs → ((i : ℕ) → i < length rs → IfSome (body_at rs i) (IsSafe n)) → AreItemsSafe (suc n) (items_of (map request_value rs))
 safe-requests n [] [] some says bodies = record { held = tt; whole = refl; shallow = omega arith }
 safe-requests n [] (r ∷ rs) some says bodies = absurd says
 safe-requests n (d ∷ ds) [] some says bodies = absurd says

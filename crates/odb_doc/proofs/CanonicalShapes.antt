@@ -28,10 +28,10 @@ use Rattle.odb_doc.specs.canonical.Canonical.{names_value, header_members, heade
 use Rattle.odb_doc.specs.Headers.{Header, folded, text_members, listed_in, HasHeaders}
 use Rattle.odb_doc.specs.batch.LeastFault.{IsBatchObject, IsWellShaped, BreaksRequestAt}
 use Rattle.odb_doc.specs.BrokenRules.{IsRequestObject}
-use Rattle.odb_doc.specs.LeastRules.{AreSound}
+use Rattle.odb_doc.specs.LeastRules.{NoneBroken}
 use Rattle.odb_doc.specs.Members.{given, members_of, names_in, is_unknown}
 use Rattle.odb_doc.specs.batch.Names.{distinct}
-use Rattle.odb_doc.specs.batch.Records.{Record, Says, IsBatchOf}
+use Rattle.odb_doc.specs.batch.Records.{Record, ReadsAs, IsBatchOf}
 use Rattle.odb_doc.specs.batch.Shapes.{HasGroup, elements, listed_names, texts_of, texts_or_none}
 use Rattle.odb_doc.proofs.BatchLemmas.{AreOneReading, one_method}
 use Rattle.odb_doc.proofs.DistinctLemmas.{IsDistinct-listed}
@@ -149,7 +149,7 @@ own-listed r = ap texts_or_none (own-members r).at_names ∙ own-names r.names
 own-text_members : (r : Record) → listed_in (get (codes "headers") (request_value r)) ≡ Some r.headers
 own-text_members r = ap listed_in (own-members r).at_headers ∙ own-headers r.headers
 
-own-holds : (e : Data) (r : Record) → Says e r → HasHeaders (request_value r) r.headers
+own-holds : (e : Data) (r : Record) → ReadsAs e r → HasHeaders (request_value r) r.headers
 own-holds e r says = record {
   listed = r.headers;
   are = own-text_members r;
@@ -158,7 +158,7 @@ own-holds e r says = record {
 }
 
 -- a request's value reads as the request
-pub value-says : (e : Data) (r : Record) → Says e r → Says (request_value r) r
+pub value-says : (e : Data) (r : Record) → ReadsAs e r → ReadsAs (request_value r) r
 value-says e r says =
     let own = own-members r in
     let apart = IsDistinct-listed r.names (listed_names e) (sym says.names) in
@@ -176,7 +176,7 @@ value-says e r says =
 -- ---- it has no fault
 
 -- a request's value breaks no rule, as the element that reads as the request
-pub value-object : AreOneReading → (e : Data) (r : Record) → IsRequestObject e → Says e r → IsRequestObject (request_value r)
+pub value-object : AreOneReading → (e : Data) (r : Record) → IsRequestObject e → ReadsAs e r → IsRequestObject (request_value r)
 value-object texts e r sound says rules.NotRequestObject = λ broken. cc (broken)
 value-object texts e r sound says rules.IfMember = λ broken. cc (subst IsSome (own-members r).at_if broken)
 value-object texts e r sound says rules.UnknownRequestMember = λ broken. cc (broken, (own-members r).known)
@@ -211,13 +211,13 @@ value-object texts e r sound says rules.BadReference = λ broken. sound rules.Ba
 
 -- ---- the whole
 
-all-says : (ds : List Data) (rs : List Record) → AllZip Says ds rs → AllZip Says (map request_value rs) rs
+all-says : (ds : List Data) (rs : List Record) → AllZip ReadsAs ds rs → AllZip ReadsAs (map request_value rs) rs
 all-says [] [] says = tt
 all-says [] (r ∷ rs) says = absurd says
 all-says (d ∷ ds) [] says = absurd says
 all-says (d ∷ ds) (r ∷ rs) says = (value-says d r says.0, all-says ds rs says.1)
 
-sound-at : AreOneReading → (ds : List Data) (rs : List Record) → AllZip Says ds rs → AreSound (BreaksRequestAt ds) → (rule : RequestRule) (i : ℕ) → ¬ BreaksRequestAt (map request_value rs) rule i
+sound-at : AreOneReading → (ds : List Data) (rs : List Record) → AllZip ReadsAs ds rs → NoneBroken (BreaksRequestAt ds) → (rule : RequestRule) (i : ℕ) → ¬ BreaksRequestAt (map request_value rs) rule i
 sound-at texts [] [] says sound rule i = λ broken. broken
 sound-at texts [] (r ∷ rs) says sound rule i = absurd says
 sound-at texts (d ∷ ds) [] says sound rule i = absurd says
@@ -236,11 +236,11 @@ own-document value rs whole says document.NotObject = λ broken. cc (broken)
 own-document value rs whole says document.NoRequests = λ broken. cc (broken.1)
 own-document value rs whole says document.UnknownMember = λ broken. cc (broken)
 own-document value rs whole says document.TooMany = λ broken.
-    let count : length (elements (canonical_value rs)) ≡ length (elements value) = ap length (own-elements rs) ∙ length-map rs request_value ∙ AllZip-long Says (elements value) rs says in
+    let count : length (elements (canonical_value rs)) ≡ length (elements value) = ap length (own-elements rs) ∙ length-map rs request_value ∙ AllZip-long ReadsAs (elements value) rs says in
     whole document.TooMany (omega (arith, broken, count))
 
 pub canonical-batch : (value : Data) (rs : List Record) → IsBatchOf value rs → IsBatchOf (canonical_value rs) rs
-canonical-batch value rs says = subst (λ (ds : List Data). AllZip Says ds rs) (sym (own-elements rs)) (all-says (elements value) rs says)
+canonical-batch value rs says = subst (λ (ds : List Data). AllZip ReadsAs ds rs) (sym (own-elements rs)) (all-says (elements value) rs says)
 
 pub canonical-shaped : AreOneReading → (value : Data) (rs : List Record) → IsWellShaped value → IsBatchOf value rs → IsWellShaped (canonical_value rs)
-canonical-shaped texts value rs shaped says = (own-document value rs shaped.0 says, subst (λ (ds : List Data). AreSound (BreaksRequestAt ds)) (sym (own-elements rs)) (sound-at texts (elements value) rs says shaped.1))
+canonical-shaped texts value rs shaped says = (own-document value rs shaped.0 says, subst (λ (ds : List Data). NoneBroken (BreaksRequestAt ds)) (sym (own-elements rs)) (sound-at texts (elements value) rs says shaped.1))

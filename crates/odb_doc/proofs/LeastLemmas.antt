@@ -9,7 +9,7 @@ use Rattle.std.proofs.Math.Seq.{take-append_seam, get_or-append_seam}
 use Rattle.odb_doc.specs.declared.broken.Broken.{Broken}
 use Rattle.odb_doc.specs.declared.broken.Broken.TheVariants as broken
 use Rattle.odb_doc.specs.BrokenRules.{OnRule, OnPlace, broken_at}
-use Rattle.odb_doc.specs.LeastRules.{IsLeast, BreaksAt, AreSound, IsFirst}
+use Rattle.odb_doc.specs.LeastRules.{IsLeast, BreaksAt, NoneBroken, IsFirst}
 
 -- ---- positions of a list, and of a prefix of it
 
@@ -46,10 +46,10 @@ module _ {R X : Type 0} (number : R → ℕ) (Breaks : R → List X → X → Ty
 
   -- ---- while the list is read
 
-  sound_none : AreSound (BreaksAt Breaks [])
+  sound_none : NoneBroken (BreaksAt Breaks [])
   sound_none = λ rule i. BreaksAt-past rule [] i (omega arith)
 
-  sound_push : (xs : List X) (x : X) → AreSound (BreaksAt Breaks xs) → ((rule : R) → ¬ Breaks rule xs x) → AreSound (BreaksAt Breaks (xs ++ x ∷ []))
+  sound_push : (xs : List X) (x : X) → NoneBroken (BreaksAt Breaks xs) → ((rule : R) → ¬ Breaks rule xs x) → NoneBroken (BreaksAt Breaks (xs ++ x ∷ []))
   sound_push xs x before here rule i =
       elim (cases_order i (length xs)) [
         | inl is ↦ λ broken. here rule (BreaksAt-here rule xs x [] (subst (BreaksAt Breaks (xs ++ x ∷ []) rule) is broken))
@@ -60,7 +60,7 @@ module _ {R X : Type 0} (number : R → ℕ) (Breaks : R → List X → X → Ty
       ]
 
   -- the first broken rule of an element is that of the list if the elements before it break none
-  first_from : (xs : List X) (x : X) (rest : List X) (rule : R) → AreSound (BreaksAt Breaks xs) → IsLeast number (λ other. Breaks other xs x) rule
+  first_from : (xs : List X) (x : X) (rest : List X) (rule : R) → NoneBroken (BreaksAt Breaks xs) → IsLeast number (λ other. Breaks other xs x) rule
       → IsFirst number (BreaksAt Breaks (xs ++ x ∷ rest)) (length xs) rule
   first_from xs x rest rule sound first = record {
     here = record {
@@ -71,25 +71,25 @@ module _ {R X : Type 0} (number : R → ℕ) (Breaks : R → List X → X → Ty
   }
 
 -- the elements break no rule and read as these
-pub record AreRead {R X Y : Type 0} (Breaks : R → List X → X → Type 0) (Says : X → Y → Type 0) (xs : List X) (ys : List Y) : Type 0 where
-  pub sound : AreSound (BreaksAt Breaks xs)
-  pub says : AllZip Says xs ys
+pub record AreRead {R X Y : Type 0} (Breaks : R → List X → X → Type 0) (ReadsAs : X → Y → Type 0) (xs : List X) (ys : List Y) : Type 0 where
+  pub unbroken : NoneBroken (BreaksAt Breaks xs)
+  pub says : AllZip ReadsAs xs ys
 
-module _ {R X Y : Type 0} (number : R → ℕ) (Breaks : R → List X → X → Type 0) (Says : X → Y → Type 0) where
-  pub AreRead-none : AreRead Breaks Says [] []
-  AreRead-none = record { sound = sound_none number Breaks; says = tt }
+module _ {R X Y : Type 0} (number : R → ℕ) (Breaks : R → List X → X → Type 0) (ReadsAs : X → Y → Type 0) where
+  pub AreRead-none : AreRead Breaks ReadsAs [] []
+  AreRead-none = record { unbroken = sound_none number Breaks; says = tt }
 
   -- one element more
-  pub AreRead-more : (xs : List X) (ys : List Y) (x : X) (y : Y) → AreRead Breaks Says xs ys → ((rule : R) → ¬ Breaks rule xs x) → Says x y → AreRead Breaks Says (xs ++ x ∷ []) (ys ++ y ∷ [])
+  pub AreRead-more : (xs : List X) (ys : List Y) (x : X) (y : Y) → AreRead Breaks ReadsAs xs ys → ((rule : R) → ¬ Breaks rule xs x) → ReadsAs x y → AreRead Breaks ReadsAs (xs ++ x ∷ []) (ys ++ y ∷ [])
   AreRead-more xs ys x y read sound says = record {
-    sound = sound_push number Breaks xs x read.sound sound;
-    says = all_zipped_more Says xs ys x y read.says says;
+    unbroken = sound_push number Breaks xs x read.unbroken sound;
+    says = all_zipped_more ReadsAs xs ys x y read.says says;
   }
 
   -- the rule that the next element breaks is the first of the list
-  pub first_broken : (xs : List X) (ys : List Y) (x : X) (rest : List X) (at : ℕ) (why : Broken R) → AreRead Breaks Says xs ys → at ≡ length ys → OnRule (IsLeast number (λ other. Breaks other xs x)) why
+  pub first_broken : (xs : List X) (ys : List Y) (x : X) (rest : List X) (at : ℕ) (why : Broken R) → AreRead Breaks ReadsAs xs ys → at ≡ length ys → OnRule (IsLeast number (λ other. Breaks other xs x)) why
       → OnPlace (IsFirst number (BreaksAt Breaks (xs ++ x ∷ rest))) (broken_at at why)
   first_broken xs ys x rest at (broken.Rule rule) read place first =
-      let here : at ≡ length xs = place ∙ AllZip-long Says xs ys read.says in
-      rw here (first_from number Breaks xs x rest rule read.sound first)
+      let here : at ≡ length xs = place ∙ AllZip-long ReadsAs xs ys read.says in
+      rw here (first_from number Breaks xs x rest rule read.unbroken first)
   first_broken xs ys x rest at broken.OutOfMemory read place first = tt

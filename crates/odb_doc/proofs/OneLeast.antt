@@ -3,7 +3,7 @@
 use Rattle.std.proofs.Common.{◌≡◌, ◌<◌, inl, inr, ℕ, List, [], ◌∷◌, refl, sym, subst, arith}
 use Rattle.std.specs.List.{AllZip}
 use Rattle.std.proofs.lemmas.Bool.{cases_order}
-use Rattle.odb_doc.specs.LeastRules.{IsLeast, IsFirst, IsFirstByPhase, AreSound, BreaksIn}
+use Rattle.odb_doc.specs.LeastRules.{IsLeast, IsFirst, IsFirstByPhase, NoneBroken, BreaksIn}
 
 -- two least rules of one value are equal
 pub one_least : {R : Type 0} (number : R → ℕ) (Breaks : R → Type 0) → ((a b : R) → number a ≡ number b → a ≡ b) → (rule other : R) → IsLeast number Breaks rule → IsLeast number Breaks other
@@ -36,20 +36,20 @@ one_by_phase phase number Breaks apart at other_at rule other one two =
     ]
 
 -- the first rule of a phase comes first if no rule of an earlier phase is broken
-pub by_phase : {R : Type 0} (phase number : R → ℕ) (Breaks : R → ℕ → Type 0) (ph at : ℕ) (rule : R) → ((p : ℕ) → p < ph → AreSound (BreaksIn phase Breaks p)) → IsFirst number (BreaksIn phase Breaks ph) at rule
+pub by_phase : {R : Type 0} (phase number : R → ℕ) (Breaks : R → ℕ → Type 0) (ph at : ℕ) (rule : R) → ((p : ℕ) → p < ph → NoneBroken (BreaksIn phase Breaks p)) → IsFirst number (BreaksIn phase Breaks ph) at rule
     → IsFirstByPhase phase number Breaks at rule
 by_phase phase number Breaks ph at rule before first =
     let own : phase rule ≡ ph = first.here.broken.0 in
     record { earlier = λ p less. before p (omega (arith, less, own)); first = subst (λ p. IsFirst number (BreaksIn phase Breaks p) at rule) (sym own) first }
 
 -- if each element reads as one value at most, elements read as one list
-pub one_list : {X Y : Type 0} (Says : X → Y → Type 0) → ((x : X) (y z : Y) → Says x y → Says x z → y ≡ z) → (xs : List X) (ys zs : List Y) → AllZip Says xs ys → AllZip Says xs zs → ys ≡ zs
-one_list Says same [] [] [] one two = refl
-one_list Says same [] [] (z ∷ zs) one two = absurd two
-one_list Says same [] (y ∷ ys) zs one two = absurd one
-one_list Says same (x ∷ xs) [] zs one two = absurd one
-one_list Says same (x ∷ xs) (y ∷ ys) [] one two = absurd two
-one_list Says same (x ∷ xs) (y ∷ ys) (z ∷ zs) one two =
+pub one_list : {X Y : Type 0} (ReadsAs : X → Y → Type 0) → ((x : X) (y z : Y) → ReadsAs x y → ReadsAs x z → y ≡ z) → (xs : List X) (ys zs : List Y) → AllZip ReadsAs xs ys → AllZip ReadsAs xs zs → ys ≡ zs
+one_list ReadsAs same [] [] [] one two = refl
+one_list ReadsAs same [] [] (z ∷ zs) one two = absurd two
+one_list ReadsAs same [] (y ∷ ys) zs one two = absurd one
+one_list ReadsAs same (x ∷ xs) [] zs one two = absurd one
+one_list ReadsAs same (x ∷ xs) (y ∷ ys) [] one two = absurd two
+one_list ReadsAs same (x ∷ xs) (y ∷ ys) (z ∷ zs) one two =
     let first = same x y z one.0 two.0 in
-    let rest = one_list Says same xs ys zs one.1 two.1 in
+    let rest = one_list ReadsAs same xs ys zs one.1 two.1 in
     cc (first, rest)

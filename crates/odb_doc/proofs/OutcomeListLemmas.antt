@@ -6,14 +6,14 @@ use Rattle.std.proofs.lemmas.List.{map-append}
 use Rattle.serde_json.specs.Data.{Data}
 use Rattle.odb_doc.specs.declared.recorded.outcome_fault.OutcomeRule.{OutcomeRule}
 use Rattle.odb_doc.specs.recorded.LeastOutcomeFault.{BreaksOutcome}
-use Rattle.odb_doc.specs.recorded.Outcomes.{Recorded, Says, ids}
+use Rattle.odb_doc.specs.recorded.Outcomes.{Recorded, ReadsAs, ids}
 
 -- what an outcome breaks, judged by those before it
 abbrev pub Breaks : OutcomeRule → List Data → Data → Type 0
 Breaks rule before d = BreaksOutcome rule (ids before) d
 
 -- outcomes have the ids of the elements that they were read from
-pub ids-says : (ds : List Data) (entries : List Recorded) → AllZip Says ds entries → ids ds ≡ keys_of entries
+pub ids-says : (ds : List Data) (entries : List Recorded) → AllZip ReadsAs ds entries → ids ds ≡ keys_of entries
 ids-says [] [] says = refl
 ids-says [] (e ∷ es) says = absurd says
 ids-says (d ∷ ds) [] says = absurd says

@@ -24,7 +24,7 @@ use Rattle.odb_doc.specs.recorded.LeastOutcomeFault.{BreaksOutcomeAt, IsOutcomes
 use Rattle.odb_doc.specs.Members.{text_at}
 use Rattle.odb_doc.proofs.OneLeast.{one_first, one_list}
 use Rattle.odb_doc.specs.recorded.OutcomeFaults as outcome_faults
-use Rattle.odb_doc.specs.recorded.Outcomes.{Recorded, AreOutcomesOf, Says}
+use Rattle.odb_doc.specs.recorded.Outcomes.{Recorded, AreOutcomesOf, ReadsAs}
 use Rattle.odb_doc.specs.recorded.Outcomes as recorded_outcomes
 use Rattle.odb_doc.proofs.CanonicalReads.{Nests, held-body, held-list_at, nests-body, nests-list_at}
 use Rattle.odb_doc.proofs.OneHeaders.{one_headers}
@@ -82,7 +82,7 @@ same_outcome d outcome other status one two body body' =
     let same : made outcome.status outcome.headers outcome.body ≡ made other.status other.headers other.body = cc (status, headers, same_body) in
     same
 
-one_outcome : (d : Data) (entry other : Recorded) → Says d entry → Says d other → entry ≡ other
+one_outcome : (d : Data) (entry other : Recorded) → ReadsAs d entry → ReadsAs d other → entry ≡ other
 one_outcome d entry other one two =
     let id : entry.0 ≡ other.0 = cc (one.id, two.id) in
     let status : entry.1.status ≡ other.1.status = cc (one.status, two.status) in
@@ -90,12 +90,12 @@ one_outcome d entry other one two =
     λ i. (id i, same i)
 
 pub one_record : (d : Data) (entries others : List Recorded) → AreOutcomesOf d entries → AreOutcomesOf d others → entries ≡ others
-one_record d entries others one two = one_list Says one_outcome (recorded_outcomes.elements d) entries others one two
+one_record d entries others one two = one_list ReadsAs one_outcome (recorded_outcomes.elements d) entries others one two
 
 no_start : (d : Data) (id : List ℕ) → text_at (codes "start") d ≡ Some id → get (codes "start") d ≡ None → ⊥
 no_start d id starts reports = let none = ap (option_and_then as_str) reports in cc (starts, none)
 
-one_event : (d : Data) (event other : EventValue) → recorded_events.Says d event → recorded_events.Says d other → event ≡ other
+one_event : (d : Data) (event other : EventValue) → recorded_events.ReadsAs d event → recorded_events.ReadsAs d other → event ≡ other
 one_event d (Start id) (Start other) one two = cc (one, two)
 one_event d (Start id) (Report other outcome) one two = absurd (no_start d id one two.reports)
 one_event d (Report id outcome) (Start other) one two = absurd (no_start d other two one.reports)
@@ -106,7 +106,7 @@ one_event d (Report id outcome) (Report other outcome') one two =
     cc (named, same)
 
 pub one_events : (d : Data) (events others : List EventValue) → AreEventsOf d events → AreEventsOf d others → events ≡ others
-one_events d events others one two = one_list recorded_events.Says one_event (recorded_events.elements d) events others one two
+one_events d events others one two = one_list recorded_events.ReadsAs one_event (recorded_events.elements d) events others one two
 
 -- ---- what is recorded was in the document
 
@@ -116,7 +116,7 @@ recordable d outcome headers body held shallow = (
   subst (λ (o : Option Data). IsShallow o) body (nests-body 124 d shallow),
 )
 
-recordable-each : (ds : List Data) (entries : List Recorded) → AllZip Says ds entries → AllByRecursion IsHeld ds → AllByRecursion (Nests 125) ds → All (λ (entry : Recorded). IsRecordable entry.1) entries
+recordable-each : (ds : List Data) (entries : List Recorded) → AllZip ReadsAs ds entries → AllByRecursion IsHeld ds → AllByRecursion (Nests 125) ds → All (λ (entry : Recorded). IsRecordable entry.1) entries
 recordable-each [] [] says held shallow = All-nil (λ (entry : Recorded). IsRecordable entry.1)
 recordable-each [] (entry ∷ entries) says held shallow = absurd says
 recordable-each (d ∷ ds) [] says held shallow = absurd says
@@ -127,11 +127,11 @@ pub recordable-outcomes : (value : Data) (entries : List Recorded) → IsHeld va
 recordable-outcomes value entries held shallow says =
     recordable-each (recorded_outcomes.elements value) entries says (held-list_at (codes "outcomes") value held) (nests-list_at 125 (codes "outcomes") value shallow)
 
-recordable-event : (d : Data) (event : EventValue) → recorded_events.Says d event → IsHeld d → depth d ≤ 125 → IsRecordableEvent event
+recordable-event : (d : Data) (event : EventValue) → recorded_events.ReadsAs d event → IsHeld d → depth d ≤ 125 → IsRecordableEvent event
 recordable-event d (Start id) says held shallow = tt
 recordable-event d (Report id outcome) says held shallow = recordable d outcome says.headers says.body held shallow
 
-recordable-list : (ds : List Data) (events : List EventValue) → AllZip recorded_events.Says ds events → AllByRecursion IsHeld ds → AllByRecursion (Nests 125) ds → All IsRecordableEvent events
+recordable-list : (ds : List Data) (events : List EventValue) → AllZip recorded_events.ReadsAs ds events → AllByRecursion IsHeld ds → AllByRecursion (Nests 125) ds → All IsRecordableEvent events
 recordable-list [] [] says held shallow = All-nil IsRecordableEvent
 recordable-list [] (event ∷ events) says held shallow = absurd says
 recordable-list (d ∷ ds) [] says held shallow = absurd says

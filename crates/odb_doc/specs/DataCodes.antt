@@ -2,7 +2,7 @@
 use Rattle.std.proofs.Common.{◌≡◌, ℕ, List, refl, ap, arith}
 use Rattle.std.specs.Coded.{Coded, coded_list, coded_ℕ, coded_ℤ, coded_bool}
 use base.Stored.{Gv, gnil, gnum, gcons, coded_float}
-use Rattle.odb_names.specs.contracts.method.Method as methods
+use Rattle.odb_names.specs.contracts.method.Method as method
 use Rattle.odb_names.specs.declared.method.Method.{Method}
 use Rattle.serde_json.specs.Data.{Num, unsigned, negative, float, Data, null, boolean, number, string, array, object, Items, no_items, item, Members, no_members, member}
 
@@ -91,4 +91,4 @@ abbrev pub data_code : Coded Data
 data_code = record { code = code_of; inj = one_value }
 
 abbrev pub method_code : Coded Method
-method_code = methods.the_row.coded
+method_code = method.the_row.coded

@@ -12,8 +12,8 @@ abbrev pub BreaksAt : {R X : Type 0} → (R → List X → X → Type 0) → Lis
 BreaksAt Breaks xs rule i = IsSomeAnd (slice_get xs i) (Breaks rule (take i xs))
 
 -- no rule is broken at any position
-abbrev pub AreSound : {R : Type 0} → (R → ℕ → Type 0) → Type 0
-AreSound {R} Breaks = (rule : R) (i : ℕ) → ¬ Breaks rule i
+abbrev pub NoneBroken : {R : Type 0} → (R → ℕ → Type 0) → Type 0
+NoneBroken {R} Breaks = (rule : R) (i : ℕ) → ¬ Breaks rule i
 
 -- the rule is broken at the position, none with a smaller number is, and none at all before
 pub record IsFirst {R : Type 0} (number : R → ℕ) (Breaks : R → ℕ → Type 0) (at : ℕ) (rule : R) : Type 0 where
@@ -26,5 +26,5 @@ BreaksIn phase Breaks ph rule i = (phase rule ≡ ph) × Breaks rule i
 
 -- the rule is the first of its phase by position and number, and no rule of an earlier phase is broken
 pub record IsFirstByPhase {R : Type 0} (phase number : R → ℕ) (Breaks : R → ℕ → Type 0) (at : ℕ) (rule : R) : Type 0 where
-  pub earlier : (ph : ℕ) → ph < phase rule → AreSound (BreaksIn phase Breaks ph)
+  pub earlier : (ph : ℕ) → ph < phase rule → NoneBroken (BreaksIn phase Breaks ph)
   pub first : IsFirst number (BreaksIn phase Breaks (phase rule)) at rule

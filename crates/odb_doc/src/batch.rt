@@ -1,12 +1,14 @@
-ghost use Rattle.std.specs.Prelude.{◌≡◌, ◌≤◌, ◌<◌, length, map, vec_len, slice_get, Some, IfOk, IfErr, OnOk, OnErr};
+//! A batch as it was read: its requests, in the order of the document.
+
+ghost use Rattle.std.specs.Prelude.{◌==◌, ◌≡◌, ◌≤◌, ◌<◌, length, map, vec_len, slice_get, Some, IfOk, IfErr, OnOk, OnErr};
 ghost use Rattle.std.specs.List.{AllZip};
 ghost use Rattle.serde_json.specs.View.{view};
 ghost use Rattle.odb_doc.specs.declared.fault.DocFault.TheVariants as faults;
 ghost use Rattle.odb_doc.specs.batch.LeastFault.{IsWellShaped, IsLeastFault, IsBatchObject, IsFirstBroken, IsLeastDocumentRule, BreaksRequestAt};
 ghost use Rattle.odb_doc.specs.BrokenRules.{OnPlace, request_fault};
-ghost use Rattle.odb_doc.specs.LeastRules.{AreSound};
+ghost use Rattle.odb_doc.specs.LeastRules.{NoneBroken};
 ghost use Rattle.odb_doc.specs.batch.Shapes.{elements};
-ghost use Rattle.odb_doc.specs.batch.Records.{Says, IsSoundRecord, IsBatchOf, record_of};
+ghost use Rattle.odb_doc.specs.batch.Records.{ReadsAs, IsWellFormedRecord, IsBatchOf, record_of};
 
 mod body;
 mod depends_on;
@@ -70,8 +72,8 @@ fn requests_from<'a>(
     alloc: Global,
     elements: &'a [Value],
 ) -> Result<Vec<Request<'a>>, Broken<(usize, RequestRule)>>
-    ensures sound { OnOk result (AreSound (BreaksRequestAt (map view elements.now))) }
-    ensures says { IfOk result (λ found. AllZip Says (map view elements.now)
+    ensures unbroken { OnOk result (NoneBroken (BreaksRequestAt (map view elements.now))) }
+    ensures says { IfOk result (λ found. AllZip ReadsAs (map view elements.now)
         (map record_of found.items)) }
     ensures len { IfOk result (λ found. length found.items ≡ length elements.now) }
     ensures first { IfErr result (OnPlace (IsFirstBroken (map view elements.now))) }
@@ -124,11 +126,18 @@ impl<'a> Batch<'a> {
         self.requests.len() as u32
     }
 
+    /// Returns whether there are no requests.
+    pub fn is_empty(&self) -> bool
+        ensures { result ≡ (length (records self.now) == 0) }
+    {
+        self.requests.is_empty()
+    }
+
     /// Returns the request at a position, counted from 0.
     pub fn request(&self, i: u32) -> &Request<'a>
         requires { i < length (records self.now) }
         ensures value { slice_get (records self.now) i ≡ Some (record_of result.now) }
-        ensures sound { IsSoundRecord (record_of result.now) }
+        ensures well_formed { IsWellFormedRecord (record_of result.now) }
     {
         &self.requests[i as usize]
     }

@@ -1,3 +1,5 @@
+//! A rule that an element of a list breaks, with its position, or out of memory.
+
 ghost use Rattle.std.specs.Prelude.{◌≡◌};
 ghost use Rattle.odb_doc.specs.declared.broken.Broken.TheVariants.{Rule, OutOfMemory};
 ghost use Rattle.odb_doc.specs.BrokenRules.{broken_at};

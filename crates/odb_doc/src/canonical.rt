@@ -1,3 +1,5 @@
+//! The canonical text of a batch: one text for all documents of the same batch.
+
 ghost use Rattle.std.specs.Prelude.{◌≡◌, ◌≤◌, ◌↔◌, ℕ, length, None, string_bytes, IfOk, IfSome, OnOk};
 ghost use Rattle.odb_doc.specs.declared.fault.TextFault.TheVariants as faults;
 ghost use Rattle.odb_doc.specs.batch.Batches.{records};

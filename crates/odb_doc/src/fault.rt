@@ -1,3 +1,5 @@
+//! The rules of a batch document, F01 to F23, and where one is broken.
+
 ghost use Rattle.std.specs.Prelude.{◌≡◌};
 ghost use Rattle.odb_doc.specs.declared.fault.DocFault.TheVariants.{Document};
 ghost use Rattle.odb_doc.specs.declared.fault.TextFault.TheVariants as texts;

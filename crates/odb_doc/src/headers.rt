@@ -1,3 +1,5 @@
+//! Header fields with their names in lower case, each name once.
+
 ghost use Rattle.std.specs.Prelude.{◌≡◌, ◌↔◌, IsSome, option_map, string_bytes, IsTrue, OnOk, IfOk, IfErr};
 ghost use Rattle.std.specs.Str.{str_to_ascii_lowercase};
 ghost use Rattle.serde_json.specs.View.{view, members_view};
@@ -113,7 +115,7 @@ pub(crate) fn headers_of(
     element: &Value,
 ) -> Result<BTreeMap<String, String>, Broken<RequestRule>>
     requires { BreaksNoneBefore rules.BadHeaders (view element.now) }
-    ensures sound { OnOk result (BreaksNoneBefore rules.BodyNotAllowed (view element.now)) }
+    ensures unbroken { OnOk result (BreaksNoneBefore rules.BodyNotAllowed (view element.now)) }
     ensures has { IfOk result (λ headers. HasHeaders (view element.now) (headers_in headers)) }
     ensures first { IfErr result (OnRule (IsLeastRequestRule (view element.now))) }
 {

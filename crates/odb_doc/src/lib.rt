@@ -38,6 +38,6 @@ pub use recorded::event_fault::{EventFault, EventRule};
 pub use recorded::events::Events;
 pub use recorded::outcome::Outcome;
 pub use recorded::outcome_fault::{OutcomeFault, OutcomeRule};
-pub use recorded::outcomes::{Leftovers, Outcomes};
+pub use recorded::outcomes::{Husk, Outcomes};
 pub use refusal::{Fault, Refusal};
 pub use whole::{has_whole_body, is_whole};

@@ -1,3 +1,5 @@
+//! What a fault is to a user: a code, a name and a place.
+
 ghost use Rattle.std.specs.Prelude.{◌≡◌, Option, None, option_map, IsSome, IfSome};
 ghost use Rattle.odb_doc.specs.Refusals.{Printed, printed};
 

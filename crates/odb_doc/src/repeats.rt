@@ -1,3 +1,5 @@
+//! Whether a list holds a text twice, and each text of it once.
+
 ghost use Rattle.std.specs.Prelude.{◌≡◌, ◌<◌, false, bytes_eq, length, IfOk, OnOk, OnErr};
 ghost use Rattle.std.specs.Cmp.Lexicographic.{slice_cmp};
 ghost use Rattle.std.specs.List.{IsDistinct};

@@ -1,3 +1,5 @@
+//! Whether each number of a JSON value is whole.
+
 ghost use Rattle.std.specs.Prelude.{◌≡◌, ◌↔◌, false, option_map, IsTrue, IfSome};
 ghost use Rattle.serde_json.specs.Find.{is_float};
 ghost use Rattle.serde_json.specs.View.{view, number_view, items_view, members_view};

@@ -4,7 +4,7 @@ use Rattle.std.proofs.lemmas.Option.{same_Some}
 use Rattle.odb_doc.specs.declared.recorded.outcome.Outcome.{Outcome}
 use Rattle.odb_doc.specs.declared.fault.Place.TheVariants as places
 use Rattle.odb_doc.specs.recorded.LeastOutcomeFault.{IsOutcomesDocument, RefusesOutcomes}
-use Rattle.odb_doc.specs.recorded.OutcomeFaults as documents
+use Rattle.odb_doc.specs.recorded.OutcomeFaults as outcome_faults
 use Rattle.odb_doc.specs.recorded.Outcomes.{Recorded, AreOutcomesOf}
 use Rattle.odb_doc.specs.batch.Records.{Record}
 use Rattle.odb_sched.specs.declared.execution.ExecFault.TheVariants as fault
@@ -42,11 +42,11 @@ module _ (order : Order) (policy : Policy) (traced : Bool) (batch : List Record)
 
 -- the laws of odb_doc on documents of outcomes
 abbrev pub AreOneRecord : Type 0
-AreOneRecord = IsOneKind documents.outcome_row RefusesOutcomes IsOutcomesDocument AreOutcomesOf
+AreOneRecord = IsOneKind outcome_faults.outcome_row RefusesOutcomes IsOutcomesDocument AreOutcomesOf
 
 -- a batch and the reader of outcomes have one text
 pub replays_one : (order : Order) → ((recorded : List (Option Outcome)) (first : State) → HasOrder order recorded first) → AreOneRecord
     → (policy : Policy) (traced : Bool) (outcomes : List ℕ) (batch : List Record) → IsOne (Replays (AllowsOrder order) policy traced (Some outcomes) batch)
 replays_one order courses law policy traced outcomes batch = some_document_one outcomes (ReplaysBatch (AllowsOrder order) policy traced batch) (λ bytes.
-    second_one places.Outcomes documents.outcome_row RefusesOutcomes IsOutcomesDocument AreOutcomesOf law bytes (ReplaysEntries (AllowsOrder order) policy traced batch)
+    second_one places.Outcomes outcome_faults.outcome_row RefusesOutcomes IsOutcomesDocument AreOutcomesOf law bytes (ReplaysEntries (AllowsOrder order) policy traced batch)
     (λ entries. one_replay order policy traced batch entries (courses (recorded_for batch entries) (first_state batch policy))))

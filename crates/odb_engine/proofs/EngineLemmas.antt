@@ -23,7 +23,7 @@ use Rattle.odb_engine.specs.declared.halt.Halt.TheVariants as halts
 use Rattle.odb_engine.specs.Inputs.{most_read, GivesDocument, SomeDocument}
 use Rattle.odb_doc.specs.Refusals.{Printed}
 use Rattle.odb_engine.specs.Cascade.{Writes, Prints, line_of, Reports, RefusesBytes, IsLeast, Answers}
-use Rattle.odb_engine.specs.Cascade.IsLeast.{OfBytes, OfShape, OfNames}
+use Rattle.odb_engine.specs.Cascade.IsLeast.{OfBytes, OfPlanGraph, OfNames}
 use Rattle.odb_engine.specs.Engines.{Ends, WritesPrefix}
 use Rattle.odb_engine.specs.declared.form.Form.{Form}
 use Rattle.odb_engine.specs.declared.form.Form.TheVariants.{Lines, Json}
@@ -95,13 +95,13 @@ halt-bytes P bytes = Halted-weaker (RefusesBytes Batch bytes) (λ refusal. Answe
 pub halt-shape : (P : List Record → Writes) (bytes : List ℕ) (fault : DocFault) (value : Data) → IsDocument bytes value → IsLeastFault fault value
     → (halt : Halt) → HaltsBy (document_row fault) halt → Refuses (Answers P bytes) halt
 halt-shape P bytes fault value is_document least = halted-by (λ refusal. Answers P bytes Refused (line_of refusal)) _
-    (λ refusal row. inl (reports (IsLeast bytes) refusal (OfShape fault (record { value = value; document = is_document; holds = least }) row)))
+    (λ refusal row. inl (reports (IsLeast bytes) refusal (OfPlanGraph fault (record { value = value; document = is_document; holds = least }) row)))
 
 -- the names of its requests have a fault
 pub halt-names : (P : List Record → Writes) (bytes : List ℕ) (value : Data) (batch : List Record) → IsDocument bytes value → IsWellShaped value → IsBatchOf value batch
     → (halt : Halt) → Halted (RefusesNamesOf batch) halt → Refuses (Answers P bytes) halt
-halt-names P bytes value batch is_document shape is_batch = Halted-weaker (RefusesNamesOf batch) (λ refusal. Answers P bytes Refused (line_of refusal))
-    (λ refusal refuses. inl (reports (IsLeast bytes) refusal (OfNames refuses.fault (record { value = value; document = is_document; holds = record { batch = batch; shape = shape; is_batch = is_batch; holds = refuses.refuses } }) refuses.is)))
+halt-names P bytes value batch is_document plan_graph is_batch = Halted-weaker (RefusesNamesOf batch) (λ refusal. Answers P bytes Refused (line_of refusal))
+    (λ refusal refuses. inl (reports (IsLeast bytes) refusal (OfNames refuses.fault (record { value = value; document = is_document; holds = record { batch = batch; plan_graph = plan_graph; is_batch = is_batch; holds = refuses.refuses } }) refuses.is)))
 
 -- what may be written in less cases may be written
 pub Refuses-weaker : (P Q : Writes) (halt : Halt) → ((ended : Ended) (text : List ℕ) → P ended text → Q ended text) → Refuses P halt → Refuses Q halt

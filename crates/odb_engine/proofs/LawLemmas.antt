@@ -17,12 +17,12 @@ use Rattle.odb_check.specs.FaultTable.{check_row}
 use Rattle.odb_check.specs.LeastNameFault.{HasGoodNames, RefusesNames}
 use Rattle.odb_engine.specs.Cascade.{IsOne, Writes, line_of, RefusesBytes, IsLeast, Accepts, Answers, HasValue, at_place}
 use Rattle.odb_doc.specs.Refusals.{Printed}
-use Rattle.odb_engine.specs.Cascade.IsLeast.{OfBytes, OfShape, OfNames}
+use Rattle.odb_engine.specs.Cascade.IsLeast.{OfBytes, OfPlanGraph, OfNames}
 
 -- the laws of the lower crates on their own relations
 pub record AreFunctional : Type 0 where
-  pub one_shape : (value : Data) (fault other : DocFault) → IsSome (document_row fault) → IsSome (document_row other) → IsLeastFault fault value → IsLeastFault other value → fault ≡ other
-  pub no_shape : (value : Data) (fault : DocFault) → IsSome (document_row fault) → IsLeastFault fault value → ¬ IsWellShaped value
+  pub one_plan_graph : (value : Data) (fault other : DocFault) → IsSome (document_row fault) → IsSome (document_row other) → IsLeastFault fault value → IsLeastFault other value → fault ≡ other
+  pub no_plan_graph : (value : Data) (fault : DocFault) → IsSome (document_row fault) → IsLeastFault fault value → ¬ IsWellShaped value
   pub one_batch : (value : Data) (batch other : List Record) → IsBatchOf value batch → IsBatchOf value other → batch ≡ other
   pub one_name : (requests : List Record) (fault other : CheckFault) → IsSome (check_row fault) → IsSome (check_row other) → RefusesNames fault requests → RefusesNames other requests
       → fault ≡ other
@@ -79,16 +79,16 @@ refused_no_value place bytes refusal P refused has =
 
 least_one : AreFunctional → (bytes : List ℕ) (s t : Printed) → IsLeast bytes s → IsLeast bytes t → s ≡ t
 least_one law bytes s t (OfBytes one) (OfBytes two) = one_refusal Batch bytes s t one two
-least_one law bytes s t (OfBytes one) (OfShape g has d) = absurd (refused_no_value Batch bytes s (IsLeastFault g) one has)
+least_one law bytes s t (OfBytes one) (OfPlanGraph g has d) = absurd (refused_no_value Batch bytes s (IsLeastFault g) one has)
 least_one law bytes s t (OfBytes one) (OfNames g has d) = absurd (refused_no_value Batch bytes s _ one has)
-least_one law bytes s t (OfShape f has e) (OfBytes two) = absurd (refused_no_value Batch bytes t (IsLeastFault f) two has)
-least_one law bytes s t (OfShape f has e) (OfShape g had d) =
-    same_Some s t (sym e ∙ ap document_row (law.one_shape had.value f g (ap is_some e) (ap is_some d) (subst (IsLeastFault f) (one_value bytes has.value had.value has.document had.document) has.holds) had.holds) ∙ d)
-least_one law bytes s t (OfShape f has e) (OfNames g had d) =
-    absurd (law.no_shape had.value f (ap is_some e) (subst (IsLeastFault f) (one_value bytes has.value had.value has.document had.document) has.holds) had.holds.shape)
+least_one law bytes s t (OfPlanGraph f has e) (OfBytes two) = absurd (refused_no_value Batch bytes t (IsLeastFault f) two has)
+least_one law bytes s t (OfPlanGraph f has e) (OfPlanGraph g had d) =
+    same_Some s t (sym e ∙ ap document_row (law.one_plan_graph had.value f g (ap is_some e) (ap is_some d) (subst (IsLeastFault f) (one_value bytes has.value had.value has.document had.document) has.holds) had.holds) ∙ d)
+least_one law bytes s t (OfPlanGraph f has e) (OfNames g had d) =
+    absurd (law.no_plan_graph had.value f (ap is_some e) (subst (IsLeastFault f) (one_value bytes has.value had.value has.document had.document) has.holds) had.holds.plan_graph)
 least_one law bytes s t (OfNames f has e) (OfBytes two) = absurd (refused_no_value Batch bytes t _ two has)
-least_one law bytes s t (OfNames f has e) (OfShape g had d) =
-    absurd (law.no_shape has.value g (ap is_some d) (subst (IsLeastFault g) (one_value bytes had.value has.value had.document has.document) had.holds) has.holds.shape)
+least_one law bytes s t (OfNames f has e) (OfPlanGraph g had d) =
+    absurd (law.no_plan_graph has.value g (ap is_some d) (subst (IsLeastFault g) (one_value bytes had.value has.value had.document has.document) had.holds) has.holds.plan_graph)
 least_one law bytes s t (OfNames f has e) (OfNames g had d) =
     let same = one_value bytes has.value had.value has.document had.document in
     let is_batch = subst (λ v. IsBatchOf v has.holds.batch) same has.holds.is_batch in
@@ -97,8 +97,8 @@ least_one law bytes s t (OfNames f has e) (OfNames g had d) =
 least_not : AreFunctional → (bytes : List ℕ) (P : List Record → Type 0) (refusal : Printed) → IsLeast bytes refusal → Accepts bytes P → ⊥
 least_not law bytes P refusal (OfBytes one) is =
     no_value bytes one.fault is.value (bytes_cause Batch bytes refusal one) is.document
-least_not law bytes P refusal (OfShape f has e) is =
-    law.no_shape is.value f (ap is_some e) (subst (IsLeastFault f) (one_value bytes has.value is.value has.document is.document) has.holds) is.shape
+least_not law bytes P refusal (OfPlanGraph f has e) is =
+    law.no_plan_graph is.value f (ap is_some e) (subst (IsLeastFault f) (one_value bytes has.value is.value has.document is.document) has.holds) is.plan_graph
 least_not law bytes P refusal (OfNames f has e) is =
     let same = one_value bytes has.value is.value has.document is.document in
     let is_batch = subst (λ v. IsBatchOf v has.holds.batch) same has.holds.is_batch in

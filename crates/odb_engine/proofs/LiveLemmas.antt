@@ -28,7 +28,7 @@ use Rattle.odb_engine.specs.declared.ending.Ended.{Ended}
 use Rattle.odb_engine.specs.declared.ending.Ended.TheVariants.{Done, Refused}
 use Rattle.odb_engine.specs.declared.halt.Halt.{Halt}
 use Rattle.odb_engine.specs.Cascade.{Accepts, IsLeast, Writes, line_of}
-use Rattle.odb_engine.specs.Cascade.IsLeast.{OfShape, OfNames}
+use Rattle.odb_engine.specs.Cascade.IsLeast.{OfPlanGraph, OfNames}
 use Rattle.odb_engine.specs.Halts.{Found, Halted, RefusesNamesOf}
 use Rattle.odb_engine.specs.Lines.{response_line}
 use Rattle.odb_engine.specs.Live.{IsLeastAfter, IsLeastOfState, ShowsState}
@@ -65,16 +65,16 @@ found-of state (Err halt) finished is least =
 -- the batch that was read is accepted
 pub accepted : (bytes : List ℕ) (value : Data) (batch planned : List Record) (P : List Record → Type 0) → IsDocument bytes value → IsWellShaped value → IsBatchOf value batch → HasGoodNames batch
     → planned ≡ batch → P planned → Accepts bytes P
-accepted bytes value batch planned P is shape is_batch names same so = record { value = value; document = is; shape = shape; batch = batch; is_batch = is_batch; names = names; holds = subst P same so }
+accepted bytes value batch planned P is plan_graph is_batch names same so = record { value = value; document = is; plan_graph = plan_graph; batch = batch; is_batch = is_batch; names = names; holds = subst P same so }
 
 -- a fault of the shape of a batch document
 pub least-shape : (bytes : List ℕ) (fault : DocFault) (value : Data) → IsDocument bytes value → IsLeastFault fault value → (shown : Printed) → document_row fault ≡ Some shown → IsLeast bytes shown
-least-shape bytes fault value is least shown row = OfShape fault (record { value = value; document = is; holds = least }) row
+least-shape bytes fault value is least shown row = OfPlanGraph fault (record { value = value; document = is; holds = least }) row
 
 -- a fault of the names of its requests
 pub least-names : (bytes : List ℕ) (value : Data) (batch : List Record) → IsDocument bytes value → IsWellShaped value → IsBatchOf value batch → (shown : Printed) → RefusesNamesOf batch shown → IsLeast bytes shown
-least-names bytes value batch is shape is_batch shown refuses =
-    OfNames refuses.fault (record { value = value; document = is; holds = record { batch = batch; shape = shape; is_batch = is_batch; holds = refuses.refuses } }) refuses.is
+least-names bytes value batch is plan_graph is_batch shown refuses =
+    OfNames refuses.fault (record { value = value; document = is; holds = record { batch = batch; plan_graph = plan_graph; is_batch = is_batch; holds = refuses.refuses } }) refuses.is
 
 pub if-error : {T E : Type 0} (r : Result T E) (P Q : E → Type 0) → ((error : E) → P error → Q error) → IfErr r P → IfErr r Q
 if-error (Ok value) P Q to so = tt

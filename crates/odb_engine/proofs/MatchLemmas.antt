@@ -6,9 +6,9 @@ use Rattle.odb_doc.specs.batch.Records.{Record}
 use Rattle.odb_reply.specs.declared.match_fault.MatchFault.{MatchFault}
 use Rattle.odb_reply.specs.declared.response_fault.ResponseFault.{ResponseFault}
 use Rattle.odb_reply.specs.LeastMatchFault.{RefusesMatch}
-use Rattle.odb_reply.specs.MatchFaults as matches
+use Rattle.odb_reply.specs.MatchFaults as match_faults
 use Rattle.odb_reply.specs.ResponseDocuments.{Entry, RefusesResponses}
-use Rattle.odb_reply.specs.ResponseDocuments as documents
+use Rattle.odb_reply.specs.ResponseDocuments as response_documents
 use Rattle.odb_engine.specs.declared.ending.Ended.TheVariants.{Refused}
 use Rattle.odb_engine.specs.declared.form.Form.{Form}
 use Rattle.odb_engine.specs.declared.halt.Halt.{Halt}
@@ -58,12 +58,12 @@ lines_left-none rs ss i past = none rs ss i past
 
 -- the response document has a fault
 pub halt-responses : (form : Form) (batch : List Record) (bytes : List ℕ) (fault : ResponseFault) (value : Data) → IsDocument bytes value → RefusesResponses fault value
-    → (halt : Halt) → HaltsBy (documents.responses_row fault) halt → Refuses (MatchesIn form batch bytes) halt
+    → (halt : Halt) → HaltsBy (response_documents.responses_row fault) halt → Refuses (MatchesIn form batch bytes) halt
 halt-responses form batch bytes fault value is_document least = halted-by (λ refusal. MatchesIn form batch bytes Refused (line_of refusal)) _
     (λ refusal row. inl (reports (IsLeastOfResponses bytes) refusal (OfValue fault (record { value = value; document = is_document; holds = least }) row)))
 
 -- the responses do not fit the batch
 pub halt-match : (form : Form) (batch : List Record) (bytes : List ℕ) (entries : List Entry) (fault : MatchFault) → Lists bytes entries → RefusesMatch fault batch entries
-    → (halt : Halt) → HaltsBy (matches.match_row fault) halt → Refuses (MatchesIn form batch bytes) halt
+    → (halt : Halt) → HaltsBy (match_faults.match_row fault) halt → Refuses (MatchesIn form batch bytes) halt
 halt-match form batch bytes entries fault lists least = halted-by (λ refusal. MatchesIn form batch bytes Refused (line_of refusal)) _
     (λ refusal row. inr (entries, lists, inl (reports (Misfits batch entries) refusal (record { fault = fault; least = least; is = row }))))

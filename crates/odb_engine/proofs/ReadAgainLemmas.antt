@@ -26,7 +26,7 @@ pub record AreReadings : Type 0 where
 -- a result is written of a batch that is accepted
 answers-done : (P : List Record → Writes) (Q : List Record → Type 0) (bytes text : List ℕ) → ((batch : List Record) → P batch Done text → Q batch) → Answers P bytes Done text → Accepts bytes Q
 answers-done P Q bytes text so (inl x) = absurd (cc (x.ends))
-answers-done P Q bytes text so (inr x) = record { value = x.value; document = x.document; shape = x.shape; batch = x.batch; is_batch = x.is_batch; names = x.names; holds = so x.batch x.holds }
+answers-done P Q bytes text so (inr x) = record { value = x.value; document = x.document; plan_graph = x.plan_graph; batch = x.batch; is_batch = x.is_batch; names = x.names; holds = so x.batch x.holds }
 
 replays-again : AreReadings → (order : Order) (policy : Policy) (outcomes text : List ℕ) (batch : List Record) → Replays (AllowsOrder order) policy false (Some outcomes) batch Done text → IsReadAgain batch text
 replays-again law order policy outcomes text batch (document, gives, inl x) = absurd (cc (x.ends))

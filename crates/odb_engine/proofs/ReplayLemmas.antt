@@ -4,10 +4,10 @@ use Rattle.std.proofs.lemmas.Bool.{true≢false, both_ways}
 use Rattle.std.proofs.lemmas.List.Elements.{All-contains, Contains-append_right}
 use Rattle.odb_doc.specs.declared.recorded.outcome.Outcome.{Outcome}
 use Rattle.odb_doc.specs.recorded.OutcomeValues.{IsRecordable}
-use Rattle.odb_doc.specs.recorded.Outcomes.{Recorded, IsSoundOutcome}
+use Rattle.odb_doc.specs.recorded.Outcomes.{Recorded, IsWellFormedOutcome}
 use Rattle.odb_doc.specs.batch.Records.{Record}
 use Rattle.odb_doc.specs.WholeNumbers.{IsWhole}
-use Rattle.odb_check.specs.Shape.{unit_of}
+use Rattle.odb_check.specs.PlanGraph.{unit_of}
 use Rattle.odb_sched.specs.declared.phase.Phase.{Phase}
 use Rattle.odb_sched.specs.declared.phase.Phase.TheVariants.{Unstarted, Running, Reported}
 use Rattle.odb_sched.specs.declared.policy.Policy.{Policy}
@@ -84,19 +84,19 @@ OffersReported batch entries state = (i : ℕ) (outcome : Outcome) → reported 
 answered-entry : (Q : Recorded → Type 0) (batch : List Record) (entries : List Recorded) (state : State) → All Q entries → OffersReported batch entries state → (i : ℕ) (outcome : Outcome) → answer state i ≡ Some outcome
     → (entry : Recorded) × Q entry × (entry.1 ≡ outcome)
 answered-entry Q batch entries state each offers i outcome is =
-    offered-entry Q batch entries i outcome each (offers i outcome (answer-reported (phase_at state i) (unit_succeeded state (unit_of state.shape i)) outcome is))
+    offered-entry Q batch entries i outcome each (offers i outcome (answer-reported (phase_at state i) (unit_succeeded state (unit_of state.plan_graph i)) outcome is))
 
 -- a run by recorded outcomes answers whole bodies alone
-pub whole-bodies : (batch : List Record) (entries : List Recorded) (state : State) → All IsSoundOutcome entries → OffersReported batch entries state → HasWholeBodies state
+pub whole-bodies : (batch : List Record) (entries : List Recorded) (state : State) → All IsWellFormedOutcome entries → OffersReported batch entries state → HasWholeBodies state
 whole-bodies batch entries state sound offers i within = whole-body (answer state i) (λ outcome is.
-    let (entry, fit, same) = answered-entry IsSoundOutcome batch entries state sound offers i outcome is in
+    let (entry, fit, same) = answered-entry IsWellFormedOutcome batch entries state sound offers i outcome is in
     subst (λ o. IfSome o.body IsWhole) same fit.whole)
 
 abbrev IsGoodEntry : Recorded → Type 0
-IsGoodEntry entry = IsSoundOutcome entry × IsRecordable entry.1
+IsGoodEntry entry = IsWellFormedOutcome entry × IsRecordable entry.1
 
 -- what a document can record is read again from a response
-pub readable-answers : (batch : List Record) (entries : List Recorded) (state : State) → All IsSoundOutcome entries → OffersReported batch entries state
+pub readable-answers : (batch : List Record) (entries : List Recorded) (state : State) → All IsWellFormedOutcome entries → OffersReported batch entries state
     → All (λ (entry : Recorded). IsRecordable entry.1) entries → AnswersBy IsReadable state
 readable-answers batch entries state sound offers recordable i outcome within is =
     let both : All IsGoodEntry entries = λ k d less. (sound k d less, recordable k d less) in
@@ -114,12 +114,12 @@ not_failed None e = true≢false (ap is_failed e)
 not_failed (Some outcome) e = true≢false (ap is_failed e)
 
 -- an execution by recorded outcomes fails only if an outcome is missing
-pub lacks-outcome : (allows : Allowance) (policy : Policy) (batch : List Record) (entries : List Recorded) (cause : ExecFault) → All IsSoundOutcome entries
+pub lacks-outcome : (allows : Allowance) (policy : Policy) (batch : List Record) (entries : List Recorded) (cause : ExecFault) → All IsWellFormedOutcome entries
     → IsCausedBy (offers_of batch entries) (IsReportEnabled allows (offers_of batch entries) (first_state batch policy)) cause
     → (refusal : Printed) → exec_row cause ≡ Some refusal → LacksOutcome allows policy batch entries Refused (line_of refusal)
 lacks-outcome allows policy batch entries (fault.NoOutcome i) sound (due, none) refusal row = record { at = i; due = due; none = none; ends = refl; line = ap line_of (same_Some _ _ (sym row)) }
 lacks-outcome allows policy batch entries (fault.Service i) sound (due, failed) refusal row = absurd (not_failed (get_or (recorded_for batch entries) i None) failed)
 lacks-outcome allows policy batch entries (fault.BadStatus i) sound (due, (outcome, offer, bad)) refusal row =
-    let (entry, fit, same) = offered-entry IsSoundOutcome batch entries i outcome sound offer in
+    let (entry, fit, same) = offered-entry IsWellFormedOutcome batch entries i outcome sound offer in
     absurd (both_ways _ bad (ap (λ o. is_status o.status) (sym same) ∙ fit.status))
 lacks-outcome allows policy batch entries fault.OutOfMemory sound none refusal row = absurd (cc row)

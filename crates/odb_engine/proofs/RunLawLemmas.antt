@@ -4,7 +4,7 @@ use Rattle.std.specs.List.{AllZip}
 use Rattle.std.proofs.lemmas.Bool.{cases_order, both_ways}
 use Rattle.std.proofs.lemmas.Option.{same_Some}
 use Rattle.odb_doc.specs.declared.fault.Place.TheVariants as places
-use Rattle.odb_doc.specs.recorded.EventFaults as documents
+use Rattle.odb_doc.specs.recorded.EventFaults as event_faults
 use Rattle.odb_doc.specs.recorded.Events.{EventValue, AreEventsOf}
 use Rattle.odb_doc.specs.recorded.LeastEventFault.{IsEventsDocument, RefusesEvents}
 use Rattle.odb_doc.specs.recorded.Events as named
@@ -151,9 +151,9 @@ module _ (causes : HaveOneCause) (policy : Policy) (batch : List Record) (good :
 
 -- the laws of odb_doc on documents of events
 abbrev pub AreOneHistory : Type 0
-AreOneHistory = IsOneKind documents.event_row RefusesEvents IsEventsDocument AreEventsOf
+AreOneHistory = IsOneKind event_faults.event_row RefusesEvents IsEventsDocument AreEventsOf
 
 -- a batch and the reader of events have one text
 pub runs_one : HaveOneCause → AreOneHistory → (policy : Policy) (events : List ℕ) (batch : List Record) → HasGoodNames batch → IsOne (Runs policy (Some events) batch)
 runs_one causes law policy events batch good = some_document_one events (RunsBatch policy batch) (λ bytes.
-    second_one places.Events documents.event_row RefusesEvents IsEventsDocument AreEventsOf law bytes (RunsEvents policy batch) (one-run causes policy batch good))
+    second_one places.Events event_faults.event_row RefusesEvents IsEventsDocument AreEventsOf law bytes (RunsEvents policy batch) (one-run causes policy batch good))

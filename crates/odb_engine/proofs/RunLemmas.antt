@@ -3,11 +3,11 @@ use Rattle.std.proofs.Common.{◌≡◌, ℕ, zero, suc, Bool, true, false, not,
 use Rattle.std.specs.List.{AllZip}
 use Rattle.std.proofs.lemmas.List.Elements.{All-nil, All-cons, All-head, All-tail, All-set, All-replicate}
 use Rattle.odb_doc.specs.declared.recorded.outcome.Outcome.{Outcome}
-use Rattle.odb_doc.specs.recorded.Events.{EventValue, IsRecordableEvent, IsSoundEvent}
+use Rattle.odb_doc.specs.recorded.Events.{EventValue, IsRecordableEvent, IsWellFormedEvent}
 use Rattle.odb_doc.specs.recorded.Events as named
 use Rattle.odb_doc.specs.batch.Records.{Record}
 use Rattle.odb_doc.specs.WholeNumbers.{IsWhole}
-use Rattle.odb_check.specs.Shape.{unit_of}
+use Rattle.odb_check.specs.PlanGraph.{unit_of}
 use Rattle.odb_sched.specs.declared.event.Event.{Event}
 use Rattle.odb_sched.specs.declared.event.Event.TheVariants as event
 use Rattle.odb_sched.specs.declared.phase.Phase.{Phase}
@@ -85,16 +85,16 @@ module _ (holds : Outcome → Type 0) where
       let first = first_state batch policy in
       let state = end_of policy batch events in
       let each = on-after first events (all-resolved batch recorded events is so) (All-replicate OnPhase _ Unstarted tt) in
-      on-answer (phase_at state i) (unit_succeeded state (unit_of state.shape i)) (at-or OnPhase state.phases i Unstarted tt each)
+      on-answer (phase_at state i) (unit_succeeded state (unit_of state.plan_graph i)) (at-or OnPhase state.phases i Unstarted tt each)
 
 abbrev IsWholeOutcome : Outcome → Type 0
 IsWholeOutcome outcome = IfSome outcome.body IsWhole
 
-whole-named : (recorded : EventValue) → IsSoundEvent recorded → OnNamed IsWholeOutcome recorded
+whole-named : (recorded : EventValue) → IsWellFormedEvent recorded → OnNamed IsWholeOutcome recorded
 whole-named (named.Start id) sound = tt
 whole-named (named.Report id outcome) sound = sound.whole
 
-readable-named : (recorded : EventValue) → IsSoundEvent recorded → IsRecordableEvent recorded → OnNamed IsReadable recorded
+readable-named : (recorded : EventValue) → IsWellFormedEvent recorded → IsRecordableEvent recorded → OnNamed IsReadable recorded
 readable-named (named.Start id) sound can = tt
 readable-named (named.Report id outcome) sound can = record { held = can.0; whole = sound.whole; shallow = can.1 }
 
@@ -103,12 +103,12 @@ whole-body None so = tt
 whole-body (Some outcome) so = so
 
 -- a run by recorded events answers whole bodies alone
-pub whole-bodies : (policy : Policy) (batch : List Record) (recorded : List EventValue) (events : List Event) → AreResolved batch recorded events → All IsSoundEvent recorded → HasWholeBodies (end_of policy batch events)
+pub whole-bodies : (policy : Policy) (batch : List Record) (recorded : List EventValue) (events : List Event) → AreResolved batch recorded events → All IsWellFormedEvent recorded → HasWholeBodies (end_of policy batch events)
 whole-bodies policy batch recorded events is sound i within =
     whole-body (answer (end_of policy batch events) i) (on-answers IsWholeOutcome policy batch recorded events is (λ k d less. whole-named (get_or recorded k d) (sound k d less)) i)
 
 -- what a document can record is read again from a response
-pub readable-answers : (policy : Policy) (batch : List Record) (recorded : List EventValue) (events : List Event) → AreResolved batch recorded events → All IsSoundEvent recorded → All IsRecordableEvent recorded
+pub readable-answers : (policy : Policy) (batch : List Record) (recorded : List EventValue) (events : List Event) → AreResolved batch recorded events → All IsWellFormedEvent recorded → All IsRecordableEvent recorded
     → AnswersBy IsReadable (end_of policy batch events)
 readable-answers policy batch recorded events is sound can i outcome within answered =
     subst (λ (found : Option Outcome). IfSome found IsReadable) answered

@@ -52,21 +52,21 @@ pub data IsLeastOf {F : Type 0} (place : Place) (Refuses : F → Data → Type 0
 -- the value has no fault of shape, and its requests have this property
 pub record HasBatch (value : Data) (P : List Record → Type 0) : Type 0 where
   pub batch : List Record
-  pub shape : IsWellShaped value
+  pub plan_graph : IsWellShaped value
   pub is_batch : IsBatchOf value batch
   pub holds : P batch
 
 -- The least fault of a batch document: of its bytes, or else of the shape of its value, or else of the names of its requests.
 pub data IsLeast (bytes : List ℕ) (refusal : Printed) : Type 0 where
   OfBytes : RefusesBytes Batch bytes refusal → IsLeast bytes refusal
-  OfShape : (fault : DocFault) → HasValue bytes (IsLeastFault fault) → document_row fault ≡ Some refusal → IsLeast bytes refusal
+  OfPlanGraph : (fault : DocFault) → HasValue bytes (IsLeastFault fault) → document_row fault ≡ Some refusal → IsLeast bytes refusal
   OfNames : (fault : CheckFault) → HasValue bytes (λ value. HasBatch value (RefusesNames fault)) → check_row fault ≡ Some refusal → IsLeast bytes refusal
 
 -- the bytes are a batch that the check accepts, and its requests have this property
 pub record Accepts (bytes : List ℕ) (P : List Record → Type 0) : Type 0 where
   pub value : Data
   pub document : IsDocument bytes value
-  pub shape : IsWellShaped value
+  pub plan_graph : IsWellShaped value
   pub batch : List Record
   pub is_batch : IsBatchOf value batch
   pub names : HasGoodNames batch

@@ -8,7 +8,7 @@ use Rattle.odb_reply.specs.declared.match_fault.MatchFault.{MatchFault}
 use Rattle.odb_reply.specs.Fits.{Fits, IsTableOf}
 use Rattle.odb_reply.specs.LeastMatchFault.{RefusesMatch}
 use Rattle.odb_reply.specs.MatchFaults.{match_row}
-use Rattle.odb_reply.specs.ResponseDocuments.{Entry, IsResponseDocument, RefusesResponses, Says, responses_in, responses_row}
+use Rattle.odb_reply.specs.ResponseDocuments.{Entry, IsResponseDocument, RefusesResponses, ReadsAs, responses_in, responses_row}
 use Rattle.odb_engine.specs.declared.ending.Ended.{Ended}
 use Rattle.odb_engine.specs.declared.form.Form.{Form}
 use Rattle.odb_engine.specs.declared.form.Form.TheVariants.{Lines, Json}
@@ -40,7 +40,7 @@ IsLeastOfResponses bytes refusal = IsLeastOf places.Responses RefusesResponses r
 
 -- the bytes are a response document that lists these responses
 abbrev pub Lists : List ℕ → List Entry → Type 0
-Lists bytes entries = HasValue bytes (λ value. IsResponseDocument value × AllZip Says (responses_in value) entries)
+Lists bytes entries = HasValue bytes (λ value. IsResponseDocument value × AllZip ReadsAs (responses_in value) entries)
 
 -- the responses do not fit the batch, and this is the least fault
 pub record Misfits (batch : List Record) (entries : List Entry) (refusal : Printed) : Type 0 where

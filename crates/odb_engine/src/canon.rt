@@ -1,3 +1,5 @@
+//! The command `canon`: the canonical text of a batch.
+
 ghost use Rattle.std.specs.Prelude.{◌≡◌, ◌++◌, ◌∷◌, [], false, Err, IsTrue, IfOk, IfErr, string_bytes};
 ghost use Rattle.odb_doc.specs.batch.Batches.{records};
 ghost use Rattle.odb_doc.specs.canonical.Canonical.{canonical_text};

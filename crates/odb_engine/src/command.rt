@@ -1,3 +1,5 @@
+//! The commands over one document: from bytes to a plan, and the text that a command writes of it.
+
 ghost use Rattle.std.specs.Prelude.{◌≡◌, ◌≢◌, ◌↔◌, ℕ, List, false, Err, IfErr, IfOk, IsTrue, OnOk};
 ghost use Rattle.odb_doc.specs.batch.Batches.{records};
 ghost use Rattle.odb_check.specs.LeastNameFault.{HasGoodNames};
@@ -10,9 +12,9 @@ ghost use Rattle.odb_engine.specs.Forms.{InForm};
 ghost use Rattle.odb_engine.specs.Halts.{Found, RefusesNamesOf, Halted};
 ghost use Rattle.odb_engine.specs.Inputs.{IsFresh, ReadsFew, SomeDocument};
 
+use crate::disposal::DropOrLeak;
 use crate::ending::{Ended, EngineFault, end};
 use crate::halt::Halt;
-use crate::held::Held;
 use crate::input::value_of;
 use crate::setup::{Options, Setup};
 use odb_check::{Plan, check_with};
@@ -47,16 +49,16 @@ pub fn plan_of<'a: 'b, 'b>(
     alloc: Global,
     batch: &'b Batch<'a>,
     setup: Setup,
-) -> Result<Held<Plan<'b>>, Halt>
+) -> Result<DropOrLeak<Plan<'b>>, Halt>
     ensures good { OnOk result (HasGoodNames (records batch.now)) }
     ensures plan { IfOk result (λ plan. plan_records plan.value ≡ records batch.now) }
     ensures seed { IfOk result (λ plan. IsSeeded setup.seed.number plan.value) }
     ensures least { IfErr result (Halted (RefusesNamesOf (records batch.now))) }
     ensures read { result ≢ Err halts.Read }
 {
-    Ok(Held {
+    Ok(DropOrLeak {
         value: check_with(alloc, setup.seed, batch)?,
-        remains: setup.remains,
+        disposal: setup.disposal,
     })
 }
 
@@ -73,14 +75,14 @@ fn text_of<R: Read, C: Command>(
     ensures read { (result ≡ Err halts.Read) ↔ IsTrue input.new.failed }
     ensures input { ReadsFew R.remaining input.old input.new }
 {
-    let remains = setup.remains;
-    let value = Held {
+    let disposal = setup.disposal;
+    let value = DropOrLeak {
         value: value_of(alloc, input, Place::Batch)?,
-        remains,
+        disposal,
     };
-    let batch = Held {
+    let batch = DropOrLeak {
         value: Batch::read(alloc, &value.value)?,
-        remains,
+        disposal,
     };
     let plan = plan_of(alloc, &batch.value, setup)?;
     command.text(alloc, &batch.value, &plan.value)

@@ -1,3 +1,5 @@
+//! How a command ends, and which device failed it.
+
 ghost use Rattle.std.specs.Prelude.{◌≡◌, false, Err, IfErr, IfOk, string_bytes};
 ghost use Rattle.odb_doc.specs.Refusals.{printed};
 ghost use Rattle.odb_engine.specs.declared.ending.EngineFault.TheVariants as faults;

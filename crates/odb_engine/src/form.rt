@@ -1,3 +1,5 @@
+//! The form of a result: lines, or compact JSON.
+
 /// The form of a result, and of the fault of a refused document.
 #[derive(Clone, Copy, Debug, PartialEq, Eq)]
 pub enum Form {

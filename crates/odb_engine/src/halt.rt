@@ -1,3 +1,5 @@
+//! Why a command goes no further: the refusal of a document, or a failure.
+
 ghost use Rattle.std.specs.Prelude.{◌≡◌};
 ghost use Rattle.odb_engine.specs.Halts.{HaltsBy, halt_of};
 

@@ -1,3 +1,5 @@
+//! Reading a document to its end, or to one byte more than it may have.
+
 ghost use Rattle.std.specs.Prelude.{◌≡◌, ◌≤◌, ◌↔◌, false, option_map, IsTrue, IfOk, IfErr, Err};
 ghost use Rattle.serde_json.specs.View.{view};
 ghost use Rattle.odb_doc.specs.Documents.{IsDocument};

@@ -8,7 +8,7 @@ ghost use Rattle.odb_reply.specs.Fits.{statuses};
 ghost use Rattle.odb_doc.specs.Refusals.{printed};
 ghost use Rattle.odb_engine.specs.Forms.{fault_value, json_line};
 ghost use Rattle.odb_engine.specs.Results.{counts_value, match_value};
-ghost use Rattle.odb_engine.specs.ResultParts as parts;
+ghost use Rattle.odb_engine.specs.ResultParts as result_parts;
 
 use crate::lines::place_text;
 use odb_check::Plan;
@@ -30,7 +30,7 @@ fn push_member(alloc: Global, text: &mut String, start: &str, value: &str) -> Re
 /// Appends the members of a fault, and the end of the line.
 fn push_fault(alloc: Global, text: &mut String, refusal: Refusal) -> Result<(), AllocError>
     ensures { OnOk result (string_bytes text.new
-        ≡ string_bytes text.old ++ parts.fault_part (printed refusal)) }
+        ≡ string_bytes text.old ++ result_parts.fault_part (printed refusal)) }
 {
     push_member(alloc, text, "{\"fault\":{\"code\":", refusal.code)?;
     push_member(alloc, text, ",\"name\":", refusal.name)?;
@@ -54,7 +54,7 @@ pub fn fault_json(alloc: Global, refusal: Refusal) -> Result<String, AllocError>
 
 /// Returns the counts and the end of their line.
 fn counts_part(alloc: Global, requests: u32, groups: u32) -> Result<String, AllocError>
-    ensures { IfOk result (λ line. string_bytes line ≡ parts.counts_part requests groups) }
+    ensures { IfOk result (λ line. string_bytes line ≡ result_parts.counts_part requests groups) }
 {
     format!(in alloc; "{{\"groups\":{groups},\"requests\":{requests}}}\n")
 }
@@ -75,7 +75,7 @@ fn push_matched(
     status: u16,
 ) -> Result<(), AllocError>
     ensures { OnOk result (string_bytes text.new
-        ≡ string_bytes text.old ++ parts.matched_part later id.now status) }
+        ≡ string_bytes text.old ++ result_parts.matched_part later id.now status) }
 {
     push_if(text, later, ",")?;
     push_member(alloc, text, "{\"id\":", id)?;

@@ -16,10 +16,10 @@
 mod canon;
 mod check;
 mod command;
+mod disposal;
 mod ending;
 mod form;
 mod halt;
-mod held;
 mod input;
 mod json;
 pub mod laws;
@@ -37,10 +37,10 @@ mod trace;
 
 pub use canon::{canon_batch, canon_batch_as, canon_batch_with};
 pub use check::{check_batch, check_batch_as, check_batch_with};
+pub use disposal::Disposal;
 pub use ending::{Ended, EngineFault};
 pub use form::Form;
 pub use halt::Halt;
-pub use held::Remains;
 pub use lines::fault_line;
 pub use live::{open_run, text_of_run};
 pub use match_responses::{match_batch, match_batch_as, match_batch_with};

@@ -1,3 +1,5 @@
+//! Runs that a program in another language drives, over the bytes of their documents.
+
 ghost use Rattle.std.specs.Prelude.{◌≡◌, ◌++◌, ◌∷◌, [], true, IfOk, IfErr, string_bytes};
 ghost use Rattle.odb_check.specs.Plans.{plan_records};
 ghost use Rattle.odb_check.specs.Texts.{newline};
@@ -9,8 +11,8 @@ ghost use Rattle.odb_engine.specs.Lines.{response_line};
 ghost use Rattle.odb_engine.specs.Live as live;
 
 use crate::command::plan_of;
+use crate::disposal::Disposal;
 use crate::halt::Halt;
-use crate::held::Remains;
 use crate::input::value_in;
 use crate::run::UNFINISHED;
 use crate::setup::Setup;
@@ -65,7 +67,7 @@ pub fn open_run(
     let read = Batch::read(alloc, &value)?;
     let setup = Setup {
         seed,
-        remains: Remains::Dropped,
+        disposal: Disposal::Drop,
     };
     let plan = plan_of(alloc, &read, setup)?;
     run_after(alloc, &plan.value, events, policy)
@@ -140,7 +142,7 @@ pub fn text_of_run(
     let read = Batch::read(alloc, &value)?;
     let setup = Setup {
         seed,
-        remains: Remains::Dropped,
+        disposal: Disposal::Drop,
     };
     let plan = plan_of(alloc, &read, setup)?;
     line_on(alloc, &plan.value, kept)

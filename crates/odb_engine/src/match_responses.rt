@@ -1,3 +1,5 @@
+//! The command `match`: whether the responses of a service fit a batch.
+
 ghost use Rattle.std.specs.Prelude.{◌≡◌, ◌≢◌, ◌⊎◌, ◌++◌, ℕ, List, length, false, Err, IsTrue, IfOk, OnOk, string_bytes};
 ghost use Rattle.serde_json.specs.View.{view};
 ghost use Rattle.odb_doc.specs.Documents.{IsDocument};
@@ -13,10 +15,10 @@ ghost use Rattle.odb_engine.specs.Inputs.{AskedFor, IsFresh, ReadsFew, SomeDocum
 ghost use Rattle.odb_engine.specs.declared.form.Form.TheVariants.{Lines};
 ghost use Rattle.odb_engine.specs.Matches.{Matches, MatchesIn, match_text, status_line};
 
+use crate::disposal::DropOrLeak;
 use crate::ending::{Ended, EngineFault, Sent};
 use crate::form::Form;
 use crate::halt::Halt;
-use crate::held::Held;
 use crate::input::value_of;
 use crate::json::match_json;
 use crate::lines::fit_line;
@@ -74,9 +76,9 @@ fn matched(alloc: Global, plan: &Plan<'_>, value: &Value, options: Options) -> R
         → Found (MatchesIn options.form (plan_records plan.now) bytes) result }
     ensures read { result ≢ Err halts.Read }
 {
-    let responses = Held {
+    let responses = DropOrLeak {
         value: Responses::read(alloc, value)?,
-        remains: options.setup.remains,
+        disposal: options.setup.disposal,
     };
     let table = match_responses(alloc, plan, &responses.value)?;
     Ok(match_text(alloc, plan, &table, options.form)?)
@@ -107,9 +109,9 @@ impl PairCommand for Match {
         output: &mut Output<W>,
     ) -> Sent {
         let options = self.options;
-        let value = Held {
+        let value = DropOrLeak {
             value: value_of(alloc, second, Place::Responses)?,
-            remains: options.setup.remains,
+            disposal: options.setup.disposal,
         };
         let text = matched(alloc, plan, &value.value, options)?;
         Ok(print(output, &text))

@@ -1,3 +1,5 @@
+//! The commands over two documents: from bytes to a plan, and what a command does with the second document.
+
 ghost use Rattle.std.specs.Prelude.{◌≡◌, ◌↔◌, ◌⊎◌, ℕ, List, false, Ok, Err, IsTrue, IfErr, OnOk};
 ghost use Rattle.odb_engine.specs.declared.ending.EngineFault.TheVariants as faults;
 ghost use Rattle.odb_engine.specs.declared.halt.Halt.TheVariants as halts;
@@ -9,8 +11,8 @@ ghost use Rattle.odb_engine.specs.Inputs.{AskedFor, IsFresh, ReadsBatch, ReadsFe
 ghost use Rattle.odb_engine.specs.Halts.{Sent};
 
 use crate::command::plan_of;
+use crate::disposal::DropOrLeak;
 use crate::ending::{Ended, EngineFault, Sent, conclude};
-use crate::held::Held;
 use crate::input::value_of;
 use crate::setup::Options;
 use odb_check::Plan;
@@ -87,14 +89,14 @@ fn perform_on<R: Read, S: Read, W: Write, C: PairCommand>(
     ensures second { ReadsFew S.remaining second.old second.new }
 {
     let Options { form, setup } = command.options();
-    let remains = setup.remains;
-    let value = Held {
+    let disposal = setup.disposal;
+    let value = DropOrLeak {
         value: value_of(alloc, batch, Place::Batch)?,
-        remains,
+        disposal,
     };
-    let read = Held {
+    let read = DropOrLeak {
         value: Batch::read(alloc, &value.value)?,
-        remains,
+        disposal,
     };
     let plan = plan_of(alloc, &read.value, setup)?;
     let sent = command.perform(alloc, &plan.value, second, output);

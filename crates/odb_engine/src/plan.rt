@@ -1,3 +1,5 @@
+//! The command `plan`: the units, levels and dependencies of a batch.
+
 ghost use Rattle.std.specs.Prelude.{◌≡◌, false, Err, IsTrue};
 ghost use Rattle.odb_engine.specs.Inputs.{IsFresh, ReadsFew, SomeDocument};
 ghost use Rattle.odb_engine.specs.Cascade.{Answers};

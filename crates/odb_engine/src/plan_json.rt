@@ -4,11 +4,11 @@ ghost use Rattle.std.specs.Prelude.{◌≡◌, ◌<◌, ◌+◌, ◌++◌, codes
 ghost use Rattle.serde_json.specs.Data.{string};
 ghost use Rattle.serde_json.specs.View.{items_of};
 ghost use Rattle.serde_json.specs.Written.{items_text};
-ghost use Rattle.odb_check.specs.Plans.{plan_records, shape};
-ghost use Rattle.odb_check.specs.Shape.{IsNeed};
+ghost use Rattle.odb_check.specs.Plans.{plan_records, plan_graph};
+ghost use Rattle.odb_check.specs.PlanGraph.{IsNeed};
 ghost use Rattle.odb_engine.specs.Forms.{json_line};
 ghost use Rattle.odb_engine.specs.Results.{need_values, plan_value};
-ghost use Rattle.odb_engine.specs.ResultParts as parts;
+ghost use Rattle.odb_engine.specs.ResultParts as result_parts;
 
 use odb_check::{Need, Plan};
 use odb_doc::text::{push_if, push_quoted};
@@ -22,7 +22,7 @@ fn push_needs(
     plan: &Plan<'_>,
     needs: &[Need],
 ) -> Result<(), AllocError>
-    requires { All (IsNeed (shape plan.now)) needs.now }
+    requires { All (IsNeed (plan_graph plan.now)) needs.now }
     ensures { OnOk result (string_bytes text.new ≡ string_bytes text.old
         ++ items_text false (items_of (need_values (plan_records plan.now) needs.now))) }
 {
@@ -36,7 +36,7 @@ fn push_needs(
 /// Appends the member `group`.
 fn push_group(alloc: Global, text: &mut String, group: Option<&str>) -> Result<(), AllocError>
     ensures { OnOk result (string_bytes text.new ≡ string_bytes text.old
-        ++ parts.group_part (option_copied group.entry)) }
+        ++ result_parts.group_part (option_copied group.entry)) }
 {
     match group {
         Some(name) => {
@@ -50,7 +50,7 @@ fn push_group(alloc: Global, text: &mut String, group: Option<&str>) -> Result<(
 
 /// Appends the members `id` and `level`.
 fn push_id(alloc: Global, text: &mut String, id: &str, level: u32) -> Result<(), AllocError>
-    ensures { OnOk result (string_bytes text.new ≡ string_bytes text.old ++ parts.id_part id.now level) }
+    ensures { OnOk result (string_bytes text.new ≡ string_bytes text.old ++ result_parts.id_part id.now level) }
 {
     text.push_str("\"id\":")?;
     push_quoted(alloc, text, id)?;
@@ -60,8 +60,8 @@ fn push_id(alloc: Global, text: &mut String, id: &str, level: u32) -> Result<(),
 /// Appends request `i`, with a comma first unless it is the first request.
 fn push_planned(alloc: Global, text: &mut String, plan: &Plan<'_>, i: u32) -> Result<(), AllocError>
     requires { i < length (plan_records plan.now) }
-    ensures { OnOk result (string_bytes text.old ++ parts.planned_left (plan_records plan.now) i
-        ≡ string_bytes text.new ++ parts.planned_left (plan_records plan.now) (i + 1)) }
+    ensures { OnOk result (string_bytes text.old ++ result_parts.planned_left (plan_records plan.now) i
+        ≡ string_bytes text.new ++ result_parts.planned_left (plan_records plan.now) (i + 1)) }
 {
     let _count = plan.len();
     let request = plan.request(i);

@@ -1,3 +1,5 @@
+//! The command `replay`: the response of a run with recorded outcomes.
+
 ghost use Rattle.std.specs.Prelude.{◌≡◌, ◌≢◌, ◌<◌, ◌↔◌, ◌⊎◌, Bool, All, false, Err, IsTrue, IfErr, IfOk};
 ghost use Rattle.odb_doc.specs.recorded.OutcomeLists.{entries};
 ghost use Rattle.odb_check.specs.Plans.{plan_records};
@@ -13,10 +15,10 @@ ghost use Rattle.odb_engine.specs.Inputs.{AskedFor, IsFresh, ReadsFew, SomeDocum
 ghost use Rattle.odb_engine.specs.Replays as replays;
 ghost use Rattle.odb_engine.specs.Halts.{Refuses, Halted};
 
+use crate::disposal::{Disposal, DropOrLeak};
 use crate::ending::{Ended, EngineFault, Sent};
 use crate::form::Form;
 use crate::halt::Halt;
-use crate::held::{Held, Remains};
 use crate::input::value_of;
 use crate::output::send;
 use crate::pair::{PairCommand, answer_pair};
@@ -33,7 +35,7 @@ use std::io::{Read, Write};
 fn outcomes_of<R: Read>(
     alloc: Global,
     input: &mut Input<R>,
-    remains: Remains,
+    disposal: Disposal,
 ) -> Result<Outcomes, Halt>
     requires { IsFresh input.old }
     ensures outcomes { SomeDocument (R.remaining input.old.reader) (λ bytes.
@@ -44,9 +46,9 @@ fn outcomes_of<R: Read>(
 {
     let value = value_of(alloc, input, Place::Outcomes)?;
     let (outcomes, rest) = Outcomes::split(alloc, value)?;
-    drop(Held {
+    drop(DropOrLeak {
         value: rest,
-        remains,
+        disposal,
     });
     Ok(outcomes)
 }
@@ -82,9 +84,9 @@ fn run_of<'a: 'p, 'p>(
 {
     // Only a call on the outcomes states that they are sound.
     let _count = outcomes.len();
-    let mut service = Held {
+    let mut service = DropOrLeak {
         value: Recorded::new(alloc, plan, outcomes)?,
-        remains: replay.options.setup.remains,
+        disposal: replay.options.setup.disposal,
     };
     let chooser = &mut *replay.chooser;
     let trace = execute(alloc, plan, replay.policy, chooser, &mut service.value)?;
@@ -111,11 +113,11 @@ impl<'c> PairCommand for Replay<&'c mut dyn Chooser> {
         second: &mut Input<S>,
         output: &mut Output<W>,
     ) -> Sent {
-        let (remains, traced) = (self.options.setup.remains, self.traced);
-        let outcomes = outcomes_of(alloc, second, remains)?;
-        let trace = Held {
+        let (disposal, traced) = (self.options.setup.disposal, self.traced);
+        let outcomes = outcomes_of(alloc, second, disposal)?;
+        let trace = DropOrLeak {
             value: run_of(alloc, plan, outcomes, self)?,
-            remains,
+            disposal,
         };
         let start = trace_part(alloc, &trace.value, traced)?;
         Ok(send(alloc, output, &start, &trace.value.done))

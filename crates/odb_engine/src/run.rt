@@ -1,3 +1,5 @@
+//! The command `run`: the response of a run with recorded events.
+
 ghost use Rattle.std.specs.Prelude.{◌≡◌, ◌≢◌, ◌↔◌, ◌⊎◌, false, Err, IsTrue, IfErr, IfOk};
 ghost use Rattle.odb_doc.specs.recorded.EventLists.{entries};
 ghost use Rattle.odb_check.specs.Plans.{plan_records};
@@ -12,10 +14,10 @@ ghost use Rattle.odb_engine.specs.Lines.{response_line};
 ghost use Rattle.odb_engine.specs.Runs as runs;
 ghost use Rattle.odb_engine.specs.Halts.{Halted};
 
+use crate::disposal::{Disposal, DropOrLeak};
 use crate::ending::{Ended, EngineFault, Sent};
 use crate::form::Form;
 use crate::halt::Halt;
-use crate::held::{Held, Remains};
 use crate::input::value_of;
 use crate::output::send;
 use crate::pair::{PairCommand, answer_pair};
@@ -35,7 +37,11 @@ pub(crate) const UNFINISHED: Halt = Halt::Refused(Refusal {
 });
 
 /// Returns the events in a document.
-fn events_of<R: Read>(alloc: Global, input: &mut Input<R>, remains: Remains) -> Result<Events, Halt>
+fn events_of<R: Read>(
+    alloc: Global,
+    input: &mut Input<R>,
+    disposal: Disposal,
+) -> Result<Events, Halt>
     requires { IsFresh input.old }
     ensures events { SomeDocument (R.remaining input.old.reader) (λ bytes.
         IfOk result (λ events. runs.AreEventsIn bytes (entries events))
@@ -45,9 +51,9 @@ fn events_of<R: Read>(alloc: Global, input: &mut Input<R>, remains: Remains) -> 
 {
     let value = value_of(alloc, input, Place::Events)?;
     let (events, rest) = Events::split(alloc, value)?;
-    drop(Held {
+    drop(DropOrLeak {
         value: rest,
-        remains,
+        disposal,
     });
     Ok(events)
 }
@@ -58,7 +64,7 @@ fn done_of<'a: 'p, 'p>(
     plan: &'p Plan<'a>,
     events: Events,
     policy: Policy,
-    remains: Remains,
+    disposal: Disposal,
 ) -> Result<Done<'p>, Halt>
     ensures result { IfOk result (λ done. runs.IsResult policy (plan_records plan.now) (entries events) ends.Done
         (response_line done)) }
@@ -72,9 +78,9 @@ fn done_of<'a: 'p, 'p>(
     let resolved = resolve(alloc, plan, events)?;
     let scheduler = run(alloc, plan, policy, resolved)?;
     if !scheduler.is_finished() {
-        drop(Held {
+        drop(DropOrLeak {
             value: scheduler,
-            remains,
+            disposal,
         });
         return Err(UNFINISHED);
     }
@@ -108,11 +114,11 @@ impl PairCommand for Run {
         second: &mut Input<S>,
         output: &mut Output<W>,
     ) -> Sent {
-        let remains = self.options.setup.remains;
-        let events = events_of(alloc, second, remains)?;
-        let done = Held {
-            value: done_of(alloc, plan, events, self.policy, remains)?,
-            remains,
+        let disposal = self.options.setup.disposal;
+        let events = events_of(alloc, second, disposal)?;
+        let done = DropOrLeak {
+            value: done_of(alloc, plan, events, self.policy, disposal)?,
+            disposal,
         };
         Ok(send(alloc, output, "", &done.value))
     }

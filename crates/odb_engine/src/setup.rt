@@ -1,8 +1,10 @@
-ghost use Rattle.std.specs.Prelude.{◌≡◌, None};
-ghost use Rattle.odb_engine.specs.declared.held.Remains.TheVariants.{Dropped};
+//! What a command is given beside its documents: the seed of tables, and what happens to what was read.
 
+ghost use Rattle.std.specs.Prelude.{◌≡◌, None};
+ghost use Rattle.odb_engine.specs.declared.disposal.Disposal.TheVariants.{Drop};
+
+use crate::disposal::Disposal;
 use crate::form::Form;
-use crate::held::Remains;
 use odb_check::Seed;
 
 /// What an engine takes beside its documents, its output and the options of its command.
@@ -14,18 +16,18 @@ pub struct Setup {
     /// whatever the names.
     pub seed: Seed,
     /// Whether the documents are dropped at the end.
-    pub remains: Remains,
+    pub disposal: Disposal,
 }
 
 impl Setup {
     /// Returns the setup of an engine that takes none: no seed, and the documents are dropped.
     pub fn plain() -> Setup
         ensures seed { result.seed.number ≡ None }
-        ensures remains { result.remains ≡ Dropped }
+        ensures disposal { result.disposal ≡ Drop }
     {
         Setup {
             seed: Seed::none(),
-            remains: Remains::Dropped,
+            disposal: Disposal::Drop,
         }
     }
 }

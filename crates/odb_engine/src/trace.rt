@@ -1,3 +1,5 @@
+//! The trace of a replay: its steps, and which requests have to be undone.
+
 ghost use Rattle.std.specs.Prelude.{◌≡◌, ◌<◌, All, IfOk, string_bytes};
 ghost use Rattle.odb_sched.specs.run.Answers.{reported, status_of};
 ghost use Rattle.std.specs.List.{flat_map};

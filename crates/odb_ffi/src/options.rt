@@ -1,11 +1,11 @@
 //! Options as numbers.
 
 ghost use Rattle.std.specs.Prelude.{◌≡◌, ◌≢◌, Some, None, IfSome};
-ghost use Rattle.odb_engine.specs.declared.held.Remains.TheVariants.{Dropped};
+ghost use Rattle.odb_engine.specs.declared.disposal.Disposal.TheVariants.{Drop};
 ghost use Rattle.odb_ffi.specs.Options as options;
 
 use odb_check::Seed;
-use odb_engine::{Remains, Setup};
+use odb_engine::{Disposal, Setup};
 use odb_sched::{MAX_WIDTH, Mode, Order, Policy};
 
 /// The options of a replay.
@@ -30,13 +30,13 @@ pub fn seed_of(seed: u64) -> Seed
 
 /// Returns the setup of an engine that keeps nothing. 0 is no seed.
 pub fn setup_of(seed: u64) -> Setup
-    ensures remains { result.remains ≡ Dropped }
+    ensures disposal { result.disposal ≡ Drop }
     ensures none { seed ≡ 0 → result.seed.number ≡ None }
     ensures some { seed ≢ 0 → result.seed.number ≡ Some seed }
 {
     Setup {
         seed: seed_of(seed),
-        remains: Remains::Dropped,
+        disposal: Disposal::Drop,
     }
 }
 

@@ -1,3 +1,5 @@
+//! A live run with the bytes of its batch, behind a handle.
+
 ghost use Rattle.std.specs.Prelude.{◌≡◌, ◌<◌, ◌+◌, IfOk, IfErr, IfSome};
 ghost use Rattle.odb_dense.specs.Lists.{ListsOnce};
 ghost use Rattle.odb_engine.specs.Cascade.{Answers};

@@ -1,3 +1,5 @@
+//! Texts in base64url.
+
 ghost use Rattle.std.specs.Prelude.{◌↔◌, IsTrue};
 ghost use Rattle.odb_names.specs.Base64Url.{IsBase64Url, IsPadding};
 

@@ -1,3 +1,5 @@
+//! The ids that requests may have.
+
 ghost use Rattle.std.specs.Prelude.{◌≡◌, ◌↔◌, IsTrue};
 ghost use Rattle.odb_names.specs.Identifiers.{IsRequestId, is_unreserved};
 

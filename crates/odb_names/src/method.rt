@@ -1,3 +1,5 @@
+//! The methods of requests.
+
 ghost use Rattle.std.specs.Prelude.{◌≡◌, ℕ, MatchOption, IfSome};
 ghost use Rattle.odb_names.specs.declared.method.Method.{Method};
 ghost use Rattle.odb_names.specs.Methods.{Names, method_name, takes_body};

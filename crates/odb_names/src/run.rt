@@ -1,3 +1,5 @@
+//! The longest run of bytes of a class.
+
 ghost use Rattle.std.specs.Prelude.{◌≡◌};
 ghost use Rattle.odb_names.specs.Classes.{is_of};
 ghost use Rattle.odb_names.specs.Runs.{SplitsRun};

@@ -1,3 +1,5 @@
+//! What the first segment of a URL refers to.
+
 ghost use Rattle.std.specs.Prelude.{◌≡◌, ℕ, List, IfOk, OnErr, bytes_eq};
 ghost use Rattle.std.specs.List.{list_any};
 ghost use Rattle.odb_names.specs.Fronts.{IsFrontOf, form, is_reserved, reference};

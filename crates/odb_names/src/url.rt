@@ -1,3 +1,5 @@
+//! The segments of a URL, and what it refers to.
+
 ghost use Rattle.std.specs.Prelude.{◌≡◌, ◌+◌, ◌<◌, ◌↔◌, ℕ, List, length, drop, slice_index, IsTrue, IsOk, IfOk, IfSome, IfNone};
 ghost use Rattle.odb_names.specs.Fronts.{FrontForm, HasFront, form, reference};
 ghost use Rattle.odb_names.specs.Segments.{HasNoEscape, HasNoSlash, IsFirstSegment, IsLastSegment, IsNestedBatch, slash};

@@ -11,14 +11,14 @@ use Rattle.odb_check.specs.declared.need.Need.{Need}
 use Rattle.odb_check.specs.declared.need.Need.TheVariants.{One, Group}
 use Rattle.odb_check.specs.Needs.{needs_at}
 use Rattle.odb_check.specs.Positions.{id_at, group_at}
-use Rattle.odb_check.specs.Shape.{IsShapeOf, needs_of, unit_of}
+use Rattle.odb_check.specs.PlanGraph.{IsPlanGraphOf, needs_of, unit_of}
 use Rattle.odb_check.specs.Units.{unit_at}
 use Rattle.odb_sched.specs.run.Answers.{answer, status_of, is_answered_2xx}
 use Rattle.odb_sched.specs.run.Laws.{RestsOnSuccesses}
 use Rattle.odb_sched.specs.run.State.{State, size}
 use Rattle.odb_doc.specs.Statuses.{is_success, is_status}
 use Rattle.odb_reply.specs.Fits.{id_in, Responds, Succeeds, IsSatisfied, Fits, ListsFit}
-use Rattle.odb_reply.specs.ResponseDocuments.{Entry, IsResponse, IsResponseDocument, IsStatus, Says}
+use Rattle.odb_reply.specs.ResponseDocuments.{Entry, IsResponse, IsResponseDocument, IsStatus, ReadsAs}
 use Rattle.odb_reply.specs.Responses.{response, responses_from, response_value}
 use Rattle.odb_reply.proofs.IdLemmas.{id_within}
 use Rattle.odb_reply.specs.Places.{IsOnce}
@@ -32,7 +32,7 @@ abbrev entries_from : State → ℕ → List Record → List Entry
 entries_from state i [] = []
 entries_from state i (request ∷ requests) = entry_for request (answer state i) ∷ entries_from state (i + 1) requests
 
-says_entries : (state : State) (i : ℕ) (requests : List Record) → AllZip Says (responses_from state i requests) (entries_from state i requests)
+says_entries : (state : State) (i : ℕ) (requests : List Record) → AllZip ReadsAs (responses_from state i requests) (entries_from state i requests)
 says_entries state i [] = tt
 says_entries state i (request ∷ requests) = (says_entry request (answer state i), says_entries state (i + 1) requests)
 
@@ -105,14 +105,14 @@ succeeds_answered state r once answered e responds =
     ap is_success shows.status ∙ answered_success (answer state r) answered
 
 -- the needs and the units of the run are those of the requests
-needs_there : (state : State) (i : ℕ) (need : Need) → IsShapeOf state.requests state.shape → i < length state.requests → Contains (needs_at state.requests i) need → Contains (needs_of state.shape i) need
+needs_there : (state : State) (i : ℕ) (need : Need) → IsPlanGraphOf state.requests state.plan_graph → i < length state.requests → Contains (needs_at state.requests i) need → Contains (needs_of state.plan_graph i) need
 needs_there state i need same within needed = subst (λ (needs : List Need). Contains needs need) (sym (same.needs i within)) needed
 
-unit_there : (state : State) (i : ℕ) → IsShapeOf state.requests state.shape → i < length state.requests → unit_of state.shape i ≡ unit_at state.requests i
+unit_there : (state : State) (i : ℕ) → IsPlanGraphOf state.requests state.plan_graph → i < length state.requests → unit_of state.plan_graph i ≡ unit_at state.requests i
 unit_there state i same within = same.units i within
 
 -- a response to a member of the unit is to a request of the run
-satisfied_answered : (state : State) (i : ℕ) (need : Need) → IsOnce state.requests → RestsOnSuccesses state → IsShapeOf state.requests state.shape → size state ≡ length state.requests
+satisfied_answered : (state : State) (i : ℕ) (need : Need) → IsOnce state.requests → RestsOnSuccesses state → IsPlanGraphOf state.requests state.plan_graph → size state ≡ length state.requests
     → i < length state.requests → is_answered_2xx (answer state i) ≡ true → Contains (needs_at state.requests i) need → IsSatisfied state.requests (listed state) need
 satisfied_answered state i (One r) once sound same count within answered needed =
     let inside : i < size state = omega (arith, count) in
@@ -123,19 +123,19 @@ satisfied_answered state i (Group u) once sound same count within answered neede
     let here : r < size state = omega (arith, count) in
     succeeds_answered state r once ((sound i inside answered).1 u r (needs_there state i (Group u) same within needed) here (unit_there state r same member ∙ unit)) e responds
 
-fits_answered : (state : State) → IsOnce state.requests → RestsOnSuccesses state → IsShapeOf state.requests state.shape → size state ≡ length state.requests → Fits state.requests (listed state)
+fits_answered : (state : State) → IsOnce state.requests → RestsOnSuccesses state → IsPlanGraphOf state.requests state.plan_graph → size state ≡ length state.requests → Fits state.requests (listed state)
 fits_answered state once sound same count = record {
   one = λ i id is. (i, record { has = place_of_id state i id is; only = λ j has. once j i id (id_of_place state j id has) is });
   known = λ k id has. (k, id_of_place state k id has);
   groups = λ i e responds. (shows_answer state i e once responds).group;
-  sound = λ i e need responds success needed.
+  rests_on_successes = λ i e need responds success needed.
       let rs = state.requests in
       let shows = shows_answer state i e once responds in
       let answered = success_of (answer state i) (ap is_success (sym shows.status) ∙ success) in
       satisfied_answered state i need once sound same count (id_within rs i e.id responds.id) answered needed;
 }
 
-pub ListsFit-answered : (state : State) → IsOnce state.requests → RestsOnSuccesses state → IsShapeOf state.requests state.shape → size state ≡ length state.requests
+pub ListsFit-answered : (state : State) → IsOnce state.requests → RestsOnSuccesses state → IsPlanGraphOf state.requests state.plan_graph → size state ≡ length state.requests
     → ListsFit state.requests (response_value state)
 ListsFit-answered state once sound same count = record {
   listed = listed state;
@@ -149,7 +149,7 @@ group_is_text : (group : Option (List ℕ)) → IfSome (option_map string group)
 group_is_text None = tt
 group_is_text (Some group) = refl
 
-response_of : (d : Data) (entry : Entry) → Says d entry → IsStatus (unsigned entry.status) → IsResponse d
+response_of : (d : Data) (entry : Entry) → ReadsAs d entry → IsStatus (unsigned entry.status) → IsResponse d
 response_of d entry says status = record {
   id = rw says.id refl;
   status = rw says.status status;

@@ -89,7 +89,7 @@ Fits-from rs es none = record {
     | inl same ↦ same
     | inr differs ↦ absurd (none GroupDiffers i (record { response = e; responds = responds; differs = differs }))
   ];
-  sound = λ i e need responds success needed.
+  rests_on_successes = λ i e need responds success needed.
       satisfied_or_failed rs es need (λ failing. none UnsoundSuccess i (record { response = e; responds = responds; success = success; need = need; needed = needed; fails = failing }));
 }
 
@@ -111,7 +111,7 @@ HasNoMisfit-Fits rs es fits ResponseTwice k broken =
 HasNoMisfit-Fits rs es fits ResponseMissing i broken = let (id, at, missing) = some_and (id_at rs i) _ broken in let one = fits.one i id at in missing one.0 one.1.has
 HasNoMisfit-Fits rs es fits GroupDiffers i broken = broken.differs (fits.groups i broken.response broken.responds)
 HasNoMisfit-Fits rs es fits UnsoundSuccess i broken =
-    satisfied_not_failed rs es broken.need (fits.sound i broken.response broken.need broken.responds broken.success broken.needed) broken.fails
+    satisfied_not_failed rs es broken.need (fits.rests_on_successes i broken.response broken.need broken.responds broken.success broken.needed) broken.fails
 
 -- if a fault is reported, the responses do not fit
 pub no_fit : (rs : List Record) (es : List Entry) (fault : MatchFault) → IsSome (match_row fault) → RefusesMatch fault rs es → ¬ Fits rs es

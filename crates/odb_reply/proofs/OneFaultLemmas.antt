@@ -13,10 +13,10 @@ use Rattle.odb_reply.specs.declared.response_fault.ResponseFault.{ResponseFault}
 use Rattle.odb_reply.specs.declared.response_fault.ResponseFault.TheVariants as faults
 use Rattle.odb_reply.specs.Fits.{Fits, IsRow, IsTableOf}
 use Rattle.odb_reply.specs.LeastMatchFault.{RefusesMatch, phase}
-use Rattle.odb_reply.specs.MatchFaults as matches
+use Rattle.odb_reply.specs.MatchFaults as match_faults
 use Rattle.odb_reply.specs.MatchFaults.{Breaks, number}
-use Rattle.odb_reply.specs.ResponseDocuments.{Entry, Says, IsResponse, IsResponseDocument, IsFirstBad, RefusesResponses, responses_in}
-use Rattle.odb_reply.specs.ResponseDocuments as documents
+use Rattle.odb_reply.specs.ResponseDocuments.{Entry, ReadsAs, IsResponse, IsResponseDocument, IsFirstBad, RefusesResponses, responses_in}
+use Rattle.odb_reply.specs.ResponseDocuments as response_documents
 
 -- ---- the fault of a document
 
@@ -31,7 +31,7 @@ one_bad ds at_place other one two = elim (cases_order at_place other) [
   | inr (inr after) ↦ absurd (bad_or_good (slice_get ds other) two.bad (one.before other after))
 ]
 
-pub one_document_fault : (d : Data) (fault other : ResponseFault) → IsSome (documents.responses_row fault) → IsSome (documents.responses_row other) → RefusesResponses fault d → RefusesResponses other d → fault ≡ other
+pub one_document_fault : (d : Data) (fault other : ResponseFault) → IsSome (response_documents.responses_row fault) → IsSome (response_documents.responses_row other) → RefusesResponses fault d → RefusesResponses other d → fault ≡ other
 one_document_fault d faults.Document faults.Document numbered also one two = refl
 one_document_fault d faults.Document (faults.Response at_place) numbered also one two = absurd (one two.0)
 one_document_fault d (faults.Response at_place) faults.Document numbered also one two = absurd (two one.0)
@@ -47,7 +47,7 @@ good_at ds i all = at_element (slice_get ds i) refl
     at_element None none bad = rw none at bad
     at_element (Some d) is bad = (rw is at bad) (subst IsResponse (get_or_from_slice_get ds i d d is) (all i d (slice_get_within ds i d is)))
 
-pub no_document_fault : (d : Data) (fault : ResponseFault) → IsSome (documents.responses_row fault) → RefusesResponses fault d → ¬ IsResponseDocument d
+pub no_document_fault : (d : Data) (fault : ResponseFault) → IsSome (response_documents.responses_row fault) → RefusesResponses fault d → ¬ IsResponseDocument d
 no_document_fault d faults.Document numbered refused good = refused good.array
 no_document_fault d (faults.Response at_place) numbered refused good = good_at (responses_in d) at_place good.each refused.1.bad
 no_document_fault d faults.OutOfMemory numbered refused good = false≢true numbered
@@ -63,22 +63,22 @@ one_group (Some a) (Some b) same = cc (same)
 abbrev made : List ℕ → Option (List ℕ) → ℕ → Entry
 made id group status = record { id = id; group = group; status = status }
 
-one_entry : (d : Data) (entry other : Entry) → Says d entry → Says d other → entry ≡ other
+one_entry : (d : Data) (entry other : Entry) → ReadsAs d entry → ReadsAs d other → entry ≡ other
 one_entry d entry other one two =
     let id : entry.id ≡ other.id = cc (one.id, two.id) in
     let status : entry.status ≡ other.status = cc (one.status, two.status) in
     let group : entry.group ≡ other.group = one_group entry.group other.group (sym one.group ∙ two.group) in
     ap (λ x. made x entry.group entry.status) id ∙ ap (λ x. made other.id x entry.status) group ∙ ap (λ x. made other.id other.group x) status
 
-pub one_list : (ds : List Data) (entries others : List Entry) → AllZip Says ds entries → AllZip Says ds others → entries ≡ others
-one_list = one.one_list Says one_entry
+pub one_list : (ds : List Data) (entries others : List Entry) → AllZip ReadsAs ds entries → AllZip ReadsAs ds others → entries ≡ others
+one_list = one.one_list ReadsAs one_entry
 
 -- ---- the fault of a match
 
 same_rule : (rule other : MatchRule) → number rule ≡ number other → rule ≡ other
 same_rule rule other same = search rules
 
-pub one_match_fault : (rs : List Record) (es : List Entry) (fault other : MatchFault) → IsSome (matches.match_row fault) → IsSome (matches.match_row other) → RefusesMatch fault rs es → RefusesMatch other rs es → fault ≡ other
+pub one_match_fault : (rs : List Record) (es : List Entry) (fault other : MatchFault) → IsSome (match_faults.match_row fault) → IsSome (match_faults.match_row other) → RefusesMatch fault rs es → RefusesMatch other rs es → fault ≡ other
 one_match_fault rs es (misfits.Misfit i rule) (misfits.Misfit j other) numbered also first second =
     let same : (i ≡ j) × (rule ≡ other) = one.one_by_phase phase number (Breaks rs es) same_rule i j rule other first second in
     ap (λ r. misfits.Misfit i r) same.1 ∙ ap (λ k. misfits.Misfit k other) same.0

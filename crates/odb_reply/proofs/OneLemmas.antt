@@ -14,12 +14,12 @@ use Rattle.odb_doc.specs.canonical.Canonical.{headers_value, with_some}
 use Rattle.odb_reply.specs.Responses.{answer_body, answer_headers, response, responses_from, responses, response_value}
 use Rattle.odb_reply.specs.Places.{IsOnce}
 use Rattle.odb_reply.specs.OnePerId.{has_id, HasOnePerId}
-use Rattle.odb_reply.specs.ResponseDocuments.{Entry, Says, responses_in}
+use Rattle.odb_reply.specs.ResponseDocuments.{Entry, ReadsAs, responses_in}
 use Rattle.odb_doc.proofs.ElementLemmas.{list_of-items_of}
 
 -- what a response says, whatever other members there are
 says_members : (group : Option (List ℕ)) (body headers : Option Data) (id : List ℕ) (status : ℕ)
-    → Says (object (with_some (codes "atomicityGroup") (option_map string group) (with_some (codes "body") body (with_some (codes "headers") headers (put (codes "id") (string id) (put (codes "status") (number (unsigned status)) no_members))))))
+    → ReadsAs (object (with_some (codes "atomicityGroup") (option_map string group) (with_some (codes "body") body (with_some (codes "headers") headers (put (codes "id") (string id) (put (codes "status") (number (unsigned status)) no_members))))))
     (record { id = id; group = group; status = status })
 says_members None None None id status = record { id = refl; status = refl; group = refl }
 says_members None None (Some headers) id status = record { id = refl; status = refl; group = refl }
@@ -34,7 +34,7 @@ says_members (Some group) (Some body) (Some headers) id status = record { id = r
 abbrev pub entry_for : Record → Option Outcome → Entry
 entry_for request answered = record { id = request.id; group = request.group; status = status_of answered }
 
-pub says_entry : (request : Record) (answered : Option Outcome) → Says (response request answered) (entry_for request answered)
+pub says_entry : (request : Record) (answered : Option Outcome) → ReadsAs (response request answered) (entry_for request answered)
 says_entry request answered = says_members request.group (answer_body answered) (headers_value (answer_headers answered)) request.id (status_of answered)
 
 id_of_response : (request : Record) (answer : Option Outcome) → text_at (codes "id") (response request answer) ≡ Some request.id

@@ -9,7 +9,7 @@ use Rattle.odb_check.specs.declared.need.Need.{Need}
 use Rattle.odb_check.specs.declared.need.Need.TheVariants.{One, Group}
 use Rattle.odb_check.specs.Needs.{needs_at}
 use Rattle.odb_check.specs.Positions.{group_at}
-use Rattle.odb_check.specs.Shape.{Shape, IsPlan, IsShapeOf, IsNeedAmong}
+use Rattle.odb_check.specs.PlanGraph.{PlanGraph, IsPlan, IsPlanGraphOf, IsNeedAmong}
 use Rattle.odb_check.specs.Units.{unit_count}
 use Rattle.odb_doc.specs.Statuses.{is_success}
 use Rattle.odb_reply.specs.declared.match_fault.MatchRule.{MatchRule}
@@ -135,7 +135,7 @@ not_differs rs es places statuses i k e rows place given group broken =
     broken.differs (ap (λ (r : Entry). r.group) (sym same) ∙ group)
 
 -- the response is a success, and a dependency has failed
-pub first_unsound : (rs : List Record) (es : List Entry) (places statuses : List ℕ) (units : List Bool) (plan : Shape) (i : ℕ) → HasRows rs es places statuses → AreUnits rs statuses (length rs) units → IsShapeOf rs plan → IsPlan plan
+pub first_unsound : (rs : List Record) (es : List Entry) (places statuses : List ℕ) (units : List Bool) (plan : PlanGraph) (i : ℕ) → HasRows rs es places statuses → AreUnits rs statuses (length rs) units → IsPlanGraphOf rs plan → IsPlan plan
     → i < length rs → ¬ Breaks rs es GroupDiffers i → is_success (get_or statuses i 0) ≡ true → list_any (λ need. not (is_satisfied statuses units need)) (needs_at rs i) ≡ true → IsFirstIn 3 rs es i UnsoundSuccess
 first_unsound rs es places statuses units plan i rows known same laws within group passes some =
     let place = slice_get-some places i (omega (arith, rows.table.places_count)) in
@@ -162,7 +162,7 @@ not_success rs es places statuses i rows failed broken =
     both_ways (is_success (get_or statuses i 0)) failed (ap is_success (status_of rs es places statuses i broken.response rows broken.responds) ∙ broken.success)
 
 -- each dependency is satisfied
-pub not_failed : (rs : List Record) (es : List Entry) (places statuses : List ℕ) (units : List Bool) (plan : Shape) (i : ℕ) → HasRows rs es places statuses → AreUnits rs statuses (length rs) units → IsShapeOf rs plan → IsPlan plan
+pub not_failed : (rs : List Record) (es : List Entry) (places statuses : List ℕ) (units : List Bool) (plan : PlanGraph) (i : ℕ) → HasRows rs es places statuses → AreUnits rs statuses (length rs) units → IsPlanGraphOf rs plan → IsPlan plan
     → i < length rs → list_any (λ need. not (is_satisfied statuses units need)) (needs_at rs i) ≡ false → ¬ Breaks rs es UnsoundSuccess i
 not_failed rs es places statuses units plan i rows known same laws within none broken =
     let satisfied = any_none (λ need. not (is_satisfied statuses units need)) (needs_at rs i) broken.need none broken.needed in

@@ -10,7 +10,7 @@ use Rattle.odb_check.specs.Positions.{id_at, group_at, IsId}
 use Rattle.odb_check.specs.Units.{unit_at}
 use Rattle.odb_doc.specs.Statuses.{is_success}
 use Rattle.odb_reply.specs.declared.table.Table.{Table}
-use Rattle.odb_reply.specs.ResponseDocuments.{Entry, Says, responses_in}
+use Rattle.odb_reply.specs.ResponseDocuments.{Entry, ReadsAs, responses_in}
 
 -- the id of the response at a place
 abbrev pub id_in : List Entry → ℕ → Option (List ℕ)
@@ -42,7 +42,7 @@ pub record Fits (rs : List Record) (es : List Entry) : Type 0 where
   pub one : (i : ℕ) (id : List ℕ) → id_at rs i ≡ Some id → (k : ℕ) × IsOnlyOne es id k
   pub known : (k : ℕ) (id : List ℕ) → id_in es k ≡ Some id → IsId rs id
   pub groups : (i : ℕ) (e : Entry) → Responds rs es i e → e.group ≡ group_at rs i
-  pub sound : (i : ℕ) (e : Entry) (need : Need) → Responds rs es i e → IsTrue (is_success e.status) → Contains (needs_at rs i) need → IsSatisfied rs es need
+  pub rests_on_successes : (i : ℕ) (e : Entry) (need : Need) → Responds rs es i e → IsTrue (is_success e.status) → Contains (needs_at rs i) need → IsSatisfied rs es need
 
 -- the places of the responses in a table, by the positions of their requests
 abbrev pub places : Table → List ℕ
@@ -68,5 +68,5 @@ pub record IsTableOf (rs : List Record) (es : List Entry) (places statuses : Lis
 -- the responses that a response document lists fit the batch
 pub record ListsFit (rs : List Record) (d : Data) : Type 0 where
   pub listed : List Entry
-  pub says : AllZip Says (responses_in d) listed
+  pub says : AllZip ReadsAs (responses_in d) listed
   pub fits : Fits rs listed

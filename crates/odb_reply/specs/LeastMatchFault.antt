@@ -1,6 +1,6 @@
 -- Which fault of a match is reported: the least by phase, position and number.
 use Rattle.std.specs.Prelude.{ℕ, List}
-use Rattle.odb_doc.specs.LeastRules.{AreSound, IsFirstByPhase}
+use Rattle.odb_doc.specs.LeastRules.{NoneBroken, IsFirstByPhase}
 use Rattle.odb_doc.specs.batch.Records.{Record}
 use Rattle.odb_reply.specs.declared.match_fault.MatchRule.{MatchRule}
 use Rattle.odb_reply.specs.declared.match_fault.MatchRule.TheVariants.{UnknownResponse, ResponseTwice, ResponseMissing, GroupDiffers, UnsoundSuccess}
@@ -19,7 +19,7 @@ phase UnsoundSuccess = 3
 
 -- no rule is broken anywhere
 abbrev pub HasNoMisfit : List Record → List Entry → Type 0
-HasNoMisfit rs es = AreSound (Breaks rs es)
+HasNoMisfit rs es = NoneBroken (Breaks rs es)
 
 -- the fault is the least of the match. Out of memory says nothing.
 abbrev pub RefusesMatch : MatchFault → List Record → List Entry → Type 0

@@ -3,7 +3,7 @@ use Rattle.std.specs.Prelude.{ℕ, Option, None}
 use Rattle.serde_json.specs.Data.{Data}
 use Rattle.odb_doc.specs.Faults.{text_row}
 use Rattle.odb_doc.specs.Refusals.{Printed}
-use Rattle.odb_doc.specs.WholeNumbers as whole
+use Rattle.odb_doc.specs.WholeNumbers as whole_numbers
 use Rattle.odb_doc.specs.declared.fault.TextFault.TheVariants as texts
 use Rattle.odb_doc.specs.declared.recorded.outcome.Outcome.{Outcome}
 use Rattle.odb_sched.specs.run.Answers.{answer}
@@ -18,15 +18,15 @@ body_at state i = answer_body (answer state i)
 
 -- each number in the body of an answer is whole
 abbrev pub HasWholeBody : Option Outcome → Type 0
-HasWholeBody answer = whole.HasWholeBody (answer_body answer)
+HasWholeBody answer = whole_numbers.HasWholeBody (answer_body answer)
 
 -- each number in the bodies of a finished run is whole
 abbrev pub HasWholeBodies : State → Type 0
-HasWholeBodies state = whole.HasWholeBodies (size state) (body_at state)
+HasWholeBodies state = whole_numbers.HasWholeBodies (size state) (body_at state)
 
 -- the first request that is answered by a body with a number that is not whole
 abbrev pub IsFirstNotWhole : State → ℕ → Type 0
-IsFirstNotWhole state at = whole.IsFirstNotWhole (size state) (body_at state) at
+IsFirstNotWhole state at = whole_numbers.IsFirstNotWhole (size state) (body_at state) at
 
 -- what is printed of a fault of a response: of F50 what odb_doc prints of it
 abbrev pub reply_row : ReplyFault → Option Printed

@@ -1,6 +1,6 @@
 -- For invariants and private clauses: the places at which the responses to requests were found, and their statuses.
 use Rattle.std.specs.Prelude.{◌≡◌, ◌<◌, ℕ, List, length, Option, Some, None, Bool, true, false, slice_get, slice_set, slice_index, slice_index_or}
-use Rattle.odb_doc.specs.LeastRules.{AreSound, BreaksIn, IsFirst, IsLeast}
+use Rattle.odb_doc.specs.LeastRules.{NoneBroken, BreaksIn, IsFirst, IsLeast}
 use Rattle.odb_doc.specs.batch.Records.{Record}
 use Rattle.odb_check.specs.declared.need.Need.{Need}
 use Rattle.odb_check.specs.declared.need.Need.TheVariants.{One, Group}
@@ -91,7 +91,7 @@ NoneIn ph rs es at = (rule : MatchRule) → ¬ BreaksIn phase (Breaks rs es) ph 
 
 -- no rule of the first two phases is broken
 abbrev pub HasAllPlaces : List Record → List Entry → Type 0
-HasAllPlaces rs es = (ph : ℕ) → ph < 3 → AreSound (BreaksIn phase (Breaks rs es) ph)
+HasAllPlaces rs es = (ph : ℕ) → ph < 3 → NoneBroken (BreaksIn phase (Breaks rs es) ph)
 
 -- the rule is the first of its phase that is broken at the position
 abbrev pub IsFirstIn : ℕ → List Record → List Entry → ℕ → MatchRule → Type 0

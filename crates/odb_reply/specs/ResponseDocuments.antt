@@ -54,7 +54,7 @@ abbrev pub entries : Responses → List Entry
 entries responses = map entry_of responses.list.items
 
 -- the element has the id, the status and the group of this response
-pub record Says (d : Data) (entry : Entry) : Type 0 where
+pub record ReadsAs (d : Data) (entry : Entry) : Type 0 where
   pub id : id_of d ≡ Some entry.id
   pub status : status_of d ≡ Some (unsigned entry.status)
   pub group : group_in d ≡ option_map string entry.group

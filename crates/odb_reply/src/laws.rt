@@ -12,9 +12,9 @@ ghost use Rattle.odb_reply.specs.declared.match_fault.MatchFault.{MatchFault};
 ghost use Rattle.odb_reply.specs.declared.response_fault.ResponseFault.{ResponseFault};
 ghost use Rattle.odb_reply.specs.Fits.{Fits, IsTableOf, ListsFit};
 ghost use Rattle.odb_reply.specs.LeastMatchFault.{HasNoMisfit, RefusesMatch};
-ghost use Rattle.odb_reply.specs.MatchFaults as matches;
-ghost use Rattle.odb_reply.specs.ResponseDocuments.{Entry, IsResponseDocument, RefusesResponses, Says};
-ghost use Rattle.odb_reply.specs.ResponseDocuments as documents;
+ghost use Rattle.odb_reply.specs.MatchFaults as match_faults;
+ghost use Rattle.odb_reply.specs.ResponseDocuments.{Entry, IsResponseDocument, RefusesResponses, ReadsAs};
+ghost use Rattle.odb_reply.specs.ResponseDocuments as response_documents;
 ghost use Rattle.odb_reply.specs.OnePerId.{HasOnePerId};
 ghost use Rattle.odb_reply.specs.Readable.{AnswersBy, IsReadable};
 ghost use Rattle.odb_reply.specs.Responses.{response_text, response_value};
@@ -23,13 +23,13 @@ use odb_sched::Done;
 
 /// A response document has one first fault at most, none if it is good, and one list of responses.
 pub fn one_document()
-    ensures one { (value : Data) (fault other : ResponseFault) → IsSome (documents.responses_row fault)
-        → IsSome (documents.responses_row other) → RefusesResponses fault value → RefusesResponses other value
+    ensures one { (value : Data) (fault other : ResponseFault) → IsSome (response_documents.responses_row fault)
+        → IsSome (response_documents.responses_row other) → RefusesResponses fault value → RefusesResponses other value
         → fault ≡ other }
-    ensures none { (value : Data) (fault : ResponseFault) → IsSome (documents.responses_row fault)
+    ensures none { (value : Data) (fault : ResponseFault) → IsSome (response_documents.responses_row fault)
         → RefusesResponses fault value → ¬ IsResponseDocument value }
     ensures entries { (elements : List Data) (entries others : List Entry)
-        → AllZip Says elements entries → AllZip Says elements others → entries ≡ others }
+        → AllZip ReadsAs elements entries → AllZip ReadsAs elements others → entries ≡ others }
 {}
 
 /// Responses fit a batch if and only if they break none of the rules F71 to F75. Those that fit have
@@ -38,11 +38,11 @@ pub fn one_match()
     ensures fits { (requests : List Record) (responses : List Entry)
         → Fits requests responses ↔ HasNoMisfit requests responses }
     ensures one { (requests : List Record) (responses : List Entry) (fault other : MatchFault)
-        → IsSome (matches.match_row fault) → IsSome (matches.match_row other)
+        → IsSome (match_faults.match_row fault) → IsSome (match_faults.match_row other)
         → RefusesMatch fault requests responses → RefusesMatch other requests responses
         → fault ≡ other }
     ensures none { (requests : List Record) (responses : List Entry) (fault : MatchFault)
-        → IsSome (matches.match_row fault) → RefusesMatch fault requests responses
+        → IsSome (match_faults.match_row fault) → RefusesMatch fault requests responses
         → ¬ Fits requests responses }
     ensures table { (requests : List Record) (responses : List Entry)
         (places others statuses different : List ℕ) → Fits requests responses

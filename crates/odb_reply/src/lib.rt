@@ -9,9 +9,9 @@
 //! its responses fit the batch of a plan.
 #![tactic(auto)]
 
+mod fits;
 pub mod laws;
 mod match_fault;
-mod matching;
 mod parts;
 mod places;
 mod reply;
@@ -21,8 +21,8 @@ mod table;
 mod text;
 mod whole;
 
+pub use fits::match_responses;
 pub use match_fault::{MatchFault, MatchRule};
-pub use matching::match_responses;
 pub use reply::{ReplyFault, write_responses};
 pub use response_fault::ResponseFault;
 pub use responses::{Response, Responses};

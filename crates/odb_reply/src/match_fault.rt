@@ -1,3 +1,5 @@
+//! The rules by which responses fit a batch, F71 to F75, and where one is broken.
+
 ghost use Rattle.std.specs.Prelude.{◌≡◌};
 ghost use Rattle.odb_reply.specs.MatchFaults.{match_row};
 ghost use Rattle.odb_reply.specs.declared.match_fault.MatchFault.TheVariants.{OutOfMemory};

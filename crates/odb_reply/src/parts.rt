@@ -1,3 +1,5 @@
+//! The text of one response.
+
 ghost use Rattle.std.specs.Prelude.{◌≡◌, ◌<◌, ◌+◌, ◌++◌, codes, length, option_map, string_bytes, OnOk};
 ghost use Rattle.serde_json.specs.View.{view};
 ghost use Rattle.odb_doc.specs.canonical.Canonical.{headers_value};

@@ -1,3 +1,5 @@
+//! Which response each request has.
+
 ghost use Rattle.std.specs.Prelude.{◌≡◌, length, IfOk, IfErr, OnOk};
 ghost use Rattle.odb_check.specs.Laws.{HasPositions};
 ghost use Rattle.odb_check.specs.Plans.{plan_records};

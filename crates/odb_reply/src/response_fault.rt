@@ -1,3 +1,5 @@
+//! The faults of a response document.
+
 ghost use Rattle.std.specs.Prelude.{◌≡◌};
 ghost use Rattle.odb_reply.specs.ResponseDocuments.{responses_row};
 ghost use Rattle.odb_reply.specs.declared.response_fault.ResponseFault.TheVariants.{OutOfMemory};

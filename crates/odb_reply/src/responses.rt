@@ -1,11 +1,13 @@
-ghost use Rattle.std.specs.Prelude.{◌≡◌, ◌<◌, length, map, slice_get, Some, IsSomeAnd, MatchOption, IfOk, IfErr, OnOk, OnErr, IfSome, IsSome, option_map, All};
+//! A response document of a service.
+
+ghost use Rattle.std.specs.Prelude.{◌==◌, ◌≡◌, ◌<◌, length, map, slice_get, Some, IsSomeAnd, MatchOption, IfOk, IfErr, OnOk, OnErr, IfSome, IsSome, option_map, All};
 ghost use Rattle.std.specs.List.{AllZip};
 ghost use Rattle.serde_json.specs.Data.{Data, string, unsigned};
 ghost use Rattle.serde_json.specs.Find.{as_str};
 ghost use Rattle.serde_json.specs.View.{view};
-ghost use Rattle.odb_doc.specs.recorded.Outcomes as members;
+ghost use Rattle.odb_doc.specs.recorded.Outcomes as outcomes;
 ghost use Rattle.odb_reply.specs.declared.response_fault.ResponseFault.TheVariants as faults;
-ghost use Rattle.odb_reply.specs.ResponseDocuments as documents;
+ghost use Rattle.odb_reply.specs.ResponseDocuments as response_documents;
 
 use crate::response_fault::ResponseFault;
 use odb_doc::member::{array_at, text_at};
@@ -38,9 +40,9 @@ struct NotResponse;
 /// Returns the status of a response, or `None` if it is not a whole number from 100 to 599.
 fn status_of(element: &Value) -> Option<u16>
     ensures { MatchOption result
-        (¬ IsSomeAnd (members.status_of (view element.now)) documents.IsStatus)
-        (λ status. documents.IsStatus (unsigned status)
-        × (members.status_of (view element.now) ≡ Some (unsigned status))) }
+        (¬ IsSomeAnd (outcomes.status_of (view element.now)) response_documents.IsStatus)
+        (λ status. response_documents.IsStatus (unsigned status)
+        × (outcomes.status_of (view element.now) ≡ Some (unsigned status))) }
 {
     let status = u16::try_from(element.get("status")?.as_u64()?).ok()?;
     (100..=599).contains(&status).then_some(status)
@@ -48,10 +50,10 @@ fn status_of(element: &Value) -> Option<u16>
 
 /// Returns the group of a response, if any, or F70 if it is neither absent, null nor a string.
 fn group_of(element: &Value) -> Result<Option<&str>, NotResponse>
-    ensures group { IfOk result (λ group. documents.group_in (view element.now)
+    ensures group { IfOk result (λ group. response_documents.group_in (view element.now)
         ≡ option_map string (option_map (λ text. text.now) group)) }
     ensures rule { OnErr result
-        (¬ IfSome (documents.group_in (view element.now)) (λ group. IsSome (as_str group))) }
+        (¬ IfSome (response_documents.group_in (view element.now)) (λ group. IsSome (as_str group))) }
 {
     match element.get("atomicityGroup") {
         Some(value) if !value.is_null() => match value.as_str() {
@@ -64,10 +66,10 @@ fn group_of(element: &Value) -> Result<Option<&str>, NotResponse>
 
 /// Reads one element, or returns the rule that it breaks.
 fn read_response(element: &Value) -> Result<Response<'_>, NotResponse>
-    ensures rule { OnErr result (¬ documents.IsResponse (view element.now)) }
-    ensures good { OnOk result (documents.IsResponse (view element.now)) }
-    ensures says { IfOk result (λ response. documents.Says (view element.now)
-        (documents.entry_of response)) }
+    ensures rule { OnErr result (¬ response_documents.IsResponse (view element.now)) }
+    ensures good { OnOk result (response_documents.IsResponse (view element.now)) }
+    ensures says { IfOk result (λ response. response_documents.ReadsAs (view element.now)
+        (response_documents.entry_of response)) }
 {
     Ok(Response {
         id: text_at(element, "id").ok_or(NotResponse)?,
@@ -81,11 +83,11 @@ fn responses_from<'a>(
     alloc: Global,
     elements: &'a [Value],
 ) -> Result<Vec<Response<'a>>, ResponseFault>
-    ensures good { OnOk result (All documents.IsResponse (map view elements.now)) }
-    ensures says { IfOk result (λ found. AllZip documents.Says (map view elements.now)
-        (map documents.entry_of found.items)) }
-    ensures first { IfErr result (λ fault. (d : Data) → IsSome (documents.array_in d)
-        → documents.responses_in d ≡ map view elements.now → documents.RefusesResponses fault d) }
+    ensures good { OnOk result (All response_documents.IsResponse (map view elements.now)) }
+    ensures says { IfOk result (λ found. AllZip response_documents.ReadsAs (map view elements.now)
+        (map response_documents.entry_of found.items)) }
+    ensures first { IfErr result (λ fault. (d : Data) → IsSome (response_documents.array_in d)
+        → response_documents.responses_in d ≡ map view elements.now → response_documents.RefusesResponses fault d) }
     ensures some { OnErr result (0 < length elements.now) }
 {
     let mut list = Vec::with_capacity(alloc, elements.len())?;
@@ -99,7 +101,7 @@ fn responses_from<'a>(
 }
 
 impl<'a> Responses<'a> {
-    ghost use Rattle.odb_reply.specs.ResponseDocuments.{array_in, entries, entry_of, IsResponseDocument, RefusesResponses, Says, responses_in};
+    ghost use Rattle.odb_reply.specs.ResponseDocuments.{array_in, entries, entry_of, IsResponseDocument, RefusesResponses, ReadsAs, responses_in};
 
     /// Reads the responses of a document: an object with `responses`, an array of objects with an
     /// `id`, a `status` and maybe an `atomicityGroup` (OData JSON Format 4.01, section 19.5).
@@ -115,7 +117,7 @@ impl<'a> Responses<'a> {
     /// an element or of responses.
     pub fn read(alloc: Global, document: &'a Value) -> Result<Responses<'a>, ResponseFault>
         ensures good { OnOk result (IsResponseDocument (view document.now)) }
-        ensures responses { IfOk result (λ responses. AllZip Says
+        ensures responses { IfOk result (λ responses. AllZip ReadsAs
             (responses_in (view document.now)) (entries responses)) }
         ensures least { IfErr result (λ fault. RefusesResponses fault (view document.now)) }
         ensures memory { IfErr result (λ fault. fault ≡ faults.OutOfMemory
@@ -133,6 +135,13 @@ impl<'a> Responses<'a> {
         ensures { result ≡ length (entries self.now) }
     {
         self.list.len()
+    }
+
+    /// Returns whether there are no responses.
+    pub fn is_empty(&self) -> bool
+        ensures { result ≡ (length (entries self.now) == 0) }
+    {
+        self.list.is_empty()
     }
 
     /// Returns the response at a position, counted from 0.

@@ -1,3 +1,5 @@
+//! The responses of a service by the position of their request.
+
 ghost use Rattle.std.specs.Prelude.{◌≡◌, ◌<◌, length, slice_get, Some, IfOk, IfErr, OnOk};
 ghost use Rattle.odb_check.specs.Plans.{plan_records};
 ghost use Rattle.odb_reply.specs.LeastMatchFault.{RefusesMatch};
@@ -48,7 +50,7 @@ pub(crate) fn table_of(
         (length (entries responses.now)) found.now }
     ensures rows { IfOk result (λ table. HasRows (plan_records plan.now) (entries responses.now)
         table.places.items table.statuses.items) }
-    ensures sound { OnOk result (HasAllPlaces (plan_records plan.now) (entries responses.now)) }
+    ensures all_places { OnOk result (HasAllPlaces (plan_records plan.now) (entries responses.now)) }
     ensures least { IfErr result (λ fault. RefusesMatch fault (plan_records plan.now)
         (entries responses.now)) }
 {

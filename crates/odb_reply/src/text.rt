@@ -1,3 +1,5 @@
+//! The text of the response of a finished run.
+
 ghost use Rattle.std.specs.Prelude.{◌≡◌, ◌↔◌, ℕ, Some, string_bytes, IfOk};
 ghost use Rattle.serde_json.specs.Read.{read};
 ghost use Rattle.odb_doc.specs.declared.fault.TextFault.TheVariants as faults;

@@ -1,3 +1,5 @@
+//! Whether the body of each response holds whole numbers alone.
+
 ghost use Rattle.std.specs.Prelude.{◌≡◌, ◌↔◌, None, Some, IsTrue, IfSome};
 ghost use Rattle.odb_doc.specs.declared.recorded.outcome.Outcome as values;
 ghost use Rattle.odb_sched.specs.run.Answers.{shown};

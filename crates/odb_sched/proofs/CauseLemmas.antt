@@ -4,7 +4,7 @@ use Rattle.std.proofs.lemmas.Bool.{both_ways, true≢false, true_from_ne_false, 
 use Rattle.odb_doc.specs.declared.recorded.outcome.Outcome.{Outcome}
 use Rattle.odb_doc.specs.LeastRules.{IsLeast}
 use Rattle.odb_check.specs.declared.need.Need.{Need}
-use Rattle.odb_check.specs.Shape.{unit_of, needs_of}
+use Rattle.odb_check.specs.PlanGraph.{unit_of, needs_of}
 use Rattle.odb_sched.specs.declared.refusal.StartRefusal.{StartRefusal}
 use Rattle.odb_sched.specs.declared.refusal.StartRefusal.TheVariants as start
 use Rattle.odb_sched.specs.declared.refusal.ReportRefusal.{ReportRefusal}
@@ -28,10 +28,10 @@ same_number number Bars cause other x y = at (cases_order (number cause) (number
 
 module _ (state : State) (i : ℕ) where
   abbrev unmet : Option Need
-  unmet = find (λ need. not (is_satisfied state need)) (needs_of state.shape i)
+  unmet = find (λ need. not (is_satisfied state need)) (needs_of state.plan_graph i)
 
   -- none of the causes before a number bars the start
-  none_before : (n : ℕ) → n ≤ 5 → (1 < n → is_unstarted (phase_at state i) ≡ true) → (2 < n → is_stopped state ≡ false) → (3 < n → unit_failed state (unit_of state.shape i) ≡ false) → (4 < n → unmet ≡ None)
+  none_before : (n : ℕ) → n ≤ 5 → (1 < n → is_unstarted (phase_at state i) ≡ true) → (2 < n → is_stopped state ≡ false) → (3 < n → unit_failed state (unit_of state.plan_graph i) ≡ false) → (4 < n → unmet ≡ None)
       → (other : StartRefusal) → start_number other < n → ¬ BarsStart other state i
   none_before n most fresh going sound met start.AlreadyStarted less bars = both_ways _ bars (fresh less)
   none_before n most fresh going sound met start.Stopped less bars = both_ways _ (going less) bars
@@ -47,10 +47,10 @@ module _ (state : State) (i : ℕ) where
     first_stopped bars = record { broken = bars; least = none_before 2 (omega arith) (λ l. fresh) (λ l. absurd (omega arith)) (λ l. absurd (omega arith)) (λ l. absurd (omega arith)) }
 
     module _ (going : is_stopped state ≡ false) where
-      pub first_failed : unit_failed state (unit_of state.shape i) ≡ true → IsStartCause state i start.UnitFailed
+      pub first_failed : unit_failed state (unit_of state.plan_graph i) ≡ true → IsStartCause state i start.UnitFailed
       first_failed bars = record { broken = bars; least = none_before 3 (omega arith) (λ l. fresh) (λ l. going) (λ l. absurd (omega arith)) (λ l. absurd (omega arith)) }
 
-      module _ (sound : unit_failed state (unit_of state.shape i) ≡ false) where
+      module _ (sound : unit_failed state (unit_of state.plan_graph i) ≡ false) where
         pub first_waiting : (need : Need) → unmet ≡ Some need → IsStartCause state i (start.Waiting need)
         first_waiting need bars = record { broken = bars; least = none_before 4 (omega arith) (λ l. fresh) (λ l. going) (λ l. sound) (λ l. absurd (omega arith)) }
 
@@ -59,7 +59,7 @@ module _ (state : State) (i : ℕ) where
           first_full bars = record { broken = bars; least = none_before 5 (omega arith) (λ l. fresh) (λ l. going) (λ l. sound) (λ l. met) }
 
           pub none_bars : running_count state < state.policy.width → may_start state i ≡ true
-          none_bars room = may_start-from state i (record { fresh = fresh; unstopped = going; sound = sound; satisfied = sym (find-all (is_satisfied state) (needs_of state.shape i)) ∙ ap is_none met; room = room })
+          none_bars room = may_start-from state i (record { fresh = fresh; unstopped = going; sound = sound; satisfied = sym (find-all (is_satisfied state) (needs_of state.plan_graph i)) ∙ ap is_none met; room = room })
 
   same_start : (cause other : StartRefusal) → BarsStart cause state i → BarsStart other state i → start_number cause ≡ start_number other → cause ≡ other
   same_start start.AlreadyStarted start.AlreadyStarted a b same = refl
@@ -76,7 +76,7 @@ module _ (state : State) (i : ℕ) where
   unbarred may start.AlreadyStarted bars = both_ways _ bars may.fresh
   unbarred may start.Stopped bars = both_ways _ may.unstopped bars
   unbarred may start.UnitFailed bars = both_ways _ may.sound bars
-  unbarred may (start.Waiting need) bars = both_ways (all_satisfied state i) (sym (find-all (is_satisfied state) (needs_of state.shape i)) ∙ ap is_none bars) may.satisfied
+  unbarred may (start.Waiting need) bars = both_ways (all_satisfied state i) (sym (find-all (is_satisfied state) (needs_of state.plan_graph i)) ∙ ap is_none bars) may.satisfied
   unbarred may start.WidthReached bars = let room = may.room in absurd (omega arith)
 
   none_unmet : (found : Option Need) → ((need : Need) → found ≡ Some need → ⊥) → found ≡ None

@@ -5,7 +5,7 @@ use Rattle.std.proofs.lemmas.Bool.{cases_Bool, cases_lt, both_ways, false_from_n
 use Rattle.std.proofs.Math.ListN.{get_or-map}
 use Rattle.std.proofs.lemmas.List.{get_or_default, get_or_past, length-map}
 use Rattle.std.proofs.lemmas.List.Sums.{sum_by-cons, get_or-le-sum_by}
-use Rattle.odb_check.specs.Shape.{unit_of, needs_of}
+use Rattle.odb_check.specs.PlanGraph.{unit_of, needs_of}
 use Rattle.odb_sched.specs.declared.phase.Phase.TheVariants.{Unstarted}
 use Rattle.odb_sched.specs.declared.counts.Counts.{Counts}
 use Rattle.odb_dense.specs.Lists.{ListsOnce}
@@ -50,11 +50,11 @@ pub running_is : (state : State) (counted : Counts) → IsCounted state counted 
 running_is state counted are = ap (count_by (λ runs. runs)) are.counts.running ∙ count_map is_running state.phases
 
 -- whether the unit of a request has failed
-skipped_is : (state : State) (counted : Counts) (i : ℕ) → IsReached state → IsCounted state counted → i < size state → is_skipped state.shape counted.progress.units i ≡ unit_failed state (unit_of state.shape i)
-skipped_is state counted i reached are within = are.counts.units.failed (unit_of state.shape i) (reached.laws.counted i within)
+skipped_is : (state : State) (counted : Counts) (i : ℕ) → IsReached state → IsCounted state counted → i < size state → is_skipped state.plan_graph counted.progress.units i ≡ unit_failed state (unit_of state.plan_graph i)
+skipped_is state counted i reached are within = are.counts.units.failed (unit_of state.plan_graph i) (reached.laws.counted i within)
 
 unmet_is : (state : State) (counted : Counts) (i : ℕ) → IsCounted state counted → i < size state → (get_or counted.progress.unmet.items i 0 == 0) ≡ all_satisfied state i
-unmet_is state counted i are within = ap (λ n. n == 0) (are.counts.unmet i within) ∙ none_unmet (satisfied_in state.shape state.phases) (needs_of state.shape i)
+unmet_is state counted i are within = ap (λ n. n == 0) (are.counts.unmet i within) ∙ none_unmet (satisfied_in state.plan_graph state.phases) (needs_of state.plan_graph i)
 
 regroup : (fresh stopped failed satisfied room : Bool) → ((fresh && not failed && satisfied) && not stopped && room) ≡ (fresh && not stopped && not failed && satisfied && room)
 regroup true true true satisfied room = refl
@@ -70,7 +70,7 @@ pub starts_is : (state : State) (counted : Counts) (i : ℕ) → IsReached state
     → (get_or counted.progress.ready i false && not counted.stopped && nat_lt (count_by (λ runs. runs) counted.progress.running) state.policy.width) ≡ may_start state i
 starts_is state counted i reached are within =
     rw (are.counts.ready.exact i within, skipped_is state counted i reached are within, unmet_is state counted i are within, are.stopped, running_is state counted are)
-    (regroup (is_unstarted (phase_at state i)) (is_stopped state) (unit_failed state (unit_of state.shape i)) (all_satisfied state i) (nat_lt (running_count state) state.policy.width))
+    (regroup (is_unstarted (phase_at state i)) (is_stopped state) (unit_failed state (unit_of state.plan_graph i)) (all_satisfied state i) (nat_lt (running_count state) state.policy.width))
 
 -- which positions run
 pub runs_is : (state : State) (counted : Counts) (i : ℕ) → IsCounted state counted → get_or counted.progress.running i false ≡ is_running (phase_at state i)

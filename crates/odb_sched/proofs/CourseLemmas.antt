@@ -9,7 +9,7 @@ use Rattle.std.proofs.lemmas.List.{length-append}
 use Rattle.std.proofs.lemmas.List.Folds.{sum_by-replicate}
 use Rattle.odb_check.specs.declared.plan.Plan.{Plan}
 use Rattle.odb_check.specs.Plans.{plan_records}
-use Rattle.odb_check.specs.Shape.{IsPlan}
+use Rattle.odb_check.specs.PlanGraph.{IsPlan}
 use Rattle.odb_doc.specs.declared.recorded.outcome.Outcome.{Outcome}
 use Rattle.odb_sched.specs.declared.policy.Policy.{Policy}
 use Rattle.odb_sched.specs.declared.phase.Phase.{Phase}
@@ -25,7 +25,7 @@ use Rattle.odb_sched.specs.declared.execution.ExecFault.{ExecFault}
 use Rattle.odb_sched.specs.declared.execution.ExecFault.TheVariants as fault
 use Rattle.odb_dense.specs.Lists.{ListsOnce}
 use Rattle.odb_doc.specs.Statuses.{is_status}
-use Rattle.odb_sched.specs.run.State.{is_running, is_reported, State, size, phase_at, shape, initial, after, started, reported}
+use Rattle.odb_sched.specs.run.State.{is_running, is_reported, State, size, phase_at, plan_graph, initial, after, started, reported}
 use Rattle.odb_sched.specs.run.Steps.{may_start, may_report, may_come}
 use Rattle.odb_sched.specs.run.Runs.{event_position, after_all, IsRunFrom}
 use Rattle.odb_sched.specs.run.Answers.{outcome_of, reported as reported_at}
@@ -37,9 +37,9 @@ use Rattle.odb_sched.specs.run.Calls.{Performing, IsCall, Asks, AsksAll, IsRepor
 use Rattle.odb_sched.specs.run.Laws.{StartsAfterDependencies}
 use Rattle.odb_doc.specs.batch.Records.{Record}
 use Rattle.odb_sched.proofs.ChoiceLemmas.{positions-listed, listed-in}
-use Rattle.odb_sched.proofs.PlanLemmas.{length-shape}
+use Rattle.odb_sched.proofs.PlanLemmas.{length-plan_graph}
 use Rattle.odb_sched.proofs.PhaseLemmas.{get_or-set_cases, get_or-replicate_Unstarted}
-use Rattle.odb_sched.proofs.RunLemmas.{reached_after_all, reached_initial, joined, after_all-push, shape-after, shape-after_all, policy-after_all, requests-after_all}
+use Rattle.odb_sched.proofs.RunLemmas.{reached_after_all, reached_initial, joined, after_all-push, plan_graph-after, plan_graph-after_all, policy-after_all, requests-after_all}
 use Rattle.odb_sched.proofs.EventLemmas.{left, move_start, move_report}
 
 -- what is picked from the two lists may come next
@@ -86,8 +86,8 @@ module _ {S : Type 0} (performs : Performing S) (requests : List Record) where
 abbrev pub events_left : State → ℕ
 events_left state = sum_by left state.phases
 
-pub left_at_first : (source : Plan) (policy : Policy) → events_left (initial source policy) ≡ 2 * length (shape source).units
-left_at_first source policy = let all : sum_by left (replicate (length (shape source).units) Unstarted) ≡ length (shape source).units * 2 = sum_by-replicate left (length (shape source).units) Unstarted in omega arith
+pub left_at_first : (source : Plan) (policy : Policy) → events_left (initial source policy) ≡ 2 * length (plan_graph source).units
+left_at_first source policy = let all : sum_by left (replicate (length (plan_graph source).units) Unstarted) ≡ length (plan_graph source).units * 2 = sum_by-replicate left (length (plan_graph source).units) Unstarted in omega arith
 
 left-set : (state : State) (i : ℕ) (old new : Phase) → IsReached state → i < size state → phase_at state i ≡ old → left new + 1 ≡ left old → events_left (record state { phases = slice_set state.phases i new }) + 1 ≡ events_left state
 left-set state i old new reached within before_is fewer =
@@ -205,7 +205,7 @@ module _ (allows allows_now allows_later : Allowance) (offers offers_now offers_
       record {
         events = far.events;
         course = far.course;
-        within = subst (λ shape. i < length shape.units) (ap (λ x. x.shape) here ∙ shape-after_all first far.events) report.within;
+        within = subst (λ plan_graph. i < length plan_graph.units) (ap (λ x. x.plan_graph) here ∙ plan_graph-after_all first far.events) report.within;
         runs = subst (λ x. is_running (phase_at x i) ≡ true) here report.may;
         allowed = subst (λ x. IsAllowed allows x (step.Report i)) here (far.allowed (ready_set state) (running_set state) (step.Report i) report.allowed);
       }
@@ -279,7 +279,7 @@ module _ {S C : Type 0} (performs : Performing S) (chooses : Picking C) (names :
 
 module _ (source : Plan) (policy : Policy) where
   left-source : events_left (initial source policy) ≡ 2 * length (plan_records source)
-  left-source = let units : length (shape source).units ≡ length (plan_records source) = length-shape source in let all = left_at_first source policy in omega arith
+  left-source = let units : length (plan_graph source).units ≡ length (plan_records source) = length-plan_graph source in let all = left_at_first source policy in omega arith
 
   -- room for two steps per request is enough
   pub room-first : (state : State) (steps : List Step) (room : ℕ) → state ≡ initial source policy → steps ≡ [] → 2 * length (plan_records source) ≤ room → length steps + events_left state ≤ room
@@ -294,12 +294,12 @@ module _ (source : Plan) (policy : Policy) where
     few-steps = let count : length steps + events_left state ≡ events_left (initial source policy) = far.count in let most = left-source in omega arith
 
     same-size : size state ≡ length (plan_records source)
-    same-size = ap size far.state_is ∙ ap (λ shape. length shape.units) (shape-after_all (initial source policy) far.events) ∙ length-shape source
+    same-size = ap size far.state_is ∙ ap (λ plan_graph. length plan_graph.units) (plan_graph-after_all (initial source policy) far.events) ∙ length-plan_graph source
 
     pub next-within : (s : Step) → IsNext allows_now state s → position_in s < length (plan_records source)
     next-within s next = subst (λ n. position_in s < n) same-size next.within
 
-    pub reached-so_far : IsPlan (shape source) → IsReached state
+    pub reached-so_far : IsPlan (plan_graph source) → IsReached state
     reached-so_far laws = subst IsReached (sym far.state_is) (reached_after_all (initial source policy) far.events (reached_initial source policy laws) far.course.run)
 
     pub same-policy : state.policy ≡ policy
@@ -310,7 +310,7 @@ pub steps-within : (state : State) (events : List Event) → IsRunFrom state eve
 steps-within state [] run k d within = absurd (omega arith)
 steps-within state (e ∷ es) run zero d within = subst (λ i. i < size state) (sym (position-step e)) run.0
 steps-within state (e ∷ es) run (suc k) d within =
-    subst (λ shape. position_in (get_or (map step_of es) k d) < length shape.units) (shape-after state e) (steps-within (after state e) es run.2 k d (omega arith))
+    subst (λ plan_graph. position_in (get_or (map step_of es) k d) < length plan_graph.units) (plan_graph-after state e) (steps-within (after state e) es run.2 k d (omega arith))
 
 -- what is reported after an event was reported before it, or by it
 reported_by : (state : State) (event : Event) (i : ℕ) (outcome : Outcome) → phase_at (after state event) i ≡ Reported outcome → (phase_at state i ≡ Reported outcome) ⊎ (event ≡ Report i outcome)
@@ -346,7 +346,7 @@ module _ (source : Plan) (policy : Policy) (allows : Allowance) (offers : Offer)
   pub finished-within : All (λ s. position_in s < size last) steps
   finished-within = subst (λ xs. All (λ s. position_in s < size last) xs) (sym course.steps_are)
       (subst (λ n. All (λ s. position_in s < n) (map step_of course.events))
-      (sym (ap size course.last_is ∙ ap (λ shape. length shape.units) (shape-after_all (initial source policy) course.events)))
+      (sym (ap size course.last_is ∙ ap (λ plan_graph. length plan_graph.units) (plan_graph-after_all (initial source policy) course.events)))
       (steps-within (initial source policy) course.events course.course.run))
 
   pub finished-requests : last.requests ≡ plan_records source
@@ -357,6 +357,6 @@ module _ (source : Plan) (policy : Policy) (allows : Allowance) (offers : Offer)
   finished-offered i outcome e =
       elim (offered_after allows offers (initial source policy) course.events i outcome course.course.chosen
       (ap (λ s. phase_at s i) (sym course.last_is) ∙ Reported-is (phase_at last i) outcome e)) [
-        | inl early ↦ absurd (true≢false (sym (ap is_reported early) ∙ ap is_reported (get_or-replicate_Unstarted (length (shape source).units) i)))
+        | inl early ↦ absurd (true≢false (sym (ap is_reported early) ∙ ap is_reported (get_or-replicate_Unstarted (length (plan_graph source).units) i)))
         | inr offer ↦ offer
       ]

@@ -12,7 +12,7 @@ use Rattle.odb_sched.specs.declared.phase.Phase.TheVariants.{Unstarted, Running,
 use Rattle.odb_sched.specs.declared.event.Event.{Event}
 use Rattle.odb_sched.specs.declared.event.Event.TheVariants.{Start, Report}
 use Rattle.odb_doc.specs.Statuses.{is_success, is_status}
-use Rattle.odb_sched.specs.run.State.{is_running, has_succeeded, State, size, phase_at, shape, initial, after}
+use Rattle.odb_sched.specs.run.State.{is_running, has_succeeded, State, size, phase_at, plan_graph, initial, after}
 use Rattle.odb_sched.specs.run.Steps.{may_come}
 use Rattle.odb_sched.specs.run.Runs.{event_position, after_all, IsRunFrom, starts, report_of, or_later, first_report, phase_by, phase_of, IsRun, state_after}
 use Rattle.odb_sched.specs.run.Laws.{HasSuccess, HasFewEvents}
@@ -124,7 +124,7 @@ phase_after_all state (event ∷ es) i reached run =
 
 -- before any event each request has two events left, and is unstarted
 pub few_events_first : (source : Plan) (policy : Policy) (events : List Event) → IsReached (initial source policy) → IsRun source policy events → HasFewEvents events
-few_events_first source policy events reached run i = subst (λ phase. count_by (λ e. event_position e == i) events ≤ left phase) (get_or-replicate_Unstarted (length (shape source).units) i) (few_events (initial source policy) events i reached run)
+few_events_first source policy events reached run i = subst (λ phase. count_by (λ e. event_position e == i) events ≤ left phase) (get_or-replicate_Unstarted (length (plan_graph source).units) i) (few_events (initial source policy) events i reached run)
 
 pub phases_first : (source : Plan) (policy : Policy) (events : List Event) (i : ℕ) → IsReached (initial source policy) → IsRun source policy events → phase_at (state_after source policy events) i ≡ phase_of i events
-phases_first source policy events i reached run = phase_after_all (initial source policy) events i reached run ∙ ap (λ phase. phase_since phase (first_report i events) (list_any (starts i) events)) (get_or-replicate_Unstarted (length (shape source).units) i)
+phases_first source policy events i reached run = phase_after_all (initial source policy) events i reached run ∙ ap (λ phase. phase_since phase (first_report i events) (list_any (starts i) events)) (get_or-replicate_Unstarted (length (plan_graph source).units) i)

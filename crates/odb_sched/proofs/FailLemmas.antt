@@ -5,7 +5,7 @@ use Rattle.std.proofs.lemmas.Bool.{cases_eq, cases_lt, both_ways, true≢false, 
 use Rattle.std.proofs.lemmas.List.{get_or_past}
 use Rattle.odb_check.specs.declared.need.Need.{Need}
 use Rattle.odb_check.specs.declared.need.Need.TheVariants.{One, Group}
-use Rattle.odb_check.specs.Shape.{Shape, IsPlan, unit_of, needs_of}
+use Rattle.odb_check.specs.PlanGraph.{PlanGraph, IsPlan, unit_of, needs_of}
 use Rattle.odb_dense.specs.declared.worklist.Mark.{Mark}
 use Rattle.odb_dense.specs.declared.worklist.Mark.TheVariants.{Unvisited, Queued, Visited}
 use Rattle.odb_sched.specs.declared.phase.Phase.{Phase}
@@ -35,14 +35,14 @@ as_before test phases i within same j = elim (cases_eq j i) [
 ]
 
 -- if the same requests have succeeded, the same needs are satisfied
-pub satisfied_same : (plan : Shape) (phases other : List Phase) → ((j : ℕ) → has_succeeded (get_or phases j Unstarted) ≡ has_succeeded (get_or other j Unstarted)) → (need : Need) → satisfied_in plan phases need ≡ satisfied_in plan other need
+pub satisfied_same : (plan : PlanGraph) (phases other : List Phase) → ((j : ℕ) → has_succeeded (get_or phases j Unstarted) ≡ has_succeeded (get_or other j Unstarted)) → (need : Need) → satisfied_in plan phases need ≡ satisfied_in plan other need
 satisfied_same plan phases other same (One r) = same r
 satisfied_same plan phases other same (Group u) = ap (λ (f : ℕ → Bool). all_below (length plan.units) (λ j. not (eqb (unit_of plan j) u) || f j)) (fun_ext same)
 
-pub unmet_same : (plan : Shape) (phases other : List Phase) → ((j : ℕ) → has_succeeded (get_or phases j Unstarted) ≡ has_succeeded (get_or other j Unstarted)) → (i : ℕ) → unmet_in plan phases i ≡ unmet_in plan other i
+pub unmet_same : (plan : PlanGraph) (phases other : List Phase) → ((j : ℕ) → has_succeeded (get_or phases j Unstarted) ≡ has_succeeded (get_or other j Unstarted)) → (i : ℕ) → unmet_in plan phases i ≡ unmet_in plan other i
 unmet_same plan phases other same i = ap (λ (f : Need → Bool). count_by (λ need. not (f need)) (needs_of plan i)) (fun_ext (satisfied_same plan phases other same))
 
-pub pending_same : (plan : Shape) (phases other : List Phase) → ((j : ℕ) → has_succeeded (get_or phases j Unstarted) ≡ has_succeeded (get_or other j Unstarted)) → (u : ℕ) → pending_in plan phases u ≡ pending_in plan other u
+pub pending_same : (plan : PlanGraph) (phases other : List Phase) → ((j : ℕ) → has_succeeded (get_or phases j Unstarted) ≡ has_succeeded (get_or other j Unstarted)) → (u : ℕ) → pending_in plan phases u ≡ pending_in plan other u
 pending_same plan phases other same u = count_same (length plan.units) _ _ (λ j below. ap (λ b. eqb (unit_of plan j) u && not b) (same j))
 
 -- a unit that is put on the worklist
@@ -92,7 +92,7 @@ put_only units u v = at (is_marked (get_or units u Unvisited))
     ]
 
 -- what had failed fails still
-fails_still : (plan : Shape) (phases : List Phase) (i v : ℕ) → IsPlan plan → i < length phases → failed_in plan (set phases i Running) v ≡ true → failed_in plan phases v ≡ true
+fails_still : (plan : PlanGraph) (phases : List Phase) (i v : ℕ) → IsPlan plan → i < length phases → failed_in plan (set phases i Running) v ≡ true → failed_in plan phases v ≡ true
 fails_still plan phases i v laws within failed =
     fails-from_Fails plan (λ j. has_failed (get_or phases j Unstarted)) v laws
     (Fails-as plan (λ j. has_failed (get_or (set phases i Running) j Unstarted)) (λ j. has_failed (get_or phases j Unstarted)) v
@@ -112,7 +112,7 @@ marked_within units v e = elim (cases_lt v (length units)) [
 ]
 
 -- the unit of the request is on the worklist, and the other failed ones were taken from it
-pub propagating_failed : (plan : Shape) (phases : List Phase) (units : List Mark) (i : ℕ) → IsPlan plan → i < length plan.units → length phases ≡ length plan.units → has_failed (get_or phases i Unstarted) ≡ true → ArePropagated plan (set phases i Running) units
+pub propagating_failed : (plan : PlanGraph) (phases : List Phase) (units : List Mark) (i : ℕ) → IsPlan plan → i < length plan.units → length phases ≡ length plan.units → has_failed (get_or phases i Unstarted) ≡ true → ArePropagated plan (set phases i Running) units
     → ArePropagating plan phases (marked units (unit_of plan i))
 propagating_failed plan phases units i laws within as_long failed are = record {
   each = marks.each ∙ are.each;
@@ -143,7 +143,7 @@ propagating_failed plan phases units i laws within as_long failed are = record {
     taken v below bad = marks.kept v (are.marked v ∙ are.failed v below ∙ bad)
 
 -- the counts are right again
-pub counts_failed : (plan : Shape) (phases : List Phase) (i : ℕ) (before t : Progress) → i < length phases → has_failed (get_or phases i Unstarted) ≡ true → AreCounts plan (set phases i Running) before
+pub counts_failed : (plan : PlanGraph) (phases : List Phase) (i : ℕ) (before t : Progress) → i < length phases → has_failed (get_or phases i Unstarted) ≡ true → AreCounts plan (set phases i Running) before
     → t.unmet.items ≡ before.unmet.items → t.pending.items ≡ before.pending.items → t.running ≡ map is_running phases → ArePropagated plan phases t.units → AreReady plan (is_skipped plan t.units) phases t.unmet.items t.ready
     → AreCounts plan phases t
 counts_failed plan phases i before t within failed counts unmet pending running units ready = record {
@@ -159,5 +159,5 @@ counts_failed plan phases i before t within failed counts unmet pending running 
     same = as_before has_succeeded phases i within (sym (failed_not_succeeded (get_or phases i Unstarted) failed))
 
 -- the unit of the request is put on the worklist as it was before
-pub put_unit : (plan : Shape) (units between after : List Mark) (i u : ℕ) → between ≡ units → u ≡ unit_of plan i → after ≡ marked between u → after ≡ marked units (unit_of plan i)
+pub put_unit : (plan : PlanGraph) (units between after : List Mark) (i u : ℕ) → between ≡ units → u ≡ unit_of plan i → after ≡ marked between u → after ≡ marked units (unit_of plan i)
 put_unit plan units between after i u same unit_is put = put ∙ ap (λ us. marked us u) same ∙ ap (marked units) unit_is

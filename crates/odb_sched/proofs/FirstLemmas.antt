@@ -7,7 +7,7 @@ use Rattle.std.proofs.lemmas.List.Elements.{All-get_or}
 use Rattle.odb_check.specs.declared.need.Need.{Need}
 use Rattle.odb_check.specs.declared.need.Need.TheVariants.{One, Group}
 use Rattle.odb_check.specs.Firsts.{count_below, list_below}
-use Rattle.odb_check.specs.Shape.{Shape, IsPlan, unit_of, needs_of, IsSpan, IsNeed}
+use Rattle.odb_check.specs.PlanGraph.{PlanGraph, IsPlan, unit_of, needs_of, IsSpan, IsNeed}
 use Rattle.odb_dense.specs.declared.worklist.Mark.TheVariants.{Unvisited}
 use Rattle.odb_dense.specs.Marks.{is_marked, is_visited}
 use Rattle.odb_sched.specs.declared.phase.Phase.{Phase}
@@ -46,7 +46,7 @@ count_span (suc n) from to test order within exact = elim (cases_lt n to) [
 ]
 
 -- a unit has as many members as its positions span
-pub members_of_span : (plan : Shape) (u from to : ℕ) → IsSpan plan u from to → from < to → to - from ≡ members_in plan u
+pub members_of_span : (plan : PlanGraph) (u from to : ℕ) → IsSpan plan u from to → from < to → to - from ≡ members_in plan u
 members_of_span plan u from to span some = sym (count_span (length plan.units) from to (λ i. unit_of plan i == u) (omega arith) span.within (λ i below. (
   (λ passes. (span.exact i below).0 (eqb-true _ _ passes)),
   (λ inside. eq-eqb _ _ ((span.exact i below).1 inside)),
@@ -67,14 +67,14 @@ count_elements test (x ∷ xs) each =
     sum_by-cons (λ y. cond (test y) 1 0) x xs ∙ rw (here, rest) (omega arith)
 
 -- before any event no request has reported
-abbrev fresh : Shape → List Phase
+abbrev fresh : PlanGraph → List Phase
 fresh plan = replicate (length plan.units) Unstarted
 
-fresh_at : (plan : Shape) (i : ℕ) → get_or (fresh plan) i Unstarted ≡ Unstarted
+fresh_at : (plan : PlanGraph) (i : ℕ) → get_or (fresh plan) i Unstarted ≡ Unstarted
 fresh_at plan i = get_or-replicate_Unstarted (length plan.units) i
 
 -- so all members are pending
-pending_first : (plan : Shape) (u : ℕ) → pending_in plan (fresh plan) u ≡ members_in plan u
+pending_first : (plan : PlanGraph) (u : ℕ) → pending_in plan (fresh plan) u ≡ members_in plan u
 pending_first plan u = count_same (length plan.units) _ _ (λ i below. rw (ap has_succeeded (fresh_at plan i)) (at (unit_of plan i == u)))
   where
     at : (b : Bool) → (b && not false) ≡ b
@@ -82,22 +82,22 @@ pending_first plan u = count_same (length plan.units) _ _ (λ i below. rw (ap ha
     at false = refl
 
 -- and nothing is satisfied
-not_satisfied : (plan : Shape) (need : Need) → ((u : ℕ) → u < plan.unit_count → 0 < members_in plan u) → IsNeed plan need → satisfied_in plan (fresh plan) need ≡ false
+not_satisfied : (plan : PlanGraph) (need : Need) → ((u : ℕ) → u < plan.unit_count → 0 < members_in plan u) → IsNeed plan need → satisfied_in plan (fresh plan) need ≡ false
 not_satisfied plan (One r) some known = ap has_succeeded (fresh_at plan r)
 not_satisfied plan (Group u) some known =
     let left : 0 < members_in plan u = some u known in
     sym (none_pending plan (fresh plan) u) ∙ ne_eqb _ 0 (λ none. omega (arith, pending_first plan u))
 
-unmet_first : (plan : Shape) (i : ℕ) → IsPlan plan → ((u : ℕ) → u < plan.unit_count → 0 < members_in plan u) → i < length plan.units → needs_in plan i ≡ unmet_in plan (fresh plan) i
+unmet_first : (plan : PlanGraph) (i : ℕ) → IsPlan plan → ((u : ℕ) → u < plan.unit_count → 0 < members_in plan u) → i < length plan.units → needs_in plan i ≡ unmet_in plan (fresh plan) i
 unmet_first plan i laws some within = sym (count_elements (λ need. not (satisfied_in plan (fresh plan) need)) (needs_of plan i) (λ k d below.
     ap not (not_satisfied plan (get_or (needs_of plan i) k d) some (known_needs plan i laws within k d below))))
 
 -- no unit fails if no request is bad
-none_fails : (plan : Shape) (bad : ℕ → Bool) (u : ℕ) → ((i : ℕ) → bad i ≡ false) → Fails plan bad u → ⊥
+none_fails : (plan : PlanGraph) (bad : ℕ → Bool) (u : ℕ) → ((i : ℕ) → bad i ≡ false) → Fails plan bad u → ⊥
 none_fails plan bad _ good (own i within is_bad) = both_ways _ (good i) is_bad
 none_fails plan bad _ good (propagated i need within has other failing) = none_fails plan bad (unit_needed plan need) good failing
 
-none_failed : (plan : Shape) (u : ℕ) → failed_in plan (fresh plan) u ≡ false
+none_failed : (plan : PlanGraph) (u : ℕ) → failed_in plan (fresh plan) u ≡ false
 none_failed plan u = false_from_ne_true _ (λ failing. none_fails plan (λ i. has_failed (get_or (fresh plan) i Unstarted)) u (λ i. ap has_failed (fresh_at plan i)) (Fails-from_fails plan _ u failing))
 
 -- each unit of a new worklist is unvisited, those past the end too
@@ -107,7 +107,7 @@ sound_at n u = elim (cases_lt u n) [
   | inr past ↦ get_or_past (replicate n Unvisited) u Unvisited (rw (length-replicate n Unvisited) past)
 ]
 
-propagated_first : (plan : Shape) → ArePropagated plan (fresh plan) (replicate plan.unit_count Unvisited)
+propagated_first : (plan : PlanGraph) → ArePropagated plan (fresh plan) (replicate plan.unit_count Unvisited)
 propagated_first plan = record {
   each = length-replicate plan.unit_count Unvisited;
   failed = λ u inside. ap is_visited (sound_at plan.unit_count u) ∙ sym (none_failed plan u);
@@ -115,14 +115,14 @@ propagated_first plan = record {
 }
 
 -- and no request is skipped
-not_skipped : (plan : Shape) (i : ℕ) → is_skipped plan (replicate plan.unit_count Unvisited) i ≡ false
+not_skipped : (plan : PlanGraph) (i : ℕ) → is_skipped plan (replicate plan.unit_count Unvisited) i ≡ false
 not_skipped plan i = ap is_visited (sound_at plan.unit_count (unit_of plan i))
 
 none_running : (n : ℕ) → replicate n false ≡ map is_running (replicate n Unstarted)
 none_running zero = refl
 none_running (suc n) = ap (λ (bs : List Bool). false ∷ bs) (none_running n)
 
-ready_first : (plan : Shape) (free : List Bool) → length free ≡ length plan.units → ((i : ℕ) → i < length plan.units → get_or free i false ≡ (needs_in plan i == 0))
+ready_first : (plan : PlanGraph) (free : List Bool) → length free ≡ length plan.units → ((i : ℕ) → i < length plan.units → get_or free i false ≡ (needs_in plan i == 0))
     → AreReady plan (is_skipped plan (replicate plan.unit_count Unvisited)) (fresh plan) (need_counts plan) free
 ready_first plan free each exact = record {
   counted = length-list_below (length plan.units) (needs_in plan);
@@ -131,7 +131,7 @@ ready_first plan free each exact = record {
 }
 
 -- the counts of needs and members are right before any event
-pub first_counts : (plan : Shape) (t : Progress) → IsPlan plan → t.unmet.items ≡ need_counts plan → t.pending.items ≡ member_counts plan → All (λ count. 0 < count) t.pending.items → t.units ≡ replicate plan.unit_count Unvisited
+pub first_counts : (plan : PlanGraph) (t : Progress) → IsPlan plan → t.unmet.items ≡ need_counts plan → t.pending.items ≡ member_counts plan → All (λ count. 0 < count) t.pending.items → t.units ≡ replicate plan.unit_count Unvisited
     → length t.ready ≡ length plan.units → ((i : ℕ) → i < length plan.units → get_or t.ready i false ≡ (needs_in plan i == 0)) → t.running ≡ replicate (length plan.units) false
     → AreCounts plan (fresh plan) t
 first_counts plan t laws unmet pending some units each exact running = record {

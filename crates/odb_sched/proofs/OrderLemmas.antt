@@ -19,7 +19,7 @@ use Rattle.odb_sched.specs.run.Runs.{event_position, after_all, IsRunFrom}
 use Rattle.odb_sched.specs.run.Choosing.{Positions, IsLeast, IsGreatest, AllowsOrder}
 use Rattle.odb_sched.specs.run.Courses.{Offer, IsAllowed, step_of, IsOffered, AreChosen, IsReportEnabled, IsCausedBy, ready_set, running_set}
 use Rattle.odb_sched.specs.run.Recordings.{OffersRecorded, HasOneCourse, HasOneFault, FaultsOrFinishes}
-use Rattle.odb_sched.proofs.RunLemmas.{shape-after}
+use Rattle.odb_sched.proofs.RunLemmas.{plan_graph-after}
 use Rattle.odb_sched.proofs.StuckLemmas.{none_starts, none_runs}
 
 least_one : (positions : Positions) (i j : ℕ) → IsLeast positions i → IsLeast positions j → i ≡ j
@@ -129,7 +129,7 @@ module _ (name : Order) (noted : List (Option Outcome)) where
       never_both es fs (after state e) i a run.2 chosen.2 finished
       (subst (λ g. IsRunFrom (after state g) fs) same run'.2)
       (subst (λ g. AreChosen (AllowsOrder name) (OffersRecorded noted) (after state g) fs) same chosen'.2)
-      (subst (λ shape. i < length shape.units) (sym (shape-after state e)) within)
+      (subst (λ plan_graph. i < length plan_graph.units) (sym (plan_graph-after state e)) within)
       (subst (λ g. is_running (phase_at (after_all (after state g) fs) i) ≡ true) same runs)
       (subst (λ g. IsAllowed (AllowsOrder name) (after_all (after state g) fs) (step.Report i)) same due)
       given refused

@@ -4,7 +4,7 @@ use Rattle.std.proofs.lemmas.Bool.{cases_lt}
 use Rattle.std.proofs.lemmas.List.{get_or_append_left, get_or_at}
 use Rattle.odb_check.specs.declared.plan.Plan.{Plan}
 use Rattle.odb_doc.specs.batch.Records.{Record}
-use Rattle.odb_check.specs.Plans.{plan_records, shape, batch_shape}
+use Rattle.odb_check.specs.Plans.{plan_records, plan_graph, batch_plan_graph}
 use Rattle.odb_check.specs.Positions.{group_at}
 use Rattle.odb_check.specs.Firsts.{list_below}
 use Rattle.odb_check.specs.Units.{unit_at}
@@ -20,9 +20,9 @@ get_or-list_below (suc n) i value d within = elim (cases_lt i n) [
   | inr last ↦ let here : i ≡ n = omega arith in rw here (get_or_at (list_below n value) (value n) [] d n (length-list_below n value))
 ]
 
-pub length-shape : (source : Plan) → length (shape source).units ≡ length (plan_records source)
-unfolding batch_shape
-length-shape source = length-list_below (length (plan_records source)) (unit_at (plan_records source))
+pub length-plan_graph : (source : Plan) → length (plan_graph source).units ≡ length (plan_records source)
+unfolding batch_plan_graph
+length-plan_graph source = length-list_below (length (plan_records source)) (unit_at (plan_records source))
 
 -- a position with a group is one of the batch
 pub group_at-within : (rs : List Record) (j : ℕ) (group : List ℕ) → group_at rs j ≡ Some group → j < length rs

@@ -2,7 +2,7 @@
 use Rattle.std.proofs.Common.{◌≡◌, ◌≢◌, ◌⊎◌, ℕ, suc, ◌<◌, ◌∙◌, sym, ap, refl, subst, arith, Bool, true, false, not, List, length, get_or, set, get_or-set_other, get_or-set_same, length-set, inl, inr}
 use Rattle.std.proofs.lemmas.Bool.{cases_eq, true≢false}
 use Rattle.odb_check.specs.Firsts.{count_below}
-use Rattle.odb_check.specs.Shape.{Shape, IsPlan, unit_of}
+use Rattle.odb_check.specs.PlanGraph.{PlanGraph, IsPlan, unit_of}
 use Rattle.odb_dense.specs.declared.worklist.Mark.{Mark}
 use Rattle.odb_dense.specs.declared.worklist.Mark.TheVariants.{Unvisited, Queued, Visited}
 use Rattle.odb_sched.specs.declared.phase.Phase.{Phase}
@@ -18,10 +18,10 @@ use Rattle.odb_sched.proofs.CountLemmas.{count_same, count_less}
 use Rattle.odb_sched.proofs.FailingLemmas.{Fails-from_fails, fails-from_Fails}
 
 -- a unit fails by a member, or by a dependency of a member
-pub own_fails : (plan : Shape) (phases : List Phase) (i : ℕ) → IsPlan plan → i < length plan.units → has_failed (get_or phases i Unstarted) ≡ true → failed_in plan phases (unit_of plan i) ≡ true
+pub own_fails : (plan : PlanGraph) (phases : List Phase) (i : ℕ) → IsPlan plan → i < length plan.units → has_failed (get_or phases i Unstarted) ≡ true → failed_in plan phases (unit_of plan i) ≡ true
 own_fails plan phases i laws within failed = fails-from_Fails plan (λ j. has_failed (get_or phases j Unstarted)) (unit_of plan i) laws (own i within failed)
 
-pub need_fails : (plan : Shape) (phases : List Phase) (v w : ℕ) → IsPlan plan → NeedsUnit plan w v → failed_in plan phases v ≡ true → failed_in plan phases w ≡ true
+pub need_fails : (plan : PlanGraph) (phases : List Phase) (v w : ℕ) → IsPlan plan → NeedsUnit plan w v → failed_in plan phases v ≡ true → failed_in plan phases w ≡ true
 need_fails plan phases v w laws (i, need, within, has, about, here) failed = elim (cases_eq v w) [
   | inl same ↦ subst (λ x. failed_in plan phases x ≡ true) same failed
   | inr other ↦
@@ -53,15 +53,15 @@ taken_other units u v now = elim (cases_eq v u) [
   | inr elsewhere ↦ inr (sym (ap is_visited (get_or-set_other units u v Visited Unvisited elsewhere)) ∙ now)
 ]
 
-pub skipped_marked : (plan : Shape) (before after : List Mark) (i : ℕ) → HaveMarked before after → is_skipped plan before i ≡ is_skipped plan after i
+pub skipped_marked : (plan : PlanGraph) (before after : List Mark) (i : ℕ) → HaveMarked before after → is_skipped plan before i ≡ is_skipped plan after i
 skipped_marked plan before after i marks = sym (marks.same (unit_of plan i))
 
 -- how many units were not taken yet
-abbrev pub waiting_count : Shape → List Mark → ℕ
+abbrev pub waiting_count : PlanGraph → List Mark → ℕ
 waiting_count plan units = count_below plan.unit_count (λ v. not (is_visited (get_or units v Unvisited)))
 
 -- a turn takes one
-pub fewer_wait : (plan : Shape) (units after : List Mark) (u : ℕ) → length units ≡ plan.unit_count → u < length units → get_or units u Unvisited ≡ Queued → HaveMarked (set units u Visited) after → waiting_count plan after < waiting_count plan units
+pub fewer_wait : (plan : PlanGraph) (units after : List Mark) (u : ℕ) → length units ≡ plan.unit_count → u < length units → get_or units u Unvisited ≡ Queued → HaveMarked (set units u Visited) after → waiting_count plan after < waiting_count plan units
 fewer_wait plan units after u each within waits marks =
     let less : waiting_count plan units ≡ suc (waiting_count plan (set units u Visited)) = count_less plan.unit_count u _ _ (omega arith) (rw waits refl) (rw (get_or-set_same units u Visited Unvisited within) refl)
     (λ v below elsewhere. ap (λ s. not (is_visited s)) (sym (get_or-set_other units u v Visited Unvisited elsewhere))) in
@@ -69,7 +69,7 @@ fewer_wait plan units after u each within waits marks =
     omega arith
 
 -- the dependents of the unit that was taken are marked
-pub propagating_on : (plan : Shape) (phases : List Phase) (units after : List Mark) (u : ℕ) → IsPlan plan → ArePropagating plan phases units → u < length units → get_or units u Unvisited ≡ Queued → HaveMarked (set units u Visited) after
+pub propagating_on : (plan : PlanGraph) (phases : List Phase) (units after : List Mark) (u : ℕ) → IsPlan plan → ArePropagating plan phases units → u < length units → get_or units u Unvisited ≡ Queued → HaveMarked (set units u Visited) after
     → ((w : ℕ) → NeedsUnit plan w u → is_marked (get_or after w Unvisited) ≡ true)
     → ((v : ℕ) → is_marked (get_or after v Unvisited) ≡ true → (is_marked (get_or (set units u Visited) v Unvisited) ≡ true) ⊎ NeedsUnit plan v u)
     → ArePropagating plan phases after
@@ -90,7 +90,7 @@ propagating_on plan phases units after u laws are within waits marks marked only
     kept v before = marks.kept v (taken_marked units u v within waits ∙ before)
 
 -- when the worklist is empty, each unit that fails was taken
-taken_fails : (plan : Shape) (phases : List Phase) (units : List Mark) (u : ℕ) → ArePropagating plan phases units → ((v : ℕ) → get_or units v Unvisited ≢ Queued) → Fails plan (λ i. has_failed (get_or phases i Unstarted)) u → is_visited (get_or units u Unvisited) ≡ true
+taken_fails : (plan : PlanGraph) (phases : List Phase) (units : List Mark) (u : ℕ) → ArePropagating plan phases units → ((v : ℕ) → get_or units v Unvisited ≢ Queued) → Fails plan (λ i. has_failed (get_or phases i Unstarted)) u → is_visited (get_or units u Unvisited) ≡ true
 taken_fails plan phases units _ are none (own i within failed) = sym (visited_if_marked _ (none (unit_of plan i))) ∙ are.own i within failed
 taken_fails plan phases units _ are none (propagated i need within has other failing) =
     sym (visited_if_marked _ (none (unit_of plan i))) ∙ are.propagated (unit_needed plan need) (unit_of plan i) (i, need, within, has, refl, refl) (taken_fails plan phases units (unit_needed plan need) are none failing)
@@ -100,7 +100,7 @@ same_test true b there back = sym (there refl)
 same_test false true there back = back refl
 same_test false false there back = refl
 
-pub all_propagated : (plan : Shape) (phases : List Phase) (units : List Mark) → ArePropagating plan phases units → ((v : ℕ) → get_or units v Unvisited ≢ Queued) → ArePropagated plan phases units
+pub all_propagated : (plan : PlanGraph) (phases : List Phase) (units : List Mark) → ArePropagating plan phases units → ((v : ℕ) → get_or units v Unvisited ≢ Queued) → ArePropagated plan phases units
 all_propagated plan phases units are none = record {
   each = are.each;
   failed = λ u within. same_test _ _

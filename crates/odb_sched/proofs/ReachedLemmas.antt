@@ -6,7 +6,7 @@ use Rattle.std.proofs.lemmas.List.Folds.{sum_by-replicate}
 use Rattle.std.proofs.lemmas.List.Sums.{sum_by-set}
 use Rattle.odb_doc.specs.batch.Records.{Record}
 use Rattle.odb_doc.specs.declared.recorded.outcome.Outcome.{Outcome}
-use Rattle.odb_check.specs.Shape.{Shape, IsPlan}
+use Rattle.odb_check.specs.PlanGraph.{PlanGraph, IsPlan}
 use Rattle.odb_sched.specs.declared.policy.Policy.{Policy}
 use Rattle.odb_sched.specs.declared.phase.Phase.{Phase}
 use Rattle.odb_sched.specs.declared.phase.Phase.TheVariants.{Unstarted, Running, Reported}
@@ -27,7 +27,7 @@ use Rattle.odb_sched.proofs.StatusLemmas.{no_outcome, one_outcome, statuses-set}
 abbrev weight : Phase → ℕ
 weight phase = cond (is_running phase) 1 0
 
-pub reached_first : (plan : Shape) (policy : Policy) → IsPlan plan → IsReached (first_of plan policy)
+pub reached_first : (plan : PlanGraph) (policy : Policy) → IsPlan plan → IsReached (first_of plan policy)
 reached_first plan policy laws = record {
   laws = laws;
   each = length-replicate (length plan.units) Unstarted;
@@ -47,7 +47,7 @@ count_after phases i new within = sum_by-set weight phases i new Unstarted withi
 -- the needs of each request that has started stay satisfied when the phase of a request is written whose needs are
 needs_after : (state : State) (i : ℕ) (new : Phase) → IsReached state → has_succeeded (phase_at state i) ≡ false → all_satisfied state i ≡ true
     → (j : ℕ) → j < size state → is_unstarted (get_or (set state.phases i new) j Unstarted) ≡ false → all_satisfied (record state { phases = set state.phases i new }) j ≡ true
-needs_after state i new reached fresh satisfied j within begun = all_satisfied-set state.shape state.phases i j new fresh (elim (cases_eq j i) [
+needs_after state i new reached fresh satisfied j within begun = all_satisfied-set state.plan_graph state.phases i j new fresh (elim (cases_eq j i) [
   | inl same ↦ rw same satisfied
   | inr other ↦ reached.needs j within (ap is_unstarted (sym (get_or-set_other state.phases i j new Unstarted other)) ∙ begun)
 ])

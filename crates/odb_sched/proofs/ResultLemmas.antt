@@ -6,7 +6,7 @@ use Rattle.odb_doc.specs.declared.recorded.outcome.Outcome.{Outcome}
 use Rattle.odb_doc.specs.Headers.{Header}
 use Rattle.odb_check.specs.declared.need.Need.{Need}
 use Rattle.odb_check.specs.declared.need.Need.TheVariants.{One, Group}
-use Rattle.odb_check.specs.Shape.{unit_of, needs_of}
+use Rattle.odb_check.specs.PlanGraph.{unit_of, needs_of}
 use Rattle.odb_sched.specs.declared.policy.Mode.TheVariants.{Continue}
 use Rattle.odb_sched.specs.declared.phase.Phase.{Phase}
 use Rattle.odb_sched.specs.declared.phase.Phase.TheVariants.{Unstarted, Running, Reported}
@@ -38,11 +38,11 @@ answered_2xx_is (Reported outcome) succeeded = by_tests (is_success outcome.stat
     by_tests true false e = refl
     by_tests false whole e = e
 
-pub answered-from : (state : State) (i : ℕ) → i < size state → unit_succeeded state (unit_of state.shape i) ≡ true → is_answered_2xx (answer state i) ≡ true
-answered-from state i within whole = answered_2xx_is (phase_at state i) _ ∙ and_from _ _ (member_succeeded state.shape state.phases (unit_of state.shape i) i whole within refl) whole
+pub answered-from : (state : State) (i : ℕ) → i < size state → unit_succeeded state (unit_of state.plan_graph i) ≡ true → is_answered_2xx (answer state i) ≡ true
+answered-from state i within whole = answered_2xx_is (phase_at state i) _ ∙ and_from _ _ (member_succeeded state.plan_graph state.phases (unit_of state.plan_graph i) i whole within refl) whole
 
-pub answered-unit : (state : State) (i : ℕ) → is_answered_2xx (answer state i) ≡ true → unit_succeeded state (unit_of state.shape i) ≡ true
-answered-unit state i e = (and_parts (has_succeeded (phase_at state i)) (unit_succeeded state (unit_of state.shape i)) (sym (answered_2xx_is (phase_at state i) _) ∙ e)).1
+pub answered-unit : (state : State) (i : ℕ) → is_answered_2xx (answer state i) ≡ true → unit_succeeded state (unit_of state.plan_graph i) ≡ true
+answered-unit state i e = (and_parts (has_succeeded (phase_at state i)) (unit_succeeded state (unit_of state.plan_graph i)) (sym (answered_2xx_is (phase_at state i) _) ∙ e)).1
 
 pub all_or_none : (state : State) → IsAllOrNone state
 all_or_none state i j within inside same e = answered-from state j inside (rw (← same) (answered-unit state i e))
@@ -54,17 +54,17 @@ begun Running e = refl
 begun (Reported outcome) e = refl
 
 -- the needs of a member of a unit that has succeeded were satisfied
-satisfied_of : (state : State) (i : ℕ) (need : Need) → IsReached state → i < size state → unit_succeeded state (unit_of state.shape i) ≡ true → Contains (needs_of state.shape i) need → is_satisfied state need ≡ true
+satisfied_of : (state : State) (i : ℕ) (need : Need) → IsReached state → i < size state → unit_succeeded state (unit_of state.plan_graph i) ≡ true → Contains (needs_of state.plan_graph i) need → is_satisfied state need ≡ true
 satisfied_of state i need reached within whole has =
-    list_all-each (is_satisfied state) (needs_of state.shape i) need
-    (reached.needs i within (begun (phase_at state i) (member_succeeded state.shape state.phases (unit_of state.shape i) i whole within refl))) has
+    list_all-each (is_satisfied state) (needs_of state.plan_graph i) need
+    (reached.needs i within (begun (phase_at state i) (member_succeeded state.plan_graph state.phases (unit_of state.plan_graph i) i whole within refl))) has
 
 -- the unit that a member of a succeeded unit needs has succeeded
-unit_satisfied : (state : State) (i : ℕ) (need : Need) → IsReached state → i < size state → unit_succeeded state (unit_of state.shape i) ≡ true → Contains (needs_of state.shape i) need → unit_succeeded state (unit_needed state.shape need) ≡ true
+unit_satisfied : (state : State) (i : ℕ) (need : Need) → IsReached state → i < size state → unit_succeeded state (unit_of state.plan_graph i) ≡ true → Contains (needs_of state.plan_graph i) need → unit_succeeded state (unit_needed state.plan_graph need) ≡ true
 unit_satisfied state i (One r) reached within whole has = elim (reached.laws.listed i r within has) [
   | inl same ↦ rw same whole
-  | inr (inl alone) ↦ succeeded_in-from state.shape state.phases (unit_of state.shape r) (λ j inside here. rw (alone j inside here) (satisfied_of state i (One r) reached within whole has))
-  | inr (inr group) ↦ satisfied_of state i (Group (unit_of state.shape r)) reached within whole group
+  | inr (inl alone) ↦ succeeded_in-from state.plan_graph state.phases (unit_of state.plan_graph r) (λ j inside here. rw (alone j inside here) (satisfied_of state i (One r) reached within whole has))
+  | inr (inr group) ↦ satisfied_of state i (Group (unit_of state.plan_graph r)) reached within whole group
 ]
 unit_satisfied state i (Group u) reached within whole has = satisfied_of state i (Group u) reached within whole has
 
@@ -85,52 +85,52 @@ good_in_table state table i agrees within done =
     (rw (← same) good, rw (← same) at)
 
 -- a unit that has succeeded does not fail under the table
-succeeded_sound : (state : State) (table : ℕ → Outcome) (u : ℕ) → IsReached state → Agrees state table → Fails state.shape (is_bad_in table) u → unit_succeeded state u ≡ true → ⊥
+succeeded_sound : (state : State) (table : ℕ → Outcome) (u : ℕ) → IsReached state → Agrees state table → Fails state.plan_graph (is_bad_in table) u → unit_succeeded state u ≡ true → ⊥
 succeeded_sound state table _ reached agrees (own i within bad) whole =
-    both_ways _ (not-true _ bad) (good_in_table state table i agrees within (member_succeeded state.shape state.phases (unit_of state.shape i) i whole within refl)).0
+    both_ways _ (not-true _ bad) (good_in_table state table i agrees within (member_succeeded state.plan_graph state.phases (unit_of state.plan_graph i) i whole within refl)).0
 succeeded_sound state table _ reached agrees (propagated i need within has other failing) whole =
-    succeeded_sound state table (unit_needed state.shape need) reached agrees failing (unit_satisfied state i need reached within whole has)
+    succeeded_sound state table (unit_needed state.plan_graph need) reached agrees failing (unit_satisfied state i need reached within whole has)
 
-pub succeeds-from : (state : State) (table : ℕ → Outcome) (u : ℕ) → IsReached state → Agrees state table → unit_succeeded state u ≡ true → succeeds state.shape (statuses_of table) u ≡ true
-succeeds-from state table u reached agrees whole = not_from_false _ (false_from_ne_true _ (λ failing. succeeded_sound state table u reached agrees (Fails-from_fails state.shape (is_bad_in table) u failing) whole))
+pub succeeds-from : (state : State) (table : ℕ → Outcome) (u : ℕ) → IsReached state → Agrees state table → unit_succeeded state u ≡ true → succeeds state.plan_graph (statuses_of table) u ≡ true
+succeeds-from state table u reached agrees whole = not_from_false _ (false_from_ne_true _ (λ failing. succeeded_sound state table u reached agrees (Fails-from_fails state.plan_graph (is_bad_in table) u failing) whole))
 
 pub agrees_with_table : (state : State) → IsReached state → AgreesWithTable state
 agrees_with_table state reached table agrees i within e =
     let whole = answered-unit state i e in
-    let (good, at) = good_in_table state table i agrees within (member_succeeded state.shape state.phases (unit_of state.shape i) i whole within refl) in
-    (succeeds-from state table (unit_of state.shape i) reached agrees whole, rw (whole, at) (kept (is_success (table i).status)))
+    let (good, at) = good_in_table state table i agrees within (member_succeeded state.plan_graph state.phases (unit_of state.plan_graph i) i whole within refl) in
+    (succeeds-from state table (unit_of state.plan_graph i) reached agrees whole, rw (whole, at) (kept (is_success (table i).status)))
   where
     kept : (good : Bool) → (if good && not true then None else Some (table i)) ≡ Some (table i)
     kept true = refl
     kept false = refl
 
 -- a unit that has failed in a run fails under the table
-failed_sound : (state : State) (table : ℕ → Outcome) (u : ℕ) → Agrees state table → unit_failed state u ≡ true → Fails state.shape (is_bad_in table) u
-failed_sound state table u agrees failed = Fails-as state.shape (λ i. has_failed (phase_at state i)) (is_bad_in table) u
+failed_sound : (state : State) (table : ℕ → Outcome) (u : ℕ) → Agrees state table → unit_failed state u ≡ true → Fails state.plan_graph (is_bad_in table) u
+failed_sound state table u agrees failed = Fails-as state.plan_graph (λ i. has_failed (phase_at state i)) (is_bad_in table) u
     (λ i within bad.
     let (outcome, at, poor) = Failed-from (phase_at state i) bad in
     let same : outcome ≡ table i = agrees i outcome within at in
     own i within (rw (← same) poor))
-    (Fails-from_fails state.shape (λ i. has_failed (phase_at state i)) u failed)
+    (Fails-from_fails state.plan_graph (λ i. has_failed (phase_at state i)) u failed)
 
 -- in a finished run that is not stopped each request is over
-each_over : (state : State) (i : ℕ) → is_finished state ≡ true → is_stopped state ≡ false → i < size state → unit_failed state (unit_of state.shape i) ≡ false → is_reported (phase_at state i) ≡ true
+each_over : (state : State) (i : ℕ) → is_finished state ≡ true → is_stopped state ≡ false → i < size state → unit_failed state (unit_of state.plan_graph i) ≡ false → is_reported (phase_at state i) ≡ true
 each_over state i finished unstopped within sound =
-    let parts = and_parts (not (any_below (size state) (λ j. is_running (phase_at state j)))) (is_stopped state || all_below (size state) (λ j. is_reported (phase_at state j) || unit_failed state (unit_of state.shape j))) finished in
-    elim (or_cases (is_stopped state) (all_below (size state) (λ j. is_reported (phase_at state j) || unit_failed state (unit_of state.shape j))) parts.1) [
+    let parts = and_parts (not (any_below (size state) (λ j. is_running (phase_at state j)))) (is_stopped state || all_below (size state) (λ j. is_reported (phase_at state j) || unit_failed state (unit_of state.plan_graph j))) finished in
+    elim (or_cases (is_stopped state) (all_below (size state) (λ j. is_reported (phase_at state j) || unit_failed state (unit_of state.plan_graph j))) parts.1) [
       | inl stopped ↦ absurd (both_ways _ unstopped stopped)
-      | inr over ↦ elim (or_cases (is_reported (phase_at state i)) (unit_failed state (unit_of state.shape i)) ((all_below-Decides (size state) (λ j. is_reported (phase_at state j) || unit_failed state (unit_of state.shape j))).0 over i within)) [
+      | inr over ↦ elim (or_cases (is_reported (phase_at state i)) (unit_failed state (unit_of state.plan_graph i)) ((all_below-Decides (size state) (λ j. is_reported (phase_at state j) || unit_failed state (unit_of state.plan_graph j))).0 over i within)) [
         | inl reported ↦ reported
         | inr failed ↦ absurd (both_ways _ sound failed)
       ]
     ]
 
 -- a unit that succeeds under the table has succeeded in a finished run that is not stopped
-unit_succeeded-from : (state : State) (table : ℕ → Outcome) (u : ℕ) → IsReached state → is_finished state ≡ true → is_stopped state ≡ false → Agrees state table → succeeds state.shape (statuses_of table) u ≡ true → unit_succeeded state u ≡ true
-unit_succeeded-from state table u reached finished unstopped agrees good = succeeded_in-from state.shape state.phases u (λ i within here.
-    let sound : unit_failed state u ≡ false = false_from_ne_true _ (λ failed. both_ways _ (not-true _ good) (fails-from_Fails state.shape (is_bad_in table) u reached.laws (failed_sound state table u agrees failed))) in
+unit_succeeded-from : (state : State) (table : ℕ → Outcome) (u : ℕ) → IsReached state → is_finished state ≡ true → is_stopped state ≡ false → Agrees state table → succeeds state.plan_graph (statuses_of table) u ≡ true → unit_succeeded state u ≡ true
+unit_succeeded-from state table u reached finished unstopped agrees good = succeeded_in-from state.plan_graph state.phases u (λ i within here.
+    let sound : unit_failed state u ≡ false = false_from_ne_true _ (λ failed. both_ways _ (not-true _ good) (fails-from_Fails state.plan_graph (is_bad_in table) u reached.laws (failed_sound state table u agrees failed))) in
     has_succeeded-from (phase_at state i) (each_over state i finished unstopped within (rw here sound))
-    (false_from_ne_true _ (λ failed. both_ways _ sound (subst (λ v. unit_failed state v ≡ true) here (fails-from_Fails state.shape (λ j. has_failed (phase_at state j)) (unit_of state.shape i) reached.laws (own i within failed))))))
+    (false_from_ne_true _ (λ failed. both_ways _ sound (subst (λ v. unit_failed state v ≡ true) here (fails-from_Fails state.plan_graph (λ j. has_failed (phase_at state j)) (unit_of state.plan_graph i) reached.laws (own i within failed))))))
 
 never_stopped : (state : State) → state.policy.mode ≡ Continue → is_stopped state ≡ false
 never_stopped state mode = rw mode refl
@@ -139,7 +139,7 @@ pub one_result : (state : State) → IsReached state → is_finished state ≡ t
 one_result state reached finished mode table agrees i within = (
   (
     (λ e. (agrees_with_table state reached table agrees i within e).0),
-    (λ good. answered-from state i within (unit_succeeded-from state table (unit_of state.shape i) reached finished (never_stopped state mode) agrees good)),
+    (λ good. answered-from state i within (unit_succeeded-from state table (unit_of state.plan_graph i) reached finished (never_stopped state mode) agrees good)),
   ),
   (λ e. (agrees_with_table state reached table agrees i within e).1),
 )

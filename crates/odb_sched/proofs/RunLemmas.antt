@@ -2,12 +2,12 @@
 use Rattle.std.proofs.Common.{◌<◌, ◌≡◌, ◌<◌, ◌∙◌, refl, true, List, [], ◌∷◌, ◌++◌}
 use Rattle.odb_check.specs.declared.plan.Plan.{Plan}
 use Rattle.odb_check.specs.Plans.{plan_records}
-use Rattle.odb_check.specs.Shape.{IsPlan}
+use Rattle.odb_check.specs.PlanGraph.{IsPlan}
 use Rattle.odb_sched.specs.invariants.Kept.{first_of, IsReached}
 use Rattle.odb_sched.specs.declared.policy.Policy.{Policy}
 use Rattle.odb_sched.specs.declared.event.Event.{Event}
 use Rattle.odb_sched.specs.declared.event.Event.TheVariants.{Start, Report}
-use Rattle.odb_sched.specs.run.State.{State, shape, size, initial, after}
+use Rattle.odb_sched.specs.run.State.{State, plan_graph, size, initial, after}
 use Rattle.odb_sched.specs.run.Steps.{may_come}
 use Rattle.odb_sched.specs.run.Runs.{event_position, after_all, IsRunFrom, IsRun, state_after}
 use Rattle.odb_sched.proofs.ReachedLemmas.{reached_first, reached_with, reached_after}
@@ -16,10 +16,10 @@ pub reached_after_all : (state : State) (events : List Event) → IsReached stat
 reached_after_all state [] reached run = reached
 reached_after_all state (e ∷ es) reached run = reached_after_all (after state e) es (reached_after state e reached run.0 run.1) run.2
 
-pub reached_initial : (source : Plan) (policy : Policy) → IsPlan (shape source) → IsReached (initial source policy)
-reached_initial source policy laws = reached_with (plan_records source) (first_of (shape source) policy) (reached_first (shape source) policy laws)
+pub reached_initial : (source : Plan) (policy : Policy) → IsPlan (plan_graph source) → IsReached (initial source policy)
+reached_initial source policy laws = reached_with (plan_records source) (first_of (plan_graph source) policy) (reached_first (plan_graph source) policy laws)
 
-pub reached_run : (source : Plan) (policy : Policy) (events : List Event) → IsPlan (shape source) → IsRun source policy events → IsReached (state_after source policy events)
+pub reached_run : (source : Plan) (policy : Policy) (events : List Event) → IsPlan (plan_graph source) → IsRun source policy events → IsReached (state_after source policy events)
 reached_run source policy events laws run = reached_after_all (initial source policy) events (reached_initial source policy laws) run
 
 -- events one after another
@@ -27,13 +27,13 @@ pub after_all-push : (state : State) (events : List Event) (event : Event) → a
 after_all-push state [] event = refl
 after_all-push state (e ∷ es) event = after_all-push (after state e) es event
 
-pub shape-after : (state : State) (event : Event) → (after state event).shape ≡ state.shape
-shape-after state (Start i) = refl
-shape-after state (Report i outcome) = refl
+pub plan_graph-after : (state : State) (event : Event) → (after state event).plan_graph ≡ state.plan_graph
+plan_graph-after state (Start i) = refl
+plan_graph-after state (Report i outcome) = refl
 
-pub shape-after_all : (state : State) (events : List Event) → (after_all state events).shape ≡ state.shape
-shape-after_all state [] = refl
-shape-after_all state (e ∷ es) = shape-after_all (after state e) es ∙ shape-after state e
+pub plan_graph-after_all : (state : State) (events : List Event) → (after_all state events).plan_graph ≡ state.plan_graph
+plan_graph-after_all state [] = refl
+plan_graph-after_all state (e ∷ es) = plan_graph-after_all (after state e) es ∙ plan_graph-after state e
 
 -- a run that an event is in, cut there
 pub record IsCut (state : State) (before : List Event) (event : Event) (later : List Event) : Type 0 where

@@ -4,7 +4,7 @@ use Rattle.std.specs.List.{list_all}
 use Rattle.std.proofs.lemmas.Bool.{cases_eq, both_ways, or_left, or_right, ne_eqb, not_from_false, true≢false}
 use Rattle.odb_check.specs.declared.need.Need.{Need}
 use Rattle.odb_check.specs.declared.need.Need.TheVariants.{One, Group}
-use Rattle.odb_check.specs.Shape.{Shape, unit_of, needs_of}
+use Rattle.odb_check.specs.PlanGraph.{PlanGraph, unit_of, needs_of}
 use Rattle.odb_sched.specs.declared.phase.Phase.{Phase}
 use Rattle.odb_sched.specs.declared.phase.Phase.TheVariants.{Unstarted}
 use Rattle.odb_sched.specs.run.State.{has_succeeded}
@@ -17,12 +17,12 @@ not_member_or true b e h = h
 not_member_or false b e h = absurd (true≢false (sym e))
 
 -- of a unit that has succeeded each member has
-pub member_succeeded : (plan : Shape) (phases : List Phase) (u i : ℕ) → succeeded_in plan phases u ≡ true → i < length plan.units → unit_of plan i ≡ u → has_succeeded (get_or phases i Unstarted) ≡ true
+pub member_succeeded : (plan : PlanGraph) (phases : List Phase) (u i : ℕ) → succeeded_in plan phases u ≡ true → i < length plan.units → unit_of plan i ≡ u → has_succeeded (get_or phases i Unstarted) ≡ true
 member_succeeded plan phases u i e within here =
     not_member_or (eqb (unit_of plan i) u) _ (eq-eqb (unit_of plan i) u here) ((all_below-Decides (length plan.units) (λ j. not (eqb (unit_of plan j) u) || has_succeeded (get_or phases j Unstarted))).0 e i within)
 
 -- a unit each of whose members has succeeded has too
-pub succeeded_in-from : (plan : Shape) (phases : List Phase) (u : ℕ) → ((i : ℕ) → i < length plan.units → unit_of plan i ≡ u → has_succeeded (get_or phases i Unstarted) ≡ true) → succeeded_in plan phases u ≡ true
+pub succeeded_in-from : (plan : PlanGraph) (phases : List Phase) (u : ℕ) → ((i : ℕ) → i < length plan.units → unit_of plan i ≡ u → has_succeeded (get_or phases i Unstarted) ≡ true) → succeeded_in plan phases u ≡ true
 succeeded_in-from plan phases u each = (all_below-Decides (length plan.units) (λ j. not (eqb (unit_of plan j) u) || has_succeeded (get_or phases j Unstarted))).1 (λ i within. elim (cases_eq (unit_of plan i) u) [
   | inl here ↦ or_right _ _ (each i within here)
   | inr elsewhere ↦ or_left _ _ (not_from_false _ (ne_eqb (unit_of plan i) u elsewhere))
@@ -35,10 +35,10 @@ has_succeeded-set phases i j phase fresh done = elim (get_or-set_cases phases i 
   | inr kept ↦ ap has_succeeded kept ∙ done
 ]
 
-pub satisfied_in-set : (plan : Shape) (phases : List Phase) (i : ℕ) (phase : Phase) (need : Need) → has_succeeded (get_or phases i Unstarted) ≡ false → satisfied_in plan phases need ≡ true → satisfied_in plan (set phases i phase) need ≡ true
+pub satisfied_in-set : (plan : PlanGraph) (phases : List Phase) (i : ℕ) (phase : Phase) (need : Need) → has_succeeded (get_or phases i Unstarted) ≡ false → satisfied_in plan phases need ≡ true → satisfied_in plan (set phases i phase) need ≡ true
 satisfied_in-set plan phases i phase (One r) fresh satisfied = has_succeeded-set phases i r phase fresh satisfied
 satisfied_in-set plan phases i phase (Group u) fresh satisfied = succeeded_in-from plan (set phases i phase) u (λ j within here. has_succeeded-set phases i j phase fresh (member_succeeded plan phases u j satisfied within here))
 
 -- a need that was satisfied stays satisfied
-pub all_satisfied-set : (plan : Shape) (phases : List Phase) (i j : ℕ) (phase : Phase) → has_succeeded (get_or phases i Unstarted) ≡ false → list_all (satisfied_in plan phases) (needs_of plan j) ≡ true → list_all (satisfied_in plan (set phases i phase)) (needs_of plan j) ≡ true
+pub all_satisfied-set : (plan : PlanGraph) (phases : List Phase) (i j : ℕ) (phase : Phase) → has_succeeded (get_or phases i Unstarted) ≡ false → list_all (satisfied_in plan phases) (needs_of plan j) ≡ true → list_all (satisfied_in plan (set phases i phase)) (needs_of plan j) ≡ true
 all_satisfied-set plan phases i j phase fresh satisfied = list_all-from (satisfied_in plan (set phases i phase)) (needs_of plan j) (λ need has. satisfied_in-set plan phases i phase need fresh (list_all-each (satisfied_in plan phases) (needs_of plan j) need satisfied has))

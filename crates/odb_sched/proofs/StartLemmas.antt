@@ -5,14 +5,14 @@ use Rattle.std.proofs.lemmas.List.{length-set}
 use Rattle.odb_sched.specs.declared.phase.Phase.{Phase}
 use Rattle.odb_sched.specs.declared.phase.Phase.TheVariants.{Unstarted, Running, Reported}
 use Rattle.std.proofs.lemmas.Bool.{true≢false, and_from, and_parts, not-true, not_from_false}
-use Rattle.odb_check.specs.Shape.{unit_of}
+use Rattle.odb_check.specs.PlanGraph.{unit_of}
 use Rattle.odb_sched.specs.run.State.{is_unstarted, is_running, State, phase_at}
 use Rattle.odb_sched.specs.run.Steps.{is_stopped, unit_failed, all_satisfied, running_count, may_start}
 
 pub record MayStart (state : State) (i : ℕ) : Type 0 where
   pub fresh : is_unstarted (phase_at state i) ≡ true
   pub unstopped : is_stopped state ≡ false
-  pub sound : unit_failed state (unit_of state.shape i) ≡ false
+  pub sound : unit_failed state (unit_of state.plan_graph i) ≡ false
   pub satisfied : all_satisfied state i ≡ true
   pub room : running_count state < state.policy.width
 
@@ -22,9 +22,9 @@ may_start-from state i parts =
 
 pub may_start-parts : (state : State) (i : ℕ) → may_start state i ≡ true → MayStart state i
 may_start-parts state i may =
-    let room = and_parts (is_unstarted (phase_at state i) && not (is_stopped state) && not (unit_failed state (unit_of state.shape i)) && all_satisfied state i) (nat_lt (running_count state) state.policy.width) may in
-    let satisfied = and_parts (is_unstarted (phase_at state i) && not (is_stopped state) && not (unit_failed state (unit_of state.shape i))) (all_satisfied state i) room.0 in
-    let sound = and_parts (is_unstarted (phase_at state i) && not (is_stopped state)) (not (unit_failed state (unit_of state.shape i))) satisfied.0 in
+    let room = and_parts (is_unstarted (phase_at state i) && not (is_stopped state) && not (unit_failed state (unit_of state.plan_graph i)) && all_satisfied state i) (nat_lt (running_count state) state.policy.width) may in
+    let satisfied = and_parts (is_unstarted (phase_at state i) && not (is_stopped state) && not (unit_failed state (unit_of state.plan_graph i))) (all_satisfied state i) room.0 in
+    let sound = and_parts (is_unstarted (phase_at state i) && not (is_stopped state)) (not (unit_failed state (unit_of state.plan_graph i))) satisfied.0 in
     let fresh = and_parts (is_unstarted (phase_at state i)) (not (is_stopped state)) sound.0 in
     record { fresh = fresh.0; unstopped = not-true _ fresh.1; sound = not-true _ sound.1; satisfied = satisfied.1; room = ltb-true _ _ room.1 }
 

@@ -5,7 +5,7 @@ use Rattle.std.proofs.lemmas.Bool.{cases_eq}
 use Rattle.odb_check.specs.declared.need.Need.{Need}
 use Rattle.odb_check.specs.declared.need.Need.TheVariants.{One, Group}
 use Rattle.odb_check.specs.Firsts.{count_below, all_below}
-use Rattle.odb_check.specs.Shape.{Shape, unit_of, needs_of}
+use Rattle.odb_check.specs.PlanGraph.{PlanGraph, unit_of, needs_of}
 use Rattle.odb_sched.specs.declared.phase.Phase.{Phase}
 use Rattle.odb_sched.specs.declared.phase.Phase.TheVariants.{Unstarted, Running}
 use Rattle.odb_dense.specs.declared.worklist.Mark.{Mark}
@@ -26,18 +26,18 @@ same_by_start test phases i j within alike runs = elim (cases_eq j i) [
 pub same_tests : (test : Phase → Bool) (phases : List Phase) (i : ℕ) → i < length phases → test Unstarted ≡ test Running → is_running (get_or phases i Unstarted) ≡ true → ◌≡◌ {A = ℕ → Bool} (λ j. test (get_or (set phases i Unstarted) j Unstarted)) (λ j. test (get_or phases j Unstarted))
 same_tests test phases i within alike runs = fun_ext (λ j. same_by_start test phases i j within alike runs)
 
-satisfied_by_start : (plan : Shape) (phases : List Phase) (i : ℕ) (need : Need) → i < length phases → is_running (get_or phases i Unstarted) ≡ true → satisfied_in plan (set phases i Unstarted) need ≡ satisfied_in plan phases need
+satisfied_by_start : (plan : PlanGraph) (phases : List Phase) (i : ℕ) (need : Need) → i < length phases → is_running (get_or phases i Unstarted) ≡ true → satisfied_in plan (set phases i Unstarted) need ≡ satisfied_in plan phases need
 satisfied_by_start plan phases i (One r) within runs = same_by_start has_succeeded phases i r within refl runs
 satisfied_by_start plan phases i (Group u) within runs = ap (λ done. all_below (length plan.units) (λ j. not (unit_of plan j == u) || done j)) (same_tests has_succeeded phases i within refl runs)
 
 -- what is unmet, pending and failed before a start is so after it
-pub unmet_by_start : (plan : Shape) (phases : List Phase) (i j : ℕ) → i < length phases → is_running (get_or phases i Unstarted) ≡ true → unmet_in plan (set phases i Unstarted) j ≡ unmet_in plan phases j
+pub unmet_by_start : (plan : PlanGraph) (phases : List Phase) (i j : ℕ) → i < length phases → is_running (get_or phases i Unstarted) ≡ true → unmet_in plan (set phases i Unstarted) j ≡ unmet_in plan phases j
 unmet_by_start plan phases i j within runs = ap (λ satisfied. count_by (λ need. not (satisfied need)) (needs_of plan j)) (fun_ext (λ need. satisfied_by_start plan phases i need within runs))
 
-pub pending_by_start : (plan : Shape) (phases : List Phase) (i u : ℕ) → i < length phases → is_running (get_or phases i Unstarted) ≡ true → pending_in plan (set phases i Unstarted) u ≡ pending_in plan phases u
+pub pending_by_start : (plan : PlanGraph) (phases : List Phase) (i u : ℕ) → i < length phases → is_running (get_or phases i Unstarted) ≡ true → pending_in plan (set phases i Unstarted) u ≡ pending_in plan phases u
 pending_by_start plan phases i u within runs = ap (λ done. count_below (length plan.units) (λ j. (unit_of plan j == u) && not (done j))) (same_tests has_succeeded phases i within refl runs)
 
-pub propagated_by_start : (plan : Shape) (phases : List Phase) (i : ℕ) (units : List Mark) → i < length phases → is_running (get_or phases i Unstarted) ≡ true → ArePropagated plan (set phases i Unstarted) units → ArePropagated plan phases units
+pub propagated_by_start : (plan : PlanGraph) (phases : List Phase) (i : ℕ) (units : List Mark) → i < length phases → is_running (get_or phases i Unstarted) ≡ true → ArePropagated plan (set phases i Unstarted) units → ArePropagated plan phases units
 propagated_by_start plan phases i units within runs are = record {
   each = are.each;
   failed = λ u inside. are.failed u inside ∙ ap (λ bad. fails plan bad u) (same_tests has_failed phases i within refl runs);
@@ -60,7 +60,7 @@ not_unstarted : (phase : Phase) → is_running phase ≡ true → is_unstarted p
 not_unstarted phase e = ap is_unstarted (Running-from phase e)
 
 -- what is ready is as before, but for the one that has started
-pub ready_out : (plan : Shape) (skipped : ℕ → Bool) (phases : List Phase) (i : ℕ) (unmet : List ℕ) (ready : List Bool) → i < length plan.units → is_running (get_or phases i Unstarted) ≡ true
+pub ready_out : (plan : PlanGraph) (skipped : ℕ → Bool) (phases : List Phase) (i : ℕ) (unmet : List ℕ) (ready : List Bool) → i < length plan.units → is_running (get_or phases i Unstarted) ≡ true
     → AreReady plan skipped (set phases i Unstarted) unmet ready → AreReady plan skipped phases unmet (set ready i false)
 ready_out plan skipped phases i unmet ready within runs are = record {
   counted = are.counted;

@@ -4,7 +4,7 @@ use Rattle.std.proofs.lemmas.Bool.{cases_Bool, cases_eq, cases_lt, both_ways, an
 use Rattle.std.proofs.lemmas.List.{get_or_default}
 use Rattle.odb_check.specs.declared.need.Need.{Need}
 use Rattle.odb_check.specs.declared.need.Need.TheVariants.{One, Group}
-use Rattle.odb_check.specs.Shape.{IsPlan, unit_of, needs_of}
+use Rattle.odb_check.specs.PlanGraph.{IsPlan, unit_of, needs_of}
 use Rattle.odb_sched.specs.declared.phase.Phase.TheVariants.{Unstarted}
 use Rattle.odb_check.specs.Firsts.{any_below, all_below}
 use Rattle.odb_sched.specs.run.State.{is_running, is_reported, has_succeeded, has_failed, State, size, phase_at}
@@ -20,36 +20,36 @@ use Rattle.odb_sched.proofs.StartLemmas.{may_start-from, may_start-parts}
 
 -- the request is reported or of a failed unit
 abbrev is_over : State → ℕ → Bool
-is_over state i = is_reported (phase_at state i) || unit_failed state (unit_of state.shape i)
+is_over state i = is_reported (phase_at state i) || unit_failed state (unit_of state.plan_graph i)
 
 -- a request that is over and whose unit has not failed has succeeded
-over_succeeded : (state : State) (j : ℕ) → IsPlan state.shape → j < size state → is_over state j ≡ true → unit_failed state (unit_of state.shape j) ≡ false → has_succeeded (phase_at state j) ≡ true
+over_succeeded : (state : State) (j : ℕ) → IsPlan state.plan_graph → j < size state → is_over state j ≡ true → unit_failed state (unit_of state.plan_graph j) ≡ false → has_succeeded (phase_at state j) ≡ true
 over_succeeded state j laws within over sound = has_succeeded-from (phase_at state j)
-    (elim (or_cases (is_reported (phase_at state j)) (unit_failed state (unit_of state.shape j)) over) [
+    (elim (or_cases (is_reported (phase_at state j)) (unit_failed state (unit_of state.plan_graph j)) over) [
       | inl reported ↦ reported
       | inr failed ↦ absurd (both_ways _ sound failed)
     ])
-    (false_from_ne_true (has_failed (phase_at state j)) (λ failed. both_ways _ sound (fails-from_Fails state.shape (λ i. has_failed (phase_at state i)) (unit_of state.shape j) laws (own j within failed))))
+    (false_from_ne_true (has_failed (phase_at state j)) (λ failed. both_ways _ sound (fails-from_Fails state.plan_graph (λ i. has_failed (phase_at state i)) (unit_of state.plan_graph j) laws (own j within failed))))
 
 -- if the unit of a request has not failed, no unit that the request needs has
-sound_needed : (state : State) (i : ℕ) (need : Need) → IsPlan state.shape → i < size state → Contains (needs_of state.shape i) need → unit_failed state (unit_of state.shape i) ≡ false → unit_failed state (unit_needed state.shape need) ≡ false
-sound_needed state i need laws within has sound = elim (cases_eq (unit_needed state.shape need) (unit_of state.shape i)) [
+sound_needed : (state : State) (i : ℕ) (need : Need) → IsPlan state.plan_graph → i < size state → Contains (needs_of state.plan_graph i) need → unit_failed state (unit_of state.plan_graph i) ≡ false → unit_failed state (unit_needed state.plan_graph need) ≡ false
+sound_needed state i need laws within has sound = elim (cases_eq (unit_needed state.plan_graph need) (unit_of state.plan_graph i)) [
   | inl same ↦ rw same sound
-  | inr other ↦ false_from_ne_true _ (λ failed. both_ways _ sound (fails-from_Fails state.shape (λ j. has_failed (phase_at state j)) (unit_of state.shape i) laws
-      (propagated i need within has other (Fails-from_fails state.shape (λ j. has_failed (phase_at state j)) (unit_needed state.shape need) failed))))
+  | inr other ↦ false_from_ne_true _ (λ failed. both_ways _ sound (fails-from_Fails state.plan_graph (λ j. has_failed (phase_at state j)) (unit_of state.plan_graph i) laws
+      (propagated i need within has other (Fails-from_fails state.plan_graph (λ j. has_failed (phase_at state j)) (unit_needed state.plan_graph need) failed))))
 ]
 
 -- if all requests before a request are over, and its unit has not failed, its needs are satisfied
-satisfied_at_first : (state : State) (i : ℕ) (need : Need) → IsPlan state.shape → i < size state → unit_failed state (unit_of state.shape i) ≡ false → ((j : ℕ) → j < i → is_over state j ≡ true) → Contains (needs_of state.shape i) need → is_satisfied state need ≡ true
+satisfied_at_first : (state : State) (i : ℕ) (need : Need) → IsPlan state.plan_graph → i < size state → unit_failed state (unit_of state.plan_graph i) ≡ false → ((j : ℕ) → j < i → is_over state j ≡ true) → Contains (needs_of state.plan_graph i) need → is_satisfied state need ≡ true
 satisfied_at_first state i (One r) laws within sound before has =
     let earlier : r < i = laws.earlier i (One r) within has in
     over_succeeded state r laws (omega arith) (before r earlier) (sound_needed state i (One r) laws within has sound)
 satisfied_at_first state i (Group u) laws within sound before has =
-    let earlier : u < unit_of state.shape i = laws.earlier i (Group u) within has in
-    succeeded_in-from state.shape state.phases u (λ j inside here.
+    let earlier : u < unit_of state.plan_graph i = laws.earlier i (Group u) within has in
+    succeeded_in-from state.plan_graph state.phases u (λ j inside here.
     elim (cases_lt j i) [
       | inl first ↦ over_succeeded state j laws inside (before j first) (rw here (sound_needed state i (Group u) laws within has sound))
-      | inr later ↦ let ordered : unit_of state.shape i ≤ unit_of state.shape j = laws.in_order i j later inside in absurd (omega arith)
+      | inr later ↦ let ordered : unit_of state.plan_graph i ≤ unit_of state.plan_graph j = laws.in_order i j later inside in absurd (omega arith)
     ])
 
 -- none runs, so the count of running requests is 0
@@ -62,14 +62,14 @@ first_may_start : (state : State) → IsReached state → any_below (size state)
 first_may_start state reached none unstopped i first =
     let wide : 0 < state.policy.width = state.policy.wide in
     let within : i < size state = first.below in
-    let open_parts = or_parts (is_reported (phase_at state i)) (unit_failed state (unit_of state.shape i)) first.fails in
+    let open_parts = or_parts (is_reported (phase_at state i)) (unit_failed state (unit_of state.plan_graph i)) first.fails in
     let idle : is_running (phase_at state i) ≡ false = false_from_ne_true _ (λ runs. both_ways _ none ((any_below-Decides (size state) (λ j. is_running (phase_at state j))).1 (i, within, runs))) in
     let count : running_count state ≡ 0 = none_counted state reached.each none in
     may_start-from state i (record {
       fresh = is_unstarted-from (phase_at state i) open_parts.0 idle;
       unstopped = unstopped;
       sound = open_parts.1;
-      satisfied = list_all-from (is_satisfied state) (needs_of state.shape i) (λ need has. satisfied_at_first state i need reached.laws within open_parts.1 first.before has);
+      satisfied = list_all-from (is_satisfied state) (needs_of state.plan_graph i) (λ need has. satisfied_at_first state i need reached.laws within open_parts.1 first.before has);
       room = rw count wide;
     })
 
@@ -103,7 +103,7 @@ none_starts state i finished within =
     let start = may_start-parts state i starts in
     elim (or_cases (is_stopped state) (all_below (size state) (is_over state)) parts.1) [
       | inl stopped ↦ both_ways _ start.unstopped stopped
-      | inr over ↦ elim (or_cases (is_reported (phase_at state i)) (unit_failed state (unit_of state.shape i)) ((all_below-Decides (size state) (is_over state)).0 over i within)) [
+      | inr over ↦ elim (or_cases (is_reported (phase_at state i)) (unit_failed state (unit_of state.plan_graph i)) ((all_below-Decides (size state) (is_over state)).0 over i within)) [
         | inl reported ↦ both_ways _ (is_unstarted-reported (phase_at state i) start.fresh) reported
         | inr failed ↦ both_ways _ start.sound failed
       ]

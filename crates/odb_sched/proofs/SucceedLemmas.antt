@@ -2,7 +2,7 @@
 use Rattle.std.proofs.Math.Path.{fun_ext}
 use Rattle.std.proofs.Common.{◌≡◌, ℕ, suc, ◌<◌, ◌+◌, ◌-◌, ◌==◌, ◌∙◌, sym, ap, refl, subst, arith, true, false, List, length, get_or, set, inl, inr, count_by, get_or-set_same, get_or-set_other}
 use Rattle.std.proofs.lemmas.Bool.{cases_eq, true≢false}
-use Rattle.odb_check.specs.Shape.{Shape, IsPlan, unit_of}
+use Rattle.odb_check.specs.PlanGraph.{PlanGraph, IsPlan, unit_of}
 use Rattle.odb_sched.specs.declared.phase.Phase.{Phase}
 use Rattle.odb_sched.specs.declared.phase.Phase.TheVariants.{Unstarted, Running, Reported}
 use Rattle.odb_dense.specs.declared.worklist.Mark.{Mark}
@@ -18,7 +18,7 @@ success_failed Running e = absurd (true≢false (sym e))
 success_failed (Reported outcome) e = rw e refl
 
 -- the units that have failed while a request runs have failed after its success, and no others
-pub propagated_kept : (plan : Shape) (phases : List Phase) (i : ℕ) (units : List Mark) → i < length phases → has_succeeded (get_or phases i Unstarted) ≡ true → ArePropagated plan (set phases i Running) units → ArePropagated plan phases units
+pub propagated_kept : (plan : PlanGraph) (phases : List Phase) (i : ℕ) (units : List Mark) → i < length phases → has_succeeded (get_or phases i Unstarted) ≡ true → ArePropagated plan (set phases i Running) units → ArePropagated plan phases units
 propagated_kept plan phases i units within done are = record {
   each = are.each;
   failed = λ u inside. are.failed u inside ∙ ap (λ bad. fails plan bad u) (fun_ext same);
@@ -32,7 +32,7 @@ propagated_kept plan phases i units within done are = record {
     ]
 
 -- the unit of the request has one pending member less, and each other unit as many as before
-pub pending_after : (plan : Shape) (phases : List Phase) (i : ℕ) (before pending : List ℕ) → IsPlan plan → i < length plan.units → length phases ≡ length plan.units → has_succeeded (get_or phases i Unstarted) ≡ true
+pub pending_after : (plan : PlanGraph) (phases : List Phase) (i : ℕ) (before pending : List ℕ) → IsPlan plan → i < length plan.units → length phases ≡ length plan.units → has_succeeded (get_or phases i Unstarted) ≡ true
     → length before ≡ plan.unit_count → ArePending plan (set phases i Running) before → pending ≡ set before (unit_of plan i) (get_or before (unit_of plan i) 0 - 1) → ArePending plan phases pending
 pending_after plan phases i before pending laws within each done members are e u inside = rw e (elim (cases_eq u (unit_of plan i)) [
   | inl here ↦
@@ -42,7 +42,7 @@ pending_after plan phases i before pending laws within each done members are e u
 ])
 
 -- a need that is unmet while a request runs is satisfied by the request, or by its unit, or is still unmet
-pub unmet_satisfied : (plan : Shape) (phases : List Phase) (i : ℕ) (row before satisfied last : List ℕ) → IsPlan plan → i < length plan.units → length phases ≡ length plan.units → has_succeeded (get_or phases i Unstarted) ≡ true
+pub unmet_satisfied : (plan : PlanGraph) (phases : List Phase) (i : ℕ) (row before satisfied last : List ℕ) → IsPlan plan → i < length plan.units → length phases ≡ length plan.units → has_succeeded (get_or phases i Unstarted) ≡ true
     → ((j : ℕ) → j < length plan.units → count_by (λ k. k == j) row ≡ need_count plan i j)
     → AreUnmet plan (set phases i Running) before
     → ((j : ℕ) → j < length plan.units → get_or satisfied j 0 + count_by (λ k. k == j) row ≡ get_or before j 0)

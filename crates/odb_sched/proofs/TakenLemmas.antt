@@ -9,7 +9,7 @@ use Rattle.odb_sched.specs.run.State.{State, size, after}
 use Rattle.odb_sched.specs.run.Steps.{may_come}
 use Rattle.odb_sched.specs.run.Runs.{event_position, after_all, IsRunFrom, RefusesEvent, StopsAt, Refuses}
 use Rattle.odb_sched.proofs.CauseLemmas.{start_barred, report_barred}
-use Rattle.odb_sched.proofs.RunLemmas.{after_all-push, joined, shape-after_all}
+use Rattle.odb_sched.proofs.RunLemmas.{after_all-push, joined, plan_graph-after_all}
 
 -- the events before the rest are a run that ends in this state
 pub record HasTaken (first : State) (events rest : List Event) (count : ℕ) (now : State) : Type 0 where
@@ -30,7 +30,7 @@ taken_as first events rest other count n now same_rest same_count taken = rw (�
 pub next_within : (first : State) (events : List Event) (event : Event) (later : List Event) (count : ℕ) (now : State) → All (λ e. event_position e < size first) events → HasTaken first events (event ∷ later) count now → event_position event < size now
 next_within first events event later count now within taken =
     let here : event_position event < size first = All-contains (λ e. event_position e < size first) events event within (rw taken.whole (Contains-append_right taken.before (event ∷ later) event (0, omega arith, refl))) in
-    rw (taken.state, shape-after_all first taken.before) here
+    rw (taken.state, plan_graph-after_all first taken.before) here
 
 pub taken_more : (first : State) (events : List Event) (event : Event) (later : List Event) (count : ℕ) (now next : State) → HasTaken first events (event ∷ later) count now → event_position event < size now → may_come now event ≡ true → next ≡ after now event → HasTaken first events later (count + 1) next
 taken_more first events event later count now next taken within may is = record {

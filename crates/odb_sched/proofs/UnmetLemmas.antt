@@ -6,7 +6,7 @@ use Rattle.std.proofs.lemmas.List.Sums.{sum_by-cons}
 use Rattle.odb_check.specs.declared.need.Need.{Need}
 use Rattle.odb_check.specs.declared.need.Need.TheVariants.{One, Group}
 use Rattle.odb_check.specs.Firsts.{count_below, all_below}
-use Rattle.odb_check.specs.Shape.{Shape, IsPlan, unit_of, needs_of, IsNeed}
+use Rattle.odb_check.specs.PlanGraph.{PlanGraph, IsPlan, unit_of, needs_of, IsNeed}
 use Rattle.odb_sched.specs.declared.phase.Phase.{Phase}
 use Rattle.odb_sched.specs.declared.phase.Phase.TheVariants.{Unstarted, Running}
 use Rattle.odb_sched.specs.run.State.{has_succeeded}
@@ -33,7 +33,7 @@ not_both true false = refl
 not_both false b = refl
 
 -- no member is pending exactly when the unit has succeeded
-pub none_pending : (plan : Shape) (phases : List Phase) (u : ℕ) → (pending_in plan phases u == 0) ≡ succeeded_in plan phases u
+pub none_pending : (plan : PlanGraph) (phases : List Phase) (u : ℕ) → (pending_in plan phases u == 0) ≡ succeeded_in plan phases u
 none_pending plan phases u = none_counted (length plan.units) _ _ (λ i. not_both (unit_of plan i == u) (has_succeeded (get_or phases i Unstarted)))
 
 -- if each element is counted by one test as by three others, so is the list
@@ -58,7 +58,7 @@ pub not_yet : (phases : List Phase) (i : ℕ) → i < length phases → has_succ
 not_yet phases i within = ap has_succeeded (get_or-set_same phases i Running Unstarted within)
 
 -- the unit of a request that runs has not succeeded
-own_unit : (plan : Shape) (phases : List Phase) (i : ℕ) → i < length plan.units → length phases ≡ length plan.units → succeeded_in plan (set phases i Running) (unit_of plan i) ≡ false
+own_unit : (plan : PlanGraph) (phases : List Phase) (i : ℕ) → i < length plan.units → length phases ≡ length plan.units → succeeded_in plan (set phases i Running) (unit_of plan i) ≡ false
 own_unit plan phases i within each = false_from_ne_true _ (λ done. both_ways _ (not_yet phases i (rw each within)) (member_succeeded plan (set phases i Running) (unit_of plan i) i done within refl))
 
 -- tests that agree below a number hold below it alike
@@ -67,14 +67,14 @@ all_alike zero test other same = refl
 all_alike (suc n) test other same = rw (same n (omega arith), all_alike n test other (λ i within. same i (omega arith))) refl
 
 -- another unit has succeeded as afterwards
-other_unit : (plan : Shape) (phases : List Phase) (i u : ℕ) → u ≢ unit_of plan i → succeeded_in plan (set phases i Running) u ≡ succeeded_in plan phases u
+other_unit : (plan : PlanGraph) (phases : List Phase) (i u : ℕ) → u ≢ unit_of plan i → succeeded_in plan (set phases i Running) u ≡ succeeded_in plan phases u
 other_unit plan phases i u other = all_alike (length plan.units) _ _ (λ j within. elim (cases_eq j i) [
   | inl here ↦ rw (here, ne_eqb (unit_of plan i) u (λ e. other (sym e))) refl
   | inr elsewhere ↦ ap (λ b. not (unit_of plan j == u) || b) (others_succeeded phases i j elsewhere)
 ])
 
 -- a need that is not satisfied while a request runs is not satisfied afterwards, or is of the request, or of its unit if that has succeeded
-one_need : (plan : Shape) (phases : List Phase) (i : ℕ) (need : Need) → i < length plan.units → length phases ≡ length plan.units → has_succeeded (get_or phases i Unstarted) ≡ true → IsNeed plan need
+one_need : (plan : PlanGraph) (phases : List Phase) (i : ℕ) (need : Need) → i < length plan.units → length phases ≡ length plan.units → has_succeeded (get_or phases i Unstarted) ≡ true → IsNeed plan need
     → cond (not (satisfied_in plan (set phases i Running) need)) 1 0
     ≡ cond (not (satisfied_in plan phases need)) 1 0 + (cond (key_of plan need == i) 1 0 + cond (succeeded_in plan phases (unit_of plan i) && (key_of plan need == length plan.units + unit_of plan i)) 1 0)
 one_need plan phases i (One r) within each done known =
@@ -109,14 +109,14 @@ one_need plan phases i (Group u) within each done known =
     none false false = refl
 
 -- a request that has succeeded satisfies the needs of it, and those of its unit if that has succeeded
-pub unmet_falls : (plan : Shape) (phases : List Phase) (i j : ℕ) → IsPlan plan → i < length plan.units → j < length plan.units → length phases ≡ length plan.units → has_succeeded (get_or phases i Unstarted) ≡ true
+pub unmet_falls : (plan : PlanGraph) (phases : List Phase) (i j : ℕ) → IsPlan plan → i < length plan.units → j < length plan.units → length phases ≡ length plan.units → has_succeeded (get_or phases i Unstarted) ≡ true
     → unmet_in plan (set phases i Running) j ≡ unmet_in plan phases j + (need_count plan i j + satisfied_by_unit plan phases (unit_of plan i) j)
 unmet_falls plan phases i j laws within inside each done =
     three _ _ _ _ (needs_of plan j) (λ k d inner. one_need plan phases i _ within each done (known_needs plan j laws inside k d inner))
     ∙ ap (λ m. unmet_in plan phases j + (need_count plan i j + m)) (counted_if (succeeded_in plan phases (unit_of plan i)) (λ need. key_of plan need == length plan.units + unit_of plan i) (needs_of plan j))
 
 -- the request's own unit has one pending member less
-pub pending_own : (plan : Shape) (phases : List Phase) (i : ℕ) → i < length plan.units → length phases ≡ length plan.units → has_succeeded (get_or phases i Unstarted) ≡ true
+pub pending_own : (plan : PlanGraph) (phases : List Phase) (i : ℕ) → i < length plan.units → length phases ≡ length plan.units → has_succeeded (get_or phases i Unstarted) ≡ true
     → pending_in plan (set phases i Running) (unit_of plan i) ≡ suc (pending_in plan phases (unit_of plan i))
 pending_own plan phases i within each done = count_less (length plan.units) i _ _ within
     (rw (eq-eqb (unit_of plan i) _ refl, not_yet phases i (rw each within)) refl)
@@ -124,24 +124,24 @@ pending_own plan phases i within each done = count_less (length plan.units) i _ 
     (λ j inside other. ap (λ b. (unit_of plan j == unit_of plan i) && not b) (others_succeeded phases i j other))
 
 -- and each other unit as many as before
-pub pending_other : (plan : Shape) (phases : List Phase) (i u : ℕ) → u ≢ unit_of plan i → pending_in plan (set phases i Running) u ≡ pending_in plan phases u
+pub pending_other : (plan : PlanGraph) (phases : List Phase) (i u : ℕ) → u ≢ unit_of plan i → pending_in plan (set phases i Running) u ≡ pending_in plan phases u
 pending_other plan phases i u other = count_same (length plan.units) _ _ (λ j within. elim (cases_eq j i) [
   | inl here ↦ rw (here, ne_eqb (unit_of plan i) u (λ e. other (sym e))) refl
   | inr elsewhere ↦ ap (λ b. (unit_of plan j == u) && not b) (others_succeeded phases i j elsewhere)
 ])
 
 -- the unit has succeeded if and only if no member is read as pending
-pub succeeded_read : (plan : Shape) (phases : List Phase) (u read : ℕ) (pending : List ℕ) → read ≡ get_or pending u read → u < length pending → get_or pending u 0 ≡ pending_in plan phases u → read ≡ 0 → succeeded_in plan phases u ≡ true
+pub succeeded_read : (plan : PlanGraph) (phases : List Phase) (u read : ℕ) (pending : List ℕ) → read ≡ get_or pending u read → u < length pending → get_or pending u 0 ≡ pending_in plan phases u → read ≡ 0 → succeeded_in plan phases u ≡ true
 succeeded_read plan phases u read pending e within counted none = sym (none_pending plan phases u) ∙ eq-eqb _ 0 (sym counted ∙ sym (get_or_read pending u read within e 0) ∙ none)
 
-pub unfinished_read : (plan : Shape) (phases : List Phase) (u read : ℕ) (pending : List ℕ) → read ≡ get_or pending u read → u < length pending → get_or pending u 0 ≡ pending_in plan phases u → (read ≡ 0 → ⊥) → succeeded_in plan phases u ≡ false
+pub unfinished_read : (plan : PlanGraph) (phases : List Phase) (u read : ℕ) (pending : List ℕ) → read ≡ get_or pending u read → u < length pending → get_or pending u 0 ≡ pending_in plan phases u → (read ≡ 0 → ⊥) → succeeded_in plan phases u ≡ false
 unfinished_read plan phases u read pending e within counted some = sym (none_pending plan phases u) ∙ ne_eqb _ 0 (λ none. some (get_or_read pending u read within e 0 ∙ counted ∙ none))
 
 -- the row of a unit that has succeeded has the needs that the unit satisfies
-pub unit_row : (plan : Shape) (phases : List Phase) (u key i : ℕ) (rows : List (List ℕ)) (row : List ℕ) → AreDependents plan rows → u < plan.unit_count → i < length plan.units → succeeded_in plan phases u ≡ true → key ≡ length plan.units + u → row ≡ get_or rows key []
+pub unit_row : (plan : PlanGraph) (phases : List Phase) (u key i : ℕ) (rows : List (List ℕ)) (row : List ℕ) → AreDependents plan rows → u < plan.unit_count → i < length plan.units → succeeded_in plan phases u ≡ true → key ≡ length plan.units + u → row ≡ get_or rows key []
     → count_by (λ j. j == i) row ≡ satisfied_by_unit plan phases u i
 unit_row plan phases u key i rows row dependents counted inside done key_is row_is = rw (row_is, key_is, done) (dependents.exact (length plan.units + u) i (rw dependents.each (omega arith)) inside)
 
 -- the row of a request has its dependents
-pub request_row : (plan : Shape) (r i : ℕ) (rows : List (List ℕ)) (row : List ℕ) → AreDependents plan rows → r < length plan.units → i < length plan.units → row ≡ get_or rows r [] → count_by (λ j. j == i) row ≡ need_count plan r i
+pub request_row : (plan : PlanGraph) (r i : ℕ) (rows : List (List ℕ)) (row : List ℕ) → AreDependents plan rows → r < length plan.units → i < length plan.units → row ≡ get_or rows r [] → count_by (λ j. j == i) row ≡ need_count plan r i
 request_row plan r i rows row dependents within inside row_is = rw row_is (dependents.exact r i (rw dependents.each (omega arith)) inside)

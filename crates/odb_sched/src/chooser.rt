@@ -3,7 +3,7 @@
 ghost use Rattle.std.specs.Prelude.{◌≡◌, ℕ, false, None, slice_index_or, IfSome, ◌<◌, length};
 ghost use Rattle.odb_sched.specs.run.Choosing.{IsEndOf, positions_of, IsLeast, IsGreatest};
 
-use odb_dense::OrderedPositions;
+use odb_dense::MinMaxSet;
 
 /// A built-in order, which an execution follows without a search through all positions.
 #[derive(Clone, Copy, Debug, PartialEq, Eq)]
@@ -25,7 +25,7 @@ pub(crate) enum End {
 
 impl End {
     /// Returns the position at this end of a set, or `None` if the set is empty.
-    pub(crate) fn of(self, set: &mut OrderedPositions) -> Option<u32>
+    pub(crate) fn of(self, set: &mut MinMaxSet) -> Option<u32>
         ensures same { set.new ≡ set.old }
         ensures none { result ≡ None → (i : ℕ) → slice_index_or set.old i false ≡ false }
         ensures some { IfSome result (IsEndOf self set.old) }

@@ -1,7 +1,7 @@
 //! How far a run has come: the phases of its requests, and what is counted beside them.
 
 ghost use Rattle.std.specs.Prelude.{◌≡◌, ◌<◌, ◌&&◌, ◌||◌, ◌==◌, ℕ, true, false, not, nat_lt, length, find, replicate, slice_index_or, slice_set, count_by, IfOk, IfSome, IsSome, None, All};
-ghost use Rattle.odb_check.specs.Shape as shapes;
+ghost use Rattle.odb_check.specs.PlanGraph as plan_graphs;
 ghost use Rattle.odb_dense.specs.declared.worklist.Mark.TheVariants.{Unvisited};
 ghost use Rattle.odb_dense.specs.Lists.{ListsOnce};
 ghost use Rattle.odb_dense.specs.Marks.{is_visited};
@@ -9,7 +9,7 @@ ghost use Rattle.odb_sched.specs.declared.phase.Phase.TheVariants.{Unstarted, Ru
 ghost use Rattle.odb_sched.specs.run.Choosing.{IsEndOf};
 ghost use Rattle.odb_sched.specs.invariants.Counts as counts;
 ghost use Rattle.odb_sched.specs.run.State as state;
-ghost use Rattle.odb_check.specs.Shape.{IsNeed};
+ghost use Rattle.odb_check.specs.PlanGraph.{IsNeed};
 ghost use Rattle.odb_sched.specs.invariants.Kept.{state_of, first_of};
 ghost use Rattle.odb_sched.specs.run.Steps.{satisfied_in};
 
@@ -18,7 +18,7 @@ use crate::graph::Graph;
 use crate::phase::Phase;
 use crate::policy::Policy;
 use odb_check::Need;
-use odb_dense::{OrderedPositions, Worklist};
+use odb_dense::{MinMaxSet, Worklist};
 use std::alloc::{AllocError, Global};
 
 /// What is counted of a run beside the phases of its requests, which are read while it changes.
@@ -31,14 +31,14 @@ pub(crate) struct Progress {
     /// The units that have failed.
     pub(crate) units: Worklist,
     /// The ready requests, without regard to the stop and the width.
-    pub(crate) ready: OrderedPositions,
+    pub(crate) ready: MinMaxSet,
     /// The running requests.
-    pub(crate) running: OrderedPositions,
+    pub(crate) running: MinMaxSet,
 }
 
 /// Returns for each request the number of its dependencies.
 fn need_counts(alloc: Global, graph: &Graph) -> Result<Vec<usize>, AllocError>
-    ensures { IfOk result (λ found. found.items ≡ counts.need_counts graph.now.shape) }
+    ensures { IfOk result (λ found. found.items ≡ counts.need_counts graph.now.plan_graph) }
 {
     let mut counts = Vec::with_capacity(alloc, graph.len() as usize)?;
     for i in 0..graph.len() {
@@ -49,7 +49,7 @@ fn need_counts(alloc: Global, graph: &Graph) -> Result<Vec<usize>, AllocError>
 
 /// Returns for each unit the number of its members.
 fn member_counts(alloc: Global, graph: &Graph) -> Result<Vec<u32>, AllocError>
-    ensures counts { IfOk result (λ found. found.items ≡ counts.member_counts graph.now.shape) }
+    ensures counts { IfOk result (λ found. found.items ≡ counts.member_counts graph.now.plan_graph) }
     ensures some { IfOk result (λ counts. All (λ count. 0 < count) counts.items) }
 {
     let mut counts = Vec::with_capacity(alloc, graph.unit_count() as usize)?;
@@ -61,12 +61,12 @@ fn member_counts(alloc: Global, graph: &Graph) -> Result<Vec<u32>, AllocError>
 }
 
 /// Returns the requests without dependencies.
-fn without_needs(alloc: Global, graph: &Graph) -> Result<OrderedPositions, AllocError>
-    ensures each { IfOk result (λ free. length free ≡ length graph.now.shape.units) }
-    ensures exact { IfOk result (λ free. (i : ℕ) → i < length graph.now.shape.units
-        → slice_index_or free i false ≡ (counts.needs_in graph.now.shape i == 0)) }
+fn without_needs(alloc: Global, graph: &Graph) -> Result<MinMaxSet, AllocError>
+    ensures each { IfOk result (λ free. length free ≡ length graph.now.plan_graph.units) }
+    ensures exact { IfOk result (λ free. (i : ℕ) → i < length graph.now.plan_graph.units
+        → slice_index_or free i false ≡ (counts.needs_in graph.now.plan_graph i == 0)) }
 {
-    let mut free = OrderedPositions::new(alloc, graph.len())?;
+    let mut free = MinMaxSet::new(alloc, graph.len())?;
     for i in 0..graph.len() {
         if graph.needs(i).is_empty() {
             free.insert(i);
@@ -83,8 +83,8 @@ impl Progress {
     ///
     /// If memory for the requests and the units cannot be allocated.
     pub(crate) fn new(alloc: Global, graph: &Graph) -> Result<Progress, AllocError>
-        ensures { IfOk result (counts.AreCounts graph.now.shape
-            (replicate (length graph.now.shape.units) Unstarted)) }
+        ensures { IfOk result (counts.AreCounts graph.now.plan_graph
+            (replicate (length graph.now.plan_graph.units) Unstarted)) }
     {
         graph.laws();
         Ok(Progress {
@@ -92,7 +92,7 @@ impl Progress {
             pending: member_counts(alloc, graph)?,
             units: Worklist::new(alloc, graph.unit_count())?,
             ready: without_needs(alloc, graph)?,
-            running: OrderedPositions::new(alloc, graph.len())?,
+            running: MinMaxSet::new(alloc, graph.len())?,
         })
     }
 }
@@ -111,11 +111,11 @@ fn all_unstarted(alloc: Global, count: u32) -> Result<Vec<Phase>, AllocError>
 /// Moves a request that has started from the ready requests to the running ones. `phases[i]` is
 /// `Running` already.
 fn begin(graph: &Graph, phases: &[Phase], i: u32, progress: &mut Progress)
-    requires each { length phases.now ≡ length graph.now.shape.units }
-    requires request { i < length graph.now.shape.units }
+    requires each { length phases.now ≡ length graph.now.plan_graph.units }
+    requires request { i < length graph.now.plan_graph.units }
     requires runs { state.is_running (slice_index_or phases.now i Unstarted) ≡ true }
-    requires counts { counts.AreCounts graph.now.shape (slice_set phases.now i Unstarted) progress.old }
-    ensures { counts.AreCounts graph.now.shape phases.now progress.new }
+    requires counts { counts.AreCounts graph.now.plan_graph (slice_set phases.now i Unstarted) progress.old }
+    ensures { counts.AreCounts graph.now.plan_graph phases.now progress.new }
 {
     progress.ready.remove(i);
     progress.running.insert(i);
@@ -124,11 +124,11 @@ fn begin(graph: &Graph, phases: &[Phase], i: u32, progress: &mut Progress)
 /// Returns whether a dependency is satisfied. `pending` has for each unit the number of its members
 /// that have not succeeded.
 fn is_satisfied(graph: &Graph, phases: &[Phase], pending: &[u32], need: Need) -> bool
-    requires each { length phases.now ≡ length graph.now.shape.units }
-    requires members { length pending.now ≡ graph.now.shape.unit_count }
-    requires pending { counts.ArePending graph.now.shape phases.now pending.now }
-    requires known { IsNeed graph.now.shape need }
-    ensures { result ≡ satisfied_in graph.now.shape phases.now need }
+    requires each { length phases.now ≡ length graph.now.plan_graph.units }
+    requires members { length pending.now ≡ graph.now.plan_graph.unit_count }
+    requires pending { counts.ArePending graph.now.plan_graph phases.now pending.now }
+    requires known { IsNeed graph.now.plan_graph need }
+    ensures { result ≡ satisfied_in graph.now.plan_graph phases.now need }
 {
     match need {
         Need::One(r) => phases[r as usize].has_succeeded(),
@@ -139,13 +139,13 @@ fn is_satisfied(graph: &Graph, phases: &[Phase], pending: &[u32], need: Need) ->
 /// Returns the first dependency of a request that is not satisfied. `pending` has for each unit the
 /// number of its members that have not succeeded.
 pub(crate) fn first_unmet(graph: &Graph, phases: &[Phase], pending: &[u32], i: u32) -> Option<Need>
-    requires each { length phases.now ≡ length graph.now.shape.units }
-    requires members { length pending.now ≡ graph.now.shape.unit_count }
-    requires pending { counts.ArePending graph.now.shape phases.now pending.now }
-    requires request { i < length graph.now.shape.units }
+    requires each { length phases.now ≡ length graph.now.plan_graph.units }
+    requires members { length pending.now ≡ graph.now.plan_graph.unit_count }
+    requires pending { counts.ArePending graph.now.plan_graph phases.now pending.now }
+    requires request { i < length graph.now.plan_graph.units }
     ensures { result
-        ≡ find (λ need. not (satisfied_in graph.now.shape phases.now need))
-        (shapes.needs_of graph.now.shape i) }
+        ≡ find (λ need. not (satisfied_in graph.now.plan_graph phases.now need))
+        (plan_graphs.needs_of graph.now.plan_graph i) }
 {
     let needs = graph.needs(i);
     for need in needs {
@@ -171,8 +171,8 @@ impl Counts {
     /// Returns the counts before the first event.
     pub(crate) fn new(alloc: Global, graph: &Graph, policy: Policy) -> Result<Counts, AllocError>
         ensures phases { IfOk result (λ counts. counts.phases.items
-            ≡ replicate (length graph.now.shape.units) Unstarted) }
-        ensures counts { IfOk result (IsCounted (first_of graph.now.shape policy)) }
+            ≡ replicate (length graph.now.plan_graph.units) Unstarted) }
+        ensures counts { IfOk result (IsCounted (first_of graph.now.plan_graph policy)) }
     {
         Ok(Counts {
             phases: all_unstarted(alloc, graph.len())?,
@@ -192,12 +192,12 @@ impl Counts {
 
     /// Starts a request.
     pub(crate) fn start(&mut self, graph: &Graph, policy: Policy, i: u32)
-        requires each { length self.old.phases.items ≡ length graph.now.shape.units }
-        requires request { i < length graph.now.shape.units }
+        requires each { length self.old.phases.items ≡ length graph.now.plan_graph.units }
+        requires request { i < length graph.now.plan_graph.units }
         requires unstarted { state.is_unstarted (slice_index_or self.old.phases.items i Unstarted) ≡ true }
-        requires counts { IsCounted (state_of graph.now.shape policy self.old.phases.items) self.old }
+        requires counts { IsCounted (state_of graph.now.plan_graph policy self.old.phases.items) self.old }
         ensures phases { self.new.phases.items ≡ slice_set self.old.phases.items i Running }
-        ensures counts { IsCounted (state_of graph.now.shape policy self.new.phases.items) self.new }
+        ensures counts { IsCounted (state_of graph.now.plan_graph policy self.new.phases.items) self.new }
     {
         self.put(i, Phase::Running);
         begin(graph, &self.phases, i, &mut self.progress);

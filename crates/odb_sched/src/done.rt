@@ -79,7 +79,7 @@ impl<'p> Done<'p> {
     /// Returns the plan that was run.
     pub fn plan(&self) -> &'p Plan<'p>
         ensures plan { plan_records result.now ≡ self.now.requests }
-        ensures shape { state.shape result.now ≡ self.now.shape }
+        ensures plan_graph { state.plan_graph result.now ≡ self.now.plan_graph }
         ensures size { state.size self.now ≡ length self.now.requests }
     {
         self.run.plan()

@@ -2,11 +2,11 @@
 
 ghost use Rattle.std.specs.Prelude.{◌≡◌, ◌<◌, ◌≤◌, ◌+◌, ◌++◌, ◌↔◌, ℕ, [], All, length, slice_index_or, IfOk, OnOk, IsTrue};
 ghost use Rattle.odb_check.specs.Plans.{plan_records};
-ghost use Rattle.odb_check.specs.Shape as shapes;
-ghost use Rattle.odb_check.specs.Shape.{IsNeed, IsSpan};
+ghost use Rattle.odb_check.specs.PlanGraph as plan_graphs;
+ghost use Rattle.odb_check.specs.PlanGraph.{IsNeed, IsSpan};
 ghost use Rattle.odb_sched.specs.invariants.Graphs as graphs;
 ghost use Rattle.odb_sched.specs.invariants.Graphs.{AreAlike, AreParts, AreSpans, need_pairs, all_pairs};
-ghost use Rattle.odb_sched.specs.run.State.{shape};
+ghost use Rattle.odb_sched.specs.run.State.{plan_graph};
 
 use odb_check::laws::every_plan;
 use odb_check::{Need, Plan};
@@ -51,7 +51,7 @@ impl Model for Graph {
 
 /// Returns the unit of each request.
 fn units_of(alloc: Global, plan: &Plan<'_>) -> Result<Vec<u32>, AllocError>
-    ensures { IfOk result (λ units. units.items ≡ (shape plan.now).units) }
+    ensures { IfOk result (λ units. units.items ≡ (plan_graph plan.now).units) }
 {
     let mut units = Vec::with_capacity(alloc, plan.len() as usize)?;
     for i in 0..plan.len() {
@@ -62,8 +62,8 @@ fn units_of(alloc: Global, plan: &Plan<'_>) -> Result<Vec<u32>, AllocError>
 
 /// Returns where each unit begins and ends.
 fn members_of(alloc: Global, plan: &Plan<'_>) -> Result<Vec<(u32, u32)>, AllocError>
-    ensures len { IfOk result (λ members. length members.items ≡ (shape plan.now).unit_count) }
-    ensures spans { IfOk result (λ members. AreSpans (shape plan.now) members.items) }
+    ensures len { IfOk result (λ members. length members.items ≡ (plan_graph plan.now).unit_count) }
+    ensures spans { IfOk result (λ members. AreSpans (plan_graph plan.now) members.items) }
 {
     let mut members = Vec::with_capacity(alloc, plan.unit_count() as usize)?;
     for u in 0..plan.unit_count() {
@@ -76,7 +76,7 @@ fn members_of(alloc: Global, plan: &Plan<'_>) -> Result<Vec<(u32, u32)>, AllocEr
 /// Returns the needs of all requests.
 fn needs_of(alloc: Global, plan: &Plan<'_>) -> Result<Needs, AllocError>
     ensures { IfOk result (λ needs.
-        AreParts (shape plan.now) needs.list.items needs.offsets.items) }
+        AreParts (plan_graph plan.now) needs.list.items needs.offsets.items) }
 {
     every_plan(plan);
     let mut list = Vec::new(alloc);
@@ -91,8 +91,8 @@ fn needs_of(alloc: Global, plan: &Plan<'_>) -> Result<Needs, AllocError>
 
 /// Returns the key of a unit. The keys of units follow those of all requests.
 fn unit_key(plan: &Plan<'_>, u: u32) -> u32
-    requires { u < (shape plan.now).unit_count }
-    ensures { result ≡ length (shape plan.now).units + u }
+    requires { u < (plan_graph plan.now).unit_count }
+    ensures { result ≡ length (plan_graph plan.now).units + u }
 {
     every_plan(plan);
     plan.len() + u
@@ -100,8 +100,8 @@ fn unit_key(plan: &Plan<'_>, u: u32) -> u32
 
 /// Returns the key of a dependency.
 fn key_of(plan: &Plan<'_>, need: Need) -> u32
-    requires { IsNeed (shape plan.now) need }
-    ensures { result ≡ graphs.key_of (shape plan.now) need }
+    requires { IsNeed (plan_graph plan.now) need }
+    ensures { result ≡ graphs.key_of (plan_graph plan.now) need }
 {
     match need {
         Need::One(r) => r,
@@ -111,8 +111,8 @@ fn key_of(plan: &Plan<'_>, need: Need) -> u32
 
 /// Appends a pair for each dependency of a request: its key, and the request.
 fn push_needs(plan: &Plan<'_>, i: u32, pairs: &mut Vec<(u32, u32)>) -> Result<(), AllocError>
-    requires request { i < length (shape plan.now).units }
-    ensures { OnOk result (pairs.new.items ≡ pairs.old.items ++ need_pairs (shape plan.now) i) }
+    requires request { i < length (plan_graph plan.now).units }
+    ensures { OnOk result (pairs.new.items ≡ pairs.old.items ++ need_pairs (plan_graph plan.now) i) }
 {
     for need in plan.needs(i) {
         pairs.push((key_of(plan, *need), i))?;
@@ -122,7 +122,7 @@ fn push_needs(plan: &Plan<'_>, i: u32, pairs: &mut Vec<(u32, u32)>) -> Result<()
 
 /// Returns the pairs of all requests, in order.
 fn pairs_of(alloc: Global, plan: &Plan<'_>) -> Result<Vec<(u32, u32)>, AllocError>
-    ensures { IfOk result (λ pairs. pairs.items ≡ all_pairs (shape plan.now)) }
+    ensures { IfOk result (λ pairs. pairs.items ≡ all_pairs (plan_graph plan.now)) }
 {
     let mut pairs = Vec::new(alloc);
     for i in 0..plan.len() {
@@ -133,7 +133,7 @@ fn pairs_of(alloc: Global, plan: &Plan<'_>) -> Result<Vec<(u32, u32)>, AllocErro
 
 /// Returns the dependents of each request and of each unit, by their keys.
 fn dependents_of(alloc: Global, plan: &Plan<'_>) -> Result<Rows, AllocError>
-    ensures { IfOk result (graphs.AreDependents (shape plan.now)) }
+    ensures { IfOk result (graphs.AreDependents (plan_graph plan.now)) }
 {
     every_plan(plan);
     let keys = plan.len() as usize + plan.unit_count() as usize;
@@ -147,7 +147,7 @@ impl Graph {
     ///
     /// If memory for the requests, the units and the needs cannot be allocated.
     pub(crate) fn new(alloc: Global, plan: &Plan<'_>) -> Result<Graph, AllocError>
-        ensures { IfOk result (λ graph. graph.shape ≡ shape plan.now) }
+        ensures { IfOk result (λ graph. graph.plan_graph ≡ plan_graph plan.now) }
     {
         every_plan(plan);
         Ok(Graph {
@@ -160,15 +160,15 @@ impl Graph {
 
     /// What holds of the numbers of every plan. It changes nothing.
     pub(crate) fn laws(&self)
-        ensures order { shapes.IsPlan self.now.shape }
-        ensures dependents { graphs.AreDependents self.now.shape self.now.dependents }
+        ensures order { plan_graphs.IsPlan self.now.plan_graph }
+        ensures dependents { graphs.AreDependents self.now.plan_graph self.now.dependents }
     {
         let _ = &self.units;
     }
 
     /// Returns the number of requests: 10,000 at most.
     pub(crate) fn len(&self) -> u32
-        ensures size { result ≡ length self.now.shape.units }
+        ensures size { result ≡ length self.now.plan_graph.units }
         ensures small { result ≤ 10000 }
     {
         self.units.len() as u32
@@ -176,24 +176,24 @@ impl Graph {
 
     /// Returns the number of units.
     pub(crate) fn unit_count(&self) -> u32
-        ensures { result ≡ self.now.shape.unit_count }
+        ensures { result ≡ self.now.plan_graph.unit_count }
     {
         self.members.len() as u32
     }
 
     /// Returns the unit of the request at a position.
     pub(crate) fn unit_of(&self, i: u32) -> u32
-        requires { i < length self.now.shape.units }
-        ensures unit { result ≡ shapes.unit_of self.now.shape i }
-        ensures counted { result < self.now.shape.unit_count }
+        requires { i < length self.now.plan_graph.units }
+        ensures unit { result ≡ plan_graphs.unit_of self.now.plan_graph i }
+        ensures counted { result < self.now.plan_graph.unit_count }
     {
         self.units[i as usize]
     }
 
     /// Returns the positions of a unit, which are adjacent.
     pub(crate) fn members(&self, u: u32) -> Range<u32>
-        requires { u < self.now.shape.unit_count }
-        ensures span { IsSpan self.now.shape u result.start result.end }
+        requires { u < self.now.plan_graph.unit_count }
+        ensures span { IsSpan self.now.plan_graph u result.start result.end }
     {
         let (start, end) = self.members[u as usize];
         start..end
@@ -201,9 +201,9 @@ impl Graph {
 
     /// Returns what the request at a position needs.
     pub(crate) fn needs(&self, i: u32) -> &[Need]
-        requires { i < length self.now.shape.units }
-        ensures needs { result.now ≡ shapes.needs_of self.now.shape i }
-        ensures known { All (IsNeed self.now.shape) result.now }
+        requires { i < length self.now.plan_graph.units }
+        ensures needs { result.now ≡ plan_graphs.needs_of self.now.plan_graph i }
+        ensures known { All (IsNeed self.now.plan_graph) result.now }
     {
         let from = self.needs.offsets[i as usize];
         let to = self.needs.offsets[i as usize + 1];
@@ -212,34 +212,34 @@ impl Graph {
 
     /// Returns the requests that depend on a request.
     pub(crate) fn of_request(&self, i: u32) -> &[u32]
-        requires { i < length self.now.shape.units }
+        requires { i < length self.now.plan_graph.units }
         ensures row { result.now ≡ slice_index_or self.now.dependents i [] }
-        ensures within { All (λ j. j < length self.now.shape.units) result.now }
+        ensures within { All (λ j. j < length self.now.plan_graph.units) result.now }
     {
         self.dependents.row(i)
     }
 
     /// Returns the requests that depend on a unit.
     pub(crate) fn of_unit(&self, u: u32) -> &[u32]
-        requires { u < self.now.shape.unit_count }
-        ensures row { result.now ≡ slice_index_or self.now.dependents (length self.now.shape.units + u) [] }
-        ensures within { All (λ j. j < length self.now.shape.units) result.now }
+        requires { u < self.now.plan_graph.unit_count }
+        ensures row { result.now ≡ slice_index_or self.now.dependents (length self.now.plan_graph.units + u) [] }
+        ensures within { All (λ j. j < length self.now.plan_graph.units) result.now }
     {
         self.dependents.row(self.len() + u)
     }
 
     /// Returns whether a request has the same unit and the same needs in a plan.
     fn is_alike(&self, plan: &Plan<'_>, i: u32) -> bool
-        requires here { i < length self.now.shape.units }
-        requires there { i < length (shape plan.now).units }
-        ensures { IsTrue result ↔ AreAlike self.now.shape (shape plan.now) i }
+        requires here { i < length self.now.plan_graph.units }
+        requires there { i < length (plan_graph plan.now).units }
+        ensures { IsTrue result ↔ AreAlike self.now.plan_graph (plan_graph plan.now) i }
     {
         self.unit_of(i) == plan.unit_of(i) && self.needs(i) == plan.needs(i)
     }
 
     /// Returns whether these are the numbers of a plan.
     pub(crate) fn is_of(&self, plan: &Plan<'_>) -> bool
-        ensures { IsTrue result ↔ (self.now.shape ≡ shape plan.now) }
+        ensures { IsTrue result ↔ (self.now.plan_graph ≡ plan_graph plan.now) }
     {
         every_plan(plan);
         self.laws();

@@ -19,7 +19,7 @@ ghost use Rattle.odb_sched.specs.run.Refusals as refusals;
 ghost use Rattle.odb_doc.specs.recorded.Events.{EventValue};
 ghost use Rattle.odb_sched.specs.declared.event.ResolveFault.{ResolveFault};
 ghost use Rattle.odb_sched.specs.run.Resolving.{RefusesNamed};
-ghost use Rattle.odb_sched.specs.run.State.{State, size, shape, phase_at, initial};
+ghost use Rattle.odb_sched.specs.run.State.{State, size, plan_graph, phase_at, initial};
 ghost use Rattle.odb_sched.specs.run.Failing.{Fails, fails};
 ghost use Rattle.odb_sched.specs.run.Steps.{may_start, may_report, is_finished, BarsStart, IsStartCause, BarsReport, IsReportCause};
 ghost use Rattle.odb_sched.specs.run.Runs.{IsRun, state_after, phase_of, Refuses};
@@ -53,10 +53,10 @@ pub fn every_run(plan: &Plan<'_>)
 /// A request may start only once all that it names has succeeded. At a width of 10,000 no start is
 /// refused because of the width.
 pub fn every_start(plan: &Plan<'_>)
-    ensures dependencies_first { (state : State) (i : ℕ) → state.shape ≡ shape plan.now
+    ensures dependencies_first { (state : State) (i : ℕ) → state.plan_graph ≡ plan_graph plan.now
         → may_start state i ≡ true
         → HaveSucceeded (plan_records plan.now) state i }
-    ensures free { (state : State) (i : ℕ) → state.shape ≡ shape plan.now
+    ensures free { (state : State) (i : ℕ) → state.plan_graph ≡ plan_graph plan.now
         → length state.phases ≡ size state → i < size state → 10000 ≤ state.policy.width
         → ¬ IsStartCause state i WidthReached }
 {
@@ -137,10 +137,10 @@ pub fn definitions_agree(plan: &Plan<'_>)
         → IsRun plan.now policy events
         → phase_at (state_after plan.now policy events) i ≡ phase_of i events }
     ensures failing { (bad : ℕ → Bool) (u : ℕ)
-        → IsTrue (fails (shape plan.now) bad u)
-        ↔ Fails (shape plan.now) bad u }
+        → IsTrue (fails (plan_graph plan.now) bad u)
+        ↔ Fails (plan_graph plan.now) bad u }
     ensures succeeding { (statuses : ℕ → ℕ) (u : ℕ)
-        → SucceedsByMembers (shape plan.now) statuses u }
+        → SucceedsByMembers (plan_graph plan.now) statuses u }
 {
     every_plan(plan);
 }

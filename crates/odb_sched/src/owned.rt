@@ -2,7 +2,7 @@
 
 ghost use Rattle.std.specs.Prelude.{◌≡◌, ◌≢◌, ◌<◌, ◌≤◌, ◌↔◌, ℕ, [], true, false, None, All, length, slice_set, replicate, IsTrue, IsOk, IfOk, IfErr, IfSome, OnOk, OnErr};
 ghost use Rattle.odb_check.specs.Plans.{plan_records};
-ghost use Rattle.odb_check.specs.Shape.{unit_of};
+ghost use Rattle.odb_check.specs.PlanGraph.{unit_of};
 ghost use Rattle.odb_dense.specs.Lists.{ListsOnce};
 ghost use Rattle.odb_sched.specs.declared.phase.Phase.TheVariants.{Unstarted};
 ghost use Rattle.odb_sched.specs.declared.refusal.StartRefusal.TheVariants.{WidthReached};
@@ -75,7 +75,7 @@ impl OwnedRun {
 
     /// Returns a run of these numbers before its first event.
     fn of_graph(alloc: Global, graph: Graph, policy: Policy) -> Result<OwnedRun, AllocError>
-        ensures { IfOk result (λ run. run ≡ first_of graph.shape policy) }
+        ensures { IfOk result (λ run. run ≡ first_of graph.plan_graph policy) }
     {
         graph.laws();
         let counts = Counts::new(alloc, &graph, policy)?;
@@ -96,7 +96,7 @@ impl OwnedRun {
 
     /// Returns whether the numbers of the run are those of a plan.
     pub(crate) fn is_of(&self, plan: &Plan<'_>) -> bool
-        ensures { IsTrue result ↔ (self.now.shape ≡ state.shape plan.now) }
+        ensures { IsTrue result ↔ (self.now.plan_graph ≡ state.plan_graph plan.now) }
     {
         self.graph.is_of(plan)
     }
@@ -296,7 +296,7 @@ impl OwnedRun {
     /// Returns whether all members of the request's unit have succeeded.
     pub(crate) fn unit_succeeded(&self, i: u32) -> bool
         requires { i < state.size self.now }
-        ensures { result ≡ steps.unit_succeeded self.now (unit_of self.now.shape i) }
+        ensures { result ≡ steps.unit_succeeded self.now (unit_of self.now.plan_graph i) }
     {
         self.counts.progress.pending[self.graph.unit_of(i) as usize] == 0
     }

@@ -1,7 +1,7 @@
 //! What the outcome of a request changes: needs that are satisfied, units that fail.
 
 ghost use Rattle.std.specs.Prelude.{◌≡◌, ◌<◌, ◌≤◌, ◌+◌, ◌-◌, ◌==◌, ◌&&◌, ◌||◌, ◌⊎◌, ℕ, true, not, length, slice_index_or, slice_set, count_by, All};
-ghost use Rattle.odb_check.specs.Shape as shapes;
+ghost use Rattle.odb_check.specs.PlanGraph as plan_graphs;
 ghost use Rattle.odb_dense.specs.declared.worklist.Mark.TheVariants.{Unvisited};
 ghost use Rattle.odb_dense.specs.Marks.{is_marked, is_visited};
 ghost use Rattle.odb_sched.specs.declared.phase.Phase.TheVariants.{Unstarted, Running, Reported};
@@ -20,13 +20,13 @@ use odb_doc::Outcome;
 /// Counts one need of a request as satisfied. The last one makes the request ready, unless it has
 /// started or its unit has failed.
 fn satisfy(graph: &Graph, phases: &[Phase], i: u32, progress: &mut Progress)
-    requires each { length phases.now ≡ length graph.now.shape.units }
-    requires request { i < length graph.now.shape.units }
-    requires units { length progress.old.units ≡ graph.now.shape.unit_count }
+    requires each { length phases.now ≡ length graph.now.plan_graph.units }
+    requires request { i < length graph.now.plan_graph.units }
+    requires units { length progress.old.units ≡ graph.now.plan_graph.unit_count }
     requires some { 0 < slice_index_or progress.old.unmet.items i 0 }
-    requires ready { counts.AreReady graph.now.shape (counts.is_skipped graph.now.shape progress.old.units)
+    requires ready { counts.AreReady graph.now.plan_graph (counts.is_skipped graph.now.plan_graph progress.old.units)
         phases.now progress.old.unmet.items progress.old.ready }
-    ensures ready { counts.AreReady graph.now.shape (counts.is_skipped graph.now.shape progress.old.units)
+    ensures ready { counts.AreReady graph.now.plan_graph (counts.is_skipped graph.now.plan_graph progress.old.units)
         phases.now progress.new.unmet.items progress.new.ready }
     ensures unmet { progress.new.unmet.items
         ≡ slice_set progress.old.unmet.items i (slice_index_or progress.old.unmet.items i 0 - 1) }
@@ -44,16 +44,16 @@ fn satisfy(graph: &Graph, phases: &[Phase], i: u32, progress: &mut Progress)
 
 /// Counts one need of the request of each entry of a list as satisfied.
 fn satisfy_each(graph: &Graph, phases: &[Phase], list: &[u32], progress: &mut Progress)
-    requires each { length phases.now ≡ length graph.now.shape.units }
-    requires units { length progress.old.units ≡ graph.now.shape.unit_count }
-    requires within { All (λ i. i < length graph.now.shape.units) list.now }
-    requires enough { (i : ℕ) → i < length graph.now.shape.units
+    requires each { length phases.now ≡ length graph.now.plan_graph.units }
+    requires units { length progress.old.units ≡ graph.now.plan_graph.unit_count }
+    requires within { All (λ i. i < length graph.now.plan_graph.units) list.now }
+    requires enough { (i : ℕ) → i < length graph.now.plan_graph.units
         → count_by (λ j. j == i) list.now ≤ slice_index_or progress.old.unmet.items i 0 }
-    requires ready { counts.AreReady graph.now.shape (counts.is_skipped graph.now.shape progress.old.units)
+    requires ready { counts.AreReady graph.now.plan_graph (counts.is_skipped graph.now.plan_graph progress.old.units)
         phases.now progress.old.unmet.items progress.old.ready }
-    ensures ready { counts.AreReady graph.now.shape (counts.is_skipped graph.now.shape progress.old.units)
+    ensures ready { counts.AreReady graph.now.plan_graph (counts.is_skipped graph.now.plan_graph progress.old.units)
         phases.now progress.new.unmet.items progress.new.ready }
-    ensures fallen { (i : ℕ) → i < length graph.now.shape.units
+    ensures fallen { (i : ℕ) → i < length graph.now.plan_graph.units
         → slice_index_or progress.new.unmet.items i 0 + count_by (λ j. j == i) list.now
         ≡ slice_index_or progress.old.unmet.items i 0 }
     ensures rest { progress.new ≡ record progress.old { unmet = progress.new.unmet; ready = progress.new.ready } }
@@ -65,22 +65,22 @@ fn satisfy_each(graph: &Graph, phases: &[Phase], list: &[u32], progress: &mut Pr
 
 /// Counts the needs of a unit as satisfied, if all its members have succeeded.
 fn satisfy_unit(graph: &Graph, phases: &[Phase], u: u32, progress: &mut Progress)
-    requires each { length phases.now ≡ length graph.now.shape.units }
-    requires unit { u < graph.now.shape.unit_count }
-    requires units { length progress.old.units ≡ graph.now.shape.unit_count }
-    requires members { length progress.old.pending.items ≡ graph.now.shape.unit_count }
+    requires each { length phases.now ≡ length graph.now.plan_graph.units }
+    requires unit { u < graph.now.plan_graph.unit_count }
+    requires units { length progress.old.units ≡ graph.now.plan_graph.unit_count }
+    requires members { length progress.old.pending.items ≡ graph.now.plan_graph.unit_count }
     requires pending { slice_index_or progress.old.pending.items u 0
-        ≡ counts.pending_in graph.now.shape phases.now u }
-    requires enough { (i : ℕ) → i < length graph.now.shape.units
-        → counts.satisfied_by_unit graph.now.shape phases.now u i
+        ≡ counts.pending_in graph.now.plan_graph phases.now u }
+    requires enough { (i : ℕ) → i < length graph.now.plan_graph.units
+        → counts.satisfied_by_unit graph.now.plan_graph phases.now u i
         ≤ slice_index_or progress.old.unmet.items i 0 }
-    requires ready { counts.AreReady graph.now.shape (counts.is_skipped graph.now.shape progress.old.units)
+    requires ready { counts.AreReady graph.now.plan_graph (counts.is_skipped graph.now.plan_graph progress.old.units)
         phases.now progress.old.unmet.items progress.old.ready }
-    ensures ready { counts.AreReady graph.now.shape (counts.is_skipped graph.now.shape progress.old.units)
+    ensures ready { counts.AreReady graph.now.plan_graph (counts.is_skipped graph.now.plan_graph progress.old.units)
         phases.now progress.new.unmet.items progress.new.ready }
-    ensures fallen { (i : ℕ) → i < length graph.now.shape.units
+    ensures fallen { (i : ℕ) → i < length graph.now.plan_graph.units
         → slice_index_or progress.new.unmet.items i 0
-        + counts.satisfied_by_unit graph.now.shape phases.now u i
+        + counts.satisfied_by_unit graph.now.plan_graph phases.now u i
         ≡ slice_index_or progress.old.unmet.items i 0 }
     ensures rest { progress.new ≡ record progress.old { unmet = progress.new.unmet; ready = progress.new.ready } }
 {
@@ -104,11 +104,11 @@ fn count_success(u: u32, progress: &mut Progress)
 /// Handles a request that has succeeded: satisfies the needs of it, and those of its unit if it was
 /// the last of the members. `phases[i]` already holds the outcome.
 fn succeed(graph: &Graph, phases: &[Phase], i: u32, progress: &mut Progress)
-    requires each { length phases.now ≡ length graph.now.shape.units }
-    requires request { i < length graph.now.shape.units }
+    requires each { length phases.now ≡ length graph.now.plan_graph.units }
+    requires request { i < length graph.now.plan_graph.units }
     requires succeeded { state.has_succeeded (slice_index_or phases.now i Unstarted) ≡ true }
-    requires counts { counts.AreCounts graph.now.shape (slice_set phases.now i Running) progress.old }
-    ensures { counts.AreCounts graph.now.shape phases.now progress.new }
+    requires counts { counts.AreCounts graph.now.plan_graph (slice_set phases.now i Running) progress.old }
+    ensures { counts.AreCounts graph.now.plan_graph phases.now progress.new }
 {
     graph.laws();
     progress.running.remove(i);
@@ -120,12 +120,12 @@ fn succeed(graph: &Graph, phases: &[Phase], i: u32, progress: &mut Progress)
 
 /// Removes the members of a unit that has failed from the ready requests.
 fn skip_members(graph: &Graph, phases: &[Phase], u: u32, progress: &mut Progress)
-    requires unit { u < graph.now.shape.unit_count }
+    requires unit { u < graph.now.plan_graph.unit_count }
     requires visited { is_visited (slice_index_or progress.old.units u Unvisited) ≡ true }
-    requires ready { counts.AreReady graph.now.shape
-        (λ i. counts.is_skipped graph.now.shape progress.old.units i && not (shapes.unit_of graph.now.shape i == u))
+    requires ready { counts.AreReady graph.now.plan_graph
+        (λ i. counts.is_skipped graph.now.plan_graph progress.old.units i && not (plan_graphs.unit_of graph.now.plan_graph i == u))
         phases.now progress.old.unmet.items progress.old.ready }
-    ensures ready { counts.AreReady graph.now.shape (counts.is_skipped graph.now.shape progress.old.units)
+    ensures ready { counts.AreReady graph.now.plan_graph (counts.is_skipped graph.now.plan_graph progress.old.units)
         phases.now progress.new.unmet.items progress.new.ready }
     ensures rest { progress.new ≡ record progress.old { ready = progress.new.ready } }
 {
@@ -137,16 +137,16 @@ fn skip_members(graph: &Graph, phases: &[Phase], u: u32, progress: &mut Progress
 
 /// Marks the unit of each request of the list as failed.
 fn mark_units(graph: &Graph, list: &[u32], progress: &mut Progress)
-    requires units { length progress.old.units ≡ graph.now.shape.unit_count }
-    requires within { All (λ i. i < length graph.now.shape.units) list.now }
+    requires units { length progress.old.units ≡ graph.now.plan_graph.unit_count }
+    requires within { All (λ i. i < length graph.now.plan_graph.units) list.now }
     ensures marks { propagation.HaveMarked progress.old.units progress.new.units }
     ensures marked { (k : ℕ) → k < length list.now
         → is_marked (slice_index_or progress.new.units
-        (shapes.unit_of graph.now.shape (slice_index_or list.now k 0)) Unvisited) ≡ true }
+        (plan_graphs.unit_of graph.now.plan_graph (slice_index_or list.now k 0)) Unvisited) ≡ true }
     ensures only { (v : ℕ) → is_marked (slice_index_or progress.new.units v Unvisited) ≡ true
         → (is_marked (slice_index_or progress.old.units v Unvisited) ≡ true)
         ⊎ ((k : ℕ) × (k < length list.now)
-        × (shapes.unit_of graph.now.shape (slice_index_or list.now k 0) ≡ v)) }
+        × (plan_graphs.unit_of graph.now.plan_graph (slice_index_or list.now k 0) ≡ v)) }
     ensures rest { progress.new ≡ record progress.old { units = progress.new.units } }
 {
     for i in list {
@@ -156,14 +156,14 @@ fn mark_units(graph: &Graph, list: &[u32], progress: &mut Progress)
 
 /// Puts each unit that depends on a unit on the worklist.
 fn mark_dependents(graph: &Graph, u: u32, progress: &mut Progress)
-    requires units { length progress.old.units ≡ graph.now.shape.unit_count }
-    requires unit { u < graph.now.shape.unit_count }
+    requires units { length progress.old.units ≡ graph.now.plan_graph.unit_count }
+    requires unit { u < graph.now.plan_graph.unit_count }
     ensures marks { propagation.HaveMarked progress.old.units progress.new.units }
-    ensures marked { (w : ℕ) → propagation.NeedsUnit graph.now.shape w u
+    ensures marked { (w : ℕ) → propagation.NeedsUnit graph.now.plan_graph w u
         → is_marked (slice_index_or progress.new.units w Unvisited) ≡ true }
     ensures only { (v : ℕ) → is_marked (slice_index_or progress.new.units v Unvisited) ≡ true
         → (is_marked (slice_index_or progress.old.units v Unvisited) ≡ true)
-        ⊎ propagation.NeedsUnit graph.now.shape v u }
+        ⊎ propagation.NeedsUnit graph.now.plan_graph v u }
     ensures rest { progress.new ≡ record progress.old { units = progress.new.units } }
 {
     graph.laws();
@@ -176,12 +176,12 @@ fn mark_dependents(graph: &Graph, u: u32, progress: &mut Progress)
 
 /// Takes units from the worklist, and puts those that depend on them on it, until it is empty.
 fn propagate(graph: &Graph, phases: &[Phase], progress: &mut Progress)
-    requires each { length phases.now ≡ length graph.now.shape.units }
-    requires propagating { propagation.ArePropagating graph.now.shape phases.now progress.old.units }
-    requires ready { counts.AreReady graph.now.shape (counts.is_skipped graph.now.shape progress.old.units)
+    requires each { length phases.now ≡ length graph.now.plan_graph.units }
+    requires propagating { propagation.ArePropagating graph.now.plan_graph phases.now progress.old.units }
+    requires ready { counts.AreReady graph.now.plan_graph (counts.is_skipped graph.now.plan_graph progress.old.units)
         phases.now progress.old.unmet.items progress.old.ready }
-    ensures propagated { counts.ArePropagated graph.now.shape phases.now progress.new.units }
-    ensures ready { counts.AreReady graph.now.shape (counts.is_skipped graph.now.shape progress.new.units)
+    ensures propagated { counts.ArePropagated graph.now.plan_graph phases.now progress.new.units }
+    ensures ready { counts.AreReady graph.now.plan_graph (counts.is_skipped graph.now.plan_graph progress.new.units)
         phases.now progress.new.unmet.items progress.new.ready }
     ensures rest { progress.new
         ≡ record progress.old { units = progress.new.units; ready = progress.new.ready } }
@@ -196,11 +196,11 @@ fn propagate(graph: &Graph, phases: &[Phase], progress: &mut Progress)
 /// Handles a failed request: marks its unit as failed, and propagates the failure to every unit that
 /// depends on it, directly or not. `phases[i]` already holds the outcome.
 fn fail(graph: &Graph, phases: &[Phase], i: u32, progress: &mut Progress)
-    requires each { length phases.now ≡ length graph.now.shape.units }
-    requires request { i < length graph.now.shape.units }
+    requires each { length phases.now ≡ length graph.now.plan_graph.units }
+    requires request { i < length graph.now.plan_graph.units }
     requires failed { state.has_failed (slice_index_or phases.now i Unstarted) ≡ true }
-    requires counts { counts.AreCounts graph.now.shape (slice_set phases.now i Running) progress.old }
-    ensures { counts.AreCounts graph.now.shape phases.now progress.new }
+    requires counts { counts.AreCounts graph.now.plan_graph (slice_set phases.now i Running) progress.old }
+    ensures { counts.AreCounts graph.now.plan_graph phases.now progress.new }
 {
     graph.laws();
     progress.running.remove(i);
@@ -217,11 +217,11 @@ fn is_stopped(stopped: bool, policy: Policy, phase: &Phase) -> bool
 
 /// Handles the report of a request. `phases[i]` already holds the outcome.
 fn take_report(graph: &Graph, phases: &[Phase], i: u32, progress: &mut Progress)
-    requires each { length phases.now ≡ length graph.now.shape.units }
-    requires request { i < length graph.now.shape.units }
+    requires each { length phases.now ≡ length graph.now.plan_graph.units }
+    requires request { i < length graph.now.plan_graph.units }
     requires reported { state.is_reported (slice_index_or phases.now i Unstarted) ≡ true }
-    requires counts { counts.AreCounts graph.now.shape (slice_set phases.now i Running) progress.old }
-    ensures { counts.AreCounts graph.now.shape phases.now progress.new }
+    requires counts { counts.AreCounts graph.now.plan_graph (slice_set phases.now i Running) progress.old }
+    ensures { counts.AreCounts graph.now.plan_graph phases.now progress.new }
 {
     if phases[i as usize].has_succeeded() {
         succeed(graph, phases, i, progress);
@@ -235,12 +235,12 @@ impl Counts {
 
     /// Takes the outcome of a running request.
     pub(crate) fn report(&mut self, graph: &Graph, policy: Policy, i: u32, outcome: Outcome)
-        requires each { length self.old.phases.items ≡ length graph.now.shape.units }
-        requires request { i < length graph.now.shape.units }
+        requires each { length self.old.phases.items ≡ length graph.now.plan_graph.units }
+        requires request { i < length graph.now.plan_graph.units }
         requires running { state.is_running (slice_index_or self.old.phases.items i Unstarted) ≡ true }
-        requires counts { IsCounted (state_of graph.now.shape policy self.old.phases.items) self.old }
+        requires counts { IsCounted (state_of graph.now.plan_graph policy self.old.phases.items) self.old }
         ensures phases { self.new.phases.items ≡ slice_set self.old.phases.items i (Reported outcome) }
-        ensures counts { IsCounted (state_of graph.now.shape policy self.new.phases.items) self.new }
+        ensures counts { IsCounted (state_of graph.now.plan_graph policy self.new.phases.items) self.new }
     {
         self.put(i, Phase::Reported(outcome));
         take_report(graph, &self.phases, i, &mut self.progress);

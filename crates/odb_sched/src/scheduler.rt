@@ -2,7 +2,7 @@
 
 ghost use Rattle.std.specs.Prelude.{◌≡◌, ◌≢◌, ◌<◌, ◌≤◌, ◌↔◌, ℕ, true, false, List, Some, length, slice_set, replicate, IsTrue, IsOk, IfOk, IfErr, IfSome, OnOk, OnErr, None, All};
 ghost use Rattle.odb_check.specs.Plans.{plan_records};
-ghost use Rattle.odb_check.specs.Shape.{unit_of};
+ghost use Rattle.odb_check.specs.PlanGraph.{unit_of};
 ghost use Rattle.odb_sched.specs.declared.policy.Mode.TheVariants as modes;
 ghost use Rattle.odb_sched.specs.declared.refusal.StartRefusal.TheVariants.{WidthReached};
 ghost use Rattle.odb_dense.specs.Lists.{ListsOnce};
@@ -82,7 +82,7 @@ impl<'p> Scheduler<'p> {
     ///
     /// The run, unchanged, if its numbers are not those of the plan.
     pub fn of<'a: 'p>(plan: &'p Plan<'a>, run: OwnedRun) -> Result<Scheduler<'p>, OwnedRun>
-        ensures allowed { IsOk result ↔ (run.shape ≡ state.shape plan.now) }
+        ensures allowed { IsOk result ↔ (run.plan_graph ≡ state.plan_graph plan.now) }
         ensures state { IfOk result (λ scheduler. scheduler
             ≡ state.with_requests (plan_records plan.now) run) }
         ensures back { IfErr result (λ back. back ≡ run) }
@@ -192,7 +192,7 @@ impl<'p> Scheduler<'p> {
     /// Returns the plan of the run.
     pub(crate) fn plan(&self) -> &'p Plan<'p>
         ensures plan { plan_records result.now ≡ self.now.requests }
-        ensures shape { state.shape result.now ≡ self.now.shape }
+        ensures plan_graph { state.plan_graph result.now ≡ self.now.plan_graph }
         ensures size { state.size self.now ≡ length self.now.requests }
     {
         self.plan
@@ -209,7 +209,7 @@ impl<'p> Scheduler<'p> {
     /// Returns whether all members of the request's unit have succeeded.
     pub(crate) fn unit_succeeded(&self, i: u32) -> bool
         requires { i < state.size self.now }
-        ensures { result ≡ steps.unit_succeeded self.now (unit_of self.now.shape i) }
+        ensures { result ≡ steps.unit_succeeded self.now (unit_of self.now.plan_graph i) }
     {
         self.run.unit_succeeded(i)
     }

@@ -31,12 +31,12 @@ done_written ended text left W Q so (Some x) (bytes, gives, is) = λ done. (byte
 
 -- ---- one reading
 
-module _ {X F Y D : Type 0} (shown : X → Y) (Good : D → Type 0) (Says : D → Y → Type 0) (Num : F → Type 0) (Refuses : F → D → Type 0) where
+module _ {X F Y D : Type 0} (shown : X → Y) (Good : D → Type 0) (ReadsAs : D → Y → Type 0) (Num : F → Type 0) (Refuses : F → D → Type 0) where
   -- how a call reads the thing
   abbrev pub Reads : D → Result X F → Type 0
-  Reads d = IsReading (λ x. Good d × Says d (shown x)) (λ f. Num f × Refuses f d)
+  Reads d = IsReading (λ x. Good d × ReadsAs d (shown x)) (λ f. Num f × Refuses f d)
 
-  pub one_reading : ((d : D) (x y : Y) → Says d x → Says d y → x ≡ y) → ((d : D) (f g : F) → Num f → Num g → Refuses f d → Refuses g d → f ≡ g)
+  pub one_reading : ((d : D) (x y : Y) → ReadsAs d x → ReadsAs d y → x ≡ y) → ((d : D) (f g : F) → Num f → Num g → Refuses f d → Refuses g d → f ≡ g)
       → ((d : D) (f : F) → Num f → Refuses f d → ¬ Good d) → (d : D) (a b : Option (Result X F))
       → IfSome a (Reads d) → IfSome b (Reads d) → IfSome a (λ one. IfSome b (IsSame shown one))
   one_reading same one none d None b _ _ = tt
@@ -50,18 +50,18 @@ module _ {X F Y D : Type 0} (shown : X → Y) (Good : D → Type 0) (Says : D �
 one_value : (bytes : List ℕ) (d e : Data) → IsDocument bytes d → IsDocument bytes e → d ≡ e
 one_value bytes d e first second = ap (λ o. unwrap_or o d) (sym first.1.1 ∙ second.1.1)
 
-module _ {X F Y : Type 0} (shown : X → Y) (Good : Data → Type 0) (Says : Data → Y → Type 0) (Num : F → Type 0) (Refuses : F → Data → Type 0) where
+module _ {X F Y : Type 0} (shown : X → Y) (Good : Data → Type 0) (ReadsAs : Data → Y → Type 0) (Num : F → Type 0) (Refuses : F → Data → Type 0) where
   -- how a call reads the bytes of a document
   abbrev ReadsBytes : List ℕ → Result X F → Type 0
-  ReadsBytes bytes read = HasValue bytes (λ d. Reads shown Good Says Num Refuses d read)
+  ReadsBytes bytes read = HasValue bytes (λ d. Reads shown Good ReadsAs Num Refuses d read)
 
-  pub one_reading_of_bytes : ((d : Data) (x y : Y) → Says d x → Says d y → x ≡ y) → ((d : Data) (f g : F) → Num f → Num g → Refuses f d → Refuses g d → f ≡ g)
+  pub one_reading_of_bytes : ((d : Data) (x y : Y) → ReadsAs d x → ReadsAs d y → x ≡ y) → ((d : Data) (f g : F) → Num f → Num g → Refuses f d → Refuses g d → f ≡ g)
       → ((d : Data) (f : F) → Num f → Refuses f d → ¬ Good d) → (bytes : List ℕ) (a b : Option (Result X F))
       → IfSome a (ReadsBytes bytes) → IfSome b (ReadsBytes bytes) → IfSome a (λ one. IfSome b (IsSame shown one))
   one_reading_of_bytes same one none bytes None b _ _ = tt
   one_reading_of_bytes same one none bytes (Some a) None _ _ = tt
   one_reading_of_bytes same one none bytes (Some a) (Some b) p q =
-      one_reading shown Good Says Num Refuses same one none q.value (Some a) (Some b) (subst (λ d. Reads shown Good Says Num Refuses d a) (one_value bytes p.value q.value p.document q.document) p.holds) q.holds
+      one_reading shown Good ReadsAs Num Refuses same one none q.value (Some a) (Some b) (subst (λ d. Reads shown Good ReadsAs Num Refuses d a) (one_value bytes p.value q.value p.document q.document) p.holds) q.holds
 
 -- what holds of each such thing holds of what a call finds
 pub of_found : {X : Type 0} (P Q : X → Type 0) → ((x : X) → P x → Q x) → (a : Option X) → IfSome a P → IfSome a Q

@@ -5,15 +5,15 @@ ghost use Rattle.std.specs.Prelude.{◌≡◌, false};
 ghost use Rattle.odb_engine.specs.Inputs.{IsFresh};
 
 mod devices;
+mod disposal;
 mod embedding;
 mod failures;
 mod reads;
-mod remains;
 
 use odb_check::Seed;
 use odb_doc::{Input, Output};
 use odb_engine::{
-    Ended, EngineFault, Remains, Setup, canon_batch, canon_batch_with, check_batch,
+    Disposal, Ended, EngineFault, Setup, canon_batch, canon_batch_with, check_batch,
     check_batch_with, match_batch, match_batch_with, plan_batch, plan_batch_with, replay_batch,
     replay_batch_with, run_batch, run_batch_with,
 };
@@ -129,7 +129,7 @@ fn called_with<R: Read, S: Read, W: Write>(
 /// Calls the engine of a command: without a setup if what it reads is dropped, else with a seed.
 fn called<R: Read, S: Read, W: Write>(
     alloc: Global,
-    how: (Command, Remains),
+    how: (Command, Disposal),
     batch: &mut Input<R>,
     second: &mut Input<S>,
     output: &mut Output<W>,
@@ -138,12 +138,12 @@ fn called<R: Read, S: Read, W: Write>(
     requires second { IsFresh second.old }
     requires output { output.old.failed ≡ false }
 {
-    let (command, remains) = how;
-    match remains {
-        Remains::Dropped => called_plainly(alloc, command, batch, second, output),
-        Remains::Left => {
+    let (command, disposal) = how;
+    match disposal {
+        Disposal::Drop => called_plainly(alloc, command, batch, second, output),
+        Disposal::Leak => {
             let seed = Seed::new(7);
-            let setup = Setup { seed, remains };
+            let setup = Setup { seed, disposal };
             called_with(alloc, (command, setup), batch, second, output)
         }
     }

@@ -1,8 +1,8 @@
 //! Proved callers of the laws of each crate: their premises are met by what the public calls ensure.
 
-mod checking;
+mod checks;
 mod documents;
 mod engines;
 mod orders;
-mod replying;
-mod running;
+mod replies;
+mod runs;

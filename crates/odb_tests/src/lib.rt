@@ -6,7 +6,7 @@
 #![tactic(auto)]
 
 #[cfg(test)]
-mod checking;
+mod checks;
 #[cfg(test)]
 mod documents;
 #[cfg(test)]
@@ -16,6 +16,6 @@ mod laws;
 #[cfg(test)]
 mod messages;
 #[cfg(test)]
-mod replying;
+mod replies;
 #[cfg(test)]
-mod running;
+mod runs;

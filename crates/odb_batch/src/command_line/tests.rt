@@ -1,3 +1,5 @@
+//! Lists of arguments, and what each asks for.
+
 use super::{BadArguments, Form, Replay, Run, Task, Text};
 use clap::error::ErrorKind;
 use std::alloc::{AllocError, Global};

@@ -1,3 +1,5 @@
+//! The explanations of the faults of a batch document, generated from docs/faults.md.
+
 // Generated from docs/faults.md by tools/faults.py --write; do not edit.
 //! The faults of the document and the form of its requests.
 

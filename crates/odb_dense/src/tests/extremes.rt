@@ -4,7 +4,7 @@
 ghost use Rattle.std.specs.Prelude.{◌≡◌, ◌<◌, length};
 
 use super::BOUND;
-use crate::OrderedPositions;
+use crate::MinMaxSet;
 use std::alloc::{AllocError, Global};
 use std::process::Abort;
 use std::test::Fail;
@@ -164,7 +164,7 @@ fn within(rt: &impl Abort, i: u32)
 }
 
 /// Takes one step of a story with this name, and compares what it returns.
-fn take(rt: &impl Abort, set: &mut OrderedPositions, name: &str, at: usize, step: Step)
+fn take(rt: &impl Abort, set: &mut MinMaxSet, name: &str, at: usize, step: Step)
     requires { length set.old ≡ 6 }
     ensures { length set.new ≡ 6 }
 {
@@ -193,7 +193,7 @@ fn take(rt: &impl Abort, set: &mut OrderedPositions, name: &str, at: usize, step
 }
 
 /// Takes the steps of a story with this name.
-fn takes(rt: &impl Abort, set: &mut OrderedPositions, name: &str, steps: &[Step])
+fn takes(rt: &impl Abort, set: &mut MinMaxSet, name: &str, steps: &[Step])
     requires { length set.old ≡ 6 }
     ensures { length set.new ≡ 6 }
 {
@@ -205,14 +205,14 @@ fn takes(rt: &impl Abort, set: &mut OrderedPositions, name: &str, steps: &[Step]
 #[test]
 fn returns_the_least_and_the_greatest(rt: HostRuntime) -> Result<(), Fail> {
     for (name, steps) in STORIES {
-        let mut set = OrderedPositions::new(rt.alloc(), BOUND)?;
+        let mut set = MinMaxSet::new(rt.alloc(), BOUND)?;
         takes(&rt, &mut set, name, steps);
     }
     Ok(())
 }
 
 /// Puts a number in, asks for both ends, and takes it out.
-fn is_alone(rt: &impl Abort, set: &mut OrderedPositions, i: u32)
+fn is_alone(rt: &impl Abort, set: &mut MinMaxSet, i: u32)
     requires { i < length set.old }
     ensures { length set.new ≡ length set.old }
 {
@@ -225,7 +225,7 @@ fn is_alone(rt: &impl Abort, set: &mut OrderedPositions, i: u32)
 
 /// Goes through the numbers below a bound, from both ends in turn, with one at a time in the set.
 fn goes_to_and_fro(rt: &impl Abort, alloc: Global, bound: u32) -> Result<(), AllocError> {
-    let mut set = OrderedPositions::new(alloc, bound)?;
+    let mut set = MinMaxSet::new(alloc, bound)?;
     for i in 0..bound {
         is_alone(rt, &mut set, i);
         is_alone(rt, &mut set, bound - 1 - i);
@@ -249,7 +249,7 @@ fn walks_through_no_numbers(rt: HostRuntime) -> Result<(), Fail> {
 }
 
 /// Whether the set has 1 and 4, in any order, and no other number.
-fn has_1_and_4(set: &OrderedPositions) -> bool
+fn has_1_and_4(set: &MinMaxSet) -> bool
     requires { length set.now ≡ 6 }
 {
     let mut right = set.len() == 2 && !set.is_empty();
@@ -271,21 +271,21 @@ const ASKED: &[Step] = &[
 
 #[test]
 fn has_what_was_put_in_after_its_ends_were_asked_for(rt: HostRuntime) -> Result<(), Fail> {
-    let mut set = OrderedPositions::new(rt.alloc(), BOUND)?;
+    let mut set = MinMaxSet::new(rt.alloc(), BOUND)?;
     takes(&rt, &mut set, "what is in it", ASKED);
     assert!(rt; has_1_and_4(&set));
     Ok(())
 }
 
 /// Whether the set has no number, by each of its calls.
-fn has_none(set: &mut OrderedPositions) -> bool {
+fn has_none(set: &mut MinMaxSet) -> bool {
     let ends = set.least().or(set.greatest());
     ends.is_none() && set.is_empty() && set.as_slice().is_empty()
 }
 
 #[test]
 fn is_empty_below_a_bound_of_0(rt: HostRuntime) -> Result<(), Fail> {
-    let mut set = OrderedPositions::new(rt.alloc(), 0)?;
+    let mut set = MinMaxSet::new(rt.alloc(), 0)?;
     assert!(rt; has_none(&mut set));
     Ok(())
 }

@@ -6,7 +6,7 @@ use Rattle.odb_doc.specs.declared.fault.RequestRule.{RequestRule}
 use Rattle.odb_doc.specs.declared.fault.DocFault.{DocFault}
 use Rattle.odb_doc.specs.declared.fault.DocFault.TheVariants as faults
 use Rattle.odb_doc.specs.Faults.{document_number, request_number}
-use Rattle.odb_doc.specs.LeastRules.{IsLeast, BreaksAt, AreSound, IsFirst}
+use Rattle.odb_doc.specs.LeastRules.{IsLeast, BreaksAt, NoneBroken, IsFirst}
 use Rattle.odb_doc.specs.batch.Shapes.{BreaksDocument, BreaksRequest, elements}
 
 -- no rule of the document is broken
@@ -19,7 +19,7 @@ BreaksRequestAt ds = BreaksAt (λ rule before d. BreaksRequest rule d) ds
 
 -- the document has no fault of shape
 abbrev pub IsWellShaped : Data → Type 0
-IsWellShaped d = IsBatchObject d × AreSound (BreaksRequestAt (elements d))
+IsWellShaped d = IsBatchObject d × NoneBroken (BreaksRequestAt (elements d))
 
 -- the rule is broken, and none with a smaller number is
 abbrev pub IsLeastDocumentRule : Data → DocumentRule → Type 0

@@ -36,7 +36,7 @@ record_of r = record {
 }
 
 -- the element reads as this request
-pub record Says (d : Data) (r : Record) : Type 0 where
+pub record ReadsAs (d : Data) (r : Record) : Type 0 where
   pub id : HasId d r.id
   pub method : HasMethod d r.method
   pub url : url_of d ≡ Some r.url
@@ -48,11 +48,11 @@ pub record Says (d : Data) (r : Record) : Type 0 where
 
 -- what holds of each request of a batch: its identifier and its group have the form of identifiers, and
 -- no name is in `dependsOn` twice
-pub record IsSoundRecord (r : Record) : Type 0 where
+pub record IsWellFormedRecord (r : Record) : Type 0 where
   pub id : IsRequestId r.id
   pub group : IfSome r.group IsRequestId
   pub names : IsDistinct bytes_eq r.names
 
 -- the elements of the document read as these requests, one by one
 abbrev pub IsBatchOf : Data → List Record → Type 0
-IsBatchOf d rs = AllZip Says (elements d) rs
+IsBatchOf d rs = AllZip ReadsAs (elements d) rs

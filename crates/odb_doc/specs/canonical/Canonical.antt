@@ -8,7 +8,7 @@ use Rattle.odb_names.specs.Methods.{method_name}
 use Rattle.odb_doc.specs.Headers.{Header}
 use Rattle.odb_doc.specs.canonical.HeldValues.{IsHeld}
 use Rattle.odb_doc.specs.batch.Records.{Record}
-use Rattle.odb_doc.specs.WholeNumbers as whole
+use Rattle.odb_doc.specs.WholeNumbers as whole_numbers
 
 -- the array of these names, if there are any
 abbrev pub names_value : List (List ℕ) → Option Data
@@ -61,8 +61,8 @@ HasHeldBodies rs = (i : ℕ) → i < length rs → IfSome (body_at rs i) IsHeld
 
 -- each number in the bodies is whole
 abbrev pub HasWholeBodies : List Record → Type 0
-HasWholeBodies rs = whole.HasWholeBodies (length rs) (body_at rs)
+HasWholeBodies rs = whole_numbers.HasWholeBodies (length rs) (body_at rs)
 
 -- the first request whose body holds a number that is not whole
 abbrev pub IsFirstNotWhole : List Record → ℕ → Type 0
-IsFirstNotWhole rs at = whole.IsFirstNotWhole (length rs) (body_at rs) at
+IsFirstNotWhole rs at = whole_numbers.IsFirstNotWhole (length rs) (body_at rs) at

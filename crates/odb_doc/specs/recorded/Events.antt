@@ -57,7 +57,7 @@ event_value (named.Start id) = Start (string_bytes id)
 event_value (named.Report id outcome) = Report (string_bytes id) outcome
 
 -- the element has no `start` and reads as this report
-pub record SaysReport (d : Data) (id : List ℕ) (outcome : Outcome) : Type 0 where
+pub record ReadsAsReport (d : Data) (id : List ℕ) (outcome : Outcome) : Type 0 where
   pub reports : get (codes "start") d ≡ None
   pub names : text_at (codes "report") d ≡ Some id
   pub status : status_of d ≡ Some (unsigned outcome.status)
@@ -65,13 +65,13 @@ pub record SaysReport (d : Data) (id : List ℕ) (outcome : Outcome) : Type 0 wh
   pub body : body_of d ≡ outcome.body
 
 -- the element reads as this event
-abbrev pub Says : Data → EventValue → Type 0
-Says d (Start id) = text_at (codes "start") d ≡ Some id
-Says d (Report id outcome) = SaysReport d id outcome
+abbrev pub ReadsAs : Data → EventValue → Type 0
+ReadsAs d (Start id) = text_at (codes "start") d ≡ Some id
+ReadsAs d (Report id outcome) = ReadsAsReport d id outcome
 
 -- the elements of the document read as these events, one by one
 abbrev pub AreEventsOf : Data → List EventValue → Type 0
-AreEventsOf d events = AllZip Says (elements d) events
+AreEventsOf d events = AllZip ReadsAs (elements d) events
 
 -- the body of what is reported
 abbrev pub event_body : EventValue → Option Data
@@ -84,5 +84,5 @@ IsRecordableEvent (Start id) = Unit {0}
 IsRecordableEvent (Report id outcome) = IsRecordable outcome
 
 -- what holds of each event that was read: the body of a report holds whole numbers alone
-pub record IsSoundEvent (event : EventValue) : Type 0 where
+pub record IsWellFormedEvent (event : EventValue) : Type 0 where
   pub whole : IfSome (event_body event) IsWhole

@@ -10,7 +10,7 @@ use Rattle.odb_doc.specs.declared.recorded.event_fault.EventFault.TheVariants as
 use Rattle.odb_doc.specs.batch.Bodies.{body_of}
 use Rattle.odb_doc.specs.recorded.EventFaults.{rule_number}
 use Rattle.odb_doc.specs.recorded.Events.{IsEvent, IsEventsObject, IsReport, elements}
-use Rattle.odb_doc.specs.LeastRules.{BreaksAt, AreSound, IsFirst}
+use Rattle.odb_doc.specs.LeastRules.{BreaksAt, NoneBroken, IsFirst}
 use Rattle.odb_doc.specs.WholeNumbers.{IsWhole}
 
 -- a report whose body holds a number that is not whole
@@ -34,7 +34,7 @@ IsLeastEventRule ds at rule = IsFirst rule_number (BreaksEventAt ds) at rule
 
 -- no rule is broken anywhere
 abbrev pub AreEvents : List Data → Type 0
-AreEvents ds = AreSound (BreaksEventAt ds)
+AreEvents ds = NoneBroken (BreaksEventAt ds)
 
 -- a document of events without a fault
 abbrev pub IsEventsDocument : Data → Type 0

@@ -7,7 +7,7 @@ use Rattle.odb_doc.specs.declared.recorded.outcome_fault.OutcomeRule.TheVariants
 use Rattle.odb_doc.specs.declared.recorded.outcome_fault.OutcomeFault.{OutcomeFault}
 use Rattle.odb_doc.specs.declared.recorded.outcome_fault.OutcomeFault.TheVariants as faults
 use Rattle.odb_doc.specs.batch.Bodies.{body_of}
-use Rattle.odb_doc.specs.LeastRules.{BreaksAt, AreSound, IsFirst}
+use Rattle.odb_doc.specs.LeastRules.{BreaksAt, NoneBroken, IsFirst}
 use Rattle.odb_doc.specs.recorded.OutcomeFaults.{rule_number}
 use Rattle.odb_doc.specs.recorded.Outcomes.{IsOutcomesObject, IsOutcomeObject, IsStatus, elements, id_of, status_of, ids}
 use Rattle.odb_doc.specs.WholeNumbers.{IsWhole}
@@ -29,7 +29,7 @@ IsLeastOutcomeRule ds at rule = IsFirst rule_number (BreaksOutcomeAt ds) at rule
 
 -- no rule is broken anywhere
 abbrev pub AreOutcomes : List Data → Type 0
-AreOutcomes ds = AreSound (BreaksOutcomeAt ds)
+AreOutcomes ds = NoneBroken (BreaksOutcomeAt ds)
 
 -- a document of outcomes without a fault
 abbrev pub IsOutcomesDocument : Data → Type 0

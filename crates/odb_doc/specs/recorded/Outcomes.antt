@@ -60,7 +60,7 @@ abbrev pub recorded : String Global × Outcome → Recorded
 recorded entry = (string_bytes entry.0, entry.1)
 
 -- the element reads as this id and this outcome
-pub record Says (d : Data) (entry : Recorded) : Type 0 where
+pub record ReadsAs (d : Data) (entry : Recorded) : Type 0 where
   pub id : id_of d ≡ Some entry.0
   pub status : status_of d ≡ Some (unsigned entry.1.status)
   pub headers : HasHeaders d entry.1.headers
@@ -68,9 +68,9 @@ pub record Says (d : Data) (entry : Recorded) : Type 0 where
 
 -- the elements of the document read as these outcomes, one by one
 abbrev pub AreOutcomesOf : Data → List Recorded → Type 0
-AreOutcomesOf d entries = AllZip Says (elements d) entries
+AreOutcomesOf d entries = AllZip ReadsAs (elements d) entries
 
 -- what holds of each outcome that was read: its status is from 200 to 599, and its body holds whole numbers alone
-pub record IsSoundOutcome (entry : Recorded) : Type 0 where
+pub record IsWellFormedOutcome (entry : Recorded) : Type 0 where
   pub status : IsTrue (is_status entry.1.status)
   pub whole : IfSome entry.1.body IsWhole

@@ -1,3 +1,5 @@
+//! The body of a request, and the rules on when it may have one and of which kind.
+
 ghost use Rattle.std.specs.Prelude.{◌≡◌, ◌↔◌, IsTrue, OnOk, IfOk, IfErr, option_map};
 ghost use Rattle.serde_json.specs.View.{view};
 ghost use Rattle.odb_doc.specs.batch.Bodies.{body_of, content_type};
@@ -62,7 +64,7 @@ pub(crate) fn body_of<'a>(
     requires below { BreaksNoneBefore rules.BodyNotAllowed (view element.now) }
     requires method { HasMethod (view element.now) method }
     requires headers { HasHeaders (view element.now) (headers_in headers.now) }
-    ensures sound { OnOk result (BreaksNoneBefore rules.NestedBatch (view element.now)) }
+    ensures unbroken { OnOk result (BreaksNoneBefore rules.NestedBatch (view element.now)) }
     ensures body { IfOk result (λ body. option_map (λ value. view value.now) body
         ≡ body_of (view element.now)) }
     ensures first { IfErr result (OnRule (IsLeastRequestRule (view element.now))) }

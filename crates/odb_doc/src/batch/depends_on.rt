@@ -1,3 +1,5 @@
+//! The names in `dependsOn`, each once.
+
 ghost use Rattle.std.specs.Prelude.{◌≡◌, Some, None, IfOk, IfErr, OnOk, option_map};
 ghost use Rattle.serde_json.specs.View.{view, items_view};
 ghost use Rattle.odb_doc.specs.declared.fault.RequestRule.TheVariants as rules;
@@ -49,7 +51,7 @@ pub(crate) fn read_names<'a>(
     element: &'a Value,
 ) -> Result<Vec<&'a str>, Broken<RequestRule>>
     requires { BreaksNoneBefore rules.BadDependsOn (view element.now) }
-    ensures sound { OnOk result (BreaksNoneBefore rules.BadHeaders (view element.now)) }
+    ensures unbroken { OnOk result (BreaksNoneBefore rules.BadHeaders (view element.now)) }
     ensures names { IfOk result (λ names. option_map distinct (listed_names (view element.now))
         ≡ Some (texts_in names.items)) }
     ensures first { IfErr result (OnRule (IsLeastRequestRule (view element.now))) }

@@ -1,3 +1,5 @@
+//! The id, method, group and URL of a request.
+
 ghost use Rattle.std.specs.Prelude.{◌≡◌, ℕ, List, Option, MatchOption, IfOk, IfErr, OnOk, OnErr, option_map};
 ghost use Rattle.serde_json.specs.View.{view};
 ghost use Rattle.odb_names.specs.declared.method.Method.{Method};
@@ -57,7 +59,7 @@ impl<'a> RequestLine<'a> {
     /// Reads the line of an element of `requests`, or returns the first of the rules F10 to F16 that
     /// it breaks.
     pub(crate) fn read(element: &'a Value) -> Result<Self, RequestRule>
-        ensures sound { OnOk result (BreaksNoneBefore rules.BadDependsOn (view element.now)) }
+        ensures unbroken { OnOk result (BreaksNoneBefore rules.BadDependsOn (view element.now)) }
         ensures line { IfOk result (IsLineOf (view element.now)) }
         ensures first { IfErr result (IsLeastRequestRule (view element.now)) }
     {

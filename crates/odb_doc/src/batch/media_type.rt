@@ -1,3 +1,5 @@
+//! The media type of a `Content-Type` header, without its parameters.
+
 ghost use Rattle.std.specs.Prelude.{◌≡◌, ◌≤◌, ◌<◌, ◌-◌, ℕ, true, false, List, length, slice_index, IfOk};
 ghost use Rattle.std.specs.Str.{str_to_ascii_lowercase};
 ghost use Rattle.odb_names.specs.Runs.{SplitsRun};

@@ -1,3 +1,5 @@
+//! The request that a URL refers to.
+
 ghost use Rattle.std.specs.Prelude.{◌≡◌, Some, option_map, string_bytes, IfOk, IfErr, OnOk};
 ghost use Rattle.serde_json.specs.Data.{Data};
 ghost use Rattle.odb_names.specs.Fronts.{HasFront, bad};
@@ -16,7 +18,7 @@ use std::alloc::Global;
 /// that it breaks.
 pub(crate) fn reference_of(alloc: Global, url: &str) -> Result<Option<String>, Broken<RequestRule>>
     ensures plain { OnOk result (¬ IsNestedBatch url.now) }
-    ensures sound { OnOk result (¬ HasFront url.now bad) }
+    ensures unbroken { OnOk result (¬ HasFront url.now bad) }
     ensures refers { IfOk result (λ id. RefersTo url.now (option_map string_bytes id)) }
     ensures first { IfErr result (λ broken. (d : Data) → BreaksNoneBefore rules.NestedBatch d
         → url_of d ≡ Some url.now → OnRule (IsLeastRequestRule d) broken) }

@@ -1,3 +1,5 @@
+//! A request of a batch.
+
 ghost use Rattle.std.specs.Prelude.{IfOk, IfErr, OnOk, bytes_eq};
 ghost use Rattle.std.specs.List.{IsDistinct};
 ghost use Rattle.std.specs.Option.{ForSome};
@@ -47,12 +49,12 @@ pub struct Request<'a> {
 }
 
 impl<'a> Request<'a> {
-    ghost use Rattle.odb_doc.specs.batch.Records.{Says, record_of};
+    ghost use Rattle.odb_doc.specs.batch.Records.{ReadsAs, record_of};
 
     /// Reads an element of `requests`, or returns the first rule that it breaks.
     pub(crate) fn read(alloc: Global, element: &'a Value) -> Result<Self, Broken<RequestRule>>
-        ensures sound { OnOk result (IsRequestObject (view element.now)) }
-        ensures says { IfOk result (λ r. Says (view element.now) (record_of r)) }
+        ensures object { OnOk result (IsRequestObject (view element.now)) }
+        ensures says { IfOk result (λ r. ReadsAs (view element.now) (record_of r)) }
         ensures first { IfErr result (OnRule (IsLeastRequestRule (view element.now))) }
     {
         let line = RequestLine::read(element)?;

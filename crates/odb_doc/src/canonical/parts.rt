@@ -1,7 +1,9 @@
+//! The canonical text of one request.
+
 ghost use Rattle.std.specs.Prelude.{◌≡◌, ◌<◌, ◌+◌, ◌++◌, false, codes, length, string_bytes, OnOk};
 ghost use Rattle.odb_doc.specs.batch.Batches.{records};
 ghost use Rattle.odb_doc.specs.canonical.Canonical.{HasWholeBodies, names_value};
-ghost use Rattle.odb_doc.specs.canonical.CanonicalParts as parts;
+ghost use Rattle.odb_doc.specs.canonical.CanonicalParts as canonical_parts;
 ghost use Rattle.odb_doc.specs.Texts.{member_part};
 ghost use Rattle.odb_doc.specs.batch.Names.{texts_in};
 
@@ -13,7 +15,7 @@ use std::alloc::{AllocError, Global};
 /// Appends the texts as the elements of an array, the end of the array, and a comma.
 fn push_elements(alloc: Global, text: &mut String, elements: &[&str]) -> Result<(), AllocError>
     ensures { OnOk result (string_bytes text.new ≡ string_bytes text.old
-        ++ (parts.names_left false (texts_in elements.now) ++ codes ",")) }
+        ++ (canonical_parts.names_left false (texts_in elements.now) ++ codes ",")) }
 {
     for k in 0..elements.len() {
         push_if(text, k > 0, ",")?;
@@ -43,7 +45,7 @@ fn push_end(
     url: &str,
 ) -> Result<(), AllocError>
     ensures { OnOk result (string_bytes text.new ≡ string_bytes text.old
-        ++ parts.end_part id.now method url.now) }
+        ++ canonical_parts.end_part id.now method url.now) }
 {
     text.push_str("\"id\":")?;
     push_quoted(alloc, text, id)?;
@@ -63,8 +65,8 @@ pub(crate) fn push_request(
 ) -> Result<(), AllocError>
     requires request { i < length (records batch.now) }
     requires whole { HasWholeBodies (records batch.now) }
-    ensures { OnOk result (string_bytes text.old ++ parts.requests_left (records batch.now) i
-        ≡ string_bytes text.new ++ parts.requests_left (records batch.now) (i + 1)) }
+    ensures { OnOk result (string_bytes text.old ++ canonical_parts.requests_left (records batch.now) i
+        ≡ string_bytes text.new ++ canonical_parts.requests_left (records batch.now) (i + 1)) }
 {
     let request = batch.request(i);
     push_open(text, i > 0)?;

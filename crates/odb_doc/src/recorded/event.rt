@@ -1,3 +1,5 @@
+//! A recorded event: a start, or a report with its outcome.
+
 ghost use Rattle.std.specs.Prelude.{◌≡◌, IfSome, MatchOption, IfOk, IfErr, OnOk, None, Some, option_map, codes, string_bytes};
 ghost use Rattle.serde_json.specs.Data.{Data, unsigned};
 ghost use Rattle.serde_json.specs.Find.{get};
@@ -5,7 +7,7 @@ ghost use Rattle.serde_json.specs.View.{view, number_view};
 ghost use Rattle.odb_doc.specs.declared.recorded.event_fault.EventRule.{EventRule};
 ghost use Rattle.odb_doc.specs.BrokenRules.{OnRule};
 ghost use Rattle.odb_doc.specs.recorded.RawOutcomes.{IsReportOf, IsLeastBrokenEvent};
-ghost use Rattle.odb_doc.specs.recorded.Events.{IsReportedStatus, IsSoundEvent, IsStart, Says, event_value};
+ghost use Rattle.odb_doc.specs.recorded.Events.{IsReportedStatus, IsWellFormedEvent, IsStart, ReadsAs, event_value};
 ghost use Rattle.odb_doc.specs.recorded.LeastEventFault.{BreaksEvent};
 ghost use Rattle.odb_doc.specs.Members as members;
 ghost use Rattle.odb_doc.specs.WholeNumbers.{IsWhole};
@@ -51,7 +53,7 @@ fn start_of(element: &mut Value) -> Option<String>
 fn status_in(raw: &RawOutcome) -> Result<u16, EventRule>
     ensures status { IfOk result (λ code. number_view raw.now.status ≡ unsigned code) }
     ensures whole { OnOk result (IfSome (option_map view raw.now.body) IsWhole) }
-    ensures sound { OnOk result ((d : Data) → IsReportOf d raw.now
+    ensures unbroken { OnOk result ((d : Data) → IsReportOf d raw.now
         → (rule : EventRule) → ¬ BreaksEvent rule d) }
     ensures first { IfErr result (λ rule. (d : Data) → IsReportOf d raw.now
         → IsLeastBrokenEvent d rule) }
@@ -69,9 +71,9 @@ fn status_in(raw: &RawOutcome) -> Result<u16, EventRule>
 /// Reads an element without a `start`, moving its values out, or returns the rule that it breaks.
 fn read_report(alloc: Global, element: &mut Value) -> Result<NamedEvent, Broken<EventRule>>
     requires { get (codes "start") (view element.old) ≡ None }
-    ensures sound { OnOk result ((rule : EventRule) → ¬ BreaksEvent rule (view element.old)) }
-    ensures says { IfOk result (λ event. Says (view element.old) (event_value event)) }
-    ensures fit { IfOk result (λ event. IsSoundEvent (event_value event)) }
+    ensures unbroken { OnOk result ((rule : EventRule) → ¬ BreaksEvent rule (view element.old)) }
+    ensures says { IfOk result (λ event. ReadsAs (view element.old) (event_value event)) }
+    ensures well_formed { IfOk result (λ event. IsWellFormedEvent (event_value event)) }
     ensures first { IfErr result (OnRule (IsLeastBrokenEvent (view element.old))) }
 {
     let bad = EventRule::BadEvents;
@@ -90,9 +92,9 @@ pub(crate) fn read_event(
     alloc: Global,
     element: &mut Value,
 ) -> Result<NamedEvent, Broken<EventRule>>
-    ensures sound { OnOk result ((rule : EventRule) → ¬ BreaksEvent rule (view element.old)) }
-    ensures says { IfOk result (λ event. Says (view element.old) (event_value event)) }
-    ensures fit { IfOk result (λ event. IsSoundEvent (event_value event)) }
+    ensures unbroken { OnOk result ((rule : EventRule) → ¬ BreaksEvent rule (view element.old)) }
+    ensures says { IfOk result (λ event. ReadsAs (view element.old) (event_value event)) }
+    ensures well_formed { IfOk result (λ event. IsWellFormedEvent (event_value event)) }
     ensures first { IfErr result (OnRule (IsLeastBrokenEvent (view element.old))) }
 {
     if element.get("start").is_none() {

@@ -1,9 +1,11 @@
-ghost use Rattle.std.specs.Prelude.{◌≡◌, ◌<◌, length, slice_get, Some, map, IfOk, IfErr, OnOk, OnErr, All};
+//! A document of recorded events.
+
+ghost use Rattle.std.specs.Prelude.{◌==◌, ◌≡◌, ◌<◌, length, slice_get, Some, map, IfOk, IfErr, OnOk, OnErr, All};
 ghost use Rattle.std.specs.List.{AllZip};
 ghost use Rattle.std.proofs.Props.{props};
 ghost use Rattle.serde_json.specs.View.{view};
 ghost use Rattle.odb_doc.specs.declared.recorded.event_fault.EventFault.TheVariants as faults;
-ghost use Rattle.odb_doc.specs.recorded.Events.{AreEventsOf, IsEventsObject, IsSoundEvent, Says, elements, event_value};
+ghost use Rattle.odb_doc.specs.recorded.Events.{AreEventsOf, IsEventsObject, IsWellFormedEvent, ReadsAs, elements, event_value};
 ghost use Rattle.odb_doc.specs.BrokenRules.{OnPlace};
 ghost use Rattle.odb_doc.specs.recorded.LeastEventFault.{AreEvents, IsEventsDocument, IsLeastEventRule, RefusesEvents};
 ghost use Rattle.odb_doc.specs.recorded.RawOutcomes.{event_fault};
@@ -12,7 +14,7 @@ use crate::broken::Broken;
 use crate::member::Object;
 use crate::recorded::event::{NamedEvent, read_event};
 use crate::recorded::event_fault::{EventFault, EventRule};
-use crate::recorded::outcomes::Leftovers;
+use crate::recorded::outcomes::Husk;
 use serde_json::Value;
 use std::alloc::Global;
 
@@ -20,7 +22,7 @@ use std::alloc::Global;
 #[derive(Debug, Drop)]
 pub struct Events {
     entries: Vec<NamedEvent>,
-    ghost sound: { All IsSoundEvent (map event_value entries.items) } by { Prim.hlevel props },
+    ghost well_formed: { All IsWellFormedEvent (map event_value entries.items) } by { Prim.hlevel props },
 }
 
 impl From<Broken<(usize, EventRule)>> for EventFault {
@@ -39,10 +41,10 @@ fn events_from(
     alloc: Global,
     elements: &mut Vec<Value>,
 ) -> Result<Vec<NamedEvent>, Broken<(usize, EventRule)>>
-    ensures sound { OnOk result (AreEvents (map view elements.old.items)) }
-    ensures says { IfOk result (λ found. AllZip Says (map view elements.old.items)
+    ensures unbroken { OnOk result (AreEvents (map view elements.old.items)) }
+    ensures says { IfOk result (λ found. AllZip ReadsAs (map view elements.old.items)
         (map event_value found.items)) }
-    ensures fit { IfOk result (λ found. All IsSoundEvent (map event_value found.items)) }
+    ensures well_formed { IfOk result (λ found. All IsWellFormedEvent (map event_value found.items)) }
     ensures first { IfErr result (OnPlace (IsLeastEventRule (map view elements.old.items))) }
     ensures some { OnErr result (0 < length elements.old.items) }
 {
@@ -88,7 +90,7 @@ impl Events {
     /// # Errors
     ///
     /// Those of [`Events::read`]. Nothing remains of the document then.
-    pub fn split(alloc: Global, document: Value) -> Result<(Events, Leftovers), EventFault>
+    pub fn split(alloc: Global, document: Value) -> Result<(Events, Husk), EventFault>
         ensures good { OnOk result (IsEventsDocument (view document)) }
         ensures events { IfOk result (λ parts. AreEventsOf (view document) (entries parts.0)) }
         ensures least { IfErr result (λ fault. RefusesEvents fault (view document)) }
@@ -99,22 +101,29 @@ impl Events {
             return Err(EventFault::Document);
         };
         let entries = events_from(alloc, &mut elements)?;
-        Ok((Events { entries }, Leftovers { elements }))
+        Ok((Events { entries }, Husk { elements }))
     }
 
     /// Returns how many events there are.
     pub fn len(&self) -> usize
         ensures count { result ≡ length (entries self.now) }
-        ensures sound { All IsSoundEvent (entries self.now) }
+        ensures well_formed { All IsWellFormedEvent (entries self.now) }
     {
         self.entries.len()
+    }
+
+    /// Returns whether there are no events.
+    pub fn is_empty(&self) -> bool
+        ensures { result ≡ (length (entries self.now) == 0) }
+    {
+        self.entries.is_empty()
     }
 
     /// Returns the event at a position, counted from 0.
     pub fn entry(&self, k: usize) -> &NamedEvent
         requires { k < length (entries self.now) }
         ensures value { slice_get (entries self.now) k ≡ Some (event_value result.now) }
-        ensures sound { IsSoundEvent (event_value result.now) }
+        ensures well_formed { IsWellFormedEvent (event_value result.now) }
     {
         &self.entries[k]
     }
@@ -122,7 +131,7 @@ impl Events {
     /// Returns the events in the order of the document. It takes no memory.
     pub fn into_vec(self) -> Vec<NamedEvent>
         ensures value { map event_value result.items ≡ entries self }
-        ensures sound { All IsSoundEvent (entries self) }
+        ensures well_formed { All IsWellFormedEvent (entries self) }
     {
         let Events { entries } = self;
         entries

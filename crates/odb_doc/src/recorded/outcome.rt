@@ -1,3 +1,5 @@
+//! An outcome: a status, and where it has them headers and a body.
+
 ghost use Rattle.std.specs.Prelude.{◌≡◌, ℕ, List, false, bytes_eq, codes, string_bytes, option_map, option_and_then, MatchOption, IfOk, IfErr};
 ghost use Rattle.std.specs.BTreeMap.{get_by_text};
 ghost use Rattle.serde_json.specs.Find.{as_str, as_number};

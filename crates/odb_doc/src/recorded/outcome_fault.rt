@@ -1,3 +1,5 @@
+//! The rules of a document of recorded outcomes, and where one is broken.
+
 ghost use Rattle.std.specs.Prelude.{◌≡◌};
 ghost use Rattle.odb_doc.specs.recorded.OutcomeFaults.{outcome_row};
 

@@ -1,4 +1,6 @@
-ghost use Rattle.std.specs.Prelude.{◌≡◌, ◌++◌, ◌∷◌, ◌<◌, ℕ, List, length, slice_get, Some, [], false, not, map, option_map, string_bytes, bytes_eq, IfSome, MatchOption, IfOk, IfErr, OnOk, OnErr, All};
+//! A document of recorded outcomes, by id.
+
+ghost use Rattle.std.specs.Prelude.{◌==◌, ◌≡◌, ◌++◌, ◌∷◌, ◌<◌, ℕ, List, length, slice_get, Some, [], false, not, map, option_map, string_bytes, bytes_eq, IfSome, MatchOption, IfOk, IfErr, OnOk, OnErr, All};
 ghost use Rattle.std.specs.List.{AllZip, IsDistinct, list_any};
 ghost use Rattle.std.specs.Map.{keys_of};
 ghost use Rattle.std.proofs.Props.{props};
@@ -9,7 +11,7 @@ ghost use Rattle.odb_doc.specs.declared.recorded.outcome_fault.OutcomeFault.TheV
 ghost use Rattle.odb_doc.specs.BrokenRules.{OnPlace, OnRule};
 ghost use Rattle.odb_doc.specs.recorded.LeastOutcomeFault.{AreOutcomes, BreaksOutcome, IsLeastOutcomeRule, IsOutcomesDocument, RefusesOutcomes};
 ghost use Rattle.odb_doc.specs.recorded.RawOutcomes.{IsLeastBroken, IsRawOutcomeOf, outcome_fault, IsWatched};
-ghost use Rattle.odb_doc.specs.recorded.Outcomes.{AreOutcomesOf, IsOutcomesObject, IsStatus, IsSoundOutcome, Says, elements, ids, recorded};
+ghost use Rattle.odb_doc.specs.recorded.Outcomes.{AreOutcomesOf, IsOutcomesObject, IsStatus, IsWellFormedOutcome, ReadsAs, elements, ids, recorded};
 ghost use Rattle.odb_doc.specs.WholeNumbers.{IsWhole};
 
 use crate::broken::Broken;
@@ -28,13 +30,13 @@ use std::alloc::Global;
 pub struct Outcomes {
     entries: Vec<(String, Outcome)>,
     ghost apart: { IsDistinct bytes_eq (keys_of (map recorded entries.items)) } by { Prim.hlevel props },
-    ghost sound: { All IsSoundOutcome (map recorded entries.items) } by { Prim.hlevel props },
+    ghost well_formed: { All IsWellFormedOutcome (map recorded entries.items) } by { Prim.hlevel props },
 }
 
 /// The hollowed-out JSON that remains after reading. Dropping it is slow for large documents; a
 /// program about to exit can leak it instead.
 #[derive(Drop)]
-pub struct Leftovers {
+pub struct Husk {
     pub(crate) elements: Vec<Value>,
 }
 
@@ -49,7 +51,7 @@ fn status_of(status: Number) -> Option<u16>
 
 /// Returns the status of the outcome, or the first of the rules F61 to F63 that it breaks.
 fn status_in(seen: &mut SeenIds, raw: &RawOutcome) -> Result<u16, Broken<OutcomeRule>>
-    ensures sound { OnOk result ((d : Data) (before rest : List (List ℕ)) → IsRawOutcomeOf d raw.now
+    ensures unbroken { OnOk result ((d : Data) (before rest : List (List ℕ)) → IsRawOutcomeOf d raw.now
         → IsWatched seen.old before (string_bytes raw.now.id ∷ rest)
         → (rule : OutcomeRule) → ¬ BreaksOutcome rule before d) }
     ensures status { IfOk result (λ code. IsStatus (number_view raw.now.status)
@@ -84,11 +86,11 @@ fn read_outcome(
     seen: &mut SeenIds,
     element: &mut Value,
 ) -> Result<(String, Outcome), Broken<OutcomeRule>>
-    ensures sound { OnOk result ((before : List (List ℕ)) (rest : List Data)
+    ensures unbroken { OnOk result ((before : List (List ℕ)) (rest : List Data)
         → IsWatched seen.old before (ids (view element.old ∷ rest))
         → (rule : OutcomeRule) → ¬ BreaksOutcome rule before (view element.old)) }
-    ensures says { IfOk result (λ entry. Says (view element.old) (recorded entry)) }
-    ensures fit { IfOk result (λ entry. IsSoundOutcome (recorded entry)) }
+    ensures says { IfOk result (λ entry. ReadsAs (view element.old) (recorded entry)) }
+    ensures well_formed { IfOk result (λ entry. IsWellFormedOutcome (recorded entry)) }
     ensures is_new { IfOk result (λ entry. (before : List (List ℕ)) (rest : List Data)
         → IsWatched seen.old before (ids (view element.old ∷ rest))
         → list_any (bytes_eq (string_bytes entry.0)) before ≡ false) }
@@ -121,12 +123,12 @@ fn outcomes_from(
     alloc: Global,
     elements: &mut Vec<Value>,
 ) -> Result<Vec<(String, Outcome)>, Broken<(usize, OutcomeRule)>>
-    ensures sound { OnOk result (AreOutcomes (map view elements.old.items)) }
-    ensures says { IfOk result (λ found. AllZip Says (map view elements.old.items)
+    ensures unbroken { OnOk result (AreOutcomes (map view elements.old.items)) }
+    ensures says { IfOk result (λ found. AllZip ReadsAs (map view elements.old.items)
         (map recorded found.items)) }
     ensures apart { IfOk result (λ found. IsDistinct bytes_eq
         (keys_of (map recorded found.items))) }
-    ensures fit { IfOk result (λ found. All IsSoundOutcome (map recorded found.items)) }
+    ensures well_formed { IfOk result (λ found. All IsWellFormedOutcome (map recorded found.items)) }
     ensures first { IfErr result (OnPlace (IsLeastOutcomeRule (map view elements.old.items))) }
     ensures some { OnErr result (0 < length elements.old.items) }
 {
@@ -175,7 +177,7 @@ impl Outcomes {
     /// # Errors
     ///
     /// Those of [`Outcomes::read`]. Nothing remains of the document then.
-    pub fn split(alloc: Global, document: Value) -> Result<(Outcomes, Leftovers), OutcomeFault>
+    pub fn split(alloc: Global, document: Value) -> Result<(Outcomes, Husk), OutcomeFault>
         ensures good { OnOk result (IsOutcomesDocument (view document)) }
         ensures outcomes { IfOk result (λ parts. AreOutcomesOf (view document) (entries parts.0)) }
         ensures least { IfErr result (λ fault. RefusesOutcomes fault (view document)) }
@@ -186,23 +188,30 @@ impl Outcomes {
             return Err(OutcomeFault::Document);
         };
         let entries = outcomes_from(alloc, &mut elements)?;
-        Ok((Outcomes { entries }, Leftovers { elements }))
+        Ok((Outcomes { entries }, Husk { elements }))
     }
 
     /// Returns how many outcomes there are.
     pub fn len(&self) -> usize
         ensures count { result ≡ length (entries self.now) }
         ensures apart { IsDistinct bytes_eq (keys_of (entries self.now)) }
-        ensures sound { All IsSoundOutcome (entries self.now) }
+        ensures well_formed { All IsWellFormedOutcome (entries self.now) }
     {
         self.entries.len()
+    }
+
+    /// Returns whether there are no outcomes.
+    pub fn is_empty(&self) -> bool
+        ensures { result ≡ (length (entries self.now) == 0) }
+    {
+        self.entries.is_empty()
     }
 
     /// Returns the id and the outcome at a position, counted from 0.
     pub fn entry(&self, k: usize) -> (&str, &Outcome)
         requires { k < length (entries self.now) }
         ensures value { slice_get (entries self.now) k ≡ Some (result.0.now, result.1.now) }
-        ensures sound { IsSoundOutcome (result.0.now, result.1.now) }
+        ensures well_formed { IsWellFormedOutcome (result.0.now, result.1.now) }
     {
         let entry = &self.entries[k];
         (entry.0.as_str(), &entry.1)
@@ -212,7 +221,7 @@ impl Outcomes {
     pub fn into_vec(self) -> Vec<(String, Outcome)>
         ensures value { map recorded result.items ≡ entries self }
         ensures apart { IsDistinct bytes_eq (keys_of (entries self)) }
-        ensures sound { All IsSoundOutcome (entries self) }
+        ensures well_formed { All IsWellFormedOutcome (entries self) }
     {
         let Outcomes { entries } = self;
         entries

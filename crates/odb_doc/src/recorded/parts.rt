@@ -1,3 +1,5 @@
+//! An outcome that a caller makes of its parts.
+
 ghost use Rattle.std.specs.Prelude.{◌≡◌, Ok, None, option_map, IfOk, IfSome};
 ghost use Rattle.serde_json.specs.View.{view};
 ghost use Rattle.odb_doc.specs.recorded.Parts.{AreNoParts, HasParts};

@@ -6,7 +6,7 @@ use Rattle.odb_dense.specs.Marks.{is_marked, is_visited}
 use Rattle.odb_check.specs.declared.need.Need.{Need}
 use Rattle.odb_check.specs.declared.need.Need.TheVariants.{One, Group}
 use Rattle.odb_check.specs.Firsts.{count_below, list_below}
-use Rattle.odb_check.specs.Shape.{Shape, unit_of, needs_of}
+use Rattle.odb_check.specs.PlanGraph.{PlanGraph, unit_of, needs_of}
 use Rattle.odb_sched.specs.declared.phase.Phase.{Phase}
 use Rattle.odb_sched.specs.declared.phase.Phase.TheVariants.{Unstarted}
 use Rattle.odb_sched.specs.declared.counts.Progress.{Progress}
@@ -15,43 +15,43 @@ use Rattle.odb_sched.specs.run.Steps.{succeeded_in, satisfied_in, failed_in}
 use Rattle.odb_sched.specs.invariants.Graphs.{need_count}
 
 -- how many needs of a request are not satisfied
-abbrev pub unmet_in : Shape → List Phase → ℕ → ℕ
+abbrev pub unmet_in : PlanGraph → List Phase → ℕ → ℕ
 unmet_in plan phases i = count_by (λ need. not (satisfied_in plan phases need)) (needs_of plan i)
 
 -- how many needs of a request a unit satisfies
-abbrev pub satisfied_by_unit : Shape → List Phase → ℕ → ℕ → ℕ
+abbrev pub satisfied_by_unit : PlanGraph → List Phase → ℕ → ℕ → ℕ
 satisfied_by_unit plan phases u i = if succeeded_in plan phases u then need_count plan (length plan.units + u) i else 0
 
 -- of each request, how many of its needs are not satisfied
-abbrev pub AreUnmet : Shape → List Phase → List ℕ → Type 0
+abbrev pub AreUnmet : PlanGraph → List Phase → List ℕ → Type 0
 AreUnmet plan phases unmet = (i : ℕ) → i < length plan.units → slice_index_or unmet i 0 ≡ unmet_in plan phases i
 
 -- how many members of a unit have not reported a success
-abbrev pub pending_in : Shape → List Phase → ℕ → ℕ
+abbrev pub pending_in : PlanGraph → List Phase → ℕ → ℕ
 pending_in plan phases u = count_below (length plan.units) (λ i. (unit_of plan i == u) && not (has_succeeded (slice_index_or phases i Unstarted)))
 
 -- of each unit, how many members have not reported a success
-abbrev pub ArePending : Shape → List Phase → List ℕ → Type 0
+abbrev pub ArePending : PlanGraph → List Phase → List ℕ → Type 0
 ArePending plan phases pending = (u : ℕ) → u < plan.unit_count → slice_index_or pending u 0 ≡ pending_in plan phases u
 
 -- whether the unit of a request was taken from the worklist
-abbrev pub is_skipped : Shape → List Mark → ℕ → Bool
+abbrev pub is_skipped : PlanGraph → List Mark → ℕ → Bool
 is_skipped plan units i = is_visited (slice_index_or units (unit_of plan i) Unvisited)
 
 -- the set has the requests that are unstarted, are not skipped and have no unmet need
-pub record AreReady (plan : Shape) (skipped : ℕ → Bool) (phases : List Phase) (unmet : List ℕ) (ready : List Bool) : Type 0 where
+pub record AreReady (plan : PlanGraph) (skipped : ℕ → Bool) (phases : List Phase) (unmet : List ℕ) (ready : List Bool) : Type 0 where
   pub counted : length unmet ≡ length plan.units
   pub each : length ready ≡ length plan.units
   pub exact : (i : ℕ) → i < length plan.units → slice_index_or ready i false ≡ (is_unstarted (slice_index_or phases i Unstarted) && not (skipped i) && (slice_index_or unmet i 0 == 0))
 
 -- the units that have failed were taken from the worklist, and no others were ever on it
-pub record ArePropagated (plan : Shape) (phases : List Phase) (units : List Mark) : Type 0 where
+pub record ArePropagated (plan : PlanGraph) (phases : List Phase) (units : List Mark) : Type 0 where
   pub each : length units ≡ plan.unit_count
   pub failed : (u : ℕ) → u < plan.unit_count → is_visited (slice_index_or units u Unvisited) ≡ failed_in plan phases u
   pub marked : (u : ℕ) → is_marked (slice_index_or units u Unvisited) ≡ is_visited (slice_index_or units u Unvisited)
 
 -- the counts are those of the requests in these phases
-pub record AreCounts (plan : Shape) (phases : List Phase) (t : Progress) : Type 0 where
+pub record AreCounts (plan : PlanGraph) (phases : List Phase) (t : Progress) : Type 0 where
   pub unmet : AreUnmet plan phases t.unmet.items
   pub members : length t.pending.items ≡ plan.unit_count
   pub pending : ArePending plan phases t.pending.items
@@ -60,17 +60,17 @@ pub record AreCounts (plan : Shape) (phases : List Phase) (t : Progress) : Type 
   pub running : t.running ≡ map is_running phases
 
 -- how many needs a request has
-abbrev pub needs_in : Shape → ℕ → ℕ
+abbrev pub needs_in : PlanGraph → ℕ → ℕ
 needs_in plan i = length (needs_of plan i)
 
 -- how many members a unit has
-abbrev pub members_in : Shape → ℕ → ℕ
+abbrev pub members_in : PlanGraph → ℕ → ℕ
 members_in plan u = count_below (length plan.units) (λ i. unit_of plan i == u)
 
 -- of each request, how many needs it has
-abbrev pub need_counts : Shape → List ℕ
+abbrev pub need_counts : PlanGraph → List ℕ
 need_counts plan = list_below (length plan.units) (needs_in plan)
 
 -- of each unit, how many members it has
-abbrev pub member_counts : Shape → List ℕ
+abbrev pub member_counts : PlanGraph → List ℕ
 member_counts plan = list_below plan.unit_count (members_in plan)

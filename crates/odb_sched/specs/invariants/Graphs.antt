@@ -2,28 +2,28 @@
 use Rattle.std.specs.Prelude.{◌≡◌, ℕ, suc, ◌<◌, ◌≤◌, ◌+◌, List, length, slice_index, slice_index_or, slice_range, map, ◌==◌, [], count_by, All}
 use Rattle.odb_check.specs.declared.need.Need.{Need}
 use Rattle.odb_check.specs.Firsts.{list_below, joined_below}
-use Rattle.odb_check.specs.Shape.{Shape, IsPlan, IsSpan, unit_of, needs_of}
+use Rattle.odb_check.specs.PlanGraph.{PlanGraph, IsPlan, IsSpan, unit_of, needs_of}
 use Rattle.odb_sched.specs.declared.graph.Graph.TheInside.{Inside}
 use Rattle.odb_check.specs.declared.need.Need.TheVariants.{One, Group}
 
 -- the key of what is needed: a position, or a unit, whose keys come after those of all positions
-abbrev pub key_of : Shape → Need → ℕ
+abbrev pub key_of : PlanGraph → Need → ℕ
 key_of plan (One r) = r
 key_of plan (Group u) = length plan.units + u
 
 -- how often a request needs what has this key
-abbrev pub need_count : Shape → ℕ → ℕ → ℕ
+abbrev pub need_count : PlanGraph → ℕ → ℕ → ℕ
 need_count plan key i = count_by (λ need. key_of plan need == key) (needs_of plan i)
 
 -- the row of each key has each request as often as it needs what has the key
-pub record AreDependents (plan : Shape) (rows : List (List ℕ)) : Type 0 where
+pub record AreDependents (plan : PlanGraph) (rows : List (List ℕ)) : Type 0 where
   pub each : length rows ≡ length plan.units + plan.unit_count
   pub within : (key : ℕ) → key < length rows → All (λ i. i < length plan.units) (slice_index_or rows key [])
   pub exact : (key i : ℕ) → key < length rows → i < length plan.units → count_by (λ j. j == i) (slice_index_or rows key []) ≡ need_count plan key i
 
 -- the units and needs, and the requests that depend on each request and on each unit
 pub record Numbers : Type 0 where
-  pub shape : Shape
+  pub plan_graph : PlanGraph
   pub dependents : List (List ℕ)
 
 -- the part of a list that begins at one offset and ends at the next
@@ -31,7 +31,7 @@ abbrev pub part_at : List Need → List ℕ → ℕ → List Need
 part_at list offsets i = slice_range list (slice_index offsets i) (slice_index offsets (i + 1))
 
 -- each unit has the positions from one number up to another
-abbrev pub AreSpans : Shape → List (ℕ × ℕ) → Type 0
+abbrev pub AreSpans : PlanGraph → List (ℕ × ℕ) → Type 0
 AreSpans plan members = (u : ℕ) → u < plan.unit_count → IsSpan plan u (slice_index_or members u (0, 0)).0 (slice_index_or members u (0, 0)).1
 
 -- the offsets ascend, and end within the list
@@ -41,32 +41,32 @@ pub record AreOffsets (n : ℕ) (list : List Need) (offsets : List ℕ) : Type 0
   pub within : (i : ℕ) → i < n → slice_index offsets (i + 1) ≤ length list
 
 -- the needs of each request are its part of the list
-pub record AreParts (plan : Shape) (list : List Need) (offsets : List ℕ) : Type 0 where
+pub record AreParts (plan : PlanGraph) (list : List Need) (offsets : List ℕ) : Type 0 where
   pub offsets_are : AreOffsets (length plan.units) list offsets
   pub parts : (i : ℕ) → i < length plan.units → part_at list offsets i ≡ needs_of plan i
 
 -- a request has the same unit and the same needs in two plans
-abbrev pub AreAlike : Shape → Shape → ℕ → Type 0
+abbrev pub AreAlike : PlanGraph → PlanGraph → ℕ → Type 0
 AreAlike plan other i = (unit_of plan i ≡ unit_of other i) × (needs_of plan i ≡ needs_of other i)
 
 -- the units and needs that these lists keep
-abbrev pub shape_kept : Inside → Shape
-shape_kept g = record { units = g.units.items; unit_count = length g.members.items; needs = list_below (length g.units.items) (part_at g.needs.list.items g.needs.offsets.items) }
+abbrev pub plan_graph_kept : Inside → PlanGraph
+plan_graph_kept g = record { units = g.units.items; unit_count = length g.members.items; needs = list_below (length g.units.items) (part_at g.needs.list.items g.needs.offsets.items) }
 
 abbrev pub numbers_of : Inside → Numbers
-numbers_of g = record { shape = shape_kept g; dependents = g.dependents }
+numbers_of g = record { plan_graph = plan_graph_kept g; dependents = g.dependents }
 
 -- they are those of a plan
 pub record IsGraph (g : Inside) : Type 0 where
-  pub order : IsPlan (shape_kept g)
-  pub spans : AreSpans (shape_kept g) g.members.items
+  pub order : IsPlan (plan_graph_kept g)
+  pub spans : AreSpans (plan_graph_kept g) g.members.items
   pub offsets : AreOffsets (length g.units.items) g.needs.list.items g.needs.offsets.items
-  pub dependents : AreDependents (shape_kept g) g.dependents
+  pub dependents : AreDependents (plan_graph_kept g) g.dependents
 
 -- a pair for each need of a request
-abbrev pub need_pairs : Shape → ℕ → List (ℕ × ℕ)
+abbrev pub need_pairs : PlanGraph → ℕ → List (ℕ × ℕ)
 need_pairs plan i = map (λ need. (key_of plan need, i)) (needs_of plan i)
 
 -- those of all requests, in order
-abbrev pub all_pairs : Shape → List (ℕ × ℕ)
+abbrev pub all_pairs : PlanGraph → List (ℕ × ℕ)
 all_pairs plan = joined_below (length plan.units) (need_pairs plan)

@@ -1,11 +1,11 @@
 -- What a run keeps from one event to the next, and what holds of every state that it reaches.
 use Rattle.std.specs.Prelude.{List, [], length, replicate, ◌≡◌, ℕ, ◌<◌, ◌≤◌, true, false}
-use Rattle.odb_check.specs.Shape.{Shape, IsPlan}
-pub use Rattle.odb_check.specs.Shape.{IsSpan, IsNeed}
+use Rattle.odb_check.specs.PlanGraph.{PlanGraph, IsPlan}
+pub use Rattle.odb_check.specs.PlanGraph.{IsSpan, IsNeed}
 use Rattle.odb_sched.specs.declared.policy.Policy.{Policy}
 use Rattle.odb_sched.specs.declared.phase.Phase.{Phase}
 use Rattle.odb_sched.specs.declared.phase.Phase.TheVariants.{Unstarted}
-use Rattle.odb_sched.specs.run.State.{State, is_unstarted, size, phase_at, shape, with_requests}
+use Rattle.odb_sched.specs.run.State.{State, is_unstarted, size, phase_at, plan_graph, with_requests}
 use Rattle.odb_sched.specs.run.Steps.{all_satisfied, running_count, is_stopped, is_finished}
 use Rattle.odb_sched.specs.run.Answers.{HasStatuses}
 use Rattle.odb_sched.specs.declared.counts.Counts.{Counts}
@@ -16,16 +16,16 @@ use Rattle.odb_sched.specs.declared.done.Done.TheInside as done
 use Rattle.odb_sched.specs.invariants.Counts.{AreCounts}
 
 -- the state, without its requests, of a run of this plan under this policy, with these phases
-abbrev pub state_of : Shape → Policy → List Phase → State
-state_of plan policy phases = record { requests = []; shape = plan; policy = policy; phases = phases }
+abbrev pub state_of : PlanGraph → Policy → List Phase → State
+state_of plan policy phases = record { requests = []; plan_graph = plan; policy = policy; phases = phases }
 
 -- before any event
-abbrev pub first_of : Shape → Policy → State
+abbrev pub first_of : PlanGraph → Policy → State
 first_of plan policy = state_of plan policy (replicate (length plan.units) Unstarted)
 
 -- what holds of a state before any event, and after each event that may come
 pub record IsReached (state : State) : Type 0 where
-  pub laws : IsPlan state.shape
+  pub laws : IsPlan state.plan_graph
   pub each : length state.phases ≡ size state
   -- no more requests run than the width allows
   pub narrow : running_count state ≤ state.policy.width
@@ -35,12 +35,12 @@ pub record IsReached (state : State) : Type 0 where
 
 -- the counts and the stop are those of the state
 pub record IsCounted (state : State) (counted : Counts) : Type 0 where
-  pub counts : AreCounts state.shape state.phases counted.progress
+  pub counts : AreCounts state.plan_graph state.phases counted.progress
   pub stopped : counted.stopped ≡ is_stopped state
 
 -- the state of a run, of no requests
 abbrev pub kept_state : Inside → State
-kept_state s = state_of s.graph.shape s.policy s.counts.phases.items
+kept_state s = state_of s.graph.plan_graph s.policy s.counts.phases.items
 
 -- what a run keeps
 pub record IsKept (s : Inside) : Type 0 where
@@ -53,7 +53,7 @@ planned_state s = with_requests (plan_records s.plan.now) s.run
 
 -- the numbers of the run are those of the plan
 abbrev pub IsOfPlan : scheduler.Inside → Type 0
-IsOfPlan s = s.run.shape ≡ shape s.plan.now
+IsOfPlan s = s.run.plan_graph ≡ plan_graph s.plan.now
 
 -- the state in which a run has ended, and what a finished run keeps
 abbrev pub last_state : done.Inside → State

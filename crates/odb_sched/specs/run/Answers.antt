@@ -1,7 +1,7 @@
 -- What the requests of a finished run are answered (OData JSON Format 4.01, section 19.5).
 use Rattle.std.specs.Prelude.{ℕ, ◌≡◌, ◌&&◌, Bool, false, not, List, Option, Some, None, is_none, IsTrue, if◌then◌else◌}
 use Rattle.odb_doc.specs.declared.recorded.outcome.Outcome.{Outcome}
-use Rattle.odb_check.specs.Shape.{unit_of}
+use Rattle.odb_check.specs.PlanGraph.{unit_of}
 use Rattle.odb_sched.specs.declared.phase.Phase.{Phase}
 use Rattle.odb_sched.specs.declared.phase.Phase.TheVariants.{Unstarted, Running, Reported}
 use Rattle.odb_sched.specs.declared.done.Answer.{Answer}
@@ -28,7 +28,7 @@ abbrev pub reported : State → ℕ → Option Outcome
 reported state i = outcome_of (phase_at state i)
 
 abbrev pub answer : State → ℕ → Option Outcome
-answer state i = answer_of (phase_at state i) (unit_succeeded state (unit_of state.shape i))
+answer state i = answer_of (phase_at state i) (unit_succeeded state (unit_of state.plan_graph i))
 
 -- reported 200 to 299, and is answered 424
 abbrev pub is_undone : State → ℕ → Bool

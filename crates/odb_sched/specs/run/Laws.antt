@@ -4,7 +4,7 @@ use Rattle.odb_doc.specs.batch.Records.{Record}
 use Rattle.odb_doc.specs.declared.recorded.outcome.Outcome.{Outcome}
 use Rattle.odb_check.specs.declared.need.Need.{Need}
 use Rattle.odb_check.specs.declared.need.Need.TheVariants.{One, Group}
-use Rattle.odb_check.specs.Shape.{Shape, unit_of, needs_of}
+use Rattle.odb_check.specs.PlanGraph.{PlanGraph, unit_of, needs_of}
 use Rattle.odb_check.specs.Positions.{id_at, group_at, names_at, reference_at}
 use Rattle.odb_sched.specs.declared.phase.Phase.TheVariants.{Reported}
 use Rattle.odb_sched.specs.declared.event.Event.{Event}
@@ -62,32 +62,32 @@ AgreesInStatus state statuses = (i : ℕ) (outcome : Outcome) → i < size state
 -- Which requests are answered with a success depends on the statuses alone: exactly those whose unit succeeds under them.
 abbrev pub HasResultByStatuses : State → Type 0
 HasResultByStatuses state = (statuses : ℕ → ℕ) → AgreesInStatus state statuses → (i : ℕ) → i < size state
-    → IsTrue (is_answered_2xx (answer state i)) ↔ IsTrue (succeeds state.shape statuses (unit_of state.shape i))
+    → IsTrue (is_answered_2xx (answer state i)) ↔ IsTrue (succeeds state.plan_graph statuses (unit_of state.plan_graph i))
 
 -- a request is answered with a success exactly when its unit succeeds under the table, and then with the table's outcome
 abbrev pub HasOneResult : State → Type 0
 HasOneResult state = (table : ℕ → Outcome) → Agrees state table → (i : ℕ) → i < size state
-    → (IsTrue (is_answered_2xx (answer state i)) ↔ IsTrue (succeeds state.shape (statuses_of table) (unit_of state.shape i)))
+    → (IsTrue (is_answered_2xx (answer state i)) ↔ IsTrue (succeeds state.plan_graph (statuses_of table) (unit_of state.plan_graph i)))
     × (IsTrue (is_answered_2xx (answer state i)) → answer state i ≡ Some (table i))
 
 -- a request that is answered with a success belongs to a unit that succeeds under the table, and has the table's outcome
 abbrev pub AgreesWithTable : State → Type 0
 AgreesWithTable state = (table : ℕ → Outcome) → Agrees state table → (i : ℕ) → i < size state → IsTrue (is_answered_2xx (answer state i))
-    → IsTrue (succeeds state.shape (statuses_of table) (unit_of state.shape i)) × (answer state i ≡ Some (table i))
+    → IsTrue (succeeds state.plan_graph (statuses_of table) (unit_of state.plan_graph i)) × (answer state i ≡ Some (table i))
 
 -- the requests of a unit are all answered with a success, or none is
 abbrev pub IsAllOrNone : State → Type 0
-IsAllOrNone state = (i j : ℕ) → i < size state → j < size state → unit_of state.shape i ≡ unit_of state.shape j
+IsAllOrNone state = (i j : ℕ) → i < size state → j < size state → unit_of state.plan_graph i ≡ unit_of state.plan_graph j
     → IsTrue (is_answered_2xx (answer state i)) → IsTrue (is_answered_2xx (answer state j))
 
 -- what is answered with a success needs only what is answered with a success
 abbrev pub RestsOnSuccesses : State → Type 0
 RestsOnSuccesses state = (i : ℕ) → i < size state → IsTrue (is_answered_2xx (answer state i))
-    → ((r : ℕ) → Contains (needs_of state.shape i) (One r) → IsTrue (is_answered_2xx (answer state r)))
-    × ((u j : ℕ) → Contains (needs_of state.shape i) (Group u) → j < size state → unit_of state.shape j ≡ u → IsTrue (is_answered_2xx (answer state j)))
+    → ((r : ℕ) → Contains (needs_of state.plan_graph i) (One r) → IsTrue (is_answered_2xx (answer state r)))
+    × ((u j : ℕ) → Contains (needs_of state.plan_graph i) (Group u) → j < size state → unit_of state.plan_graph j ≡ u → IsTrue (is_answered_2xx (answer state j)))
 
 -- A unit succeeds under a table exactly when each member has a success there, and each other unit that a member needs
 -- succeeds.
-abbrev pub SucceedsByMembers : Shape → (ℕ → ℕ) → ℕ → Type 0
+abbrev pub SucceedsByMembers : PlanGraph → (ℕ → ℕ) → ℕ → Type 0
 SucceedsByMembers plan statuses u = IsTrue (succeeds plan statuses u) ↔ ((i : ℕ) → i < length plan.units → unit_of plan i ≡ u
     → IsTrue (is_success (statuses i)) × ((need : Need) → Contains (needs_of plan i) need → unit_needed plan need ≢ u → IsTrue (succeeds plan statuses (unit_needed plan need))))

@@ -4,9 +4,9 @@ use Rattle.odb_doc.specs.batch.Records.{Record}
 use Rattle.odb_doc.specs.declared.recorded.outcome.Outcome.{Outcome}
 use Rattle.odb_check.specs.declared.plan.Plan.{Plan}
 use Rattle.odb_check.specs.Plans.{plan_records}
-unfoldable pub use Rattle.odb_check.specs.Plans.{batch_shape}
-pub use Rattle.odb_check.specs.Plans.{shape}
-use Rattle.odb_check.specs.Shape.{Shape}
+unfoldable pub use Rattle.odb_check.specs.Plans.{batch_plan_graph}
+pub use Rattle.odb_check.specs.Plans.{plan_graph}
+use Rattle.odb_check.specs.PlanGraph.{PlanGraph}
 use Rattle.odb_sched.specs.declared.policy.Policy.{Policy}
 use Rattle.odb_sched.specs.declared.phase.Phase.{Phase}
 use Rattle.odb_sched.specs.declared.phase.Phase.TheVariants.{Unstarted, Running, Reported}
@@ -17,13 +17,13 @@ use Rattle.odb_doc.specs.Statuses.{is_success}
 -- the shape is that of the requests; the phases are by position
 pub record State : Type 0 where
   pub requests : List Record
-  pub shape : Shape
+  pub plan_graph : PlanGraph
   pub policy : Policy
   pub phases : List Phase
 
 -- how many requests there are
 abbrev pub size : State → ℕ
-size state = length state.shape.units
+size state = length state.plan_graph.units
 
 -- the phase of the request at a position
 abbrev pub phase_at : State → ℕ → Phase
@@ -39,7 +39,7 @@ without_requests state = with_requests [] state
 
 -- before any event, of these requests
 abbrev pub first_state : List Record → Policy → State
-first_state requests policy = record { requests = requests; shape = batch_shape requests; policy = policy; phases = replicate (length (batch_shape requests).units) Unstarted }
+first_state requests policy = record { requests = requests; plan_graph = batch_plan_graph requests; policy = policy; phases = replicate (length (batch_plan_graph requests).units) Unstarted }
 
 -- before any event, of the requests of a plan
 abbrev pub initial : Plan → Policy → State

@@ -4,7 +4,7 @@ use Rattle.std.specs.List.{list_any, list_all}
 use Rattle.odb_doc.specs.declared.recorded.outcome.Outcome.{Outcome}
 use Rattle.odb_check.specs.declared.need.Need.{Need}
 use Rattle.odb_check.specs.declared.need.Need.TheVariants.{One, Group}
-use Rattle.odb_check.specs.Shape.{Shape, unit_of, needs_of}
+use Rattle.odb_check.specs.PlanGraph.{PlanGraph, unit_of, needs_of}
 use Rattle.odb_sched.specs.declared.policy.Mode.{Mode}
 use Rattle.odb_sched.specs.declared.policy.Mode.TheVariants.{Continue, Stop}
 use Rattle.odb_sched.specs.declared.phase.Phase.{Phase}
@@ -22,29 +22,29 @@ use Rattle.odb_sched.specs.declared.refusal.ReportRefusal.{ReportRefusal}
 use Rattle.odb_sched.specs.declared.refusal.ReportRefusal.TheVariants as report
 
 -- each member of a unit has reported a success
-abbrev pub succeeded_in : Shape → List Phase → ℕ → Bool
+abbrev pub succeeded_in : PlanGraph → List Phase → ℕ → Bool
 succeeded_in plan phases u = all_below (length plan.units) (λ i. not (unit_of plan i == u) || has_succeeded (slice_index_or phases i Unstarted))
 
 -- what is needed has reported a success: a request, or each member of a group
-abbrev pub satisfied_in : Shape → List Phase → Need → Bool
+abbrev pub satisfied_in : PlanGraph → List Phase → Need → Bool
 satisfied_in plan phases (One r) = has_succeeded (slice_index_or phases r Unstarted)
 satisfied_in plan phases (Group u) = succeeded_in plan phases u
 
 -- a unit has failed: a member reported no success, or needs something of another unit that has failed
-abbrev pub failed_in : Shape → List Phase → ℕ → Bool
+abbrev pub failed_in : PlanGraph → List Phase → ℕ → Bool
 failed_in plan phases u = fails plan (λ i. has_failed (slice_index_or phases i Unstarted)) u
 
 abbrev pub unit_succeeded : State → ℕ → Bool
-unit_succeeded state u = succeeded_in state.shape state.phases u
+unit_succeeded state u = succeeded_in state.plan_graph state.phases u
 
 abbrev pub is_satisfied : State → Need → Bool
-is_satisfied state need = satisfied_in state.shape state.phases need
+is_satisfied state need = satisfied_in state.plan_graph state.phases need
 
 abbrev pub all_satisfied : State → ℕ → Bool
-all_satisfied state i = list_all (is_satisfied state) (needs_of state.shape i)
+all_satisfied state i = list_all (is_satisfied state) (needs_of state.plan_graph i)
 
 abbrev pub unit_failed : State → ℕ → Bool
-unit_failed state u = failed_in state.shape state.phases u
+unit_failed state u = failed_in state.plan_graph state.phases u
 
 -- whether an error stops a run
 abbrev pub stops : Mode → Bool
@@ -64,7 +64,7 @@ running_count state = count_by is_running state.phases
 
 -- the start of a request may come
 abbrev pub may_start : State → ℕ → Bool
-may_start state i = is_unstarted (phase_at state i) && not (is_stopped state) && not (unit_failed state (unit_of state.shape i)) && all_satisfied state i && nat_lt (running_count state) state.policy.width
+may_start state i = is_unstarted (phase_at state i) && not (is_stopped state) && not (unit_failed state (unit_of state.plan_graph i)) && all_satisfied state i && nat_lt (running_count state) state.policy.width
 
 -- the report of a request may come
 abbrev pub may_report : State → ℕ → Outcome → Bool
@@ -76,7 +76,7 @@ may_come state (Report i outcome) = may_report state i outcome
 
 -- none runs, and the run is stopped or each request was reported or belongs to a failed unit
 abbrev pub is_finished : State → Bool
-is_finished state = not (any_below (size state) (λ i. is_running (phase_at state i))) && (is_stopped state || all_below (size state) (λ i. is_reported (phase_at state i) || unit_failed state (unit_of state.shape i)))
+is_finished state = not (any_below (size state) (λ i. is_running (phase_at state i))) && (is_stopped state || all_below (size state) (λ i. is_reported (phase_at state i) || unit_failed state (unit_of state.plan_graph i)))
 
 -- the number of a cause, as in S1 to S5
 abbrev pub start_number : StartRefusal → ℕ
@@ -90,8 +90,8 @@ start_number start.WidthReached = 5
 abbrev pub BarsStart : StartRefusal → State → ℕ → Type 0
 BarsStart start.AlreadyStarted state i = is_unstarted (phase_at state i) ≡ false
 BarsStart start.Stopped state i = is_stopped state ≡ true
-BarsStart start.UnitFailed state i = unit_failed state (unit_of state.shape i) ≡ true
-BarsStart (start.Waiting need) state i = find (λ other. not (is_satisfied state other)) (needs_of state.shape i) ≡ Some need
+BarsStart start.UnitFailed state i = unit_failed state (unit_of state.plan_graph i) ≡ true
+BarsStart (start.Waiting need) state i = find (λ other. not (is_satisfied state other)) (needs_of state.plan_graph i) ≡ Some need
 BarsStart start.WidthReached state i = state.policy.width ≤ running_count state
 
 -- the first cause against a start: it applies, and none with a smaller number does

@@ -5,7 +5,7 @@ use odb_engine::check_batch;
 use std::alloc::Global;
 use std::test::Fail;
 
-/// Returns what the check of a document writes: the line of its counts, or of its least fault.
+/// Returns what the check of a document writes: the line of its counts, or of its first fault.
 fn check_line(alloc: Global, document: &[u8]) -> Result<Vec<u8>, Fail> {
     let mut output = Output::new(Vec::new(alloc));
     check_batch(alloc, &mut Input::new(document), &mut output)?;

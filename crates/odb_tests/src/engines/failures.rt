@@ -4,7 +4,7 @@
 use super::devices::{Narrow, Pace, Slow};
 use super::{EXAMPLES, Example, PAIR, called};
 use odb_doc::{Input, Output};
-use odb_engine::{Ended, EngineFault, Remains};
+use odb_engine::{Disposal, Ended, EngineFault};
 use std::alloc::Global;
 
 /// Turns of a byte, of three, of uneven numbers, and of more than a text has.
@@ -48,14 +48,14 @@ impl Calls {
 }
 
 /// Calls an engine whose devices work at these paces.
-fn calls_of(alloc: Global, example: Example, paces: [Pace; 3], remains: Remains) -> Calls {
+fn calls_of(alloc: Global, example: Example, paces: [Pace; 3], disposal: Disposal) -> Calls {
     let (command, document, _text) = example;
     let mut batch = Input::new(Slow::new(PAIR.as_bytes(), paces[0]));
     let mut second = Input::new(Slow::new(document.as_bytes(), paces[1]));
     let mut output = Output::new(Narrow::new(alloc, paces[OUTPUT]));
     let ended = called(
         alloc,
-        (command, remains),
+        (command, disposal),
         &mut batch,
         &mut second,
         &mut output,
@@ -96,7 +96,7 @@ fn counts_of(
     alloc: Global,
     example: Example,
     turns: [usize; 3],
-    remains: Remains,
+    disposal: Disposal,
 ) -> Option<[usize; 3]> {
     let (_command, document, text) = example;
     let calls = calls_of(
@@ -106,7 +106,7 @@ fn counts_of(
             turns,
             calls: ENOUGH,
         }; 3],
-        remains,
+        disposal,
     );
     let [batch, second, output] = calls.counts;
     let are_read = batch == reads_of(PAIR, turns) && second == reads_of(document, turns);
@@ -128,7 +128,7 @@ fn may_fail(
     if let Some(pace) = paces.get_mut(device) {
         pace.calls = calls;
     }
-    let calls = calls_of(alloc, example, paces, Remains::Dropped);
+    let calls = calls_of(alloc, example, paces, Disposal::Drop);
     if device == OUTPUT {
         calls.are_cut_in_writing(example.2)
     } else {
@@ -138,7 +138,7 @@ fn may_fail(
 
 /// Whether an engine ends as it may at these turns, and where each call of each device fails.
 fn ends_as_it_may(alloc: Global, example: Example, turns: [usize; 3]) -> bool {
-    let Some(counts) = counts_of(alloc, example, turns, Remains::Dropped) else {
+    let Some(counts) = counts_of(alloc, example, turns, Disposal::Drop) else {
         return false;
     };
     for (device, count) in counts.iter().enumerate() {
@@ -148,7 +148,7 @@ fn ends_as_it_may(alloc: Global, example: Example, turns: [usize; 3]) -> bool {
             }
         }
     }
-    counts_of(alloc, example, turns, Remains::Left) == Some(counts)
+    counts_of(alloc, example, turns, Disposal::Leak) == Some(counts)
 }
 
 #[test]

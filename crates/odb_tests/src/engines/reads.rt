@@ -3,7 +3,7 @@
 use super::devices::Endless;
 use super::{Command, EXAMPLES, Example, PAIR, called};
 use odb_doc::{Input, Output};
-use odb_engine::{Ended, Remains};
+use odb_engine::{Disposal, Ended};
 use std::alloc::Global;
 
 /// The commands that read a second document, and the line where it has no end.
@@ -19,7 +19,7 @@ fn is_batch_too_long(alloc: Global, command: Command) -> bool {
     let mut output = Output::new(Vec::new(alloc));
     let ended = called(
         alloc,
-        (command, Remains::Dropped),
+        (command, Disposal::Drop),
         &mut batch,
         &mut Input::new(b"".as_slice()),
         &mut output,
@@ -35,7 +35,7 @@ fn is_second_too_long(alloc: Global, command: Command, line: &str) -> bool {
     let mut output = Output::new(Vec::new(alloc));
     let ended = called(
         alloc,
-        (command, Remains::Dropped),
+        (command, Disposal::Drop),
         &mut Input::new(PAIR.as_bytes()),
         &mut second,
         &mut output,
@@ -51,7 +51,7 @@ fn reads_of_second(alloc: Global, batch: &str, example: Example) -> Option<u32> 
     let mut second = Input::new(document.as_bytes());
     let ended = called(
         alloc,
-        (command, Remains::Dropped),
+        (command, Disposal::Drop),
         &mut Input::new(batch.as_bytes()),
         &mut second,
         &mut Output::new(Vec::new(alloc)),

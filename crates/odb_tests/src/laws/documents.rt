@@ -16,12 +16,12 @@ ghost use Rattle.odb_doc.specs.Documents.{IsDocument};
 ghost use Rattle.odb_doc.specs.Faults as faults;
 ghost use Rattle.odb_doc.specs.recorded.EventFaults as event_faults;
 ghost use Rattle.odb_doc.specs.recorded.Events.{AreEventsOf};
-ghost use Rattle.odb_doc.specs.recorded.EventLists as events;
+ghost use Rattle.odb_doc.specs.recorded.EventLists as event_lists;
 ghost use Rattle.odb_doc.specs.recorded.LeastEventFault.{IsEventsDocument, RefusesEvents};
 ghost use Rattle.odb_doc.specs.batch.LeastFault.{IsLeastFault, IsWellShaped};
 ghost use Rattle.odb_doc.specs.recorded.LeastOutcomeFault.{IsOutcomesDocument, RefusesOutcomes};
 ghost use Rattle.odb_doc.specs.recorded.OutcomeFaults as outcome_faults;
-ghost use Rattle.odb_doc.specs.recorded.OutcomeLists as outcomes;
+ghost use Rattle.odb_doc.specs.recorded.OutcomeLists as outcome_lists;
 ghost use Rattle.odb_doc.specs.batch.MediaTypes.{is_in_type};
 ghost use Rattle.odb_doc.specs.recorded.Outcomes.{AreOutcomesOf};
 ghost use Rattle.odb_engine.specs.Cascade.{HasValue};
@@ -114,7 +114,7 @@ fn batch_twice<'a>(alloc: Global, value: &'a Value) -> TwoBatches<'a>
 /// Reads a document of outcomes, unless it is not JSON or memory runs out.
 fn outcomes_of(alloc: Global, bytes: &[u8]) -> Option<Result<Outcomes, OutcomeFault>>
     ensures { IfSome result (λ read. HasValue bytes.now (λ value. IsReading
-        (λ found. IsOutcomesDocument value × AreOutcomesOf value (outcomes.entries found))
+        (λ found. IsOutcomesDocument value × AreOutcomesOf value (outcome_lists.entries found))
         (λ fault. IsSome (outcome_faults.outcome_row fault) × RefusesOutcomes fault value) read)) }
 {
     let Ok(value) = parse(alloc, bytes) else {
@@ -135,7 +135,7 @@ type TwoRecords = (
 
 /// Reads a document of outcomes twice.
 fn outcomes_twice(alloc: Global, bytes: &[u8]) -> TwoRecords
-    ensures { IfSome result.0 (λ one. IfSome result.1 (IsSame outcomes.entries one)) }
+    ensures { IfSome result.0 (λ one. IfSome result.1 (IsSame outcome_lists.entries one)) }
 {
     one_record();
     (outcomes_of(alloc, bytes), outcomes_of(alloc, bytes))
@@ -144,7 +144,7 @@ fn outcomes_twice(alloc: Global, bytes: &[u8]) -> TwoRecords
 /// Reads a document of events, unless it is not JSON or memory runs out.
 fn events_of(alloc: Global, bytes: &[u8]) -> Option<Result<Events, EventFault>>
     ensures { IfSome result (λ read. HasValue bytes.now (λ value. IsReading
-        (λ found. IsEventsDocument value × AreEventsOf value (events.entries found))
+        (λ found. IsEventsDocument value × AreEventsOf value (event_lists.entries found))
         (λ fault. IsSome (event_faults.event_row fault) × RefusesEvents fault value) read)) }
 {
     let Ok(value) = parse(alloc, bytes) else {
@@ -165,7 +165,7 @@ type TwoHistories = (
 
 /// Reads a document of events twice.
 fn events_twice(alloc: Global, bytes: &[u8]) -> TwoHistories
-    ensures { IfSome result.0 (λ one. IfSome result.1 (IsSame events.entries one)) }
+    ensures { IfSome result.0 (λ one. IfSome result.1 (IsSame event_lists.entries one)) }
 {
     one_history();
     (events_of(alloc, bytes), events_of(alloc, bytes))

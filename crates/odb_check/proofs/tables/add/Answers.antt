@@ -12,4 +12,4 @@ returns-clause-tables c =
     c.unit_in-unit.ensures ∙ ap (unit_among c.args.groups.now (record_of c.request-request.result.now).group) next in
     rw add-one (tables_more (records c.args.batch.now) c.args.i (record_of c.request-request.result.now) c.args.ids.now c.note.new.self c.args.groups.now c.note_group.new.groups
     c.args.units.now.items c.args.starts.now.items c.push.new.self.items c.note_start.new.starts.items c.unit_in-unit.result
-    c.request-request.ensures.value c.request-request.ensures.sound.names c.requires.before among c.in_ok-note.ensures.texts c.in_ok-note_group.ensures.texts c.in_ok-note_group.ensures.len c.in_ok-note_start.ensures c.in_ok-push.ensures.items)
+    c.request-request.ensures.value c.request-request.ensures.well_formed.names c.requires.before among c.in_ok-note.ensures.texts c.in_ok-note_group.ensures.texts c.in_ok-note_group.ensures.len c.in_ok-note_start.ensures c.in_ok-push.ensures.items)

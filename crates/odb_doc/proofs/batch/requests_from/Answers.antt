@@ -4,14 +4,14 @@ use Rattle.serde_json.specs.View.{view}
 use Rattle.odb_doc.specs.BrokenRules.{OnPlace, broken_at}
 use Rattle.odb_doc.specs.Faults.{request_number}
 use Rattle.odb_doc.specs.batch.LeastFault.{IsFirstBroken}
-use Rattle.odb_doc.specs.batch.Records.{Says, record_of}
+use Rattle.odb_doc.specs.batch.Records.{ReadsAs, record_of}
 use Rattle.odb_doc.proofs.LeastLemmas.{AreRead-none}
 use Rattle.odb_doc.proofs.RequestLemmas.{Breaks, AreReadUpTo-more, first_up_to, get_or-view}
 use Rattle.odb_doc.proofs.batch.requests_from.Goals as goal
 
 pub loop-at-init : goal.loop-at-init
 loop-at-init c = record {
-  read = rw c.in_ok-requests.ensures.items (AreRead-none request_number Breaks Says);
+  read = rw c.in_ok-requests.ensures.items (AreRead-none request_number Breaks ReadsAs);
   count = ap length c.in_ok-requests.ensures.items;
 }
 
@@ -36,14 +36,14 @@ loop-at-preserved c =
     let within : at < length (map view vs) = omega (arith, length-map vs view) in
     record {
       read = rw (c.in_ok-push-in-Ok.ensures.items, map-append record_of c.loop-at.requests.items)
-          (AreReadUpTo-more (map view vs) (map record_of c.loop-at.requests.items) at (view v) (record_of r) within (get_or-view view vs at v c.loop-at-test.true c.index-elements-at.is) c.loop-at.invariant.read c.in-Ok.ensures.sound c.in-Ok.ensures.says);
+          (AreReadUpTo-more (map view vs) (map record_of c.loop-at.requests.items) at (view v) (record_of r) within (get_or-view view vs at v c.loop-at-test.true c.index-elements-at.is) c.loop-at.invariant.read c.in-Ok.ensures.object c.in-Ok.ensures.says);
       count = rw c.in_ok-push-in-Ok.ensures.items (length_push c.loop-at.requests.items r ∙ ap (λ k. k + 1) c.loop-at.invariant.count);
     }
 
-pub returns-clause-sound : goal.returns-clause-sound
-returns-clause-sound c =
+pub returns-clause-unbroken : goal.returns-clause-unbroken
+returns-clause-unbroken c =
     let end : length (map view c.args.elements.now) ≤ c.loop-at.at = omega (arith, length-map c.args.elements.now view) in
-    rw (take_all c.loop-at.at (map view c.args.elements.now) end) at c.loop-at.invariant.read.sound
+    rw (take_all c.loop-at.at (map view c.args.elements.now) end) at c.loop-at.invariant.read.unbroken
 
 pub returns-clause-says : goal.returns-clause-says
 returns-clause-says c =

@@ -59,13 +59,13 @@ returns-clause-sent g c =
             (InForm-weaker form by_plan (Answers writes bytes) (λ ended text so. inr (record {
               value = _;
               document = is;
-              shape = c.in_ok-read.ensures.good;
+              plan_graph = c.in_ok-read.ensures.good;
               batch = _;
               is_batch = c.in_ok-read.ensures.records;
               names = c.in_ok-plan.ensures.good;
               holds = (document, given, subst (λ batch. prints batch document ended text) c.in_ok-plan.ensures.plan so);
             })))
             (λ f. f, λ f. f) concluded,
-        (was, record { value = _; document = is; shape = c.in_ok-read.ensures.good; batch = _; is_batch = c.in_ok-read.ensures.records; names = c.in_ok-plan.ensures.good; holds = tt }),
+        (was, record { value = _; document = is; plan_graph = c.in_ok-read.ensures.good; batch = _; is_batch = c.in_ok-read.ensures.records; names = c.in_ok-plan.ensures.good; holds = tt }),
       ),
     )

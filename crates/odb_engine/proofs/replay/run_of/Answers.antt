@@ -28,7 +28,7 @@ returns-in_err-trace-clause-lacks g c =
     let lacks = LacksOutcome allows c.args.replay.now.policy batch recorded in
     let caused = subst (λ s. IsCausedBy (OffersRecorded s) (IsReportEnabled allows (OffersRecorded s) (first_state batch c.args.replay.now.policy)) cause) c.in_ok-new.ensures c.in_err-trace.ensures.fault in
     at-exit (λ r. IfErr r (Refuses lacks)) _ _ c.from_residual-in_err-trace.ensures.1
-    (halted-by (λ refusal. lacks Refused (line_of refusal)) _ (lacks-outcome allows c.args.replay.now.policy batch recorded cause c.len-count.ensures.sound caused))
+    (halted-by (λ refusal. lacks Refused (line_of refusal)) _ (lacks-outcome allows c.args.replay.now.policy batch recorded cause c.len-count.ensures.well_formed caused))
 
 pub returns-clause-result : goal.returns-clause-result
 returns-clause-result g c =
@@ -50,7 +50,7 @@ returns-clause-result g c =
       one_per_id = subst (λ rs. HasOnePerId rs (response_value trace.done)) c.in_ok-trace.ensures.plan c.every_response.ensures.one_per_id;
       read_again = λ recordable. record {
         value = response_value trace.done;
-        reads = c.every_response.ensures.line (readable-answers batch (entries c.args.outcomes) trace.done c.len-count.ensures.sound offers recordable);
+        reads = c.every_response.ensures.line (readable-answers batch (entries c.args.outcomes) trace.done c.len-count.ensures.well_formed offers recordable);
         document = c.every_response.ensures.document;
         fits = subst (λ rs. ListsFit rs (response_value trace.done)) c.in_ok-trace.ensures.plan c.every_response.ensures.fits;
       };
@@ -59,5 +59,5 @@ returns-clause-result g c =
 pub returns-clause-whole : goal.returns-clause-whole
 returns-clause-whole g c =
     let trace = c.in_ok-trace.trace in
-    whole-bodies (plan_records c.args.plan.now) (entries c.args.outcomes) trace.done c.len-count.ensures.sound
+    whole-bodies (plan_records c.args.plan.now) (entries c.args.outcomes) trace.done c.len-count.ensures.well_formed
     (subst (λ s. (i : ℕ) (outcome : Outcome) → reported trace.done i ≡ Some outcome → OffersRecorded s i (Ok outcome)) c.in_ok-new.ensures c.in_ok-trace.ensures.offered)

@@ -63,7 +63,7 @@ returns-clause-result c =
       one_per_id = subst (λ rs. HasOnePerId rs (response_value (end_of policy batch events))) (requests-kept first events)
           (subst (λ (s : State). HasOnePerId s.requests (response_value s)) same c.every_response.ensures.one_per_id);
       read_again = λ recordable.
-          let readable = readable-answers policy batch (entries c.args.events) events c.in_ok-resolved.ensures.events c.len-count.ensures.sound recordable in
+          let readable = readable-answers policy batch (entries c.args.events) events c.in_ok-resolved.ensures.events c.len-count.ensures.well_formed recordable in
           let fits = subst (λ (s : State). ListsFit s.requests (response_value s)) same c.every_response.ensures.fits in
           record {
             value = response_value (end_of policy batch events);
@@ -80,4 +80,4 @@ returns-clause-whole c =
     let events = c.in_ok-resolved.resolved.items in
     let same : c.close-done.result ≡ end_of policy batch events = c.close-done.ensures.state ∙ c.in_ok-scheduler.ensures.state in
     subst (λ (s : State). HasWholeBodies s) (sym same)
-    (whole-bodies policy batch (entries c.args.events) events c.in_ok-resolved.ensures.events c.len-count.ensures.sound)
+    (whole-bodies policy batch (entries c.args.events) events c.in_ok-resolved.ensures.events c.len-count.ensures.well_formed)

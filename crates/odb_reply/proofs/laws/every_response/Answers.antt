@@ -1,4 +1,4 @@
-use Rattle.odb_check.specs.Shape.{IsShapeOf}
+use Rattle.odb_check.specs.PlanGraph.{IsPlanGraphOf}
 use Rattle.odb_doc.proofs.SafeLemmas.{IsSafe}
 use Rattle.odb_reply.specs.Places.{IsOnce}
 use Rattle.odb_reply.specs.Readable.{AnswersBy, IsReadable}
@@ -15,7 +15,7 @@ returns c =
     let state = c.args.done.now in
     let safe : AnswersBy IsReadable state → IsSafe 127 (response_value state) = safe-value state c.plan.ensures.size c.laws.ensures.answered in
     let once : IsOnce state.requests = rw (← c.plan.ensures.plan) (one_position _ c.every_plan.ensures.positions) in
-    let same : IsShapeOf state.requests state.shape = rw (← c.plan.ensures.shape, ← c.plan.ensures.plan) c.every_plan.ensures.shape in
+    let same : IsPlanGraphOf state.requests state.plan_graph = rw (← c.plan.ensures.plan_graph, ← c.plan.ensures.plan) c.every_plan.ensures.plan_graph in
     record {
       one_per_id = one_per_id state once;
       fits = ListsFit-answered state once c.laws.ensures.rests_on_successes same c.plan.ensures.size;

@@ -34,8 +34,8 @@ returns-clause-rows c =
     HasRows-from (plan_records c.args.plan.now) (entries c.args.responses.now) found c.loop-at.places.items c.loop-at.statuses.items c.requires.once c.requires.noted
     (subst (λ (n : ℕ). AreListed (entries c.args.responses.now) found n c.loop-at.places.items c.loop-at.statuses.items) all c.loop-at.invariant)
 
-pub returns-clause-sound : goal.returns-clause-sound
-returns-clause-sound c =
+pub returns-clause-all_places : goal.returns-clause-all_places
+returns-clause-all_places c =
     let found = c.args.found.now in
     let all : c.loop-at.at ≡ length found = omega (arith, c.loop-at.auto.at-end) in
     HasAllPlaces-from (plan_records c.args.plan.now) (entries c.args.responses.now) found c.loop-at.places.items c.loop-at.statuses.items c.requires.once c.requires.noted

@@ -6,7 +6,7 @@ use Rattle.odb_sched.proofs.counts.begin.Goals as goal
 
 pub returns : goal.returns
 returns c =
-    let plan = c.args.graph.now.shape in
+    let plan = c.args.graph.now.plan_graph in
     let phases = c.args.phases.now in
     let within : c.args.i < length c.args.phases.now = rw c.requires.each c.requires.request in
     record {

@@ -5,4 +5,4 @@ use Rattle.odb_sched.proofs.counts.first_unmet.Given as goal
 
 -- the needs so far are satisfied
 abbrev pub invariant-loop-need : goal.invariant-loop-need
-invariant-loop-need l = list_all (satisfied_in l.graph.shape l.phases) (take l.need-index l.needs) ≡ true
+invariant-loop-need l = list_all (satisfied_in l.graph.plan_graph l.phases) (take l.need-index l.needs) ≡ true

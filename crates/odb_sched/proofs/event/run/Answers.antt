@@ -4,7 +4,7 @@ use Rattle.std.proofs.lemmas.List.{nil_from_length}
 use Rattle.std.specs.Iterator.Adapters.{enumerate_source, enumerate_count}
 use Rattle.std.specs.Vec.Iter.{into_iter_items, into_iter_len}
 use Rattle.odb_sched.specs.run.State.{initial}
-use Rattle.odb_sched.proofs.PlanLemmas.{length-shape}
+use Rattle.odb_sched.proofs.PlanLemmas.{length-plan_graph}
 use Rattle.odb_sched.proofs.TakenLemmas.{taken_none, taken_as, next_within, taken_more, taken_all, taken_refused, sized}
 use Rattle.odb_sched.proofs.event.run.Goals as goal
 
@@ -28,7 +28,7 @@ take-requires c =
     let count = enumerate_count c.loop-at.at-iterator in
     let later = into_iter_items (enumerate_source c.next.new.self) in
     next_within first c.args.events.items c.in-Some.event later count c.loop-at.scheduler
-    (sized first _ _ (length-shape c.args.plan.now) c.requires)
+    (sized first _ _ (length-plan_graph c.args.plan.now) c.requires)
     (taken_as first c.args.events.items _ _ count count c.loop-at.scheduler c.in-Some.ensures.steps.0.0 refl c.loop-at.invariant.taken)
 
 pub loop-at-preserved : goal.loop-at-preserved
@@ -37,7 +37,7 @@ loop-at-preserved c =
     let count = enumerate_count c.loop-at.at-iterator in
     let later = into_iter_items (enumerate_source c.next.new.self) in
     let taken = taken_as first c.args.events.items _ _ count count c.loop-at.scheduler c.in-Some.ensures.steps.0.0 refl c.loop-at.invariant.taken in
-    let within = next_within first c.args.events.items c.in-Some.event later count c.loop-at.scheduler (sized first _ _ (length-shape c.args.plan.now) c.requires) taken in
+    let within = next_within first c.args.events.items c.in-Some.event later count c.loop-at.scheduler (sized first _ _ (length-plan_graph c.args.plan.now) c.requires) taken in
     record {
       next = search rules;
       ends = tt;

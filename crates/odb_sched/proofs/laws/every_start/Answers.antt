@@ -1,6 +1,6 @@
 -- The clauses are the laws of the lemmas, at the requests of the plan.
 use Rattle.std.proofs.Common.{◌≡◌, ◌≤◌, ap, arith, length}
-use Rattle.odb_sched.specs.run.State.{size, shape}
+use Rattle.odb_sched.specs.run.State.{size, plan_graph}
 use Rattle.odb_sched.proofs.CauseLemmas.{not_held_back}
 use Rattle.odb_sched.proofs.NameLemmas.{named-succeeded}
 use Rattle.odb_sched.proofs.StartLemmas.{may_start-parts}
@@ -11,6 +11,6 @@ returns-clause-dependencies_first c = λ state i same may. named-succeeded c.arg
 
 pub returns-clause-free : goal.returns-clause-free
 returns-clause-free c = λ state i same each within wide.
-    let few : length (shape c.args.plan.now).units ≤ 10000 = c.every_plan.ensures.order.few in
-    let units : size state ≡ length (shape c.args.plan.now).units = ap (λ shape. length shape.units) same in
+    let few : length (plan_graph c.args.plan.now).units ≤ 10000 = c.every_plan.ensures.order.few in
+    let units : size state ≡ length (plan_graph c.args.plan.now).units = ap (λ plan_graph. length plan_graph.units) same in
     not_held_back state i each within (omega arith)

@@ -9,13 +9,13 @@ use Rattle.odb_sched.proofs.report.fail.Goals as goal
 
 pub propagate-requires-clause-propagating : goal.propagate-requires-clause-propagating
 propagate-requires-clause-propagating c =
-    subst (ArePropagating c.args.graph.now.shape c.args.phases.now)
-    (sym (put_unit c.args.graph.now.shape c.args.progress.now.units _ c.put.new.self c.args.i c.unit_of.result refl c.unit_of.ensures.unit c.put.ensures))
-    (propagating_failed c.args.graph.now.shape c.args.phases.now c.args.progress.now.units c.args.i c.laws.ensures.order c.requires.request c.requires.each c.requires.failed c.requires.counts.units)
+    subst (ArePropagating c.args.graph.now.plan_graph c.args.phases.now)
+    (sym (put_unit c.args.graph.now.plan_graph c.args.progress.now.units _ c.put.new.self c.args.i c.unit_of.result refl c.unit_of.ensures.unit c.put.ensures))
+    (propagating_failed c.args.graph.now.plan_graph c.args.phases.now c.args.progress.now.units c.args.i c.laws.ensures.order c.requires.request c.requires.each c.requires.failed c.requires.counts.units)
 
 pub returns : goal.returns
 returns c =
-    counts_failed c.args.graph.now.shape c.args.phases.now c.args.i c.args.progress.now c.propagate.new.progress (omega (arith, c.requires.each, c.requires.request)) c.requires.failed c.requires.counts
+    counts_failed c.args.graph.now.plan_graph c.args.phases.now c.args.i c.args.progress.now c.propagate.new.progress (omega (arith, c.requires.each, c.requires.request)) c.requires.failed c.requires.counts
     (ap (λ (t : Progress). t.unmet.items) c.propagate.ensures.rest)
     (ap (λ (t : Progress). t.pending.items) c.propagate.ensures.rest)
     (ap (λ (t : Progress). t.running) c.propagate.ensures.rest ∙ c.remove.ensures ∙ ap (λ b. set b c.args.i false) c.requires.counts.running ∙ running_out c.args.phases.now c.args.i (failed_idle _ c.requires.failed))

@@ -9,7 +9,7 @@ use Rattle.odb_sched.proofs.report.mark_dependents.Given as goal
 abbrev pub invariant-loop-r : goal.invariant-loop-r
 invariant-loop-r l = record {
   marks : HaveMarked l.initial.progress.units l.progress.units;
-  marked : (r : ℕ) → l.initial.r ≤ r → r < l.r → IsMarkedRow l.graph.shape l.graph.dependents l.progress.units r;
-  only : (v : ℕ) → is_marked (slice_index_or l.progress.units v Unvisited) ≡ true → (is_marked (slice_index_or l.initial.progress.units v Unvisited) ≡ true) ⊎ NeedsUnit l.graph.shape v l.u;
+  marked : (r : ℕ) → l.initial.r ≤ r → r < l.r → IsMarkedRow l.graph.plan_graph l.graph.dependents l.progress.units r;
+  only : (v : ℕ) → is_marked (slice_index_or l.progress.units v Unvisited) ≡ true → (is_marked (slice_index_or l.initial.progress.units v Unvisited) ≡ true) ⊎ NeedsUnit l.graph.plan_graph v l.u;
   rest : l.progress ≡ record l.initial.progress { units = l.progress.units };
 }

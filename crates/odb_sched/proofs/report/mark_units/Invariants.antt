@@ -1,5 +1,5 @@
 use Rattle.std.proofs.Common.{◌≡◌, ◌⊎◌, ℕ, ◌<◌, true, slice_index_or}
-use Rattle.odb_check.specs.Shape.{unit_of}
+use Rattle.odb_check.specs.PlanGraph.{unit_of}
 use Rattle.odb_dense.specs.declared.worklist.Mark.TheVariants.{Unvisited}
 use Rattle.odb_dense.specs.Marks.{is_marked}
 use Rattle.odb_sched.specs.invariants.Propagation.{HaveMarked}
@@ -9,8 +9,8 @@ use Rattle.odb_sched.proofs.report.mark_units.Given as goal
 abbrev pub invariant-loop-i : goal.invariant-loop-i
 invariant-loop-i l = record {
   marks : HaveMarked l.initial.progress.units l.progress.units;
-  marked : (k : ℕ) → k < l.i-index → is_marked (slice_index_or l.progress.units (unit_of l.graph.shape (slice_index_or l.list k 0)) Unvisited) ≡ true;
+  marked : (k : ℕ) → k < l.i-index → is_marked (slice_index_or l.progress.units (unit_of l.graph.plan_graph (slice_index_or l.list k 0)) Unvisited) ≡ true;
   only : (v : ℕ) → is_marked (slice_index_or l.progress.units v Unvisited) ≡ true
-      → (is_marked (slice_index_or l.initial.progress.units v Unvisited) ≡ true) ⊎ ((k : ℕ) × (k < l.i-index) × (unit_of l.graph.shape (slice_index_or l.list k 0) ≡ v));
+      → (is_marked (slice_index_or l.initial.progress.units v Unvisited) ≡ true) ⊎ ((k : ℕ) × (k < l.i-index) × (unit_of l.graph.plan_graph (slice_index_or l.list k 0) ≡ v));
   rest : l.progress ≡ record l.initial.progress { units = l.progress.units };
 }

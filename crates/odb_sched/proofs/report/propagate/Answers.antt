@@ -13,7 +13,7 @@ use Rattle.odb_sched.proofs.report.propagate.Goals as goal
 pub loop-u-smaller : goal.loop-u-smaller
 loop-u-smaller c =
     let (within, waits, taken) = c.in-Some.ensures in
-    fewer_wait c.args.graph.now.shape c.loop-u.progress.units c.mark_dependents.new.progress.units c.in-Some.u c.loop-u.invariant.propagating.each within waits
+    fewer_wait c.args.graph.now.plan_graph c.loop-u.progress.units c.mark_dependents.new.progress.units c.in-Some.u c.loop-u.invariant.propagating.each within waits
     (subst (λ units. HaveMarked units c.mark_dependents.new.progress.units) (ap (λ (t : Progress). t.units) c.skip_members.ensures.rest ∙ taken) c.mark_dependents.ensures.marks)
 
 pub loop-u-preserved : goal.loop-u-preserved
@@ -22,12 +22,12 @@ loop-u-preserved c =
     let units_are = ap (λ (t : Progress). t.units) c.skip_members.ensures.rest in
     let marks = subst (λ units. HaveMarked units c.mark_dependents.new.progress.units) units_are c.mark_dependents.ensures.marks in
     record {
-      propagating = propagating_on c.args.graph.now.shape c.args.phases.now c.loop-u.progress.units c.mark_dependents.new.progress.units c.in-Some.u c.laws.ensures.order c.loop-u.invariant.propagating within waits
+      propagating = propagating_on c.args.graph.now.plan_graph c.args.phases.now c.loop-u.progress.units c.mark_dependents.new.progress.units c.in-Some.u c.laws.ensures.order c.loop-u.invariant.propagating within waits
           (subst (λ units. HaveMarked units c.mark_dependents.new.progress.units) taken marks)
           c.mark_dependents.ensures.marked
-          (subst (λ units. (v : ℕ) → is_marked (get_or c.mark_dependents.new.progress.units v Unvisited) ≡ true → (is_marked (get_or units v Unvisited) ≡ true) ⊎ NeedsUnit c.args.graph.now.shape v c.in-Some.u) (units_are ∙ taken) c.mark_dependents.ensures.only);
-      ready = subst (λ (t : Progress). AreReady c.args.graph.now.shape (is_skipped c.args.graph.now.shape c.mark_dependents.new.progress.units) c.args.phases.now t.unmet.items t.ready) (sym c.mark_dependents.ensures.rest)
-          (ready_same c.args.graph.now.shape _ _ c.args.phases.now c.skip_members.new.progress.unmet.items c.skip_members.new.progress.ready (λ i below. skipped_marked c.args.graph.now.shape _ _ i marks) c.skip_members.ensures.ready);
+          (subst (λ units. (v : ℕ) → is_marked (get_or c.mark_dependents.new.progress.units v Unvisited) ≡ true → (is_marked (get_or units v Unvisited) ≡ true) ⊎ NeedsUnit c.args.graph.now.plan_graph v c.in-Some.u) (units_are ∙ taken) c.mark_dependents.ensures.only);
+      ready = subst (λ (t : Progress). AreReady c.args.graph.now.plan_graph (is_skipped c.args.graph.now.plan_graph c.mark_dependents.new.progress.units) c.args.phases.now t.unmet.items t.ready) (sym c.mark_dependents.ensures.rest)
+          (ready_same c.args.graph.now.plan_graph _ _ c.args.phases.now c.skip_members.new.progress.unmet.items c.skip_members.new.progress.ready (λ i below. skipped_marked c.args.graph.now.plan_graph _ _ i marks) c.skip_members.ensures.ready);
       rest = others_kept c.args.progress.now c.mark_dependents.new.progress
           (ap (λ (t : Progress). t.unmet) c.mark_dependents.ensures.rest ∙ ap (λ (t : Progress). t.unmet) c.skip_members.ensures.rest ∙ ap (λ (t : Progress). t.unmet) c.loop-u.invariant.rest)
           (ap (λ (t : Progress). t.pending) c.mark_dependents.ensures.rest ∙ ap (λ (t : Progress). t.pending) c.skip_members.ensures.rest ∙ ap (λ (t : Progress). t.pending) c.loop-u.invariant.rest)
@@ -37,4 +37,4 @@ loop-u-preserved c =
 pub returns-clause-propagated : goal.returns-clause-propagated
 returns-clause-propagated c =
     let (same, none) = c.in_default.ensures in
-    subst (ArePropagated c.args.graph.now.shape c.args.phases.now) (sym same) (all_propagated c.args.graph.now.shape c.args.phases.now c.loop-u.progress.units c.loop-u.invariant.propagating none)
+    subst (ArePropagated c.args.graph.now.plan_graph c.args.phases.now) (sym same) (all_propagated c.args.graph.now.plan_graph c.args.phases.now c.loop-u.progress.units c.loop-u.invariant.propagating none)

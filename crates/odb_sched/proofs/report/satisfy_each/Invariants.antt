@@ -6,6 +6,6 @@ use Rattle.odb_sched.proofs.report.satisfy_each.Given as goal
 abbrev pub invariant-loop-i : goal.invariant-loop-i
 invariant-loop-i l = record {
   rest : l.progress ≡ record l.initial.progress { unmet = l.progress.unmet; ready = l.progress.ready };
-  ready : AreReady l.graph.shape (is_skipped l.graph.shape l.initial.progress.units) l.phases l.progress.unmet.items l.progress.ready;
-  fallen : (i : ℕ) → i < length l.graph.shape.units → slice_index_or l.progress.unmet.items i 0 + count_by (λ j. j == i) (take l.i-index l.list) ≡ slice_index_or l.initial.progress.unmet.items i 0;
+  ready : AreReady l.graph.plan_graph (is_skipped l.graph.plan_graph l.initial.progress.units) l.phases l.progress.unmet.items l.progress.ready;
+  fallen : (i : ℕ) → i < length l.graph.plan_graph.units → slice_index_or l.progress.unmet.items i 0 + count_by (λ j. j == i) (take l.i-index l.list) ≡ slice_index_or l.initial.progress.unmet.items i 0;
 }

@@ -1,12 +1,12 @@
 use Rattle.std.proofs.Common.{arith, length}
 use Rattle.odb_check.specs.declared.fault.NameRule.TheVariants.{GroupSplit}
-use Rattle.odb_check.specs.Plans.{plan_records, batch_shape}
+use Rattle.odb_check.specs.Plans.{plan_records, batch_plan_graph}
 use Rattle.odb_check.proofs.PlanLemmas.{has_span}
 use Rattle.odb_check.proofs.UnitLemmas.{in_order, unit_at_begin}
 use Rattle.odb_check.proofs.plan.Plan.members.Goals as goal
 
 pub returns-then-u-count : goal.returns-then-u-count
-unfolding batch_shape
+unfolding batch_plan_graph
 returns-then-u-count c =
     let rs = plan_records c.args.self.now in
     let end = c.start_of-end.result in
@@ -16,7 +16,7 @@ returns-then-u-count c =
     }
 
 pub returns-else-u-count : goal.returns-else-u-count
-unfolding batch_shape
+unfolding batch_plan_graph
 returns-else-u-count c =
     let rs = plan_records c.args.self.now in
     record {

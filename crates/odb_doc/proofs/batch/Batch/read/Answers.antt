@@ -5,7 +5,7 @@ use Rattle.odb_doc.specs.batch.Shapes.{elements}
 use Rattle.odb_doc.proofs.batch.Batch.read.Goals as goal
 
 pub returns-clause-good : goal.returns-clause-good
-returns-clause-good c = (c.in_ok-elements.ensures.whole, rw c.in_ok-elements.ensures.elements c.in_ok-requests.ensures.sound)
+returns-clause-good c = (c.in_ok-elements.ensures.whole, rw c.in_ok-elements.ensures.elements c.in_ok-requests.ensures.unbroken)
 
 pub returns-clause-records : goal.returns-clause-records
 returns-clause-records c = rw c.in_ok-elements.ensures.elements c.in_ok-requests.ensures.says

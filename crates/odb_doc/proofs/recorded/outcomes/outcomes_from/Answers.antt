@@ -13,7 +13,7 @@ use Rattle.odb_doc.specs.declared.recorded.outcome_fault.OutcomeRule.{OutcomeRul
 use Rattle.odb_doc.specs.BrokenRules.{OnRule, OnPlace, broken_at}
 use Rattle.odb_doc.specs.recorded.LeastOutcomeFault.{BreaksOutcome, IsLeastOutcomeRule}
 use Rattle.odb_doc.specs.recorded.OutcomeFaults.{rule_number}
-use Rattle.odb_doc.specs.recorded.Outcomes.{Says, IsSoundOutcome, ids, recorded}
+use Rattle.odb_doc.specs.recorded.Outcomes.{ReadsAs, IsWellFormedOutcome, ids, recorded}
 use Rattle.odb_doc.specs.recorded.RawOutcomes.{IsLeastBroken, IsWatched}
 use Rattle.odb_doc.proofs.LeastLemmas.{AreRead-none, AreRead-more, first_broken}
 use Rattle.odb_doc.proofs.OutcomeListLemmas.{Breaks, ids-says, keys_of-push}
@@ -24,7 +24,7 @@ unfolding IsDistinct
 loop-element-init c = record {
   split = search rules;
   seen = rw c.in_ok-entries.ensures.items (search rules);
-  read = rw c.in_ok-entries.ensures.items (AreRead-none rule_number Breaks Says);
+  read = rw c.in_ok-entries.ensures.items (AreRead-none rule_number Breaks ReadsAs);
   apart = rw c.in_ok-entries.ensures.items tt;
   fit = rw c.in_ok-entries.ensures.items (λ k d less. absurd (omega arith));
 }
@@ -46,7 +46,7 @@ returns-in-Err-clause-first c =
     let names : keys_of entries ≡ ids done = sym (ids-says done entries c.loop-element.invariant.read.says) in
     let rule = subst (λ (before : List (List ℕ)). OnRule (IsLeastBroken before d) c.in-Err.broken) names (c.in-Err.ensures.first (keys_of entries) rest watched) in
     let fails : OnPlace (IsLeastOutcomeRule (map view c.args.elements.now.items)) (broken_at c.len-in-Err.result c.in-Err.broken) =
-    rw whole (first_broken rule_number Breaks Says done entries d rest c.len-in-Err.result c.in-Err.broken c.loop-element.invariant.read place rule) in
+    rw whole (first_broken rule_number Breaks ReadsAs done entries d rest c.len-in-Err.result c.in-Err.broken c.loop-element.invariant.read place rule) in
     search (rules, fails)
 
 pub loop-element-preserved : goal.loop-element-preserved
@@ -63,8 +63,8 @@ loop-element-preserved c =
     let more : map recorded c.push.new.self.items ≡ entries ++ entry ∷ [] =
     ap (map recorded) c.in_ok-push-in-Ok.ensures.items ∙ map-append recorded c.loop-element.entries.items (c.in-Ok.entry ∷ []) in
     let names : keys_of entries ≡ ids done = sym (ids-says done entries c.loop-element.invariant.read.says) in
-    let sound = λ (rule : OutcomeRule). subst (λ (before : List (List ℕ)). ¬ BreaksOutcome rule before d) names (c.in-Ok.ensures.sound (keys_of entries) rest watched rule) in
-    let read = AreRead-more rule_number Breaks Says done entries d entry c.loop-element.invariant.read sound c.in-Ok.ensures.says in
+    let sound = λ (rule : OutcomeRule). subst (λ (before : List (List ℕ)). ¬ BreaksOutcome rule before d) names (c.in-Ok.ensures.unbroken (keys_of entries) rest watched rule) in
+    let read = AreRead-more rule_number Breaks ReadsAs done entries d entry c.loop-element.invariant.read sound c.in-Ok.ensures.says in
     let grown : map (λ (y : MutBor Value). y.now) (c.loop-element.yielded ++ c.in-Some.element ∷ []) ≡ yielded ++ element ∷ [] =
     map-append (λ (y : MutBor Value). y.now) c.loop-element.yielded (c.in-Some.element ∷ []) in
     record {
@@ -72,5 +72,5 @@ loop-element-preserved c =
       seen = rw (more, keys_of-push entries entry) (c.in-Ok.ensures.noted (keys_of entries) rest watched);
       read = rw (grown, more, map-append view yielded (element ∷ [])) read;
       apart = rw (more, keys_of-push entries entry) (IsDistinct-push nat_list_eq_equiv (keys_of entries) entry.0 c.loop-element.invariant.apart (c.in-Ok.ensures.is_new (keys_of entries) rest watched));
-      fit = rw more (All-push IsSoundOutcome entries entry c.loop-element.invariant.fit c.in-Ok.ensures.fit);
+      fit = rw more (All-push IsWellFormedOutcome entries entry c.loop-element.invariant.fit c.in-Ok.ensures.well_formed);
     }

@@ -3,7 +3,7 @@ use Rattle.std.specs.List.{IsDistinct}
 use Rattle.std.specs.Map.{keys_of}
 use Rattle.std.specs.Slice.Iter.{iter_mut_rest}
 use Rattle.serde_json.specs.View.{view}
-use Rattle.odb_doc.specs.recorded.Outcomes.{Says, IsSoundOutcome, ids, recorded}
+use Rattle.odb_doc.specs.recorded.Outcomes.{ReadsAs, IsWellFormedOutcome, ids, recorded}
 use Rattle.odb_doc.specs.recorded.RawOutcomes.{IsWatched}
 use Rattle.odb_doc.proofs.LeastLemmas.{AreRead}
 use Rattle.odb_doc.proofs.OutcomeListLemmas.{Breaks}
@@ -13,7 +13,7 @@ abbrev pub invariant-loop-element : goal.invariant-loop-element
 invariant-loop-element l = record {
   split : l.fn.elements.items ≡ map (λ y. y.now) l.yielded ++ iter_mut_rest l.element-iterator;
   seen : IsWatched l.seen (keys_of (map recorded l.entries.items)) (ids (map view (iter_mut_rest l.element-iterator)));
-  read : AreRead Breaks Says (map view (map (λ y. y.now) l.yielded)) (map recorded l.entries.items);
+  read : AreRead Breaks ReadsAs (map view (map (λ y. y.now) l.yielded)) (map recorded l.entries.items);
   apart : IsDistinct bytes_eq (keys_of (map recorded l.entries.items));
-  fit : All IsSoundOutcome (map recorded l.entries.items);
+  fit : All IsWellFormedOutcome (map recorded l.entries.items);
 }

@@ -38,8 +38,8 @@ returns-then-not-has_whole_body-clause-first c = λ d before rest raw watched.
       least = below_63 before d raw.object (BreaksOutcome-not_twice before d id raw.id none) (BreaksOutcome-good_status before d (number_view c.args.raw.now.status) raw.status good);
     }
 
-pub returns-clause-sound : goal.returns-clause-sound
-returns-clause-sound c = λ d before rest raw watched.
+pub returns-clause-unbroken : goal.returns-clause-unbroken
+returns-clause-unbroken c = λ d before rest raw watched.
     let id = string_bytes c.args.raw.now.id in
     let none : list_any (bytes_eq id) before ≡ false = none_when_new _ _ (c.in_ok-note.ensures.is_new before rest watched) c.if-not-branch.false in
     let good : IsStatus (number_view c.args.raw.now.status) = search rules in

@@ -9,5 +9,5 @@ returns-clause-phases c = c.in_ok-all_unstarted.ensures ∙ ap (λ n. replicate 
 pub returns-clause-counts : goal.returns-clause-counts
 returns-clause-counts c = record {
   counts = c.in_ok-new.ensures;
-  stopped = sym (stopped_first c.args.policy.mode (length c.args.graph.now.shape.units));
+  stopped = sym (stopped_first c.args.policy.mode (length c.args.graph.now.plan_graph.units));
 }

@@ -14,8 +14,8 @@ use Rattle.odb_sched.proofs.counts.Counts.report.Goals as goal
 
 pub take_report-requires-clause-counts : goal.take_report-requires-clause-counts
 take_report-requires-clause-counts c =
-    subst (λ (t : Progress). AreCounts c.args.graph.now.shape (set c.deref.result.now c.args.i Running) t) (sym (ap (λ (t : Counts). t.progress) c.put.ensures.rest))
-    (subst (λ phases. AreCounts c.args.graph.now.shape phases c.args.self.now.progress)
+    subst (λ (t : Progress). AreCounts c.args.graph.now.plan_graph (set c.deref.result.now c.args.i Running) t) (sym (ap (λ (t : Counts). t.progress) c.put.ensures.rest))
+    (subst (λ phases. AreCounts c.args.graph.now.plan_graph phases c.args.self.now.progress)
     (sym (written_back c.args.self.now.phases.items c.deref.result.now c.args.i Running (Reported c.args.outcome) (c.deref.ensures.value ∙ c.put.ensures.phases) (Running-from _ c.requires.running)))
     c.requires.counts.counts)
 
@@ -25,7 +25,7 @@ returns-clause-counts c =
     let within : c.args.i < length c.put.new.self.phases.items = rw (c.put.ensures.phases, length-set c.args.self.now.phases.items c.args.i (Reported c.args.outcome), c.requires.each) c.requires.request in
     let back = written_back c.args.self.now.phases.items c.put.new.self.phases.items c.args.i Running (Reported c.args.outcome) c.put.ensures.phases (Running-from _ c.requires.running) in
     record {
-      counts = subst (λ phases. AreCounts c.args.graph.now.shape phases c.take_report.new.progress) c.deref.ensures.value c.take_report.ensures;
+      counts = subst (λ phases. AreCounts c.args.graph.now.plan_graph phases c.take_report.new.progress) c.deref.ensures.value c.take_report.ensures;
       stopped = c.is_stopped-self.ensures
           ∙ ap (λ b. b || (stops c.args.policy.mode && has_erred c.index.result.now)) (ap (λ (t : Counts). t.stopped) c.put.ensures.rest ∙ c.requires.counts.stopped ∙ ap (stopped_in c.args.policy.mode) (sym back))
           ∙ ap (λ phase. stopped_in c.args.policy.mode (set c.put.new.self.phases.items c.args.i Running) || (stops c.args.policy.mode && has_erred phase)) (get_or_read c.put.new.self.phases.items c.args.i c.index.result.now within c.index.ensures Unstarted)

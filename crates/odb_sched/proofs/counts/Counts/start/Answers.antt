@@ -13,8 +13,8 @@ use Rattle.odb_sched.proofs.counts.Counts.start.Goals as goal
 
 pub begin-requires-clause-counts : goal.begin-requires-clause-counts
 begin-requires-clause-counts c =
-    subst (λ (t : Progress). AreCounts c.args.graph.now.shape (set c.deref.result.now c.args.i Unstarted) t) (sym (ap (λ (t : Counts). t.progress) c.put.ensures.rest))
-    (subst (λ phases. AreCounts c.args.graph.now.shape phases c.args.self.now.progress)
+    subst (λ (t : Progress). AreCounts c.args.graph.now.plan_graph (set c.deref.result.now c.args.i Unstarted) t) (sym (ap (λ (t : Counts). t.progress) c.put.ensures.rest))
+    (subst (λ phases. AreCounts c.args.graph.now.plan_graph phases c.args.self.now.progress)
     (sym (written_back c.args.self.now.phases.items c.deref.result.now c.args.i Unstarted Running (c.deref.ensures.value ∙ c.put.ensures.phases) (Unstarted-from _ c.requires.unstarted)))
     c.requires.counts.counts)
 
@@ -24,7 +24,7 @@ returns-clause-counts c =
     let back = written_back c.args.self.now.phases.items c.put.new.self.phases.items c.args.i Unstarted Running c.put.ensures.phases (Unstarted-from _ c.requires.unstarted) in
     let runs : is_running (get_or c.put.new.self.phases.items c.args.i Unstarted) ≡ true = ap is_running (written_at c.args.self.now.phases.items c.put.new.self.phases.items c.args.i Running within c.put.ensures.phases) in
     record {
-      counts = subst (λ phases. AreCounts c.args.graph.now.shape phases c.begin.new.progress) c.deref.ensures.value c.begin.ensures;
+      counts = subst (λ phases. AreCounts c.args.graph.now.plan_graph phases c.begin.new.progress) c.deref.ensures.value c.begin.ensures;
       stopped = ap (λ (t : Counts). t.stopped) c.put.ensures.rest ∙ c.requires.counts.stopped ∙ ap (stopped_in c.args.policy.mode) (sym back)
           ∙ stopped_by_start c.args.policy.mode c.put.new.self.phases.items c.args.i runs;
     }

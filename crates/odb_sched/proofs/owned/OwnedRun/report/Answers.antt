@@ -15,7 +15,7 @@ report-requires-clause-running c =
 
 pub invariant_of-self : goal.invariant_of-self
 invariant_of-self c = record {
-  reached = subst (λ phases. IsReached (state_of c.self.inside.graph.shape c.self.inside.policy phases)) (sym c.report.ensures.phases)
+  reached = subst (λ phases. IsReached (state_of c.self.inside.graph.plan_graph c.self.inside.policy phases)) (sym c.report.ensures.phases)
       (reached_reported _ c.args.i c.args.outcome c.self.invariant.reached (subst (λ state. c.args.i < size state) (sym c.self.view_is) c.requires)
       (subst (λ state. may_report state c.args.i c.args.outcome ≡ true) (sym c.self.view_is) (c.report_refusal.ensures.none c.in_default.is)));
   counts = c.report.ensures.counts;

@@ -17,7 +17,7 @@ start-requires-clause-unstarted c = (may_start-parts (kept_state c.self.inside) 
 
 pub invariant_of-self : goal.invariant_of-self
 invariant_of-self c = record {
-  reached = subst (λ phases. IsReached (state_of c.self.inside.graph.shape c.self.inside.policy phases)) (sym c.start.ensures.phases)
+  reached = subst (λ phases. IsReached (state_of c.self.inside.graph.plan_graph c.self.inside.policy phases)) (sym c.start.ensures.phases)
       (reached_started _ c.args.i c.self.invariant.reached (subst (λ state. c.args.i < size state) (sym c.self.view_is) c.requires)
       (subst (λ state. may_start state c.args.i ≡ true) (sym c.self.view_is) (c.start_refusal.ensures.none c.in_default.is)));
   counts = c.start.ensures.counts;

@@ -8,7 +8,7 @@ use Rattle.odb_sched.proofs.OwnedLemmas.{if_some, next_with}
 use Rattle.odb_sched.proofs.scheduler.Scheduler.next_in.Goals as goal
 
 pub invariant_of-self : goal.invariant_of-self
-invariant_of-self c = ap (λ (s : State). s.shape) c.next_in.ensures.same ∙ c.self.invariant
+invariant_of-self c = ap (λ (s : State). s.plan_graph) c.next_in.ensures.same ∙ c.self.invariant
 
 pub returns-clause-same : goal.returns-clause-same
 returns-clause-same c = ap (with_requests (plan_records c.self.inside.plan.now)) c.next_in.ensures.same ∙ c.self.view_is

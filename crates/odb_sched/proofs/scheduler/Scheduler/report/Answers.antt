@@ -8,7 +8,7 @@ use Rattle.odb_sched.proofs.OwnedLemmas.{either_way, if_err, on_err, on_ok, repo
 use Rattle.odb_sched.proofs.scheduler.Scheduler.report.Goals as goal
 
 pub invariant_of-self : goal.invariant_of-self
-invariant_of-self c = either_way c.report.result c.report.ensures.ok c.report.ensures.err (λ is. ap (λ (s : State). s.shape) is ∙ c.self.invariant) (λ is. ap (λ (s : State). s.shape) is ∙ c.self.invariant)
+invariant_of-self c = either_way c.report.result c.report.ensures.ok c.report.ensures.err (λ is. ap (λ (s : State). s.plan_graph) is ∙ c.self.invariant) (λ is. ap (λ (s : State). s.plan_graph) is ∙ c.self.invariant)
 
 pub returns-clause-ok : goal.returns-clause-ok
 returns-clause-ok c = subst (λ state. OnOk c.report.result (with_requests (plan_records c.self.inside.plan.now) c.report.new.self ≡ reported state c.args.i c.args.outcome)) c.self.view_is

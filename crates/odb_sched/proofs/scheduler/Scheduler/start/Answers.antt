@@ -5,12 +5,12 @@ use Rattle.odb_check.specs.Plans.{plan_records}
 use Rattle.odb_sched.specs.declared.refusal.StartRefusal.TheVariants.{WidthReached}
 use Rattle.odb_sched.specs.run.Steps.{IsStartCause, may_start}
 use Rattle.odb_sched.specs.run.Laws.{HaveSucceeded}
-use Rattle.odb_sched.specs.run.State.{State, shape, started, with_requests}
+use Rattle.odb_sched.specs.run.State.{State, plan_graph, started, with_requests}
 use Rattle.odb_sched.proofs.OwnedLemmas.{either_way, if_err, on_err, on_ok, ok_so, start_cause_with}
 use Rattle.odb_sched.proofs.scheduler.Scheduler.start.Goals as goal
 
 pub invariant_of-self : goal.invariant_of-self
-invariant_of-self c = either_way c.start.result c.start.ensures.ok c.start.ensures.err (λ is. ap (λ (s : State). s.shape) is ∙ c.self.invariant) (λ is. ap (λ (s : State). s.shape) is ∙ c.self.invariant)
+invariant_of-self c = either_way c.start.result c.start.ensures.ok c.start.ensures.err (λ is. ap (λ (s : State). s.plan_graph) is ∙ c.self.invariant) (λ is. ap (λ (s : State). s.plan_graph) is ∙ c.self.invariant)
 
 pub returns-clause-ok : goal.returns-clause-ok
 returns-clause-ok c = subst (λ state. OnOk c.start.result (with_requests (plan_records c.self.inside.plan.now) c.start.new.self ≡ started state c.args.i)) c.self.view_is
@@ -29,7 +29,7 @@ returns-clause-err c = subst (λ state. OnErr c.start.result (with_requests (pla
 
 pub returns-clause-dependencies_first : goal.returns-clause-dependencies_first
 returns-clause-dependencies_first c = ok_so c.start.result (λ is_ok.
-    let same : c.args.self.now.shape ≡ shape c.self.inside.plan.now = ap (λ (s : State). s.shape) (sym c.self.view_is) ∙ c.self.invariant in
+    let same : c.args.self.now.plan_graph ≡ plan_graph c.self.inside.plan.now = ap (λ (s : State). s.plan_graph) (sym c.self.view_is) ∙ c.self.invariant in
     subst (λ requests. HaveSucceeded requests c.args.self.now c.args.i) (ap (λ (s : State). s.requests) c.self.view_is)
     (c.every_start.ensures.dependencies_first c.args.self.now c.args.i same ((returns-clause-allowed c).0 is_ok)))
 

@@ -1,5 +1,0 @@
-use Rattle.odb_dense.proofs.PlacedLemmas.{listed_once}
-use Rattle.odb_dense.proofs.positions.Positions.as_slice.Goals as goal
-
-pub returns-clause-listed : goal.returns-clause-listed
-returns-clause-listed c = rw (c.deref.ensures.value, ← c.self.view_is) (listed_once c.self.inside.items.items c.self.inside.places.items c.self.inside.count c.self.invariant)

@@ -1,0 +1,97 @@
+//! Responses: what two readings of them find, and what a finished run answers.
+
+ghost use Rattle.std.specs.Prelude.{ℕ, List, IfSome, IsSome};
+ghost use Rattle.std.specs.List.{AllZip};
+ghost use Rattle.serde_json.specs.View.{view};
+ghost use Rattle.odb_check.specs.Plans.{plan_records};
+ghost use Rattle.odb_reply.specs.Fits.{Fits, IsTableOf, ListsFit, places, statuses};
+ghost use Rattle.odb_reply.specs.LeastMatchFault.{RefusesMatch};
+ghost use Rattle.odb_reply.specs.MatchFaults as match_faults;
+ghost use Rattle.odb_reply.specs.OnePerId.{HasOnePerId};
+ghost use Rattle.odb_reply.specs.ResponseDocuments.{IsResponseDocument, RefusesResponses, ReadsAs, entries, responses_in};
+ghost use Rattle.odb_reply.specs.ResponseDocuments as response_documents;
+ghost use Rattle.odb_reply.specs.Responses.{response_value};
+ghost use Rattle.odb_tests.specs.Readings.{IsReading, IsSame};
+
+use odb_check::Plan;
+use odb_reply::laws::{every_response, one_document, one_match};
+use odb_reply::{MatchFault, ResponseFault, Responses, Table, match_responses};
+use odb_sched::Done;
+use serde_json::Value;
+use std::alloc::Global;
+
+/// Reads responses, unless memory runs out.
+fn responses_of<'a>(alloc: Global, value: &'a Value) -> Option<Result<Responses<'a>, ResponseFault>>
+    ensures { IfSome result (IsReading
+        (λ found. IsResponseDocument (view value.now)
+        × AllZip ReadsAs (responses_in (view value.now)) (entries found))
+        (λ fault. IsSome (response_documents.responses_row fault) × RefusesResponses fault (view value.now))) }
+{
+    match Responses::read(alloc, value) {
+        Ok(found) => Some(Ok(found)),
+        Err(ResponseFault::OutOfMemory) => None,
+        Err(fault) => Some(Err(fault)),
+    }
+}
+
+/// What two readings of responses found.
+type TwoResponses<'a> = (
+    Option<Result<Responses<'a>, ResponseFault>>,
+    Option<Result<Responses<'a>, ResponseFault>>,
+);
+
+/// Reads responses twice.
+fn responses_twice<'a>(alloc: Global, value: &'a Value) -> TwoResponses<'a>
+    ensures { IfSome result.0 (λ one. IfSome result.1 (IsSame entries one)) }
+{
+    one_document();
+    (responses_of(alloc, value), responses_of(alloc, value))
+}
+
+/// Matches responses with a batch, unless memory runs out.
+fn matched(
+    alloc: Global,
+    plan: &Plan<'_>,
+    responses: &Responses<'_>,
+) -> Option<Result<Table, MatchFault>>
+    ensures { IfSome result (IsReading
+        (λ table. Fits (plan_records plan.now) (entries responses.now)
+        × IsTableOf (plan_records plan.now) (entries responses.now) (places table) (statuses table))
+        (λ fault. IsSome (match_faults.match_row fault)
+        × RefusesMatch fault (plan_records plan.now) (entries responses.now))) }
+{
+    match match_responses(alloc, plan, responses) {
+        Ok(table) => Some(Ok(table)),
+        Err(MatchFault::OutOfMemory) => None,
+        Err(fault) => Some(Err(fault)),
+    }
+}
+
+/// What two matches found.
+type TwoTables = (
+    Option<Result<Table, MatchFault>>,
+    Option<Result<Table, MatchFault>>,
+);
+
+/// Matches responses with a batch twice.
+fn matched_twice(alloc: Global, plan: &Plan<'_>, responses: &Responses<'_>) -> TwoTables
+    ensures { IfSome result.0 (λ one. IfSome result.1 (IsSame {Y = List ℕ × List ℕ}
+        (λ table. (places table, statuses table)) one)) }
+{
+    one_match();
+    (
+        matched(alloc, plan, responses),
+        matched(alloc, plan, responses),
+    )
+}
+
+/// Returns how many requests a finished run has. What it answers is a response document that fits the
+/// batch, with one response for each id.
+fn answered(done: &Done<'_>) -> u32
+    ensures document { IsResponseDocument (response_value done.now) }
+    ensures fits { ListsFit done.now.requests (response_value done.now) }
+    ensures one_per_id { HasOnePerId done.now.requests (response_value done.now) }
+{
+    every_response(done);
+    done.plan().len()
+}

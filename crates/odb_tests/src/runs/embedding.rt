@@ -1,0 +1,143 @@
+//! What a caller writes: a run that is driven by hand, and one that is executed.
+
+use super::{OnPlan, on_document};
+use odb_check::{Plan, Seed, check_with};
+use odb_doc::{Batch, Outcome, Request, parse};
+use odb_reply::response_text;
+use odb_sched::{First, Mode, Policy, Scheduler, Service, ServiceFault, execute};
+use std::alloc::Global;
+use std::collections::BTreeMap;
+use std::random::RandomSource;
+use std::test::Fail;
+
+/// Returns the text of the response to a batch whose requests the service performs. The seed of the
+/// tables of names is random, so that nobody can choose names that make the check slow.
+fn respond<R: RandomSource, S: Service>(
+    alloc: Global,
+    random: &R,
+    document: &[u8],
+    service: &mut S,
+) -> Result<String, Fail> {
+    let value = parse(alloc, document)?;
+    let batch = Batch::read(alloc, &value)?;
+    let plan = check_with(alloc, Seed::random(random)?, &batch)?;
+    perform_all(alloc, &plan, service)
+}
+
+/// Has the service perform the requests of a plan, and returns the text of the response.
+fn perform_all<S: Service>(
+    alloc: Global,
+    plan: &Plan<'_>,
+    service: &mut S,
+) -> Result<String, Fail> {
+    let policy = Policy::free(Mode::Continue);
+    let trace = execute(alloc, plan, policy, &mut First, service)?;
+    Ok(response_text(alloc, &trace.done)?)
+}
+
+/// Neither a request runs nor one may start, and yet the run is not finished.
+#[derive(Debug, Drop)]
+struct Stuck;
+
+/// Sends the requests of a plan, one after another, each once it may start, and returns the text of
+/// the response.
+fn send_all(alloc: Global, plan: &Plan<'_>) -> Result<String, Fail> {
+    let mut scheduler = Scheduler::new(alloc, plan, Policy::free(Mode::Continue))?;
+    for _ in 0..plan.len() {
+        send_next(alloc, &mut scheduler)?;
+    }
+    if !scheduler.is_finished() {
+        return Err(Stuck.into());
+    }
+    Ok(response_text(alloc, &scheduler.close())?)
+}
+
+/// Sends a request that may start, if there is one, and reports its outcome.
+fn send_next(alloc: Global, scheduler: &mut Scheduler<'_>) -> Result<(), Fail> {
+    if let Some(i) = scheduler.ready().first().copied() {
+        scheduler.start(i)?;
+        scheduler.report(i, send(alloc, i))?;
+    }
+    Ok(())
+}
+
+/// Sends a request and returns its outcome: each ends with 200.
+fn send(alloc: Global, _i: u32) -> Outcome {
+    Outcome {
+        status: 200,
+        headers: BTreeMap::new(alloc),
+        body: None,
+    }
+}
+
+/// A service that creates what has a body, and reads all else.
+#[derive(Drop)]
+struct Store {
+    alloc: Global,
+}
+
+impl Service for Store {
+    ghost offers = { λ _ _ _. Unit {0} };
+
+    ghost performs = { λ _ _ _ _ _. Unit {0} };
+
+    fn perform(&mut self, _i: u32, request: &Request<'_>) -> Result<Outcome, ServiceFault> {
+        Ok(Outcome {
+            status: if request.body.is_some() { 201 } else { 200 },
+            headers: BTreeMap::new(self.alloc),
+            body: None,
+        })
+    }
+}
+
+/// Drives the run of a plan by hand.
+#[derive(Clone, Copy)]
+struct ByHand;
+
+impl OnPlan for ByHand {
+    type Found = String;
+
+    fn on_plan(&mut self, alloc: Global, plan: &Plan<'_>) -> Result<String, Fail> {
+        send_all(alloc, plan)
+    }
+}
+
+/// Batches with what they are answered by hand and by a store.
+const ROWS: &[(&str, &str, &str)] = &[
+    (
+        r#"{"requests":[{"id":"a","method":"post","url":"X","body":{"Name":"A"}},
+            {"id":"b","method":"get","url":"X"}]}"#,
+        r#"{"responses":[{"id":"a","status":200},{"id":"b","status":200}]}"#,
+        r#"{"responses":[{"id":"a","status":201},{"id":"b","status":200}]}"#,
+    ),
+    (
+        r#"{"requests":[{"id":"p","method":"post","url":"X","atomicityGroup":"g"},
+            {"id":"q","method":"get","url":"X","dependsOn":["g"]}]}"#,
+        r#"{"responses":[{"atomicityGroup":"g","id":"p","status":200},{"id":"q","status":200}]}"#,
+        r#"{"responses":[{"atomicityGroup":"g","id":"p","status":200},{"id":"q","status":200}]}"#,
+    ),
+];
+
+fn is_sent(alloc: Global, document: &str, want: &str) -> Result<bool, Fail> {
+    let found = on_document(alloc, document, &mut ByHand)?;
+    Ok(found.as_str() == want)
+}
+
+fn is_stored<R: RandomSource>(
+    alloc: Global,
+    random: &R,
+    document: &str,
+    want: &str,
+) -> Result<bool, Fail> {
+    let found = respond(alloc, random, document.as_bytes(), &mut Store { alloc })?;
+    Ok(found.as_str() == want)
+}
+
+#[test]
+fn drives_and_executes_a_plan(rt: HostRuntime) -> Result<(), Fail> {
+    for (document, sent, stored) in ROWS {
+        assert!(rt; is_sent(rt.alloc(), document, sent)?, "{sent}");
+        assert!(rt; is_stored(rt.alloc(), &rt, document, stored)?, "{stored}");
+    }
+    Ok(())
+}
