@@ -147,6 +147,7 @@ pub counts_failed : (plan : PlanGraph) (phases : List Phase) (i : ℕ) (before t
     → t.unmet.items ≡ before.unmet.items → t.pending.items ≡ before.pending.items → t.running ≡ map is_running phases → ArePropagated plan phases t.units → AreReady plan (is_skipped plan t.units) phases t.unmet.items t.ready
     → AreCounts plan phases t
 counts_failed plan phases i before t within failed counts unmet pending running units ready = record {
+  each = sym (length-set phases i Running) ∙ counts.each;
   unmet = λ j below. ap (λ xs. get_or xs j 0) unmet ∙ counts.unmet j below ∙ unmet_same plan (set phases i Running) phases same j;
   members = ap length pending ∙ counts.members;
   pending = λ u below. ap (λ xs. get_or xs u 0) pending ∙ counts.pending u below ∙ pending_same plan (set phases i Running) phases same u;

@@ -135,6 +135,7 @@ pub first_counts : (plan : PlanGraph) (t : Progress) → IsPlan plan → t.unmet
     → length t.ready ≡ length plan.units → ((i : ℕ) → i < length plan.units → get_or t.ready i false ≡ (needs_in plan i == 0)) → t.running ≡ replicate (length plan.units) false
     → AreCounts plan (fresh plan) t
 first_counts plan t laws unmet pending some units each exact running = record {
+  each = length-replicate (length plan.units) Unstarted;
   unmet = λ i within. ap (λ ns. get_or ns i 0) unmet ∙ get_or-list_below (length plan.units) i (needs_in plan) 0 within ∙ unmet_first plan i laws populated within;
   members = ap length pending ∙ length-list_below plan.unit_count (members_in plan);
   pending = λ u inside. member_count u inside ∙ sym (pending_first plan u);

@@ -6,13 +6,14 @@ use Rattle.odb_check.specs.declared.need.Need.{Need}
 use Rattle.odb_check.specs.declared.need.Need.TheVariants.{One, Group}
 use Rattle.odb_check.specs.Firsts.{count_below, all_below}
 use Rattle.odb_check.specs.PlanGraph.{PlanGraph, unit_of, needs_of}
+use Rattle.odb_sched.specs.declared.counts.Progress.{Progress}
 use Rattle.odb_sched.specs.declared.phase.Phase.{Phase}
 use Rattle.odb_sched.specs.declared.phase.Phase.TheVariants.{Unstarted, Running}
 use Rattle.odb_dense.specs.declared.worklist.Mark.{Mark}
 use Rattle.odb_sched.specs.run.Failing.{fails}
 use Rattle.odb_sched.specs.run.State.{is_unstarted, is_running, has_succeeded, has_failed}
 use Rattle.odb_sched.specs.run.Steps.{satisfied_in}
-use Rattle.odb_sched.specs.invariants.Counts.{AreReady, ArePropagated, unmet_in, pending_in}
+use Rattle.odb_sched.specs.invariants.Counts.{AreCounts, AreReady, ArePropagated, unmet_in, pending_in}
 use Rattle.odb_sched.proofs.PhaseLemmas.{Running-from}
 
 -- a test that is the same for a running request and an unstarted one has the same value before the start
@@ -43,6 +44,10 @@ propagated_by_start plan phases i units within runs are = record {
   failed = λ u inside. are.failed u inside ∙ ap (λ bad. fails plan bad u) (same_tests has_failed phases i within refl runs);
   marked = are.marked;
 }
+
+-- the phases are as many as before
+pub as_long : (plan : PlanGraph) (phases : List Phase) (i : ℕ) (phase : Phase) (t : Progress) → AreCounts plan (set phases i phase) t → length phases ≡ length plan.units
+as_long plan phases i phase t are = sym (length-set phases i phase) ∙ are.each
 
 -- the running requests are those before, and the one that has started
 pub running_in : (phases : List Phase) (i : ℕ) → is_running (get_or phases i Unstarted) ≡ true → set (map is_running (set phases i Unstarted)) i true ≡ map is_running phases

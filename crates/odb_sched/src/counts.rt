@@ -111,7 +111,6 @@ fn all_unstarted(alloc: Global, count: u32) -> Result<Vec<Phase>, AllocError>
 /// Moves a request that has started from the ready requests to the running ones. `phases[i]` is
 /// `Running` already.
 fn begin(graph: &Graph, phases: &[Phase], i: u32, progress: &mut Progress)
-    requires each { length phases.now ≡ length graph.now.plan_graph.units }
     requires request { i < length graph.now.plan_graph.units }
     requires runs { state.is_running (slice_index_or phases.now i Unstarted) ≡ true }
     requires counts { counts.AreCounts graph.now.plan_graph (slice_set phases.now i Unstarted) progress.old }
@@ -119,41 +118,6 @@ fn begin(graph: &Graph, phases: &[Phase], i: u32, progress: &mut Progress)
 {
     progress.ready.remove(i);
     progress.running.insert(i);
-}
-
-/// Returns whether a dependency is satisfied. `pending` has for each unit the number of its members
-/// that have not succeeded.
-fn is_satisfied(graph: &Graph, phases: &[Phase], pending: &[u32], need: Need) -> bool
-    requires each { length phases.now ≡ length graph.now.plan_graph.units }
-    requires members { length pending.now ≡ graph.now.plan_graph.unit_count }
-    requires pending { counts.ArePending graph.now.plan_graph phases.now pending.now }
-    requires known { IsNeed graph.now.plan_graph need }
-    ensures { result ≡ satisfied_in graph.now.plan_graph phases.now need }
-{
-    match need {
-        Need::One(r) => phases[r as usize].has_succeeded(),
-        Need::Group(u) => pending[u as usize] == 0,
-    }
-}
-
-/// Returns the first dependency of a request that is not satisfied. `pending` has for each unit the
-/// number of its members that have not succeeded.
-pub(crate) fn first_unmet(graph: &Graph, phases: &[Phase], pending: &[u32], i: u32) -> Option<Need>
-    requires each { length phases.now ≡ length graph.now.plan_graph.units }
-    requires members { length pending.now ≡ graph.now.plan_graph.unit_count }
-    requires pending { counts.ArePending graph.now.plan_graph phases.now pending.now }
-    requires request { i < length graph.now.plan_graph.units }
-    ensures { result
-        ≡ find (λ need. not (satisfied_in graph.now.plan_graph phases.now need))
-        (plan_graphs.needs_of graph.now.plan_graph i) }
-{
-    let needs = graph.needs(i);
-    for need in needs {
-        if !is_satisfied(graph, phases, pending, *need) {
-            return Some(*need);
-        }
-    }
-    None
 }
 
 /// How far a run has come: the phases of its requests, what is counted beside them, and whether an
@@ -192,7 +156,6 @@ impl Counts {
 
     /// Starts a request.
     pub(crate) fn start(&mut self, graph: &Graph, policy: Policy, i: u32)
-        requires each { length self.old.phases.items ≡ length graph.now.plan_graph.units }
         requires request { i < length graph.now.plan_graph.units }
         requires unstarted { state.is_unstarted (slice_index_or self.old.phases.items i Unstarted) ≡ true }
         requires counts { IsCounted (state_of graph.now.plan_graph policy self.old.phases.items) self.old }
@@ -201,6 +164,35 @@ impl Counts {
     {
         self.put(i, Phase::Running);
         begin(graph, &self.phases, i, &mut self.progress);
+    }
+
+    /// Returns whether a dependency is satisfied.
+    fn is_satisfied(&self, graph: &Graph, need: Need) -> bool
+        requires counts { counts.AreCounts graph.now.plan_graph self.now.phases.items self.now.progress }
+        requires known { IsNeed graph.now.plan_graph need }
+        ensures { result ≡ satisfied_in graph.now.plan_graph self.now.phases.items need }
+    {
+        match need {
+            Need::One(r) => self.phases[r as usize].has_succeeded(),
+            Need::Group(u) => self.progress.pending[u as usize] == 0,
+        }
+    }
+
+    /// Returns the first dependency of a request that is not satisfied.
+    pub(crate) fn first_unmet(&self, graph: &Graph, i: u32) -> Option<Need>
+        requires counts { counts.AreCounts graph.now.plan_graph self.now.phases.items self.now.progress }
+        requires request { i < length graph.now.plan_graph.units }
+        ensures { result
+            ≡ find (λ need. not (satisfied_in graph.now.plan_graph self.now.phases.items need))
+            (plan_graphs.needs_of graph.now.plan_graph i) }
+    {
+        let needs = graph.needs(i);
+        for need in needs {
+            if !self.is_satisfied(graph, *need) {
+                return Some(*need);
+            }
+        }
+        None
     }
 
     /// Returns whether a unit has failed.

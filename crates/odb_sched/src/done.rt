@@ -7,10 +7,11 @@ ghost use Rattle.odb_sched.specs.run.State as state;
 ghost use Rattle.odb_sched.specs.run.Steps as steps;
 ghost use Rattle.odb_sched.specs.run.Laws as laws;
 
-use crate::phase::{Phase, is_success};
+use crate::phase::Phase;
 use crate::scheduler::Scheduler;
 use odb_check::Plan;
 use odb_doc::Outcome;
+use odb_doc::status::is_success;
 use std::alloc::{AllocError, Global};
 use std::marker::Model;
 

@@ -15,14 +15,15 @@ ghost use Rattle.odb_sched.specs.invariants.Kept.{first_of, IsReached};
 ghost use Rattle.odb_sched.specs.run.Steps as steps;
 
 use crate::chooser::{End, Order};
-use crate::counts::{Counts, first_unmet};
+use crate::counts::Counts;
 use crate::event::Step;
 use crate::graph::Graph;
-use crate::phase::{Phase, is_status};
+use crate::phase::Phase;
 use crate::policy::Policy;
 use crate::refusal::{ReportRefusal, StartRefusal};
 use odb_check::Plan;
 use odb_doc::Outcome;
+use odb_doc::status::is_status;
 use std::alloc::{AllocError, Global};
 use std::marker::Model;
 
@@ -116,12 +117,7 @@ impl OwnedRun {
         if self.counts.has_failed(self.graph.unit_of(i)) {
             return Some(StartRefusal::UnitFailed);
         }
-        if let Some(need) = first_unmet(
-            &self.graph,
-            &self.counts.phases,
-            &self.counts.progress.pending,
-            i,
-        ) {
+        if let Some(need) = self.counts.first_unmet(&self.graph, i) {
             return Some(StartRefusal::Waiting(need));
         }
         if self.counts.running().len() >= self.policy.width as usize {

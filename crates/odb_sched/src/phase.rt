@@ -1,9 +1,9 @@
 //! What has happened to a request, and what its status means.
 
 ghost use Rattle.std.specs.Prelude.{◌≡◌};
-ghost use Rattle.odb_doc.specs.Statuses as statuses;
 
 use odb_doc::Outcome;
+use odb_doc::status::is_success;
 
 /// What has happened to a request in a run.
 #[derive(Debug, Drop)]
@@ -11,20 +11,6 @@ pub enum Phase {
     Unstarted,
     Running,
     Reported(Outcome),
-}
-
-/// Returns whether a status is a success, which is 200 to 299.
-pub(crate) fn is_success(status: u16) -> bool
-    ensures { result ≡ statuses.is_success status }
-{
-    (200..300).contains(&status)
-}
-
-/// Returns whether a report may have this status, which is 200 to 599.
-pub(crate) fn is_status(status: u16) -> bool
-    ensures { result ≡ statuses.is_status status }
-{
-    (200..600).contains(&status)
 }
 
 impl Phase {

@@ -104,7 +104,6 @@ fn count_success(u: u32, progress: &mut Progress)
 /// Handles a request that has succeeded: satisfies the needs of it, and those of its unit if it was
 /// the last of the members. `phases[i]` already holds the outcome.
 fn succeed(graph: &Graph, phases: &[Phase], i: u32, progress: &mut Progress)
-    requires each { length phases.now ≡ length graph.now.plan_graph.units }
     requires request { i < length graph.now.plan_graph.units }
     requires succeeded { state.has_succeeded (slice_index_or phases.now i Unstarted) ≡ true }
     requires counts { counts.AreCounts graph.now.plan_graph (slice_set phases.now i Running) progress.old }
@@ -196,7 +195,6 @@ fn propagate(graph: &Graph, phases: &[Phase], progress: &mut Progress)
 /// Handles a failed request: marks its unit as failed, and propagates the failure to every unit that
 /// depends on it, directly or not. `phases[i]` already holds the outcome.
 fn fail(graph: &Graph, phases: &[Phase], i: u32, progress: &mut Progress)
-    requires each { length phases.now ≡ length graph.now.plan_graph.units }
     requires request { i < length graph.now.plan_graph.units }
     requires failed { state.has_failed (slice_index_or phases.now i Unstarted) ≡ true }
     requires counts { counts.AreCounts graph.now.plan_graph (slice_set phases.now i Running) progress.old }
@@ -217,7 +215,6 @@ fn is_stopped(stopped: bool, policy: Policy, phase: &Phase) -> bool
 
 /// Handles the report of a request. `phases[i]` already holds the outcome.
 fn take_report(graph: &Graph, phases: &[Phase], i: u32, progress: &mut Progress)
-    requires each { length phases.now ≡ length graph.now.plan_graph.units }
     requires request { i < length graph.now.plan_graph.units }
     requires reported { state.is_reported (slice_index_or phases.now i Unstarted) ≡ true }
     requires counts { counts.AreCounts graph.now.plan_graph (slice_set phases.now i Running) progress.old }
@@ -235,7 +232,6 @@ impl Counts {
 
     /// Takes the outcome of a running request.
     pub(crate) fn report(&mut self, graph: &Graph, policy: Policy, i: u32, outcome: Outcome)
-        requires each { length self.old.phases.items ≡ length graph.now.plan_graph.units }
         requires request { i < length graph.now.plan_graph.units }
         requires running { state.is_running (slice_index_or self.old.phases.items i Unstarted) ≡ true }
         requires counts { IsCounted (state_of graph.now.plan_graph policy self.old.phases.items) self.old }

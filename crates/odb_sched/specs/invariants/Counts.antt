@@ -1,10 +1,8 @@
 -- What a run counts beside the phases of its requests.
-use Rattle.std.specs.Prelude.{◌≡◌, ℕ, ◌<◌, ◌==◌, ◌&&◌, ◌+◌, Bool, false, not, List, [], length, map, slice_index_or, count_by, All, if◌then◌else◌}
+use Rattle.std.specs.Prelude.{◌≡◌, ℕ, ◌<◌, ◌==◌, ◌&&◌, ◌+◌, Bool, false, not, List, length, map, slice_index_or, count_by, if◌then◌else◌}
 use Rattle.odb_dense.specs.declared.worklist.Mark.{Mark}
 use Rattle.odb_dense.specs.declared.worklist.Mark.TheVariants.{Unvisited}
 use Rattle.odb_dense.specs.Marks.{is_marked, is_visited}
-use Rattle.odb_check.specs.declared.need.Need.{Need}
-use Rattle.odb_check.specs.declared.need.Need.TheVariants.{One, Group}
 use Rattle.odb_check.specs.Firsts.{count_below, list_below}
 use Rattle.odb_check.specs.PlanGraph.{PlanGraph, unit_of, needs_of}
 use Rattle.odb_sched.specs.declared.phase.Phase.{Phase}
@@ -52,6 +50,7 @@ pub record ArePropagated (plan : PlanGraph) (phases : List Phase) (units : List 
 
 -- the counts are those of the requests in these phases
 pub record AreCounts (plan : PlanGraph) (phases : List Phase) (t : Progress) : Type 0 where
+  pub each : length phases ≡ length plan.units
   pub unmet : AreUnmet plan phases t.unmet.items
   pub members : length t.pending.items ≡ plan.unit_count
   pub pending : ArePending plan phases t.pending.items

@@ -5,7 +5,7 @@ use Rattle.odb_sched.specs.declared.counts.Progress.{Progress}
 use Rattle.odb_sched.specs.invariants.Counts.{ArePending, AreReady, ArePropagated, is_skipped, unmet_in, satisfied_by_unit, pending_in}
 use Rattle.odb_sched.specs.invariants.Graphs.{need_count}
 use Rattle.odb_sched.proofs.PhaseLemmas.{succeeded_idle}
-use Rattle.odb_sched.proofs.StartingLemmas.{running_out}
+use Rattle.odb_sched.proofs.StartingLemmas.{as_long, running_out}
 use Rattle.odb_sched.proofs.UnmetLemmas.{unmet_falls, pending_own, request_row}
 use Rattle.odb_sched.proofs.SucceedLemmas.{propagated_kept, pending_after, unmet_satisfied}
 use Rattle.odb_sched.proofs.report.succeed.Goals as goal
@@ -14,13 +14,13 @@ use Rattle.odb_sched.proofs.report.succeed.Goals as goal
 pub count_success-requires-clause-some : goal.count_success-requires-clause-some
 count_success-requires-clause-some c =
     let before : get_or c.args.progress.now.pending.items (unit_of c.args.graph.now.plan_graph c.args.i) 0 ≡ suc (pending_in c.args.graph.now.plan_graph c.args.phases.now (unit_of c.args.graph.now.plan_graph c.args.i)) =
-    c.requires.counts.pending _ (c.laws.ensures.order.counted c.args.i c.requires.request) ∙ pending_own c.args.graph.now.plan_graph c.args.phases.now c.args.i c.requires.request c.requires.each c.requires.succeeded in
+    c.requires.counts.pending _ (c.laws.ensures.order.counted c.args.i c.requires.request) ∙ pending_own c.args.graph.now.plan_graph c.args.phases.now c.args.i c.requires.request (as_long _ _ _ _ _ c.requires.counts) c.requires.succeeded in
     rw (c.unit_of-unit.ensures.unit, before) (omega arith)
 
 pub satisfy_each-requires-clause-enough : goal.satisfy_each-requires-clause-enough
 satisfy_each-requires-clause-enough c = λ i inside.
     let before : get_or c.args.progress.now.unmet.items i 0 ≡ unmet_in c.args.graph.now.plan_graph c.args.phases.now i + (need_count c.args.graph.now.plan_graph c.args.i i + satisfied_by_unit c.args.graph.now.plan_graph c.args.phases.now (unit_of c.args.graph.now.plan_graph c.args.i) i) =
-    c.requires.counts.unmet i inside ∙ unmet_falls c.args.graph.now.plan_graph c.args.phases.now c.args.i i c.laws.ensures.order c.requires.request inside c.requires.each c.requires.succeeded in
+    c.requires.counts.unmet i inside ∙ unmet_falls c.args.graph.now.plan_graph c.args.phases.now c.args.i i c.laws.ensures.order c.requires.request inside (as_long _ _ _ _ _ c.requires.counts) c.requires.succeeded in
     rw (
       request_row c.args.graph.now.plan_graph c.args.i i c.args.graph.now.dependents c.of_request.result.now c.laws.ensures.dependents c.requires.request inside c.of_request.ensures.row,
       ap (λ (t : Progress). t.unmet.items) c.count_success.ensures.rest,
@@ -32,7 +32,7 @@ satisfy_unit-requires-clause-pending c =
     let own = c.unit_of-unit.ensures.unit in
     let pending_now = c.count_success.ensures.pending ∙ ap (λ u. set c.args.progress.now.pending.items u (get_or c.args.progress.now.pending.items u 0 - 1)) own in
     rw (ap (λ (t : Progress). t.pending.items) c.satisfy_each.ensures.rest)
-    (pending_after c.args.graph.now.plan_graph c.args.phases.now c.args.i c.args.progress.now.pending.items c.count_success.new.progress.pending.items c.laws.ensures.order c.requires.request c.requires.each c.requires.succeeded c.requires.counts.members c.requires.counts.pending pending_now
+    (pending_after c.args.graph.now.plan_graph c.args.phases.now c.args.i c.args.progress.now.pending.items c.count_success.new.progress.pending.items c.laws.ensures.order c.requires.request (as_long _ _ _ _ _ c.requires.counts) c.requires.succeeded c.requires.counts.members c.requires.counts.pending pending_now
     c.unit_of-unit.result c.unit_of-unit.ensures.counted)
 
 pub satisfy_unit-requires-clause-enough : goal.satisfy_unit-requires-clause-enough
@@ -40,7 +40,7 @@ satisfy_unit-requires-clause-enough c = λ i inside.
     let listed = request_row c.args.graph.now.plan_graph c.args.i i c.args.graph.now.dependents c.of_request.result.now c.laws.ensures.dependents c.requires.request inside c.of_request.ensures.row in
     let same = ap (λ (t : Progress). get_or t.unmet.items i 0) c.count_success.ensures.rest in
     let before : get_or c.args.progress.now.unmet.items i 0 ≡ unmet_in c.args.graph.now.plan_graph c.args.phases.now i + (need_count c.args.graph.now.plan_graph c.args.i i + satisfied_by_unit c.args.graph.now.plan_graph c.args.phases.now (unit_of c.args.graph.now.plan_graph c.args.i) i) =
-    c.requires.counts.unmet i inside ∙ unmet_falls c.args.graph.now.plan_graph c.args.phases.now c.args.i i c.laws.ensures.order c.requires.request inside c.requires.each c.requires.succeeded in
+    c.requires.counts.unmet i inside ∙ unmet_falls c.args.graph.now.plan_graph c.args.phases.now c.args.i i c.laws.ensures.order c.requires.request inside (as_long _ _ _ _ _ c.requires.counts) c.requires.succeeded in
     let fallen : get_or c.satisfy_each.new.progress.unmet.items i 0 + need_count c.args.graph.now.plan_graph c.args.i i ≡ get_or c.args.progress.now.unmet.items i 0 =
     subst (λ n. get_or c.satisfy_each.new.progress.unmet.items i 0 + n ≡ get_or c.args.progress.now.unmet.items i 0) listed (c.satisfy_each.ensures.fallen i inside ∙ same) in
     rw c.unit_of-unit.ensures.unit (omega arith)
@@ -55,16 +55,17 @@ returns c =
     let units_same = ap (λ (t : Progress). t.units) to_left in
     let satisfied_units = ap (λ (t : Progress). t.units) c.satisfy_unit.ensures.rest in
     record {
-      unmet = unmet_satisfied c.args.graph.now.plan_graph c.args.phases.now c.args.i c.of_request.result.now c.args.progress.now.unmet.items c.satisfy_each.new.progress.unmet.items c.satisfy_unit.new.progress.unmet.items c.laws.ensures.order c.requires.request c.requires.each c.requires.succeeded
+      each = as_long _ _ _ _ _ c.requires.counts;
+      unmet = unmet_satisfied c.args.graph.now.plan_graph c.args.phases.now c.args.i c.of_request.result.now c.args.progress.now.unmet.items c.satisfy_each.new.progress.unmet.items c.satisfy_unit.new.progress.unmet.items c.laws.ensures.order c.requires.request (as_long _ _ _ _ _ c.requires.counts) c.requires.succeeded
           (λ j inside. request_row c.args.graph.now.plan_graph c.args.i j c.args.graph.now.dependents c.of_request.result.now c.laws.ensures.dependents c.requires.request inside c.of_request.ensures.row)
           c.requires.counts.unmet
           (λ j inside. c.satisfy_each.ensures.fallen j inside ∙ ap (λ (t : Progress). get_or t.unmet.items j 0) c.count_success.ensures.rest)
           (λ j inside. subst (λ u. get_or c.satisfy_unit.new.progress.unmet.items j 0 + satisfied_by_unit c.args.graph.now.plan_graph c.args.phases.now u j ≡ get_or c.satisfy_each.new.progress.unmet.items j 0) own (c.satisfy_unit.ensures.fallen j inside));
       members = ap length (pending_same ∙ pending_now) ∙ length-set _ _ _ ∙ c.requires.counts.members;
       pending = subst (λ ps. ArePending c.args.graph.now.plan_graph c.args.phases.now ps) (sym pending_same)
-          (pending_after c.args.graph.now.plan_graph c.args.phases.now c.args.i c.args.progress.now.pending.items c.count_success.new.progress.pending.items c.laws.ensures.order c.requires.request c.requires.each c.requires.succeeded c.requires.counts.members c.requires.counts.pending pending_now);
+          (pending_after c.args.graph.now.plan_graph c.args.phases.now c.args.i c.args.progress.now.pending.items c.count_success.new.progress.pending.items c.laws.ensures.order c.requires.request (as_long _ _ _ _ _ c.requires.counts) c.requires.succeeded c.requires.counts.members c.requires.counts.pending pending_now);
       units = subst (ArePropagated c.args.graph.now.plan_graph c.args.phases.now) (sym units_same)
-          (propagated_kept c.args.graph.now.plan_graph c.args.phases.now c.args.i c.args.progress.now.units (rw c.requires.each c.requires.request) c.requires.succeeded c.requires.counts.units);
+          (propagated_kept c.args.graph.now.plan_graph c.args.phases.now c.args.i c.args.progress.now.units (rw (as_long _ _ _ _ _ c.requires.counts) c.requires.request) c.requires.succeeded c.requires.counts.units);
       ready = subst (λ units. AreReady c.args.graph.now.plan_graph (is_skipped c.args.graph.now.plan_graph units) c.args.phases.now c.satisfy_unit.new.progress.unmet.items c.satisfy_unit.new.progress.ready) (sym satisfied_units) c.satisfy_unit.ensures.ready;
       running = ap (λ (t : Progress). t.running) to_left ∙ c.remove.ensures ∙ ap (λ b. set b c.args.i false) c.requires.counts.running ∙ running_out c.args.phases.now c.args.i (succeeded_idle _ c.requires.succeeded);
     }

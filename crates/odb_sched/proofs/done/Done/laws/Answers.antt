@@ -1,9 +1,8 @@
 -- The answers of a reached state have one result, are all or none in a group, and are sound.
 use Rattle.std.proofs.Common.{◌≡◌, subst}
 use Rattle.odb_sched.specs.declared.policy.Mode.TheVariants.{Continue}
-use Rattle.odb_sched.specs.run.Laws.{HasOneResult, HasResultByStatuses, AgreesWithTable, RestsOnSuccesses}
+use Rattle.odb_sched.specs.run.Laws.{HasOneResult, HasResultByStatuses, AgreesWithTable}
 use Rattle.odb_sched.specs.run.State.{State}
-use Rattle.odb_sched.specs.run.Answers.{HasStatuses}
 use Rattle.odb_sched.proofs.ResultLemmas.{one_result, result_by_statuses, agrees_with_table, all_or_none, rests_on_successes}
 use Rattle.odb_sched.proofs.StatusLemmas.{status-answer}
 use Rattle.odb_sched.proofs.done.Done.laws.Goals as goal
@@ -21,10 +20,10 @@ pub returns-clause-all_or_none : goal.returns-clause-all_or_none
 returns-clause-all_or_none c = all_or_none c.args.self.now
 
 pub returns-clause-rests_on_successes : goal.returns-clause-rests_on_successes
-returns-clause-rests_on_successes c = subst RestsOnSuccesses c.self.view_is (rests_on_successes _ c.reached.ensures)
+returns-clause-rests_on_successes c = rw (← c.self.view_is) (rests_on_successes _ c.reached.ensures)
 
 pub returns-clause-statuses : goal.returns-clause-statuses
-returns-clause-statuses c = subst HasStatuses c.self.view_is c.reached.ensures.statuses
+returns-clause-statuses c = rw (← c.self.view_is) c.reached.ensures.statuses
 
 pub returns-clause-answered : goal.returns-clause-answered
-returns-clause-answered c = λ i. status-answer c.args.self.now i (subst HasStatuses c.self.view_is c.reached.ensures.statuses)
+returns-clause-answered c = λ i. status-answer c.args.self.now i (rw (← c.self.view_is) c.reached.ensures.statuses)

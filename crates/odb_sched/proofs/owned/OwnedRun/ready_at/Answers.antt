@@ -8,7 +8,7 @@ use Rattle.odb_sched.proofs.EndLemmas.{none_starts, starts_at, finished_none}
 use Rattle.odb_sched.proofs.owned.OwnedRun.ready_at.Goals as goal
 
 pub returns-clause-none : goal.returns-clause-none
-returns-clause-none c = λ none. subst (λ state. IsNone (ready_set state)) c.self.view_is
+returns-clause-none c = λ none. rw (← c.self.view_is)
     (none_starts _ c.self.inside.counts c.self.invariant.reached c.self.invariant.counts (c.ready_at.ensures.none none))
 
 pub returns-clause-finished : goal.returns-clause-finished

@@ -1,5 +1,4 @@
-use Rattle.std.proofs.Common.{◌≡◌, ◌≤◌, ◌∙◌, ap, subst, arith, length}
-use Rattle.odb_dense.specs.Lists.{ListsOnce}
+use Rattle.std.proofs.Common.{◌≡◌, ◌≤◌, ◌∙◌, ap, arith, length}
 use Rattle.odb_sched.specs.run.State.{is_running, State, size, phase_at}
 use Rattle.odb_sched.specs.invariants.Kept.{kept_state}
 use Rattle.odb_sched.specs.run.Steps.{running_count}
@@ -8,7 +7,7 @@ use Rattle.odb_sched.proofs.CountedLemmas.{running_is, running_listed}
 use Rattle.odb_sched.proofs.owned.OwnedRun.running.Goals as goal
 
 pub returns-clause-listed : goal.returns-clause-listed
-returns-clause-listed c = subst (λ state. ListsOnce (size state) (λ i. is_running (phase_at state i)) c.running.result.now) c.self.view_is
+returns-clause-listed c = rw (← c.self.view_is)
     (running_listed _ c.self.inside.counts c.running.result.now c.self.invariant.reached c.self.invariant.counts c.running.ensures.listed)
 
 pub returns-clause-within : goal.returns-clause-within

@@ -1,14 +1,13 @@
 -- The end of the running positions is that of the positions that run.
-use Rattle.std.proofs.Common.{◌≡◌, ◌<◌, true, subst, sym, IfSome}
-use Rattle.odb_sched.specs.run.Choosing.{IsNone, IsAt}
-use Rattle.odb_sched.specs.run.Courses.{ready_set, running_set}
-use Rattle.odb_sched.specs.run.State.{is_running, size, phase_at}
+use Rattle.std.proofs.Common.{◌≡◌, true, subst, sym}
+use Rattle.odb_sched.specs.run.Choosing.{IsNone}
+use Rattle.odb_sched.specs.run.Courses.{ready_set}
 use Rattle.odb_sched.specs.run.Steps.{is_finished}
 use Rattle.odb_sched.proofs.EndLemmas.{none_runs, runs_at, finished_none}
 use Rattle.odb_sched.proofs.owned.OwnedRun.running_at.Goals as goal
 
 pub returns-clause-none : goal.returns-clause-none
-returns-clause-none c = λ none. subst (λ state. IsNone (running_set state)) c.self.view_is
+returns-clause-none c = λ none. rw (← c.self.view_is)
     (none_runs _ c.self.inside.counts c.self.invariant.counts (c.running_at.ensures.none none))
 
 pub returns-clause-finished : goal.returns-clause-finished
@@ -18,5 +17,5 @@ returns-clause-finished c = λ none ready. subst (λ state. is_finished state �
     (none_runs _ c.self.inside.counts c.self.invariant.counts (c.running_at.ensures.none none)))
 
 pub returns-clause-some : goal.returns-clause-some
-returns-clause-some c = subst (λ state. IfSome c.running_at.result (λ i. (i < size state) × (is_running (phase_at state i) ≡ true) × IsAt c.args.end (running_set state) i)) c.self.view_is
+returns-clause-some c = rw (← c.self.view_is)
     (runs_at _ c.self.inside.counts c.args.end c.running_at.result c.self.invariant.reached c.self.invariant.counts c.running_at.ensures.some)

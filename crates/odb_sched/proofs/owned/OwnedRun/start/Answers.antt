@@ -1,7 +1,7 @@
 -- A start that is not refused may come, and the counts follow.
 use Rattle.std.proofs.Common.{◌≡◌, sym, subst, true, length, refl, ◌<◌, ◌≤◌, arith, IfSome}
 use Rattle.std.proofs.lemmas.Bool.{both_ways, false≢true}
-use Rattle.odb_sched.specs.run.State.{State, size}
+use Rattle.odb_sched.specs.run.State.{size}
 use Rattle.odb_sched.specs.run.Steps.{may_start, IsStartCause}
 use Rattle.odb_sched.specs.invariants.Kept.{state_of, kept_state, IsReached}
 use Rattle.odb_sched.proofs.StartLemmas.{may_start-parts}
@@ -28,8 +28,8 @@ returns-clause-allowed c = ((λ _. c.start_refusal.ensures.none c.in_default.is)
 
 pub returns-in-Some-clause-free : goal.returns-in-Some-clause-free
 returns-in-Some-clause-free c wide is =
-    let each : length c.args.self.now.phases ≡ size c.args.self.now = subst (λ (s : State). length s.phases ≡ size s) c.self.view_is c.self.invariant.reached.each in
-    let few : size c.args.self.now ≤ 10000 = subst (λ (s : State). size s ≤ 10000) c.self.view_is c.self.invariant.reached.laws.few in
+    let each : length c.args.self.now.phases ≡ size c.args.self.now = rw (← c.self.view_is) c.self.invariant.reached.each in
+    let few : size c.args.self.now ≤ 10000 = rw (← c.self.view_is) c.self.invariant.reached.laws.few in
     not_held_back c.args.self.now c.args.i each c.requires (omega (arith, few, wide)) (subst (IsStartCause c.args.self.now c.args.i) is (subst (λ found. IfSome found (IsStartCause c.args.self.now c.args.i)) c.in-Some.is c.start_refusal.ensures.cause))
 
 pub returns-in-Some-clause-cause : goal.returns-in-Some-clause-cause

@@ -1,15 +1,14 @@
 -- No member is pending exactly when the unit has succeeded.
-use Rattle.std.proofs.Common.{◌≡◌, ◌<◌, ◌==◌, ◌∙◌, ap, subst, length}
+use Rattle.std.proofs.Common.{◌<◌, ◌==◌, ◌∙◌, ap, length}
 use Rattle.std.proofs.lemmas.List.{get_or_read}
-use Rattle.odb_check.specs.PlanGraph.{unit_of}
-use Rattle.odb_sched.specs.run.Steps.{succeeded_in, unit_succeeded}
+use Rattle.odb_sched.specs.run.Steps.{succeeded_in}
 use Rattle.odb_sched.proofs.UnmetLemmas.{none_pending}
 use Rattle.odb_sched.proofs.owned.OwnedRun.unit_succeeded.Goals as goal
 
 pub returns : goal.returns
 returns c =
     let within : c.unit_of.result < length c.self.inside.counts.progress.pending.items = rw c.self.invariant.counts.counts.members c.unit_of.ensures.counted in
-    subst (λ state. (c.index.result.now == 0) ≡ unit_succeeded state (unit_of state.plan_graph c.args.i)) c.self.view_is
+    rw (← c.self.view_is)
     (ap (λ n. n == 0) (get_or_read c.self.inside.counts.progress.pending.items c.unit_of.result c.index.result.now within c.index.ensures 0 ∙ c.self.invariant.counts.counts.pending c.unit_of.result c.unit_of.ensures.counted)
     ∙ none_pending c.self.inside.graph.plan_graph c.self.inside.counts.phases.items c.unit_of.result
     ∙ ap (succeeded_in c.self.inside.graph.plan_graph c.self.inside.counts.phases.items) c.unit_of.ensures.unit)

@@ -1,6 +1,5 @@
-use Rattle.std.proofs.Common.{◌≡◌, ◌∙◌, ap, subst, true, IfSome}
+use Rattle.std.proofs.Common.{◌≡◌, ◌∙◌, ap, subst, true}
 use Rattle.odb_check.specs.Plans.{plan_records}
-use Rattle.odb_sched.specs.invariants.Advances.{IsNext}
 use Rattle.odb_sched.specs.run.Choosing.{AllowsOrder}
 use Rattle.odb_sched.specs.run.State.{State, with_requests}
 use Rattle.odb_sched.specs.run.Steps.{is_finished}
@@ -17,5 +16,5 @@ pub returns-clause-finished : goal.returns-clause-finished
 returns-clause-finished c none = subst (λ state. is_finished state ≡ true) c.self.view_is (c.next_in.ensures.finished none)
 
 pub returns-clause-next : goal.returns-clause-next
-returns-clause-next c = subst (λ state. IfSome c.next_in.result (IsNext (AllowsOrder c.args.order) state)) c.self.view_is
+returns-clause-next c = rw (← c.self.view_is)
     (if_some c.next_in.result (next_with (AllowsOrder c.args.order) (plan_records c.self.inside.plan.now) c.self.inside.run) c.next_in.ensures.next)

@@ -1,4 +1,4 @@
-use Rattle.std.proofs.Common.{subst, All, ◌<◌}
+use Rattle.std.proofs.Common.{subst}
 use Rattle.odb_dense.specs.Lists.{ListsOnce}
 use Rattle.odb_sched.specs.run.State.{size}
 use Rattle.odb_sched.specs.run.Steps.{may_start}
@@ -8,4 +8,4 @@ pub returns-clause-listed : goal.returns-clause-listed
 returns-clause-listed c = subst (λ state. ListsOnce (size state) (may_start state) c.ready.result.now) c.self.view_is c.ready.ensures.listed
 
 pub returns-clause-within : goal.returns-clause-within
-returns-clause-within c = subst (λ state. All (λ i. i < size state) c.ready.result.now) c.self.view_is c.ready.ensures.within
+returns-clause-within c = rw (← c.self.view_is) c.ready.ensures.within

@@ -1,9 +1,7 @@
 -- What the run says of its state holds with the requests of the plan.
-use Rattle.std.proofs.Common.{◌≡◌, ◌↔◌, ◌∙◌, ap, subst, IsOk, IsTrue}
-use Rattle.std.specs.Prelude.{IfErr, OnErr, OnOk}
+use Rattle.std.proofs.Common.{◌∙◌, ap}
 use Rattle.odb_check.specs.Plans.{plan_records}
-use Rattle.odb_sched.specs.run.Steps.{IsReportCause, may_report}
-use Rattle.odb_sched.specs.run.State.{State, reported, with_requests}
+use Rattle.odb_sched.specs.run.State.{State, with_requests}
 use Rattle.odb_sched.proofs.OwnedLemmas.{either_way, if_err, on_err, on_ok, report_cause_with}
 use Rattle.odb_sched.proofs.scheduler.Scheduler.report.Goals as goal
 
@@ -11,16 +9,16 @@ pub invariant_of-self : goal.invariant_of-self
 invariant_of-self c = either_way c.report.result c.report.ensures.ok c.report.ensures.err (λ is. ap (λ (s : State). s.plan_graph) is ∙ c.self.invariant) (λ is. ap (λ (s : State). s.plan_graph) is ∙ c.self.invariant)
 
 pub returns-clause-ok : goal.returns-clause-ok
-returns-clause-ok c = subst (λ state. OnOk c.report.result (with_requests (plan_records c.self.inside.plan.now) c.report.new.self ≡ reported state c.args.i c.args.outcome)) c.self.view_is
+returns-clause-ok c = rw (← c.self.view_is)
     (on_ok c.report.result (ap (with_requests (plan_records c.self.inside.plan.now))) c.report.ensures.ok)
 
 pub returns-clause-allowed : goal.returns-clause-allowed
-returns-clause-allowed c = subst (λ state. IsOk c.report.result ↔ IsTrue (may_report state c.args.i c.args.outcome)) c.self.view_is c.report.ensures.allowed
+returns-clause-allowed c = rw (← c.self.view_is) c.report.ensures.allowed
 
 pub returns-clause-cause : goal.returns-clause-cause
-returns-clause-cause c = subst (λ state. IfErr c.report.result (λ e. IsReportCause state c.args.i c.args.outcome e.0)) c.self.view_is
+returns-clause-cause c = rw (← c.self.view_is)
     (if_err c.report.result (λ e. report_cause_with (plan_records c.self.inside.plan.now) c.self.inside.run c.args.i c.args.outcome e.0) c.report.ensures.cause)
 
 pub returns-clause-err : goal.returns-clause-err
-returns-clause-err c = subst (λ state. OnErr c.report.result (with_requests (plan_records c.self.inside.plan.now) c.report.new.self ≡ state)) c.self.view_is
+returns-clause-err c = rw (← c.self.view_is)
     (on_err c.report.result (ap (with_requests (plan_records c.self.inside.plan.now))) c.report.ensures.err)

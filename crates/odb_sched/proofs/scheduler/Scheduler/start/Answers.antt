@@ -1,11 +1,9 @@
 -- What the run says of its state holds with the requests of the plan.
-use Rattle.std.proofs.Common.{◌≡◌, ◌≢◌, ◌≤◌, ◌↔◌, ◌∙◌, ap, subst, sym, IsOk, IsTrue}
-use Rattle.std.specs.Prelude.{IfErr, OnErr, OnOk}
+use Rattle.std.proofs.Common.{◌≡◌, ◌↔◌, ◌∙◌, ap, subst, sym, IsOk, IsTrue}
 use Rattle.odb_check.specs.Plans.{plan_records}
-use Rattle.odb_sched.specs.declared.refusal.StartRefusal.TheVariants.{WidthReached}
-use Rattle.odb_sched.specs.run.Steps.{IsStartCause, may_start}
+use Rattle.odb_sched.specs.run.Steps.{may_start}
 use Rattle.odb_sched.specs.run.Laws.{HaveSucceeded}
-use Rattle.odb_sched.specs.run.State.{State, plan_graph, started, with_requests}
+use Rattle.odb_sched.specs.run.State.{State, plan_graph, with_requests}
 use Rattle.odb_sched.proofs.OwnedLemmas.{either_way, if_err, on_err, on_ok, ok_so, start_cause_with}
 use Rattle.odb_sched.proofs.scheduler.Scheduler.start.Goals as goal
 
@@ -13,18 +11,18 @@ pub invariant_of-self : goal.invariant_of-self
 invariant_of-self c = either_way c.start.result c.start.ensures.ok c.start.ensures.err (λ is. ap (λ (s : State). s.plan_graph) is ∙ c.self.invariant) (λ is. ap (λ (s : State). s.plan_graph) is ∙ c.self.invariant)
 
 pub returns-clause-ok : goal.returns-clause-ok
-returns-clause-ok c = subst (λ state. OnOk c.start.result (with_requests (plan_records c.self.inside.plan.now) c.start.new.self ≡ started state c.args.i)) c.self.view_is
+returns-clause-ok c = rw (← c.self.view_is)
     (on_ok c.start.result (ap (with_requests (plan_records c.self.inside.plan.now))) c.start.ensures.ok)
 
 pub returns-clause-allowed : goal.returns-clause-allowed
 returns-clause-allowed c = subst (λ state. IsOk c.start.result ↔ IsTrue (may_start state c.args.i)) c.self.view_is c.start.ensures.allowed
 
 pub returns-clause-cause : goal.returns-clause-cause
-returns-clause-cause c = subst (λ state. IfErr c.start.result (IsStartCause state c.args.i)) c.self.view_is
+returns-clause-cause c = rw (← c.self.view_is)
     (if_err c.start.result (start_cause_with (plan_records c.self.inside.plan.now) c.self.inside.run c.args.i) c.start.ensures.cause)
 
 pub returns-clause-err : goal.returns-clause-err
-returns-clause-err c = subst (λ state. OnErr c.start.result (with_requests (plan_records c.self.inside.plan.now) c.start.new.self ≡ state)) c.self.view_is
+returns-clause-err c = rw (← c.self.view_is)
     (on_err c.start.result (ap (with_requests (plan_records c.self.inside.plan.now))) c.start.ensures.err)
 
 pub returns-clause-dependencies_first : goal.returns-clause-dependencies_first
@@ -34,4 +32,4 @@ returns-clause-dependencies_first c = ok_so c.start.result (λ is_ok.
     (c.every_start.ensures.dependencies_first c.args.self.now c.args.i same ((returns-clause-allowed c).0 is_ok)))
 
 pub returns-clause-free : goal.returns-clause-free
-returns-clause-free c = subst (λ (state : State). 10000 ≤ state.policy.width → IfErr c.start.result (λ cause. cause ≢ WidthReached)) c.self.view_is c.start.ensures.free
+returns-clause-free c = rw (← c.self.view_is) c.start.ensures.free
