@@ -1,5 +1,5 @@
 -- Texts that rise once they are sorted are distinct, and the strings of an array are read one by one.
-use Rattle.std.proofs.Common.{◌≡◌, ◌∙◌, ◌+◌, ◌<◌, ℕ, Bool, true, false, not, Option, None, Some, option_map, List, [], ◌∷◌, ◌++◌, length, drop, get_or, take, fold, bytes_eq, refl, ap, subst, sym, append_assoc, append-nil, Bor, IsPermutation}
+use Rattle.std.proofs.Common.{◌≡◌, ◌∙◌, ◌+◌, ◌<◌, ℕ, Bool, true, false, Option, None, Some, option_map, List, [], ◌∷◌, ◌++◌, length, drop, get_or, take, fold, bytes_eq, refl, ap, subst, sym, append_assoc, append-nil, Bor, IsPermutation}
 use Rattle.std.specs.declared.cmp.Ordering.{Ordering}
 use Rattle.std.specs.declared.cmp.Ordering.TheVariants.{Less, Equal, Greater}
 use Rattle.std.specs.Cmp.{IsTotalOrder}
@@ -42,10 +42,10 @@ less_from Less is = refl
 less_from Equal is = cc
 less_from Greater is = cc
 
-rising : (r : Bool) (xs : List (Bor (List ℕ))) → not r ≡ false → IsAllAdjacentAnswer (λ x y b. b ≡ is_lt (slice_cmp nat_cmp x.now y.now)) xs r → IsStrictlySortedBy by_text xs
+rising : (r : Bool) (xs : List (Bor (List ℕ))) → r ≡ true → IsAllAdjacentAnswer (λ x y b. b ≡ is_lt (slice_cmp nat_cmp x.now y.now)) xs r → IsStrictlySortedBy by_text xs
 unfolding by_text
-rising true xs none answer = sorted_from_all_adjacent by_text_total xs no_text (λ k h. less_from _ (answer k no_text h))
-rising false xs none answer = absurd (cc (none))
+rising true xs all answer = sorted_from_all_adjacent by_text_total xs no_text (λ k h. less_from _ (answer k no_text h))
+rising false xs all answer = absurd (cc (all))
 
 all_apart : (x : Bor (List ℕ)) (xs : List (Bor (List ℕ))) → AllByRecursion (λ y. is_eq (slice_cmp nat_cmp x.now y.now) ≡ false) xs → AllByRecursion (λ y. bytes_eq x.now y ≡ false) (texts_in xs)
 all_apart x [] all = tt
@@ -56,14 +56,27 @@ unfolding IsDistinct by_text
 distinct_references [] apart = tt
 distinct_references (x ∷ xs) apart = (all_apart x xs apart.0, distinct_references xs apart.1)
 
+-- texts that rise are distinct
+pub distinct_from_rising : (r : Bool) (xs : List (Bor (List ℕ))) → r ≡ true → IsAllAdjacentAnswer (λ x y b. b ≡ is_lt (slice_cmp nat_cmp x.now y.now)) xs r → IsDistinct bytes_eq (texts_in xs)
+distinct_from_rising r xs all answer = distinct_references xs (IsDistinct-from_sorted by_text xs (rising r xs all answer))
+
+all_others : (x : Bor (List ℕ)) (xs : List (Bor (List ℕ))) → AllByRecursion (λ y. bytes_eq x.now y ≡ false) (texts_in xs) → AllByRecursion (λ y. is_eq (slice_cmp nat_cmp x.now y.now) ≡ false) xs
+all_others x [] all = tt
+all_others x (y ∷ ys) all = (is_eq-slice_cmp x.now y.now ∙ all.0, all_others x ys all.1)
+
+references_distinct : (xs : List (Bor (List ℕ))) → IsDistinct bytes_eq (texts_in xs) → IsDistinct (eq_by_cmp by_text) xs
+unfolding IsDistinct by_text
+references_distinct [] apart = tt
+references_distinct (x ∷ xs) apart = (all_others x xs apart.0, references_distinct xs apart.1)
+
 flips : (x y : Bor (List ℕ)) → eq_by_cmp by_text x y ≡ eq_by_cmp by_text y x
 unfolding by_text
 flips x y = is_eq-slice_cmp x.now y.now ∙ nat_list_eq_equiv.symm x.now y.now ∙ sym (is_eq-slice_cmp y.now x.now)
 
--- texts whose sorted list rises are distinct
-pub distinct_from_rising : (r : Bool) (xs sorted : List (Bor (List ℕ))) → IsPermutation xs sorted → not r ≡ false → IsAllAdjacentAnswer (λ x y b. b ≡ is_lt (slice_cmp nat_cmp x.now y.now)) sorted r → IsDistinct bytes_eq (texts_in xs)
-distinct_from_rising r xs sorted same none answer =
-    distinct_references xs (IsDistinct-IsPermutation (eq_by_cmp by_text) flips sorted xs (IsPermutation-sym xs sorted same) (IsDistinct-from_sorted by_text sorted (rising r sorted none answer)))
+-- texts are distinct if they are so in another order
+pub distinct_as_sorted : (xs sorted : List (Bor (List ℕ))) → IsPermutation xs sorted → IsDistinct bytes_eq (texts_in sorted) → IsDistinct bytes_eq (texts_in xs)
+distinct_as_sorted xs sorted same apart =
+    distinct_references xs (IsDistinct-IsPermutation (eq_by_cmp by_text) flips sorted xs (IsPermutation-sym xs sorted same) (references_distinct sorted apart))
 
 -- ---- texts that are compared one by one
 

@@ -1,6 +1,6 @@
 //! Whether a list holds a text twice, and each text of it once.
 
-ghost use Rattle.std.specs.Prelude.{◌≡◌, ◌<◌, false, bytes_eq, length, IfOk, OnOk, OnErr};
+ghost use Rattle.std.specs.Prelude.{◌≡◌, ◌<◌, true, false, bytes_eq, length, IfOk, OnOk, OnErr};
 ghost use Rattle.std.specs.Cmp.Lexicographic.{slice_cmp};
 ghost use Rattle.std.specs.List.{IsDistinct};
 ghost use Rattle.std.specs.Ordering.{is_lt, nat_cmp};
@@ -25,17 +25,28 @@ fn repeats_among_few(texts: &[&str]) -> bool
     false
 }
 
-/// Returns whether a text repeats, by a sort. It may report a repeat if there is none.
-fn may_repeat_among_many(alloc: Global, texts: &[&str]) -> Result<bool, AllocError>
-    ensures { IfOk result (λ repeats. repeats ≡ false → IsDistinct bytes_eq (texts_in texts.now)) }
+/// Returns whether each text comes before the next in byte order.
+fn are_ascending(texts: &[&str]) -> bool
+    ensures { result ≡ true → IsDistinct bytes_eq (texts_in texts.now) }
 {
-    let mut sorted = Vec::from_slice(alloc, texts)?;
-    sorted.sort_unstable();
-    Ok(!sorted.is_sorted_by(
+    texts.is_sorted_by(
         |x: &&str, y: &&str| -> bool
             ensures { result ≡ is_lt (slice_cmp nat_cmp x.now.now y.now.now) }
         { x < y },
-    ))
+    )
+}
+
+/// Returns whether a text repeats, by a sort unless they are in order already. It may report a repeat if
+/// there is none.
+fn may_repeat_among_many(alloc: Global, texts: &[&str]) -> Result<bool, AllocError>
+    ensures { IfOk result (λ repeats. repeats ≡ false → IsDistinct bytes_eq (texts_in texts.now)) }
+{
+    if are_ascending(texts) {
+        return Ok(false);
+    }
+    let mut sorted = Vec::from_slice(alloc, texts)?;
+    sorted.sort_unstable();
+    Ok(!are_ascending(sorted.as_slice()))
 }
 
 /// Returns whether a text repeats, in O(n log n) whatever the texts are. It may report a repeat if

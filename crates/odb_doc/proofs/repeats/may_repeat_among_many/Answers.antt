@@ -1,13 +1,8 @@
-use Rattle.std.proofs.Common.{ℕ, List, Bor, rules}
-use Rattle.std.specs.Cmp.Lexicographic.{slice_cmp}
-use Rattle.std.specs.Ordering.{is_lt, nat_cmp}
-use Rattle.std.proofs.lemmas.List.Sorted.{answers_always}
-use Rattle.odb_doc.proofs.RepeatLemmas.{distinct_from_rising}
+use Rattle.std.proofs.Common.{rules}
+use Rattle.odb_doc.proofs.RepeatLemmas.{distinct_as_sorted}
 use Rattle.odb_doc.proofs.repeats.may_repeat_among_many.Goals as goal
 
 pub returns : goal.returns
 returns c = λ none.
-    let rises = λ (x y : Bor (List ℕ)). is_lt (slice_cmp nat_cmp x.now y.now) in
-    let answer = rw c.deref.ensures.value at (c.is_sorted_by.ensures.cases rises (answers_always _ _ _ (λ f a r q k. search rules))) in
     let moved = rw c.in_ok-sorted.ensures.items at c.sort_unstable.ensures.permutation in
-    distinct_from_rising c.is_sorted_by.result c.args.texts.now c.sort_unstable.new.self.items moved none answer
+    distinct_as_sorted c.args.texts.now c.sort_unstable.new.self.items moved (search rules)
