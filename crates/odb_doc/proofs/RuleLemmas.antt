@@ -28,10 +28,6 @@ use Rattle.odb_doc.proofs.OneHeaders.{one_headers}
 
 -- ---- no rule before one is broken, and neither is that one
 
-pub before_headers : (d : Data) → BreaksNoneBefore request.BadDependsOn d → ¬ BreaksRequest request.BadDependsOn d → BreaksNoneBefore request.BadHeaders d
-before_headers d before here request.BadDependsOn less = here
-before_headers d before here rule less = before rule (omega arith)
-
 pub before_twice : (d : Data) → BreaksNoneBefore request.BadHeaders d → ¬ BreaksRequest request.BadHeaders d → BreaksNoneBefore request.HeaderTwice d
 before_twice d before here request.BadHeaders less = here
 before_twice d before here rule less = before rule (omega arith)
@@ -47,14 +43,6 @@ before_fit d before here rule less = before rule (omega arith)
 pub before_nested : (d : Data) → BreaksNoneBefore request.BadBody d → ¬ BreaksRequest request.BadBody d → BreaksNoneBefore request.NestedBatch d
 before_nested d before here request.BadBody less = here
 before_nested d before here rule less = before rule (omega arith)
-
-pub before_reference : (d : Data) → BreaksNoneBefore request.NestedBatch d → ¬ BreaksRequest request.NestedBatch d → BreaksNoneBefore request.BadReference d
-before_reference d before here request.NestedBatch less = here
-before_reference d before here rule less = before rule (omega arith)
-
-pub breaks_none : (d : Data) → BreaksNoneBefore request.BadReference d → ¬ BreaksRequest request.BadReference d → IsRequestObject d
-breaks_none d before here request.BadReference = here
-breaks_none d before here rule = before rule (omega arith)
 
 -- ---- headers
 
