@@ -20,7 +20,7 @@ use Rattle.odb_names.specs.declared.method.Method.TheVariants.{Delete, Get, Patc
 use Rattle.odb_doc.specs.declared.fault.RequestRule.TheVariants as request
 use Rattle.odb_doc.specs.batch.Bodies.{body_of, content_type}
 use Rattle.odb_doc.specs.Headers.{Header, HoldsHeaders, HasHeaders, IsHeaders, folded, folded_names, listed_headers}
-use Rattle.odb_doc.specs.BrokenRules.{BreaksNoneBefore, IsRequestObject}
+use Rattle.odb_doc.specs.BrokenRules.{BreaksNoneBefore}
 use Rattle.odb_doc.specs.batch.MediaTypes.{AllowsBody}
 use Rattle.odb_doc.specs.batch.Shapes.{HasMethod, BreaksRequest}
 use Rattle.odb_doc.proofs.FoldedNames.{names_in-text_members_in}
