@@ -117,15 +117,6 @@ def label(repository, fault):
     return find(repository.specs, whole if fault.code[0] != "F" else f"{pair}|{whole}")
 
 
-def variant(repository, fault):
-    return find(repository.code, rf"^    /// {fault.code}: (?:[^\n]*\n    ///)*[^\n]*\n    #\[error\(")
-
-
-def row(repository, fault):
-    pair = rf'\("{fault.code}", "{fault.name}"|code: "{fault.code}",\s+name: "{fault.name}"'
-    return find(repository.code, pair)
-
-
 def test(repository, fault):
     """Where code makes the fault: a use of its variant that is neither an arm of a match nor of the texts."""
     names = "|".join(f"{enum}::{variant}" for enum, variant in repository.variants_of(fault))
@@ -137,32 +128,9 @@ def message(repository, fault):
     return names and find(repository.tests, rf"\b(?:{names})\b")
 
 
-def section(repository, fault):
-    return find(repository.page, rf"^### {fault.code} {fault.name}, ")
-
-
-def rule_of_batches(repository, fault):
-    return find(repository.rules, rf"\[[^\]]*\b{fault.code}\b[^\]]*\]")
-
-
-def explanation(repository, fault):
-    return find(repository.explained, rf'code: "{fault.code}",\s+name: "{fault.name}"')
-
-
-def plain_name(repository, fault):
-    return find(repository.plain, rf'\b{fault.code}="{fault.name}"')
-
-
-def plain_rule(repository, fault):
-    return find(repository.plain, f'"{fault.code}"')
-
-
-def listed_case(repository, fault):
-    return find(repository.cases, rf"^out {fault.code} {fault.name} ")
-
-
-def case(repository, fault):
-    return find(repository.cases, rf"^out fault {fault.code} {fault.name} ")
+def at(part, pattern):
+    """Finds the pattern, with the code and the name of the fault in it, in one part of the repository."""
+    return lambda repository, fault: find(getattr(repository, part), pattern.format(code=fault.code, name=fault.name))
 
 
 def binding(path):
@@ -172,19 +140,19 @@ def binding(path):
 PLACES = {
     "when it is broken": definition,
     "number and name": label,
-    "variant with its message": variant,
-    "row": row,
+    "variant with its message": at("code", r"^    /// {code}: (?:[^\n]*\n    ///)*[^\n]*\n    #\[error\("),
+    "row": at("code", r'\("{code}", "{name}"|code: "{code}",\s+name: "{name}"'),
     "where code finds it": test,
-    "section of docs/faults.md": section,
-    "rule of docs/batches.md": rule_of_batches,
-    "text of explain": explanation,
+    "section of docs/faults.md": at("page", r"^### {code} {name}, "),
+    "rule of docs/batches.md": at("rules", r"\[[^\]]*\b{code}\b[^\]]*\]"),
+    "text of explain": at("explained", r'code: "{code}",\s+name: "{name}"'),
     "text for Python": binding("python/odb_batch/_explanations.py"),
     "text for Node": binding("node/explanations.json"),
     "test of its message": message,
-    "plain name": plain_name,
-    "plain rule": plain_rule,
-    "line of the list of explain": listed_case,
-    "case": case,
+    "plain name": at("plain", r'\b{code}="{name}"'),
+    "plain rule": at("plain", r'"{code}"'),
+    "line of the list of explain": at("cases", r"^out {code} {name} "),
+    "case": at("cases", r"^out fault {code} {name} "),
 }
 
 
