@@ -10,8 +10,8 @@ services, the archive of a release, allocations that fail, names that crowd the 
 short form of the benchmark, which compares answers and judges no time. The exit status is 0 where all of
 them pass.
 
-What a part takes is what the system counts of its processes once they have ended. Of `rt ci`, whose
-processes do three kinds of work, the processes are looked at while they run.
+The processor time of a part is what the system reports of its processes once they have ended. Those of
+`rt ci` do three kinds of work, so they are watched while they run.
 """
 
 import os
@@ -148,7 +148,7 @@ def main():
     named = ["proofs", "tests", "must-fail edits"]
     rows += [(name, kinds.get(name, 0)) for name in named]
     rows.append(("building and running", max(kinds["all"] - sum(kinds.get(name, 0) for name in named), 0)))
-    # the parts end with a line if the program is older than its sources, as one may be that is kept from an earlier run
+    # a program kept from an earlier run may be older than its sources, which the parts refuse
     status, kinds, _ = run(["bin/odb_batch", "--version"])
     failed += ["bin/odb_batch"] * bool(status)
     rows.append(("the program, if it is older", kinds["all"]))

@@ -1,4 +1,4 @@
-//! Which requests and units a request has named in its `dependsOn`.
+//! Which requests and units the `dependsOn` of a request names.
 
 ghost use Rattle.std.specs.Prelude.{◌≡◌, ◌<◌, ◌==◌, length, slice_index, IfOk};
 ghost use Rattle.odb_check.specs.Marks.{AreUpTo, ones_with, groups_with};

@@ -1,4 +1,4 @@
-//! The needs of all requests in one list, with the place where those of each request begin.
+//! The needs of all requests in one list, and where those of each request begin.
 
 ghost use Rattle.std.specs.Prelude.{◌≡◌, ◌≤◌, ◌<◌, length, slice_index, slice_range};
 ghost use Rattle.odb_check.specs.Needs.{needs_at};

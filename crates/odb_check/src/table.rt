@@ -1,4 +1,4 @@
-//! A table from a text to a number.
+//! A table from texts to numbers.
 
 ghost use Rattle.std.specs.Prelude.{◌≡◌, ◌+◌, ℕ, List, Some, None, cond, bytes_eq, OnOk};
 ghost use Rattle.odb_check.specs.Firsts.{or_else};

@@ -1,4 +1,4 @@
-//! A rule that an element of a list breaks, with its position, or out of memory.
+//! Why a list could not be read: a rule that an element breaks, with its position, or out of memory.
 
 ghost use Rattle.std.specs.Prelude.{◌≡◌};
 ghost use Rattle.odb_doc.specs.declared.broken.Broken.TheVariants.{Rule, OutOfMemory};

@@ -1,4 +1,4 @@
-//! Reading and writing through devices that may fail, at most so many calls.
+//! Readers and writers that may fail, and a limit on the calls of a reader.
 
 ghost use Rattle.std.specs.Prelude.{◌≡◌, ◌+◌, ◌<◌, ◌≤◌, ◌↔◌, [], false, length, IsTrue, IsErr, IfOk, OnOk, OnErr};
 ghost use Rattle.std.specs.Io.KnownBytes.{Appends, ReadConsumes, WriteAppends};

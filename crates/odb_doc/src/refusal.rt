@@ -1,4 +1,4 @@
-//! What a fault is to a user: a code, a name and a place.
+//! What is reported of a fault: a code, a name and a place.
 
 ghost use Rattle.std.specs.Prelude.{◌≡◌, Option, None, option_map, IsSome, IfSome};
 ghost use Rattle.odb_doc.specs.Refusals.{Printed, printed};

@@ -1,4 +1,4 @@
-//! Why a command goes no further: the refusal of a document, or a failure.
+//! Why a command ends early: a refused document, or a failure.
 
 ghost use Rattle.std.specs.Prelude.{◌≡◌};
 ghost use Rattle.odb_engine.specs.Halts.{HaltsBy, halt_of};

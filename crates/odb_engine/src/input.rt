@@ -1,4 +1,4 @@
-//! Reading a document to its end, or to one byte more than it may have.
+//! Reads a document to its end, or one byte beyond the limit.
 
 ghost use Rattle.std.specs.Prelude.{◌≡◌, ◌≤◌, ◌↔◌, false, option_map, IsTrue, IfOk, IfErr, Err};
 ghost use Rattle.serde_json.specs.View.{view};

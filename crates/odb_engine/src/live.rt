@@ -1,4 +1,4 @@
-//! Runs that a program in another language drives, over the bytes of their documents.
+//! Live runs for programs in other languages: a run is opened and answered from the bytes of its documents.
 
 ghost use Rattle.std.specs.Prelude.{◌≡◌, ◌++◌, ◌∷◌, [], true, IfOk, IfErr, string_bytes};
 ghost use Rattle.odb_check.specs.Plans.{plan_records};

@@ -1,4 +1,4 @@
-//! Writing a text, or a response after a text.
+//! Writes a text, or a text and then a response.
 
 ghost use Rattle.std.specs.Prelude.{◌≡◌, ◌≢◌, ◌++◌, false, Err};
 ghost use Rattle.odb_reply.specs.NotWhole.{HasWholeBodies};

@@ -1,4 +1,4 @@
-//! A live run with the bytes of its batch, behind a handle.
+//! What a handle refers to: a live run and the bytes of its batch.
 
 ghost use Rattle.std.specs.Prelude.{◌≡◌, ◌<◌, ◌+◌, IfOk, IfErr, IfSome};
 ghost use Rattle.odb_dense.specs.Lists.{ListsOnce};

@@ -1,4 +1,4 @@
-//! Writing the response of a finished run, a buffer at a time.
+//! Writes the response of a finished run through a buffer.
 
 ghost use Rattle.std.specs.Prelude.{◌≡◌, ◌≢◌, ◌↔◌, ◌++◌, ℕ, false, Some, string_bytes, IsErr, IsTrue, OnOk, OnErr};
 ghost use Rattle.std.specs.Io.KnownBytes.{Appends};

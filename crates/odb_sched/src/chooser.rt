@@ -1,4 +1,4 @@
-//! Who decides which step of a run comes next: a chooser, or one of the built-in orders.
+//! Choosers, which decide what step of a run comes next, and the built-in orders.
 
 ghost use Rattle.std.specs.Prelude.{◌≡◌, ℕ, false, None, slice_index_or, IfSome, ◌<◌, length};
 ghost use Rattle.odb_sched.specs.run.Choosing.{IsEndOf, positions_of, IsLeast, IsGreatest};

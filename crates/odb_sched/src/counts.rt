@@ -1,4 +1,4 @@
-//! How far a run has come: the phases of its requests, and what is counted beside them.
+//! The state of a run: the phase of each request, and the counts kept with it.
 
 ghost use Rattle.std.specs.Prelude.{◌≡◌, ◌<◌, ◌&&◌, ◌||◌, ◌==◌, ℕ, true, false, not, nat_lt, length, find, replicate, slice_index_or, slice_set, count_by, IfOk, IfSome, IsSome, None, All};
 ghost use Rattle.odb_check.specs.PlanGraph as plan_graphs;

@@ -1,4 +1,4 @@
-//! Events of a run: lists of them, recorded ones, and the steps that they leave without outcomes.
+//! Events of a run, recorded events, and steps: events without their outcomes.
 
 ghost use Rattle.std.specs.Prelude.{◌≡◌, ◌<◌, true, length, All, OnOk, IfOk, IfErr, List, Some};
 ghost use Rattle.odb_check.specs.Plans.{plan_records};

@@ -1,4 +1,4 @@
-//! Lists of arguments, and what each asks for.
+//! Tests of the command line: lists of arguments, and the task that each asks for.
 
 use super::{BadArguments, Form, Replay, Run, Task, Text};
 use clap::error::ErrorKind;

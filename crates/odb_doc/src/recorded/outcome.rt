@@ -1,4 +1,4 @@
-//! An outcome: a status, and where it has them headers and a body.
+//! An outcome: a status, optional headers and an optional body.
 
 ghost use Rattle.std.specs.Prelude.{◌≡◌, ℕ, List, false, bytes_eq, codes, string_bytes, option_map, option_and_then, MatchOption, IfOk, IfErr};
 ghost use Rattle.std.specs.BTreeMap.{get_by_text};

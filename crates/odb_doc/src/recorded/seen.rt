@@ -1,4 +1,4 @@
-//! The ids that were seen so far, kept only where one may repeat.
+//! The ids seen so far, kept only if one may repeat.
 
 ghost use Rattle.std.specs.Prelude.{◌≡◌, ◌<◌, ◌++◌, ◌∷◌, ℕ, List, [], length, map, false, not, bytes_eq, string_bytes, IfOk, OnOk, OnErr};
 ghost use Rattle.std.specs.List.{IsDistinct, list_any};
