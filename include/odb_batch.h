@@ -161,6 +161,13 @@ uint32_t odb_run_ready(odb_live_run *run, uint32_t *positions, size_t positions_
 /* The same of the requests that run now. */
 uint32_t odb_run_running(odb_live_run *run, uint32_t *positions, size_t positions_size, size_t *count);
 
+/* Copies the positions of the undone requests of a finished run to a buffer of `positions_size` numbers, from the
+ * last to the first: those that reported a status from 200 to 299 but are answered 424, since another request of
+ * their group did not succeed. `*count` is set to the number of them. Returns ODB_DONE, or ODB_SMALL_BUFFER if they
+ * do not fit. ODB_REFUSED if the run is not finished, or ODB_OUT_OF_MEMORY: then `*count` is 0. Unless it is
+ * ODB_DONE, the buffer is as it was. A handle as above. Takes O(requests) time. */
+uint32_t odb_run_undone(odb_live_run *run, uint32_t *positions, size_t positions_size, size_t *count);
+
 /* Starts a request. Returns ODB_DONE; or, with the run as it was, ODB_WRONG_OPTION if there is no such position,
  * or the cause, from ODB_ALREADY_STARTED to ODB_WIDTH_REACHED. A handle as above. Takes O(dependencies of the
  * request) time, and allocates nothing. */
@@ -280,6 +287,12 @@ static inline uint32_t odb_inline_run_running(odb_live_run *run, uint32_t *posit
     return odb_run_running(run, positions ? positions : &none, positions ? positions_size : 0, count);
 }
 
+static inline uint32_t odb_inline_run_undone(odb_live_run *run, uint32_t *positions, size_t positions_size, size_t *count)
+{
+    uint32_t none = 0;
+    return odb_run_undone(run, positions ? positions : &none, positions ? positions_size : 0, count);
+}
+
 static inline uint32_t odb_inline_run_report(odb_live_run *run, uint32_t position, uint32_t status,
                                              const uint8_t *headers, size_t headers_size,
                                              const uint8_t *body, size_t body_size)
@@ -304,6 +317,7 @@ static inline uint32_t odb_inline_run_response(odb_live_run *run, uint8_t *text,
 #define odb_run_open odb_inline_run_open
 #define odb_run_ready odb_inline_run_ready
 #define odb_run_running odb_inline_run_running
+#define odb_run_undone odb_inline_run_undone
 #define odb_run_report odb_inline_run_report
 #define odb_run_response odb_inline_run_response
 

@@ -113,6 +113,11 @@ static uint32_t running_of(odb_live_run *run, uint32_t *positions, size_t size, 
     return odb_run_running(run, positions, size, length);
 }
 
+static uint32_t undone_of(odb_live_run *run, uint32_t *positions, size_t size, size_t *length)
+{
+    return odb_run_undone(run, positions, size, length);
+}
+
 static int is_in(odb_live_run *run, long ready, long running, uint32_t finished)
 {
     return set_of(ready_of, run) == ready && set_of(running_of, run) == running && odb_run_finished(run) == finished;
@@ -188,6 +193,62 @@ static void try_course(void)
     count("a report of an error", 0, odb_run_report(&run, 2, 404, NULL, 0, NULL, 0) == ODB_DONE && is_in(&run, 0, 0, 1));
     try_response(&run, ODB_DONE, RESPONSE);
     odb_run_close(run);
+}
+
+/* A request alone and a group of three: the members that succeeded are undone if another one fails. */
+#define GROUPED "{\"requests\":[" A "," \
+    "{\"id\":\"g\",\"method\":\"post\",\"url\":\"X\",\"atomicityGroup\":\"w\"}," \
+    "{\"id\":\"h\",\"method\":\"post\",\"url\":\"Y\",\"atomicityGroup\":\"w\"}," \
+    "{\"id\":\"i\",\"method\":\"post\",\"url\":\"Z\",\"atomicityGroup\":\"w\"}]}"
+
+static odb_live_run open_grouped(void)
+{
+    odb_live_run run = {NULL};
+    size_t length = 77;
+    count("a batch with a group", 0, opened(&run, GROUPED, NO_EVENTS, ODB_CONTINUE, 10000, NULL, 0, &length) == ODB_DONE);
+    for (uint32_t at = 0; at < 4; at++)
+        count("a start of a group", at, odb_run_start(&run, at) == ODB_DONE);
+    return run;
+}
+
+/* Asks a run that is not finished for what is undone, with buffers of each length. */
+static void try_unfinished(odb_live_run *run)
+{
+    for (size_t size = 0; size < MOST; size++) {
+        uint32_t *positions = block_of(size * sizeof *positions);
+        size_t length = 77;
+        memset(positions, FILLING, size * sizeof *positions);
+        uint32_t returned = odb_run_undone(run, positions, size, &length);
+        count("undone of an unfinished run", (long)size, returned == ODB_REFUSED && length == 0 && is_filled(positions, 0, size * sizeof *positions));
+        free(positions);
+    }
+    size_t length = 77;
+    count("undone of an unfinished run into no buffer", 0, odb_run_undone(run, NULL, 0, &length) == ODB_REFUSED && length == 0);
+}
+
+/* Ends a run with this status of the last of the group: asks for what is undone, which is in this order. */
+static void try_undone(uint32_t status, const uint32_t *wanted, size_t count_wanted)
+{
+    odb_live_run run = open_grouped();
+    for (uint32_t at = 0; at < 4; at++) {
+        try_unfinished(&run);
+        count("a report of a group", at, report(&run, at, at == 3 ? status : 204, "", "") == ODB_DONE);
+    }
+    uint32_t positions[MOST];
+    size_t length = 77;
+    int right = odb_run_undone(&run, positions, MOST, &length) == ODB_DONE && length == count_wanted;
+    count("undone", status, right && (length == 0 || memcmp(positions, wanted, length * sizeof *wanted) == 0));
+    try_positions(undone_of, &run, count_wanted);
+    count("a run whose undone requests were asked for", status, is_in(&run, 0, 0, 1));
+    odb_run_close(run);
+}
+
+static void try_all_undone(void)
+{
+    static const uint32_t wanted[] = {2, 1};
+    try_undone(500, wanted, 2);
+    try_undone(399, wanted, 2);
+    try_undone(299, NULL, 0);
 }
 
 /* Opens runs under other policies, and after recorded events. */
@@ -299,11 +360,29 @@ static void try_allocations(int rest)
         count("a response without memory", at, status == (has_failed ? ODB_OUT_OF_MEMORY : ODB_REFUSED) && is_in(&run, 4, 0, 0) && live_blocks == blocks);
     }
     odb_run_close(run);
+    run = open_grouped();
+    for (uint32_t at = 0; at < 4; at++)
+        count("a report of a group", at, report(&run, at, at == 3 ? 500 : 204, "", "") == ODB_DONE);
+    for (long at = 0, has_failed = 1; has_failed; at++) {
+        uint32_t positions[MOST];
+        size_t length = 77;
+        long blocks = live_blocks;
+        memset(positions, FILLING, sizeof positions);
+        refuse_after(at, rest);
+        uint32_t status = odb_run_undone(&run, positions, MOST, &length);
+        has_failed = allow_all();
+        if (has_failed)
+            count("undone without memory", at, status == ODB_OUT_OF_MEMORY && length == 0 && is_filled(positions, 0, sizeof positions) && live_blocks == blocks);
+        else
+            count("undone", at, status == ODB_DONE && length == 2 && positions[0] == 2 && positions[1] == 1 && live_blocks == blocks);
+    }
+    odb_run_close(run);
 }
 
 int main(void)
 {
     try_course();
+    try_all_undone();
     try_openings();
     try_refusals();
     try_many();

@@ -87,7 +87,8 @@ static int live(void)
     int right = is_done(odb_run_ready(&opened, positions, 1, &count)) && is_done(odb_run_start(&opened, 0))
         && is_done(odb_run_running(&opened, positions, 1, &count))
         && is_done(odb_run_report(&opened, 0, 200, bytes(headers), strlen(headers), bytes(second), strlen(second)))
-        && odb_run_finished(&opened) && is_done(odb_run_response(&opened, text, sizeof text, &length));
+        && odb_run_finished(&opened) && is_done(odb_run_undone(&opened, positions, 1, &count))
+        && is_done(odb_run_response(&opened, text, sizeof text, &length));
     odb_run_close(opened);
     return right;
 }

@@ -45,15 +45,4 @@ function eventsOf(events) {
   return Array.isArray(events) ? jsonOf({ events: events.map(elementOf) }) : bytesOf(events)
 }
 
-/** Whether a status is that of a success, 2xx. */
-function isSuccess(status) {
-  return status >= 200 && status <= 299
-}
-
-/** The ids of the requests that have succeeded by a document of events that the library has taken. */
-function successesOf(events) {
-  const reports = JSON.parse(Buffer.from(events)).events.filter(({ report }) => report !== undefined)
-  return reports.filter(({ status }) => isSuccess(status)).map(({ report }) => report)
-}
-
-module.exports = { arrayOf, bytesOf, eventsOf, headersOf, isSuccess, jsonOf, successesOf }
+module.exports = { arrayOf, bytesOf, eventsOf, headersOf, jsonOf }

@@ -4,7 +4,7 @@
 
 const addon = require('./odb_batch.node')
 const { numbersOf, plan, run } = require('./commands.js')
-const { arrayOf, bytesOf, eventsOf, headersOf, isSuccess, jsonOf, successesOf } = require('./documents.js')
+const { arrayOf, bytesOf, eventsOf, headersOf, jsonOf } = require('./documents.js')
 const { DONE, Fault, REFUSED, Refused, errorOf, settle } = require('./faults.js')
 
 const MOST = 2 ** 32 - 1
@@ -52,7 +52,6 @@ class Run {
   #positions
   #listed
   #size
-  #succeeded
 
   constructor(batch, { mode, width, events = [] } = {}) {
     const [modeNumber, widthNumber] = numbersOf({ mode, width })
@@ -66,8 +65,6 @@ class Run {
     const [status, text, opened] = addon.open(given, happened, modeNumber, widthNumber)
     settle('open', status, text)
     this.#run = opened
-    // The ids of the requests that have succeeded.
-    this.#succeeded = new Set(successesOf(happened))
   }
 
   /** The run, or an error if it is closed. */
@@ -85,11 +82,22 @@ class Run {
     return position
   }
 
+  /** The status of a call, and the positions that it lists. */
+  #listing(name) {
+    const [status, count] = addon[name](this.#open, this.#listed)
+    return [status, this.#listed.subarray(0, count)]
+  }
+
+  /** The ids of the requests at positions. */
+  #idsOf(positions) {
+    return Array.from(positions, (position) => this.#plan[position].id)
+  }
+
   /** The ids of the requests that a call lists, in the order of the batch. */
   #list(name) {
-    const [status, count] = addon[name](this.#open, this.#listed)
+    const [status, positions] = this.#listing(name)
     settle(name, status, '')
-    return Array.from(this.#listed.subarray(0, count).sort(), (position) => this.#plan[position].id)
+    return this.#idsOf(positions.sort())
   }
 
   get ready() {
@@ -101,10 +109,10 @@ class Run {
   }
 
   get undone() {
-    if (!this.finished) throw new Fault('F66', 'Unfinished', 'events')
-    const failed = new Set(this.#plan.filter(({ id }) => !this.#succeeded.has(id)).map(({ group }) => group))
-    const isUndone = ({ id, group }) => group !== null && failed.has(group) && this.#succeeded.has(id)
-    return this.#plan.filter(isUndone).map(({ id }) => id).reverse()
+    const [status, positions] = this.#listing('undone')
+    if (status === REFUSED) throw new Fault('F66', 'Unfinished', 'events')
+    settle('undone', status, '')
+    return this.#idsOf(positions)
   }
 
   get finished() {
@@ -121,7 +129,6 @@ class Run {
     const [heads, text] = [partOf(headersOf(headers)), partOf(body)]
     const end = addon.report(this.#open, position, Math.min(Math.max(status, 0), MOST), heads, text)
     if (end === DONE) this.#size += heads.length + text.length
-    if (end === DONE && isSuccess(status)) this.#succeeded.add(id)
     if (end === REFUSED) throw faultOf(heads, text)
     settleEvent('report', end, id)
   }

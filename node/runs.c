@@ -1,7 +1,7 @@
 /* Live runs for Node: a run is an external value, which closes it when it is collected.
  *
  *   open(batch, events, mode, width) -> [status, text, run]
- *   ready(run, positions), running(run, positions) -> [status, count]
+ *   ready(run, positions), running(run, positions), undone(run, positions) -> [status, count]
  *   start(run, position), report(run, position, status, headers, body), finished(run) -> status
  *   response(run, size) -> [status, text]
  *   close(run)
@@ -137,6 +137,11 @@ static napi_value running(napi_env env, napi_callback_info info)
     return list(env, info, odb_run_running);
 }
 
+static napi_value undone(napi_env env, napi_callback_info info)
+{
+    return list(env, info, odb_run_undone);
+}
+
 static napi_value start(napi_env env, napi_callback_info info)
 {
     struct live *live;
@@ -200,8 +205,9 @@ napi_status export_runs(napi_env env, napi_value exports)
         const char *name;
         napi_callback call;
     } calls[] = {
-        {"open", open_run}, {"ready", ready},       {"running", running},   {"start", start},
-        {"report", report}, {"finished", finished}, {"response", response}, {"close", close_run},
+        {"open", open_run},     {"ready", ready},       {"running", running},
+        {"start", start},       {"report", report},     {"finished", finished},
+        {"undone", undone},     {"response", response}, {"close", close_run},
     };
     for (size_t i = 0; i < sizeof calls / sizeof *calls; i++) {
         napi_property_descriptor it = {calls[i].name, NULL, calls[i].call, NULL, NULL, NULL, napi_enumerable, NULL};

@@ -1,7 +1,7 @@
 """Documents and events: what callers pass, and the bytes that the library reads."""
 
 import json
-from typing import Any, Dict, Iterable, Iterator, Mapping, NamedTuple, Optional, Union
+from typing import Any, Dict, Iterable, Mapping, NamedTuple, Optional, Union
 
 #: A document: bytes or a text of JSON, or a mapping that ``json`` can write.
 Document = Union[bytes, bytearray, memoryview, str, Mapping[str, Any]]
@@ -71,13 +71,3 @@ def events_of(events: Events) -> bytes:
     if isinstance(events, (bytes, bytearray, memoryview, str, Mapping)):
         return bytes_of(events)
     return json_of({"events": list(map(_element, events))})
-
-
-def is_success(status: int) -> bool:
-    """Whether a status is that of a success, 2xx."""
-    return 200 <= status <= 299
-
-
-def successes_of(events: bytes) -> Iterator[str]:
-    """The ids of the requests that have succeeded by a document of events that the library has taken."""
-    return (it["report"] for it in json.loads(events)["events"] if "report" in it and is_success(it["status"]))

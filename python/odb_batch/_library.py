@@ -39,6 +39,7 @@ _PARAMETERS = {
     "odb_run_open": [*_BYTES, *_BYTES, *_NUMBER * 2, *_RUN, *_SEEDED],
     "odb_run_ready": [*_RUN, *_POSITIONS],
     "odb_run_running": [*_RUN, *_POSITIONS],
+    "odb_run_undone": [*_RUN, *_POSITIONS],
     "odb_run_start": [*_RUN, *_NUMBER],
     "odb_run_report": [*_RUN, *_NUMBER * 2, *_BYTES, *_BYTES],
     "odb_run_finished": [*_RUN],

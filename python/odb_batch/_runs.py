@@ -4,11 +4,11 @@ import ctypes
 import threading
 import weakref
 from types import TracebackType
-from typing import Any, Mapping, Optional, Tuple, Type
+from typing import Any, List, Mapping, Optional, Tuple, Type
 
 from . import _library
 from ._commands import MAX_WIDTH, answer, failure_of, plan, policy
-from ._documents import Document, Events, bytes_of, events_of, is_success, json_of, successes_of
+from ._documents import Document, Events, bytes_of, events_of, json_of
 from ._faults import Fault, Refused
 
 # Why a start or a report is refused, by the status that says so.
@@ -63,7 +63,7 @@ class Run:
         MemoryError: An allocation failed.
     """
 
-    __slots__ = ("_lock", "_handle", "_release", "_plan", "_listed", "_size", "_succeeded", "__weakref__")
+    __slots__ = ("_lock", "_handle", "_release", "_plan", "_listed", "_size", "__weakref__")
 
     def __init__(
         self, batch: Document, *, mode: str = "continue", width: int = MAX_WIDTH, events: Events = ()
@@ -80,8 +80,6 @@ class Run:
         self._release = weakref.finalize(self, _library.close_run, self._handle)
         # A thread may still be in a call when the process ends, and then all memory goes.
         self._release.atexit = False
-        # The positions of the requests that have succeeded.
-        self._succeeded = {self._plan.request(id).position for id in successes_of(happened)}
 
     def __enter__(self) -> "Run":
         with self._lock:
@@ -115,13 +113,13 @@ class Run:
         Raises:
             Fault: The run is not finished (F66).
             ValueError: The run is closed.
+            MemoryError: An allocation failed.
         """
-        with self._lock:
-            if not self._call("odb_run_finished"):
-                raise Fault("F66", "Unfinished", "events")
-            failed = {it.group for it in self._plan if it.position not in self._succeeded} - {None}
-            undone = [it.id for it in self._plan if it.group in failed and it.position in self._succeeded]
-        return tuple(reversed(undone))
+        status, positions = self._positions("odb_run_undone")
+        if status == _library.REFUSED:
+            raise Fault("F66", "Unfinished", "events")
+        _settle("odb_run_undone", status, "")
+        return tuple(self._plan[position].id for position in positions)
 
     @property
     def finished(self) -> bool:
@@ -171,8 +169,6 @@ class Run:
             end = self._call("odb_run_report", position, number, heads, len(heads), text, len(text))
             if end == _library.DONE:
                 self._size += len(heads) + len(text)
-                if is_success(status):
-                    self._succeeded.add(position)
         if end == _library.REFUSED:
             raise _fault(heads, text)
         _settle("odb_run_report", end, id)
@@ -203,12 +199,16 @@ class Run:
         self._require_open()
         return _library.call_run(name, self._handle, *arguments)
 
-    def _list(self, name: str) -> Tuple[str, ...]:
-        """The ids of the requests that a function lists, in the order of the batch."""
+    def _positions(self, name: str) -> Tuple[int, List[int]]:
+        """The status that a function returns, and the positions that it lists."""
         count = ctypes.c_size_t()
         with self._lock:
             status = self._call(name, self._listed, len(self._listed), ctypes.byref(count))
-            positions = self._listed[: count.value]
+            return status, self._listed[: count.value]
+
+    def _list(self, name: str) -> Tuple[str, ...]:
+        """The ids of the requests that a function lists, in the order of the batch."""
+        status, positions = self._positions(name)
         _settle(name, status, "")
         return tuple(self._plan[position].id for position in sorted(positions))
 

@@ -1,5 +1,5 @@
 -- What a call on a live run returns, and how the run changes.
-use Rattle.std.specs.Prelude.{◌≡◌, ◌≢◌, ◌<◌, ◌≤◌, ◌+◌, ◌⊎◌, ℕ, List, [], Option, Some, None, min, true}
+use Rattle.std.specs.Prelude.{◌≡◌, ◌≢◌, ◌<◌, ◌≤◌, ◌+◌, ◌⊎◌, ℕ, List, [], Option, Some, None, min, true, false}
 use Rattle.serde_json.specs.Data.{Data}
 use Rattle.odb_doc.specs.declared.fault.DocFault.{DocFault}
 use Rattle.odb_doc.specs.declared.fault.DocFault.TheVariants as faults
@@ -9,12 +9,14 @@ use Rattle.odb_doc.specs.recorded.Parts.{HasParts, AreNoParts}
 use Rattle.odb_sched.specs.declared.policy.Policy.{Policy}
 use Rattle.odb_sched.specs.declared.refusal.StartRefusal.{StartRefusal}
 use Rattle.odb_sched.specs.declared.refusal.ReportRefusal.{ReportRefusal}
-use Rattle.odb_sched.specs.run.Steps.{IsStartCause, IsReportCause, start_number, report_number, may_start, may_report}
+use Rattle.odb_sched.specs.run.Steps.{IsStartCause, IsReportCause, start_number, report_number, is_finished, may_start, may_report}
+use Rattle.odb_sched.specs.run.Answers.{undone}
 use Rattle.odb_sched.specs.run.State.{State, size, started, reported, without_requests}
 use Rattle.odb_engine.specs.Cascade as cascade
 use Rattle.odb_engine.specs.Live.{Opens, IsLeastOfOpening}
 use Rattle.odb_ffi.specs.declared.session.Session.{Session}
-use Rattle.odb_ffi.specs.Returns.{IsWrongOption, Returns}
+use Rattle.odb_ffi.specs.Positions.{Are, GivesPositions}
+use Rattle.odb_ffi.specs.Returns.{IsOutOfMemory, IsWrongOption, Returns}
 
 -- the run of the batch in a document after the events in another, with the document and the seed
 pub record IsOpened (policy : Policy) (batch events : List ℕ) (seed : ℕ) (session : Session) : Type 0 where
@@ -40,6 +42,13 @@ IsWith old run new = (new.document ≡ old.document) × (new.seed ≡ old.seed) 
 -- The run is as it was. It has no requests: it knows them by their positions alone.
 abbrev pub IsSame : Session → Session → Type 0
 IsSame old new = (new.document ≡ old.document) × (new.seed ≡ old.seed) × (without_requests new.run ≡ without_requests old.run)
+
+-- What a call returns that gives the undone positions of a run, from the last to the first: it gives them only of a finished
+-- run. Otherwise their number is 0, and the buffer is as it was.
+pub data GivesUndone (run : State) (status count : ℕ) (old new : List ℕ) : Type 0 where
+  Undone : is_finished run ≡ true → GivesPositions (Are (undone run)) status count old new → GivesUndone run status count old new
+  Unfinished : is_finished run ≡ false → status ≡ 1 → count ≡ 0 → new ≡ old → GivesUndone run status count old new
+  OutOfMemory : is_finished run ≡ true → IsOutOfMemory status count old new → GivesUndone run status count old new
 
 -- What the start of a request returns: 0 if it may come, and the run has gone on; the first cause against it, or that there
 -- is no such request, and nothing has changed.

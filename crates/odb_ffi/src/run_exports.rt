@@ -126,6 +126,28 @@ pub extern "C" fn odb_run_running(run: &mut Handle, positions: &mut [u32], count
     run.session().running(positions, count)
 }
 
+/// Copies the positions of the undone requests of a finished run to a buffer, from the last to the
+/// first: those that reported a status from 200 to 299 but are answered 424, since another request of
+/// their group did not succeed. What they did has to be undone.
+///
+/// Sets `count` to the number of them. Returns 0, and `positions` begins with them; or, with
+/// `positions` as it was, 5 if there are more than `positions` has room for. If the run is not
+/// finished, it returns 1, and if an allocation fails 4; then `count` is 0, and `positions` is as it
+/// was. Takes O(requests).
+#[unsafe(no_mangle)]
+pub extern "C" fn odb_run_undone(
+    alloc: Global,
+    run: &mut Handle,
+    positions: &mut [u32],
+    count: &mut usize,
+) -> u32
+    ensures positions { live.GivesUndone run.old.value.run result count.new positions.old
+        positions.new }
+    ensures same { run.new.value ≡ run.old.value }
+{
+    run.session().undone(alloc, positions, count)
+}
+
 /// Starts the request at a position.
 ///
 /// Returns 0; or, with the run as it was, from 11 to 15 for the first of the causes S1 to S5 that

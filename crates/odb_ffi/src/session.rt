@@ -81,6 +81,20 @@ impl Session {
         give_positions(self.run.running(), positions, count)
     }
 
+    /// Copies the undone positions to a buffer, if the run is finished.
+    pub fn undone(&self, alloc: Global, positions: &mut [u32], count: &mut usize) -> u32
+        ensures { live.GivesUndone self.now.run result count.new positions.old positions.new }
+    {
+        *count = 0;
+        if !self.run.is_finished() {
+            return status::REFUSED;
+        }
+        match self.run.undone(alloc) {
+            Ok(found) => give_positions(&found, positions, count),
+            Err(_) => status::OUT_OF_MEMORY,
+        }
+    }
+
     /// Starts a request.
     pub fn start(&mut self, position: u32) -> u32
         ensures { live.Starts self.old self.new position result }

@@ -132,14 +132,6 @@ impl<'p> Done<'p> {
         }
     }
 
-    /// Returns whether a request reported a success that has to be undone.
-    fn is_undone(&self, i: u32) -> bool
-        requires { i < state.size self.now }
-        ensures { result ≡ answers.is_undone self.now i }
-    {
-        self.run.phase(i).has_succeeded() && !self.run.unit_succeeded(i)
-    }
-
     /// Returns the positions of the requests that reported a success but are answered 424, since
     /// their unit did not succeed: from the last to the first.
     pub fn undone(&self, alloc: Global) -> Result<Vec<u32>, AllocError>
@@ -147,12 +139,6 @@ impl<'p> Done<'p> {
         ensures within { IfOk result (λ positions.
             All (λ i. i < state.size self.now) positions.items) }
     {
-        let mut positions = Vec::new(alloc);
-        for i in (0..self.plan().len()).rev() {
-            if self.is_undone(i) {
-                positions.push(i)?;
-            }
-        }
-        Ok(positions)
+        self.run.undone(alloc)
     }
 }

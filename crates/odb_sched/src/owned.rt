@@ -1,6 +1,6 @@
 //! A run that borrows nothing: which event may come, and what it changes.
 
-ghost use Rattle.std.specs.Prelude.{◌≡◌, ◌≢◌, ◌<◌, ◌≤◌, ◌↔◌, ℕ, [], true, false, None, All, length, slice_set, replicate, IsTrue, IsOk, IfOk, IfErr, IfSome, OnOk, OnErr};
+ghost use Rattle.std.specs.Prelude.{◌≡◌, ◌≢◌, ◌==◌, ◌<◌, ◌≤◌, ◌↔◌, ℕ, [], true, false, None, All, length, slice_set, replicate, IsTrue, IsOk, IfOk, IfErr, IfSome, OnOk, OnErr};
 ghost use Rattle.odb_check.specs.Plans.{plan_records};
 ghost use Rattle.odb_check.specs.PlanGraph.{unit_of};
 ghost use Rattle.odb_dense.specs.Lists.{ListsOnce};
@@ -9,6 +9,7 @@ ghost use Rattle.odb_sched.specs.declared.refusal.StartRefusal.TheVariants.{Widt
 ghost use Rattle.odb_sched.specs.invariants.Advances.{IsNext};
 ghost use Rattle.odb_sched.specs.run.Steps.{IsStartCause, IsReportCause};
 ghost use Rattle.odb_sched.specs.run.Choosing.{IsNone, AllowsOrder, IsAt, ReportsFirst, StartsFirst};
+ghost use Rattle.odb_sched.specs.run.Answers as answers;
 ghost use Rattle.odb_sched.specs.run.Courses as courses;
 ghost use Rattle.odb_sched.specs.run.State as state;
 ghost use Rattle.odb_sched.specs.invariants.Kept.{first_of, IsReached};
@@ -93,6 +94,13 @@ impl OwnedRun {
         ensures small { result ≤ 10000 }
     {
         self.graph.len()
+    }
+
+    /// Returns whether there are no requests.
+    pub fn is_empty(&self) -> bool
+        ensures { result ≡ (state.size self.now == 0) }
+    {
+        self.graph.len() == 0
     }
 
     /// Returns whether the numbers of the run are those of a plan.
@@ -295,6 +303,36 @@ impl OwnedRun {
         ensures { result ≡ steps.unit_succeeded self.now (unit_of self.now.plan_graph i) }
     {
         self.counts.progress.pending[self.graph.unit_of(i) as usize] == 0
+    }
+
+    /// Returns whether a request reported a success that has to be undone.
+    fn is_undone(&self, i: u32) -> bool
+        requires { i < state.size self.now }
+        ensures { result ≡ answers.is_undone self.now i }
+    {
+        self.phase(i).has_succeeded() && !self.unit_succeeded(i)
+    }
+
+    /// Returns the positions of the requests that reported a success but whose unit did not succeed:
+    /// from the last to the first. If the run is finished, they are answered 424.
+    ///
+    /// Costs O(requests).
+    ///
+    /// # Errors
+    ///
+    /// If memory for the positions cannot be allocated.
+    pub fn undone(&self, alloc: Global) -> Result<Vec<u32>, AllocError>
+        ensures value { IfOk result (λ positions. positions.items ≡ answers.undone self.now) }
+        ensures within { IfOk result (λ positions.
+            All (λ i. i < state.size self.now) positions.items) }
+    {
+        let mut positions = Vec::new(alloc);
+        for i in (0..self.len()).rev() {
+            if self.is_undone(i) {
+                positions.push(i)?;
+            }
+        }
+        Ok(positions)
     }
 
     /// What holds of every state that a run comes to. It changes nothing.

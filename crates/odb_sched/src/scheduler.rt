@@ -6,6 +6,7 @@ ghost use Rattle.odb_check.specs.PlanGraph.{unit_of};
 ghost use Rattle.odb_sched.specs.declared.policy.Mode.TheVariants as modes;
 ghost use Rattle.odb_sched.specs.declared.refusal.StartRefusal.TheVariants.{WidthReached};
 ghost use Rattle.odb_dense.specs.Lists.{ListsOnce};
+ghost use Rattle.odb_sched.specs.run.Answers as answers;
 ghost use Rattle.odb_sched.specs.run.State as state;
 ghost use Rattle.odb_sched.specs.run.Steps as steps;
 ghost use Rattle.odb_sched.specs.run.Steps.{IsStartCause, IsReportCause};
@@ -212,6 +213,16 @@ impl<'p> Scheduler<'p> {
         ensures { result ≡ steps.unit_succeeded self.now (unit_of self.now.plan_graph i) }
     {
         self.run.unit_succeeded(i)
+    }
+
+    /// Returns the positions of the requests that reported a success but whose unit did not succeed:
+    /// from the last to the first.
+    pub(crate) fn undone(&self, alloc: Global) -> Result<Vec<u32>, AllocError>
+        ensures value { IfOk result (λ positions. positions.items ≡ answers.undone self.now) }
+        ensures within { IfOk result (λ positions.
+            All (λ i. i < state.size self.now) positions.items) }
+    {
+        self.run.undone(alloc)
     }
 
     /// What holds of every state that a run comes to. It changes nothing.
