@@ -82,7 +82,7 @@ push_step name (Some t) (Some others) whole listed more deeper is =
     let same : (name, t) ∷ others ≡ listed = cc (is) in
     rw (deeper others refl) (ap (λ headers. Some (headers ++ more)) same)
 
-text_members-push : (es : List Entry) (e : Entry) (listed : List Header) (text : List ℕ) → as_str (view e.1) ≡ Some text → text_members (members_view es) ≡ Some listed
+pub text_members-push : (es : List Entry) (e : Entry) (listed : List Header) (text : List ℕ) → as_str (view e.1) ≡ Some text → text_members (members_view es) ≡ Some listed
     → text_members (members_view (es ++ e ∷ [])) ≡ Some (listed ++ (string_bytes e.0, text) ∷ [])
 text_members-push [] e listed text is are = let none : [] ≡ listed = cc (are) in rw is (ap (λ headers. Some (headers ++ (string_bytes e.0, text) ∷ [])) none)
 text_members-push (x ∷ es) e listed text is are =
@@ -92,7 +92,7 @@ none_step : {T U : Type 0} (o : Option T) (f : T → Option U) → ((t : T) → 
 none_step None f none = refl
 none_step (Some t) f none = none t
 
-text_members-other : (es : List Entry) (e : Entry) (rest : List Entry) → as_str (view e.1) ≡ None → text_members (members_view (es ++ e ∷ rest)) ≡ None
+pub text_members-other : (es : List Entry) (e : Entry) (rest : List Entry) → as_str (view e.1) ≡ None → text_members (members_view (es ++ e ∷ rest)) ≡ None
 text_members-other [] e rest is = rw is refl
 text_members-other (x ∷ es) e rest is = none_step (as_str (view x.1)) _ (λ text. rw (text_members-other es e rest is) refl)
 

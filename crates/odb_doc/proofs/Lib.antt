@@ -5,7 +5,11 @@ mod CanonicalShapes
 mod DistinctLemmas
 pub mod ElementLemmas
 mod FaultLemmas
+mod FoundLemmas
+mod FoundParts
 mod LeastLemmas
+mod LengthLemmas
+mod LentLemmas
 mod LineLemmas
 mod HeaderLemmas
 mod FoldedNames

@@ -1,5 +1,5 @@
 -- Texts that rise once they are sorted are distinct, and the strings of an array are read one by one.
-use Rattle.std.proofs.Common.{◌≡◌, ◌∙◌, ◌+◌, ◌<◌, ℕ, Bool, true, false, Option, None, Some, option_map, List, [], ◌∷◌, ◌++◌, length, drop, get_or, take, fold, bytes_eq, refl, ap, subst, sym, append_assoc, append-nil, Bor, IsPermutation}
+use Rattle.std.proofs.Common.{◌≡◌, ◌∙◌, ◌+◌, ◌<◌, ◌≤◌, ℕ, Bool, true, false, Option, None, Some, option_map, List, [], ◌∷◌, ◌++◌, length, drop, get_or, take, fold, bytes_eq, refl, ap, subst, sym, append_assoc, append-nil, arith, Bor, IsPermutation}
 use Rattle.std.specs.declared.cmp.Ordering.{Ordering}
 use Rattle.std.specs.declared.cmp.Ordering.TheVariants.{Less, Equal, Greater}
 use Rattle.std.specs.Cmp.{IsTotalOrder}
@@ -99,6 +99,12 @@ fold-distinct names (name ∷ added) apart =
 
 pub distinct_same : (names : List (List ℕ)) → IsDistinct bytes_eq names → distinct names ≡ names
 distinct_same names apart = sym (fold-with_name-nil names) ∙ fold-distinct [] names apart
+
+-- a text alone repeats nothing
+pub distinct_short : (texts : List (Bor (List ℕ))) → length texts ≤ 1 → texts_in texts ≡ distinct (texts_in texts)
+distinct_short [] short = refl
+distinct_short (x ∷ []) short = refl
+distinct_short (x ∷ y ∷ texts) short = absurd (omega (arith, short))
 
 -- ---- the strings of an array
 

@@ -46,7 +46,7 @@ before_nested d before here rule less = before rule (omega arith)
 
 -- ---- headers
 
-listed_not_bad : (d : Data) (listed : List Header) → listed_headers d ≡ Some listed → ¬ BreaksRequest request.BadHeaders d
+pub listed_not_bad : (d : Data) (listed : List Header) → listed_headers d ≡ Some listed → ¬ BreaksRequest request.BadHeaders d
 listed_not_bad d listed is bad = cc (subst IsNone is bad.1)
 
 apart-below : (name : List ℕ) (names : List (List ℕ)) → AllByRecursion (λ y. slice_cmp nat_cmp name y ≡ Less) names → AllByRecursion (λ y. bytes_eq name y ≡ false) names

@@ -1,8 +1,10 @@
 -- A text has one name without the blanks at its ends, which is what the code cuts, and the kind that the name asks for
 -- determines which bodies are allowed.
-use Rattle.std.proofs.Common.{◌≡◌, ◌∙◌, ℕ, Bool, true, false, List, [], ◌∷◌, ◌++◌, refl, ap, sym, subst, true≢false}
-use Rattle.std.specs.List.{AllPass}
+use Rattle.std.proofs.Common.{◌≡◌, ◌∙◌, ◌||◌, ℕ, Bool, true, false, List, [], ◌∷◌, ◌++◌, refl, ap, ap₂, sym, subst, true≢false, arith}
+use Rattle.std.specs.Char.{is_ascii_uppercase, to_ascii_lowercase}
+use Rattle.std.specs.List.{AllPass, list_any}
 use Rattle.std.specs.Str.{str_to_ascii_lowercase}
+use Rattle.std.proofs.lemmas.Bool.Decides.{nat_tests}
 use Rattle.std.proofs.lemmas.List.Elements.{All-head, All-tail}
 use Rattle.odb_names.specs.Runs.{SplitsRun}
 use Rattle.serde_json.specs.Data.{Data}
@@ -79,3 +81,20 @@ pub fits_kind : AreOneRun → {value : List ℕ} {kind : BodyKind} {body : Data}
 fits_kind runs {value} {kind} {body} has fits =
     let name : has.name ≡ fits.name = same_type runs has.has fits.has in
     kind_of (str_to_ascii_lowercase fits.name) kind body (subst (λ (n : List ℕ). AsksFor (str_to_ascii_lowercase n) kind) name has.asks) fits.allows
+
+-- ---- a text that is in lower case already
+
+no_head : (b c : Bool) → (b || c) ≡ false → b ≡ false
+no_head true c is = absurd (cc (is))
+no_head false c is = refl
+
+no_tail : (b c : Bool) → (b || c) ≡ false → c ≡ false
+no_tail true c is = absurd (cc (is))
+no_tail false c is = is
+
+lower_here : (c : ℕ) → is_ascii_uppercase c ≡ false → to_ascii_lowercase c ≡ c
+lower_here c is = grind (arith, nat_tests, is)
+
+pub lower_same : (text : List ℕ) → list_any is_ascii_uppercase text ≡ false → str_to_ascii_lowercase text ≡ text
+lower_same [] none = refl
+lower_same (c ∷ text) none = ap₂ (λ x xs. x ∷ xs) (lower_here c (no_head _ _ none)) (lower_same text (no_tail _ _ none))

@@ -1,11 +1,16 @@
 -- A map of headers into which the members of an object are put one by one: for private clauses, nothing to believe.
-use Rattle.std.specs.Prelude.{◌≡◌, ℕ, List, [], ◌∷◌, ◌++◌, Some, string_bytes, String}
+use Rattle.std.specs.Prelude.{◌≡◌, ◌<◌, ◌+◌, ℕ, false, List, [], ◌∷◌, ◌++◌, length, slice_index_or, Some, string_bytes, String}
 use Rattle.std.specs.declared.alloc.Global.{Global}
+use Rattle.std.specs.declared.cmp.Ordering.{Ordering}
+use Rattle.std.specs.Borrow.{Bor}
 use Rattle.std.specs.BTreeMap.{BTreeMap}
+use Rattle.std.specs.Cmp.Lexicographic.{slice_cmp}
+use Rattle.std.specs.Ordering.{is_lt, nat_cmp}
+use Rattle.std.specs.Str.{str_to_ascii_lowercase}
 use Rattle.serde_json.specs.Data.{Data, object}
 use Rattle.serde_json.specs.View.{view, members_view}
 use Rattle.serde_json.specs.declared.value.Value.{Value}
-use Rattle.odb_doc.specs.Headers.{HoldsHeaders, IsHeaders, headers_in}
+use Rattle.odb_doc.specs.Headers.{Header, HoldsHeaders, IsHeaders, headers_in}
 
 abbrev pub Entry : Type 0
 Entry = String Global × Value
@@ -30,3 +35,20 @@ AddsMember name d old new =
 abbrev pub RefusesMember : List ℕ → Data → Headers → Type 0
 RefusesMember name d old =
     (es rest : List Entry) (e : Entry) → string_bytes e.0 ≡ name → view e.1 ≡ d → HoldsMembers es old → ¬ AreHeaders (es ++ e ∷ rest)
+
+-- ---- headers that are lent from an object
+
+abbrev pub Lent : Type 0
+Lent = Bor (List ℕ) × Bor (List ℕ)
+
+-- the header as it is written
+abbrev pub written : Lent → Header
+written header = (header.0.now, header.1.now)
+
+-- the order of the names in lower case
+abbrev pub by_name : Lent → Lent → Ordering
+by_name x y = slice_cmp nat_cmp (str_to_ascii_lowercase x.0.now) (str_to_ascii_lowercase y.0.now)
+
+-- some name does not come before the next
+abbrev pub HasUnordered : List Lent → Type 0
+HasUnordered hs = (k : ℕ) × (k + 1 < length hs) × ((d : Lent) → false ≡ is_lt (by_name (slice_index_or hs k d) (slice_index_or hs (k + 1) d)))

@@ -2,6 +2,7 @@
 -- 9110, section 5).
 use Rattle.std.specs.Prelude.{◌≡◌, ℕ, List, [], ◌∷◌, map, Option, Some, None, IsSome, option_and_then, option_map, unwrap_or, codes, bytes_eq, string_bytes, String}
 use Rattle.std.specs.declared.alloc.Global.{Global}
+use Rattle.std.specs.Borrow.{Bor}
 use Rattle.std.specs.BTreeMap.{BTreeMap}
 use Rattle.std.specs.Cmp.Lexicographic.{slice_cmp}
 use Rattle.std.specs.List.{IsDistinct}
@@ -72,3 +73,7 @@ header_of entry = (string_bytes entry.0, string_bytes entry.1)
 
 abbrev pub headers_in : BTreeMap (String Global) (String Global) → List Header
 headers_in m = map header_of m.entries
+
+-- a header as a request has it: its name as it is written, and its value
+abbrev pub lent_header : Bor (List ℕ) × Bor (List ℕ) → Header
+lent_header header = (str_to_ascii_lowercase header.0.now, header.1.now)

@@ -10,3 +10,4 @@ pub mod Shapes
 -- What invariants, private clauses and proofs cite: nothing to believe.
 pub mod BodyKinds
 pub mod Lines
+pub mod MembersFound

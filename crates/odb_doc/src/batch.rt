@@ -12,8 +12,10 @@ ghost use Rattle.odb_doc.specs.batch.Records.{ReadsAs, IsWellFormedRecord, IsBat
 
 mod body;
 mod depends_on;
+pub(crate) mod headers;
 mod line;
-mod media_type;
+pub(crate) mod media_type;
+mod members;
 mod reference;
 pub mod request;
 
@@ -95,8 +97,8 @@ impl<'a> Batch<'a> {
     /// Reads a batch from its document (OData JSON Format 4.01, section 19.1).
     ///
     /// `document` is the value that [`crate::parse`] made. Texts and bodies are borrowed from it.
-    /// Allocates the list of requests and, for each, its names, its headers and the identifier in its
-    /// URL.
+    /// Allocates the list of requests and, for each, its names if there are several, the list of its
+    /// headers and the identifier in its URL.
     ///
     /// It takes O(n log n) for a document of n bytes, whatever its names are: repeats are found by
     /// order and not by hash, so no choice of names makes it slow.

@@ -1,6 +1,6 @@
 //! Looking into the objects of documents.
 
-ghost use Rattle.std.specs.Prelude.{◌≡◌, ◌↔◌, ◌∷◌, [], codes, length, IsSome, IsTrue, IfNone, IfSome, OnSome, map, option_map, string_bytes};
+ghost use Rattle.std.specs.Prelude.{◌≡◌, ◌↔◌, ◌∷◌, [], codes, length, IsSome, IsTrue, IfNone, IfSome, OnSome, map, option_and_then, option_map, string_bytes};
 ghost use Rattle.std.specs.List.{list_any};
 ghost use Rattle.std.specs.BTreeMap.{keys};
 ghost use Rattle.serde_json.specs.Find.{get, as_str, as_array, as_object};
@@ -41,7 +41,7 @@ fn is_of_answer(name: &str) -> bool
 
 impl Object {
     /// Returns whether the object may have a member of this name.
-    fn may_have(self, name: &str) -> bool
+    pub(crate) fn may_have(self, name: &str) -> bool
         ensures { result ≡ spec.is_one_of (spec.members_of self) name.now }
     {
         match self {
@@ -55,8 +55,9 @@ impl Object {
         }
     }
 
+    /// Returns whether the name is neither that of an annotation nor one that the object may have.
     #[tactic(auto, unfolding(crate::specs::Members::is_unknown))]
-    fn is_unknown(self, name: &str) -> bool
+    pub(crate) fn is_unknown(self, name: &str) -> bool
         ensures { result ≡ spec.is_unknown (spec.members_of self) name.now }
     {
         !is_annotation(name) && !self.may_have(name)
@@ -135,11 +136,19 @@ pub fn text_at<'a>(value: &'a Value, name: &str) -> Option<&'a str>
     value.get(name).and_then(Value::as_str)
 }
 
-/// Returns the value at a member. Null is treated as absent.
-pub(crate) fn given<'a>(value: &'a Value, name: &str) -> Option<&'a Value>
-    ensures { option_map (λ v. view v.now) result ≡ spec.given (get name.now (view value.now)) }
+/// Returns the string at a member, if any.
+pub(crate) fn text_in(member: Option<&Value>) -> Option<&str>
+    ensures { option_map (λ text. text.now) result
+        ≡ option_and_then as_str (option_map (λ v. view v.now) member.entry) }
 {
-    value.get(name).filter(|member| !member.is_null())
+    member.and_then(Value::as_str)
+}
+
+/// Returns the value at a member, if any. Null is treated as absent.
+pub(crate) fn given(member: Option<&Value>) -> Option<&Value>
+    ensures { option_map (λ v. view v.now) result ≡ spec.given (option_map (λ v. view v.now) member.entry) }
+{
+    member.filter(|value| !value.is_null())
 }
 
 /// Moves out the string that the value is.

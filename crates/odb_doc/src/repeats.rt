@@ -5,10 +5,14 @@ ghost use Rattle.std.specs.Cmp.Lexicographic.{slice_cmp};
 ghost use Rattle.std.specs.List.{IsDistinct};
 ghost use Rattle.std.specs.Ordering.{is_lt, nat_cmp};
 ghost use Rattle.odb_doc.specs.batch.Names.{distinct, texts_in, with_name};
-ghost use Rattle.odb_doc.specs.recorded.RawOutcomes.{AreSameTexts};
+ghost use Rattle.odb_doc.specs.recorded.RawOutcomes.{AreSameTexts, rises_by_length};
 
+use smallvec::SmallVec;
 use std::alloc::{AllocError, Global};
 use std::collections::BTreeSet;
+
+/// The names in a `dependsOn`. One alone is kept in place and takes no allocation.
+pub(crate) type Names<'a> = SmallVec<&'a str, 1>;
 
 /// Up to how many texts are compared one by one. For so few that is quicker than a sort.
 const FEW: usize = 8;
@@ -36,12 +40,24 @@ fn are_ascending(texts: &[&str]) -> bool
     )
 }
 
+/// Returns whether each text comes before the next by length, and in byte order among equal lengths, as
+/// numbers that count up do.
+fn are_ascending_by_length(texts: &[&str]) -> bool
+    ensures { result ≡ true → IsDistinct bytes_eq (texts_in texts.now) }
+{
+    texts.is_sorted_by(
+        |x: &&str, y: &&str| -> bool
+            ensures { result ≡ rises_by_length x.now.now y.now.now }
+        { x.len() < y.len() || (x.len() == y.len() && x < y) },
+    )
+}
+
 /// Returns whether a text repeats, by a sort unless they are in order already. It may report a repeat if
 /// there is none.
 fn may_repeat_among_many(alloc: Global, texts: &[&str]) -> Result<bool, AllocError>
     ensures { IfOk result (λ repeats. repeats ≡ false → IsDistinct bytes_eq (texts_in texts.now)) }
 {
-    if are_ascending(texts) {
+    if are_ascending_by_length(texts) || are_ascending(texts) {
         return Ok(false);
     }
     let mut sorted = Vec::from_slice(alloc, texts)?;
@@ -94,14 +110,14 @@ fn first_places<'a>(alloc: Global, texts: &[&'a str]) -> Result<Vec<&'a str>, Al
 
 /// Returns the texts without repeats, each at its first place, in O(n log n) whatever the texts are. A
 /// set is made only if a text may repeat.
-pub(crate) fn without_repeats<'a>(
-    alloc: Global,
-    texts: Vec<&'a str>,
-) -> Result<Vec<&'a str>, AllocError>
+pub(crate) fn without_repeats<'a>(alloc: Global, texts: Names<'a>) -> Result<Names<'a>, AllocError>
     ensures { IfOk result (λ kept. texts_in kept.items ≡ distinct (texts_in texts.entry.items)) }
 {
+    if texts.len() <= 1 {
+        return Ok(texts);
+    }
     if may_repeat(alloc, texts.as_slice())? {
-        first_places(alloc, texts.as_slice())
+        Ok(SmallVec::from_vec(first_places(alloc, texts.as_slice())?))
     } else {
         Ok(texts)
     }

@@ -135,7 +135,7 @@ pub fn push_body(alloc: Global, text: &mut String, body: Option<&Value>) -> Resu
 }
 
 /// Appends a header, with a comma first unless it is the first header.
-fn push_header(
+pub(crate) fn push_header(
     alloc: Global,
     text: &mut String,
     later: bool,

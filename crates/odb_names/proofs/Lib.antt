@@ -1,3 +1,4 @@
+pub mod Decoded
 pub mod OneFront
 pub mod OneMethod
 pub mod OneRun

@@ -1,6 +1,8 @@
 //! The segments of a URL, and what it refers to.
 
-ghost use Rattle.std.specs.Prelude.{◌≡◌, ◌+◌, ◌<◌, ◌↔◌, ℕ, List, length, drop, slice_index, IsTrue, IsOk, IfOk, IfSome, IfNone};
+ghost use Rattle.std.specs.Prelude.{◌≡◌, ◌+◌, ◌<◌, ◌↔◌, ℕ, List, length, drop, slice_index, codes, IsTrue, IsOk, IfOk, IfSome, IfNone};
+ghost use Rattle.percent_encoding.specs.Percent.{percent_decode};
+ghost use Rattle.odb_names.specs.Classes.{begins_with_sign};
 ghost use Rattle.odb_names.specs.Fronts.{FrontForm, HasFront, form, reference};
 ghost use Rattle.odb_names.specs.Segments.{HasNoEscape, HasNoSlash, IsFirstSegment, IsLastSegment, IsNestedBatch, slash};
 
@@ -37,6 +39,26 @@ fn last_segment(url: &[u8]) -> &[u8]
     }
 }
 
+/// Returns whether the text begins with `$` or `%`. No other text begins with `$` once it is decoded.
+fn begins_with_sign(text: &[u8]) -> bool
+    ensures { result ≡ begins_with_sign text.now }
+{
+    match text.first() {
+        Some(byte) => matches!(*byte, b'$' | b'%'),
+        None => false,
+    }
+}
+
+/// Returns what the first segment of a URL means, by decoding it.
+fn decoded_front(alloc: Global, url: &str) -> Result<Front, AllocError>
+    ensures front { IfOk result (λ found. HasFront url.now (form found)) }
+    ensures memory { (segment : List ℕ) → IsFirstSegment url.now segment → HasNoEscape segment
+        → ((id : List ℕ) → ¬ HasFront url.now (reference id)) → IsOk result }
+{
+    let segment = percent_decode(first_segment(url.as_bytes())).into_cow(alloc)?;
+    Front::of_segment(alloc, segment.as_slice())
+}
+
 /// Returns what the first segment of a URL means in a batch (OData JSON Format 4.01, section 19.1).
 ///
 /// The first segment of `url` ends before the first `/`, `?` or `#`, and is percent-decoded once;
@@ -49,8 +71,25 @@ pub fn front(alloc: Global, url: &str) -> Result<Front, AllocError>
     ensures memory { (segment : List ℕ) → IsFirstSegment url.now segment → HasNoEscape segment
         → ((id : List ℕ) → ¬ HasFront url.now (reference id)) → IsOk result }
 {
-    let segment = percent_decode(first_segment(url.as_bytes())).into_cow(alloc)?;
-    Front::of_segment(alloc, segment.as_slice())
+    if begins_with_sign(url.as_bytes()) {
+        decoded_front(alloc, url)
+    } else {
+        Ok(Front::Plain)
+    }
+}
+
+/// Returns whether a URL may name a batch: it has a `$` or a `%`.
+fn may_be_nested(url: &[u8]) -> bool
+    ensures { IsNestedBatch url.now → IsTrue result }
+{
+    url.contains(&b'$') || url.contains(&b'%')
+}
+
+/// Returns whether a segment may be `$batch`, percent-decoded, by its length and its first byte.
+fn may_be_batch(segment: &[u8]) -> bool
+    ensures { percent_decode segment.now ≡ codes "$batch" → IsTrue result }
+{
+    (6..=18).contains(&segment.len()) && begins_with_sign(segment)
 }
 
 /// Returns whether the URL names a batch, which no request of a batch may be (OData ABNF 4.01, rule
@@ -63,7 +102,14 @@ pub fn is_nested_batch(alloc: Global, url: &str) -> Result<bool, AllocError>
     ensures memory { (segment : List ℕ) → IsLastSegment url.now segment → HasNoEscape segment
         → IsOk result }
 {
-    let segment = percent_decode(last_segment(url.as_bytes())).into_cow(alloc)?;
+    if !may_be_nested(url.as_bytes()) {
+        return Ok(false);
+    }
+    let segment = last_segment(url.as_bytes());
+    if !may_be_batch(segment) {
+        return Ok(false);
+    }
+    let segment = percent_decode(segment).into_cow(alloc)?;
     Ok(segment.as_slice() == b"$batch".as_slice())
 }
 

@@ -1,11 +1,13 @@
 -- What is moved out of an element of `outcomes`, or out of a report of `events`, while it is read, and the ids that are
 -- watched for a repeat: for private clauses, nothing to believe.
-use Rattle.std.specs.Prelude.{◌≡◌, ℕ, List, ◌++◌, Option, Some, None, map, option_map, codes, bytes_eq, string_bytes, String}
+use Rattle.std.specs.Prelude.{◌≡◌, ◌==◌, ◌&&◌, ◌||◌, ℕ, Bool, nat_lt, length, List, ◌++◌, Option, Some, None, map, option_map, codes, bytes_eq, string_bytes, if◌then◌else◌, String}
 use Rattle.std.specs.declared.alloc.Global.{Global}
 use Rattle.std.specs.BTreeSet.{BTreeSet}
+use Rattle.std.specs.Cmp.Lexicographic.{slice_cmp}
 use Rattle.std.specs.List.{IsDistinct, list_any}
+use Rattle.std.specs.Ordering.{is_lt, nat_cmp}
 use Rattle.serde_json.specs.Data.{Data}
-use Rattle.serde_json.specs.Find.{get}
+use Rattle.serde_json.specs.Find.{as_number, as_str, get}
 use Rattle.serde_json.specs.View.{view, number_view}
 use Rattle.odb_doc.specs.declared.broken.Broken.{Broken}
 use Rattle.odb_doc.specs.declared.broken.Broken.TheVariants as broken
@@ -26,7 +28,7 @@ use Rattle.odb_doc.specs.recorded.EventFaults as event_table
 use Rattle.odb_doc.specs.recorded.LeastEventFault.{BreaksEvent}
 use Rattle.odb_doc.specs.recorded.LeastOutcomeFault.{BreaksOutcome}
 use Rattle.odb_doc.specs.LeastRules.{IsLeast}
-use Rattle.odb_doc.specs.Members.{HasOther, text_at}
+use Rattle.odb_doc.specs.Members.{HasOther, is_other, members_of, names_in, text_at}
 use Rattle.odb_doc.specs.recorded.OutcomeFaults.{rule_number}
 use Rattle.odb_doc.specs.recorded.Outcomes.{HasOutcome, status_of}
 
@@ -37,6 +39,22 @@ pub record ArePartsOf (kind : Object) (name : List ℕ) (d : Data) (parts : Part
   pub status : option_map number_view parts.status ≡ status_of d
   pub headers : option_map view parts.headers ≡ get (codes "headers") d
   pub body : option_map view parts.body ≡ get (codes "body") d
+
+-- the values at the four members, as far as they have the right types, and whether there are other members
+pub record AreFoundIn (kind : Object) (name : List ℕ) (d : Data) (parts : Parts) : Type 0 where
+  pub other : parts.has_other ≡ list_any (is_other (members_of kind)) (names_in d)
+  pub id : option_map string_bytes parts.id ≡ text_at name d
+  pub status : option_map number_view parts.status ≡ status_of d
+  pub headers : option_map view parts.headers ≡ get (codes "headers") d
+  pub body : option_map view parts.body ≡ get (codes "body") d
+
+-- a member of this name and value, after those that were found
+pub record PutsPart (kind : Object) (id_name name : List ℕ) (d : Data) (old new : Parts) : Type 0 where
+  pub other : new.has_other ≡ (old.has_other || is_other (members_of kind) name)
+  pub id : option_map string_bytes new.id ≡ (if bytes_eq id_name name then as_str d else option_map string_bytes old.id)
+  pub status : option_map number_view new.status ≡ (if bytes_eq (codes "status") name then as_number d else option_map number_view old.status)
+  pub headers : option_map view new.headers ≡ (if bytes_eq (codes "headers") name then Some d else option_map view old.headers)
+  pub body : option_map view new.body ≡ (if bytes_eq (codes "body") name then Some d else option_map view old.body)
 
 -- the element has the shape of an outcome with a string at this member, and these values
 pub record HasRawOutcome (kind : Object) (name : List ℕ) (d : Data) (raw : RawOutcome) : Type 0 where
@@ -84,3 +102,7 @@ Watches None before coming = IsDistinct bytes_eq (before ++ coming)
 
 abbrev pub IsWatched : SeenIds → List (List ℕ) → List (List ℕ) → Type 0
 IsWatched seen before coming = Watches seen.ids before coming
+
+-- the first text is the shorter one, or as long as the second and before it in byte order
+abbrev pub rises_by_length : List ℕ → List ℕ → Bool
+rises_by_length x y = nat_lt (length x) (length y) || ((length x == length y) && is_lt (slice_cmp nat_cmp x y))

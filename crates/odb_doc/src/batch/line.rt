@@ -1,14 +1,17 @@
 //! The id, method, group and URL of a request.
 
 ghost use Rattle.std.specs.Prelude.{◌≡◌, ℕ, List, Option, MatchOption, IfOk, IfErr, OnOk, OnErr, option_map};
+ghost use Rattle.serde_json.specs.Data.{Data};
 ghost use Rattle.serde_json.specs.View.{view};
 ghost use Rattle.odb_names.specs.declared.method.Method.{Method};
 ghost use Rattle.odb_doc.specs.BrokenRules.{BreaksNoneBefore, IsLeastRequestRule};
 ghost use Rattle.odb_doc.specs.declared.fault.RequestRule.TheVariants as rules;
+ghost use Rattle.odb_doc.specs.batch.MembersFound.{AreMembersOf};
 ghost use Rattle.odb_doc.specs.batch.Shapes.{HasId, HasMethod, HasGroup};
 
+use crate::batch::members::Members;
 use crate::fault::RequestRule;
-use crate::member::{Object, given, text_at};
+use crate::member::{given, text_in};
 use odb_names::{Method, is_request_id};
 use serde_json::Value;
 
@@ -22,29 +25,30 @@ pub(crate) struct RequestLine<'a> {
 }
 
 /// Returns the identifier at `id`.
-fn id_of(element: &Value) -> Option<&str>
-    ensures { MatchOption result ((id : List ℕ) → ¬ HasId (view element.now) id)
-        (λ id. HasId (view element.now) id.now) }
+fn id_of<'a>(members: &Members<'a>) -> Option<&'a str>
+    ensures { (d : Data) → AreMembersOf d members.now → MatchOption result
+        ((id : List ℕ) → ¬ HasId d id) (λ id. HasId d id.now) }
 {
-    text_at(element, "id").filter(|id| is_request_id(id))
+    text_in(members.id).filter(|id| is_request_id(id))
 }
 
 /// Returns the method that `method` names.
-fn method_of(element: &Value) -> Option<Method>
-    ensures { MatchOption result ((method : Method) → ¬ HasMethod (view element.now) method)
-        (HasMethod (view element.now)) }
+fn method_of(members: &Members<'_>) -> Option<Method>
+    ensures { (d : Data) → AreMembersOf d members.now → MatchOption result
+        ((method : Method) → ¬ HasMethod d method) (HasMethod d) }
 {
-    Method::read(text_at(element, "method")?)
+    Method::read(text_in(members.method)?)
 }
 
 /// Returns the group at `atomicityGroup`, if any, or F16.
-fn group_of(element: &Value) -> Result<Option<&str>, RequestRule>
-    ensures has { IfOk result (λ group. HasGroup (view element.now)
-        (option_map (λ text. text.now) group)) }
+fn group_of<'a>(members: &Members<'a>) -> Result<Option<&'a str>, RequestRule>
+    ensures has { IfOk result (λ group. (d : Data) → AreMembersOf d members.now
+        → HasGroup d (option_map (λ text. text.now) group)) }
     ensures rule { IfErr result (λ rule. rule ≡ rules.BadGroup) }
-    ensures none { OnErr result ((group : Option (List ℕ)) → ¬ HasGroup (view element.now) group) }
+    ensures none { OnErr result ((d : Data) → AreMembersOf d members.now
+        → (group : Option (List ℕ)) → ¬ HasGroup d group) }
 {
-    match given(element, "atomicityGroup").map(|value| value.as_str()) {
+    match given(members.group).map(|value| value.as_str()) {
         None => Ok(None),
         Some(text) => match text.filter(|id| is_request_id(id)) {
             Some(id) => Ok(Some(id)),
@@ -58,7 +62,8 @@ impl<'a> RequestLine<'a> {
 
     /// Reads the line of an element of `requests`, or returns the first of the rules F10 to F16 that
     /// it breaks.
-    pub(crate) fn read(element: &'a Value) -> Result<Self, RequestRule>
+    pub(crate) fn read(element: &'a Value, members: &Members<'a>) -> Result<Self, RequestRule>
+        requires { AreMembersOf (view element.now) members.now }
         ensures unbroken { OnOk result (BreaksNoneBefore rules.BadDependsOn (view element.now)) }
         ensures line { IfOk result (IsLineOf (view element.now)) }
         ensures first { IfErr result (IsLeastRequestRule (view element.now)) }
@@ -66,17 +71,17 @@ impl<'a> RequestLine<'a> {
         if !element.is_object() {
             return Err(RequestRule::NotRequestObject);
         }
-        if element.get("if").is_some() {
+        if members.condition.is_some() {
             return Err(RequestRule::IfMember);
         }
-        if Object::Request.has_unknown(element) {
+        if members.has_unknown {
             return Err(RequestRule::UnknownRequestMember);
         }
         Ok(RequestLine {
-            id: id_of(element).ok_or(RequestRule::BadId)?,
-            method: method_of(element).ok_or(RequestRule::BadMethod)?,
-            url: text_at(element, "url").ok_or(RequestRule::BadUrl)?,
-            group: group_of(element)?,
+            id: id_of(members).ok_or(RequestRule::BadId)?,
+            method: method_of(members).ok_or(RequestRule::BadMethod)?,
+            url: text_in(members.url).ok_or(RequestRule::BadUrl)?,
+            group: group_of(members)?,
         })
     }
 }

@@ -1,6 +1,8 @@
 //! The media type of a `Content-Type` header, without its parameters.
 
 ghost use Rattle.std.specs.Prelude.{◌≡◌, ◌≤◌, ◌<◌, ◌-◌, ℕ, true, false, List, length, slice_index, IfOk};
+ghost use Rattle.std.specs.Char.{is_ascii_uppercase};
+ghost use Rattle.std.specs.List.{list_any};
 ghost use Rattle.std.specs.Str.{str_to_ascii_lowercase};
 ghost use Rattle.odb_names.specs.Runs.{SplitsRun};
 ghost use Rattle.odb_doc.specs.batch.MediaTypes.{HasType, IsEndOf, IsTrimmed, is_blank, is_in_type};
@@ -68,14 +70,27 @@ fn trimmed(text: &[u8]) -> &[u8]
     without_trailing_blanks(without_leading_blanks(text))
 }
 
-/// Returns the media type of a `content-type`, in lower case.
-fn media_type(alloc: Global, value: &str) -> Result<Vec<u8>, AllocError>
-    ensures { IfOk result (λ found. (name : List ℕ) × HasType value.now name
-        × (found.items ≡ str_to_ascii_lowercase name)) }
+/// Returns the media type of a `content-type`, as it is written.
+fn media_type(value: &str) -> &[u8]
+    ensures { HasType value.now result.now }
 {
-    let mut name = Vec::from_slice(alloc, trimmed(without_parameters(value.as_bytes())))?;
-    name.make_ascii_lowercase();
-    Ok(name)
+    trimmed(without_parameters(value.as_bytes()))
+}
+
+/// Returns whether a letter of the text is in upper case.
+pub(crate) fn has_uppercase(text: &[u8]) -> bool
+    ensures { result ≡ list_any is_ascii_uppercase text.now }
+{
+    text.iter().any(|byte| byte.is_ascii_uppercase())
+}
+
+/// Returns a copy of the text in lower case.
+fn lowercase(alloc: Global, text: &[u8]) -> Result<Vec<u8>, AllocError>
+    ensures { IfOk result (λ folded. folded.items ≡ str_to_ascii_lowercase text.now) }
+{
+    let mut folded = Vec::from_slice(alloc, text)?;
+    folded.make_ascii_lowercase();
+    Ok(folded)
 }
 
 impl BodyKind {
@@ -92,11 +107,17 @@ impl BodyKind {
         }
     }
 
-    /// Returns the kind that a `content-type` asks for. An empty one asks for any JSON value.
+    /// Returns the kind that a `content-type` asks for. An empty one asks for any JSON value. Only a
+    /// media type with a letter in upper case is copied.
     pub(crate) fn of(alloc: Global, content_type: &str) -> Result<BodyKind, AllocError>
         ensures { IfOk result (HasKind content_type.now) }
     {
-        let name = media_type(alloc, content_type)?;
-        Ok(BodyKind::asked_by(name.as_slice()))
+        let name = media_type(content_type);
+        if has_uppercase(name) {
+            let folded = lowercase(alloc, name)?;
+            Ok(BodyKind::asked_by(folded.as_slice()))
+        } else {
+            Ok(BodyKind::asked_by(name))
+        }
     }
 }

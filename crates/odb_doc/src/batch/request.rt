@@ -11,20 +11,21 @@ ghost use Rattle.odb_doc.specs.batch.Names.{texts_in};
 
 use crate::batch::body::body_of;
 use crate::batch::depends_on::read_names;
+use crate::batch::headers::headers_of;
 use crate::batch::line::RequestLine;
+use crate::batch::members::Members;
 use crate::batch::reference::reference_of;
 use crate::broken::Broken;
 use crate::fault::RequestRule;
-use crate::headers::headers_of;
 use odb_names::Method;
 use serde_json::Value;
+use smallvec::SmallVec;
 use std::alloc::Global;
-use std::collections::BTreeMap;
 
 /// One request of a batch (OData JSON Format 4.01, section 19.1).
 ///
-/// Its texts and its body are borrowed from the value of the document, but for the headers, whose
-/// names are folded, and the reference, which is percent-decoded.
+/// Its texts and its body are borrowed from the value of the document, but for the reference, which is
+/// percent-decoded.
 #[derive(Debug, Drop)]
 pub struct Request<'a> {
     /// The identifier of the request.
@@ -35,12 +36,13 @@ pub struct Request<'a> {
     pub url: &'a str,
     /// The atomicity group that the request is in, if any. `null` is treated as absent.
     pub group: Option<&'a str>,
-    /// The identifiers and groups in `dependsOn`, each at its first place.
-    pub names: Vec<&'a str>,
+    /// The identifiers and groups in `dependsOn`, each at its first place. One alone takes no allocation.
+    pub names: SmallVec<&'a str, 1>,
     /// The identifier of the request to whose response the URL is relative, if it refers to one.
     pub reference: Option<String>,
-    /// The values of the headers by their names, which are in lower case.
-    pub headers: BTreeMap<String, String>,
+    /// The headers: names as the document has them, and values, in byte order of the names in lower
+    /// case, of which no two are equal.
+    pub headers: Vec<(&'a str, &'a str)>,
     /// The body, if any. `null` is treated as absent.
     pub body: Option<&'a Value>,
     ghost id_form: { IsRequestId id.now },
@@ -57,10 +59,11 @@ impl<'a> Request<'a> {
         ensures says { IfOk result (λ r. ReadsAs (view element.now) (record_of r)) }
         ensures first { IfErr result (OnRule (IsLeastRequestRule (view element.now))) }
     {
-        let line = RequestLine::read(element)?;
-        let names = read_names(alloc, element)?;
-        let headers = headers_of(alloc, element)?;
-        let body = body_of(alloc, element, line.method, &headers)?;
+        let members = Members::of(element);
+        let line = RequestLine::read(element, &members)?;
+        let names = read_names(alloc, &members)?;
+        let headers = headers_of(alloc, &members)?;
+        let body = body_of(alloc, &members, line.method, &headers)?;
         let reference = reference_of(alloc, line.url)?;
         Ok(Request {
             id: line.id,

@@ -1,14 +1,19 @@
 //! The canonical text of one request.
 
-ghost use Rattle.std.specs.Prelude.{◌≡◌, ◌<◌, ◌+◌, ◌++◌, false, codes, length, string_bytes, OnOk};
+ghost use Rattle.std.specs.Prelude.{◌≡◌, ◌<◌, ◌+◌, ◌++◌, ◌∷◌, false, codes, length, map, string_bytes, OnOk};
+ghost use Rattle.serde_json.specs.Data.{string};
+ghost use Rattle.serde_json.specs.Written.{comma_if, compact_text};
 ghost use Rattle.odb_doc.specs.batch.Batches.{records};
-ghost use Rattle.odb_doc.specs.canonical.Canonical.{HasWholeBodies, names_value};
+ghost use Rattle.odb_doc.specs.canonical.Canonical.{HasWholeBodies, headers_value, names_value};
+ghost use Rattle.odb_doc.specs.Headers.{lent_header};
 ghost use Rattle.odb_doc.specs.canonical.CanonicalParts as canonical_parts;
 ghost use Rattle.odb_doc.specs.Texts.{member_part};
 ghost use Rattle.odb_doc.specs.batch.Names.{texts_in};
 
 use crate::batch::Batch;
-use crate::text::{push_body, push_group, push_headers, push_if, push_open, push_quoted};
+use crate::batch::headers::Header;
+use crate::batch::media_type::has_uppercase;
+use crate::text::{push_body, push_group, push_header, push_if, push_open, push_quoted};
 use odb_names::Method;
 use std::alloc::{AllocError, Global};
 
@@ -34,6 +39,50 @@ fn push_names(alloc: Global, text: &mut String, names: &[&str]) -> Result<(), Al
     }
     text.push_str("\"dependsOn\":[")?;
     push_elements(alloc, text, names)
+}
+
+/// Appends a header with its name in lower case, with a comma first unless it is the first header.
+fn push_lent(
+    alloc: Global,
+    text: &mut String,
+    later: bool,
+    header: Header<'_>,
+) -> Result<(), AllocError>
+    ensures { OnOk result (string_bytes text.new ≡ string_bytes text.old
+        ++ (comma_if later ++ (compact_text (string (lent_header header.entry).0)
+        ++ 58 ∷ compact_text (string (lent_header header.entry).1)))) }
+{
+    if has_uppercase(header.0.as_bytes()) {
+        let mut name = String::from_str(alloc, header.0)?;
+        name.make_ascii_lowercase();
+        push_header(alloc, text, later, name.as_str(), header.1)
+    } else {
+        push_header(alloc, text, later, header.0, header.1)
+    }
+}
+
+/// Appends the headers as the members of an object, and the end of the object.
+fn push_members(alloc: Global, text: &mut String, headers: &[Header<'_>]) -> Result<(), AllocError>
+    ensures { OnOk result (string_bytes text.new ≡ string_bytes text.old
+        ++ canonical_parts.headers_left false (map lent_header headers.now)) }
+{
+    for k in 0..headers.len() {
+        push_lent(alloc, text, k > 0, headers[k])?;
+    }
+    text.push_str("}")
+}
+
+/// Appends the member `headers`, if there are headers.
+fn push_headers(alloc: Global, text: &mut String, headers: &[Header<'_>]) -> Result<(), AllocError>
+    ensures { OnOk result (string_bytes text.new ≡ string_bytes text.old
+        ++ member_part (codes "\"headers\":") (headers_value (map lent_header headers.now))) }
+{
+    if headers.is_empty() {
+        return Ok(());
+    }
+    text.push_str("\"headers\":{")?;
+    push_members(alloc, text, headers)?;
+    text.push_str(",")
 }
 
 /// Appends the members `id`, `method` and `url`, and the end of the request.
@@ -73,6 +122,6 @@ pub(crate) fn push_request(
     push_group(alloc, text, request.group)?;
     push_body(alloc, text, request.body)?;
     push_names(alloc, text, request.names.as_slice())?;
-    push_headers(alloc, text, &request.headers)?;
+    push_headers(alloc, text, request.headers.as_slice())?;
     push_end(alloc, text, request.id, request.method, request.url)
 }

@@ -1,13 +1,14 @@
 //! An outcome: a status, optional headers and an optional body.
 
-ghost use Rattle.std.specs.Prelude.{◌≡◌, ℕ, List, false, bytes_eq, codes, string_bytes, option_map, option_and_then, MatchOption, IfOk, IfErr};
+ghost use Rattle.std.specs.Prelude.{◌≡◌, ℕ, List, false, bytes_eq, codes, option_map, MatchOption, IfOk, IfErr};
 ghost use Rattle.std.specs.BTreeMap.{get_by_text};
-ghost use Rattle.serde_json.specs.Find.{as_str, as_number};
-ghost use Rattle.serde_json.specs.View.{view, number_view};
+ghost use Rattle.serde_json.specs.Data.{object, no_members};
+ghost use Rattle.serde_json.specs.View.{view, members_view};
+ghost use Rattle.odb_doc.specs.declared.member.Object.{Object};
 ghost use Rattle.odb_doc.specs.BrokenRules.{OnlyIf};
 ghost use Rattle.odb_doc.specs.Headers.{headers_in};
 ghost use Rattle.odb_doc.specs.recorded.Outcomes.{HasOutcome};
-ghost use Rattle.odb_doc.specs.recorded.RawOutcomes.{ArePartsOf, HasRawOutcome};
+ghost use Rattle.odb_doc.specs.recorded.RawOutcomes.{AreFoundIn, ArePartsOf, HasRawOutcome, PutsPart};
 
 use crate::broken::Broken;
 use crate::headers::headers_from;
@@ -48,13 +49,14 @@ impl Model for Outcome {
     } };
 }
 
-/// The members that an outcome may have, moved out of its object.
+/// The members that an outcome may have, moved out of its object, and whether it has another one.
 #[derive(Drop)]
 pub(crate) struct Parts {
     pub(crate) id: Option<String>,
     pub(crate) status: Option<Number>,
     pub(crate) headers: Option<Value>,
     pub(crate) body: Option<Value>,
+    pub(crate) has_other: bool,
 }
 
 /// The values in an object of the shape of an outcome.
@@ -97,18 +99,52 @@ pub(crate) fn moved(members: &mut Map<String, Value>, name: &str) -> Option<Valu
     Some(value.take())
 }
 
-/// Moves the string out of a member.
-fn text_in(member: Option<Value>) -> Option<String>
-    ensures { option_map string_bytes result ≡ option_and_then as_str (option_map view member) }
-{
-    member.and_then(|value| text_of(value))
-}
+impl Parts {
+    /// No members.
+    fn none() -> Self
+        ensures { (kind : Object) (name : List ℕ) → AreFoundIn kind name (object no_members) result }
+    {
+        Parts {
+            id: None,
+            status: None,
+            headers: None,
+            body: None,
+            has_other: false,
+        }
+    }
 
-/// Returns the number at a member.
-fn number_in(member: Option<Value>) -> Option<Number>
-    ensures { option_map number_view result ≡ option_and_then as_number (option_map view member) }
-{
-    member?.as_number().copied()
+    /// Moves the value of a member to its place, and leaves null. The id is at `id_name`.
+    fn put(&mut self, kind: Object, id_name: &str, name: &str, value: &mut Value)
+        requires status { bytes_eq id_name.now (codes "status") ≡ false }
+        requires headers { bytes_eq id_name.now (codes "headers") ≡ false }
+        requires body { bytes_eq id_name.now (codes "body") ≡ false }
+        ensures { PutsPart kind id_name.now name.now (view value.old) self.old self.new }
+    {
+        self.has_other = self.has_other | !kind.may_have(name);
+        if id_name == name {
+            self.id = text_of(value.take());
+        } else if name == "status" {
+            self.status = value.as_number().copied();
+        } else if name == "headers" {
+            self.headers = Some(value.take());
+        } else if name == "body" {
+            self.body = Some(value.take());
+        }
+    }
+
+    /// Moves the members out of an object.
+    fn among(kind: Object, id_name: &str, members: &mut Map<String, Value>) -> Self
+        requires status { bytes_eq id_name.now (codes "status") ≡ false }
+        requires headers { bytes_eq id_name.now (codes "headers") ≡ false }
+        requires body { bytes_eq id_name.now (codes "body") ≡ false }
+        ensures { AreFoundIn kind id_name.now (object (members_view members.old.entries)) result }
+    {
+        let mut parts = Parts::none();
+        for (name, value) in members.iter_mut() {
+            parts.put(kind, id_name, name.as_str(), value);
+        }
+        parts
+    }
 }
 
 /// Moves the members of an outcome out of the object, or returns `None` if it has another one. Its id
@@ -120,20 +156,8 @@ fn parts_of(kind: Object, name: &str, element: &mut Value) -> Option<Parts>
     ensures { MatchOption result (¬ HasOutcome kind name.now (view element.old))
         (ArePartsOf kind name.now (view element.old)) }
 {
-    if kind.has_other(element) {
-        return None;
-    }
-    let members = element.as_object_mut()?;
-    let id = text_in(moved(members, name));
-    let status = number_in(moved(members, "status"));
-    let headers = moved(members, "headers");
-    let body = moved(members, "body");
-    Some(Parts {
-        id,
-        status,
-        headers,
-        body,
-    })
+    let parts = Parts::among(kind, name, element.as_object_mut()?);
+    if parts.has_other { None } else { Some(parts) }
 }
 
 /// Moves the values out of the element, or returns `bad` if it does not have the shape of an outcome

@@ -1,42 +1,27 @@
--- No front but the one that is returned is a front of the URL, and only an escape or a reference takes memory.
-use Rattle.std.proofs.Common.{◌≡◌, List, ℕ, Result, Ok, Err, IsOk, OnErr, refl, subst}
+-- No front but the one that is returned is a front of the URL.
+use Rattle.std.proofs.Common.{◌≡◌, false}
 use Rattle.std.proofs.lemmas.Result.{IfOk-weaker}
-use Rattle.percent_encoding.specs.Percent.{percent_decode}
 use Rattle.odb_names.specs.declared.segment.Front.{Front}
-use Rattle.percent_encoding.specs.Iter.{undecoded_input}
-use Rattle.odb_names.specs.Fronts.{FrontForm, form, reference, HasFront, IsFrontOf}
-use Rattle.odb_names.specs.Segments.{HasNoEscape}
+use Rattle.odb_names.specs.Classes.{begins_with_sign}
+use Rattle.odb_names.specs.Fronts.{FrontForm, form, plain, HasFront}
+use Rattle.odb_names.proofs.Decoded.{plain_front}
 use Rattle.odb_names.proofs.OneFront.{one_front}
-use Rattle.odb_names.proofs.OneRun.{same_run}
 use Rattle.odb_names.proofs.url.front.Goals as goal
 
-pub returns-clause-only : goal.returns-clause-only
-returns-clause-only c =
-    let decoded : c.as_slice.result.now ≡ percent_decode c.first_segment.result.now = cc (c.in_ok-segment.ensures.value) in
-    let only : (found : Front) → IsFrontOf c.as_slice.result.now (form found) → (other : FrontForm) → HasFront c.args.url.now other → other ≡ form found =
-    λ found front other has. one_front c.args.url.now (form found) other record {
-      segment = c.first_segment.result.now;
-      first = rw c.as_bytes.ensures.value at c.first_segment.ensures;
-      decoded = subst (λ (segment : List ℕ). IsFrontOf segment (form found)) decoded front;
-    } has in
-    IfOk-weaker c.of_segment.result _ _ only c.of_segment.ensures.front
+pub returns-then-begins_with_sign-clause-only : goal.returns-then-begins_with_sign-clause-only
+returns-then-begins_with_sign-clause-only c =
+    let url = c.args.url.now in
+    let only : (found : Front) → HasFront url (form found) → (other : FrontForm) → HasFront url other → other ≡ form found =
+    λ found front other has. one_front url (form found) other front has in
+    IfOk-weaker c.decoded_front.result _ _ only c.decoded_front.ensures.front
 
-pub returns-in_err-segment-clause-memory : goal.returns-in_err-segment-clause-memory
-returns-in_err-segment-clause-memory c = λ segment first plain other.
-    let same = (same_run first.splits (rw c.as_bytes.ensures.value at c.first_segment.ensures.splits)).0 in
-    let none : HasNoEscape c.first_segment.result.now = subst HasNoEscape same plain in
-    let kept : HasNoEscape (undecoded_input c.percent_decode.result) = rw c.percent_decode.ensures.input none in
-    absurd (c.in_err-segment.ensures.borrows kept)
+is_plain : (c : goal.Else-begins_with_sign) → HasFront c.args.url.now plain
+is_plain c =
+    let other : begins_with_sign c.args.url.now ≡ false = cc (c.begins_with_sign.ensures, c.if-begins_with_sign.false, c.as_bytes.ensures.value) in
+    plain_front c.args.url.now other
 
-ok_unless : {T E : Type 0} (r : Result T E) (P : Type 0) → OnErr r P → ¬ P → IsOk r
-ok_unless (Ok x) P fails none = refl
-ok_unless (Err e) P fails none = absurd (none fails)
+pub returns-else-begins_with_sign-clause-front : goal.returns-else-begins_with_sign-clause-front
+returns-else-begins_with_sign-clause-front c = is_plain c
 
-pub returns-clause-memory : goal.returns-clause-memory
-returns-clause-memory c = λ segment first plain other.
-    let decoded : c.as_slice.result.now ≡ percent_decode c.first_segment.result.now = cc (c.in_ok-segment.ensures.value) in
-    ok_unless c.of_segment.result _ c.of_segment.ensures.memory (λ found. other found.0 record {
-      segment = c.first_segment.result.now;
-      first = rw c.as_bytes.ensures.value at c.first_segment.ensures;
-      decoded = subst (λ (segment : List ℕ). IsFrontOf segment (reference found.0)) decoded found.1;
-    })
+pub returns-else-begins_with_sign-clause-only : goal.returns-else-begins_with_sign-clause-only
+returns-else-begins_with_sign-clause-only c = λ other has. one_front c.args.url.now plain other (is_plain c) has

@@ -24,7 +24,7 @@ loop-element-preserved c =
     let here = texts_on-drop texts vs i c.element-item.result c.loop-element-test.true c.element-item.is in
     let more = texts_on-text texts c.element-item.result (drop (i + 1) vs) c.in-Some.text.now (search rules) in
     let put : texts_in c.push.new.self.items ≡ texts ++ c.in-Some.text.now ∷ [] =
-    ap texts_in c.in_ok-push.ensures.items ∙ map-append (λ (t : Bor (List ℕ)). t.now) c.loop-element.texts.items (c.in-Some.text ∷ []) in
+    ap texts_in c.in_ok-push.ensures.ok ∙ map-append (λ (t : Bor (List ℕ)). t.now) c.loop-element.texts.items (c.in-Some.text ∷ []) in
     rw put (sym more ∙ sym here ∙ c.loop-element.invariant)
 
 pub returns-clause-texts : goal.returns-clause-texts

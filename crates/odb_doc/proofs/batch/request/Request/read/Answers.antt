@@ -8,4 +8,5 @@ use Rattle.odb_doc.proofs.batch.request.Request.read.Goals as goal
 
 pub invariant_of-result-clause-names_apart : goal.invariant_of-result-clause-names_apart
 invariant_of-result-clause-names_apart c =
-    IsDistinct-listed (texts_in c.in_ok-names.names.items) (listed_names (view c.args.element.now)) (sym c.in_ok-names.ensures.names)
+    let d = view c.args.element.now in
+    IsDistinct-listed (texts_in c.in_ok-names.names.items) (listed_names d) (sym (c.in_ok-names.ensures.names d c.of-members.ensures))
