@@ -46,6 +46,8 @@ class Trial:
 
 
 def options_of(random, command):
+    if command == "plan":
+        return {"dot": random.random() < 0.4}
     if command not in ("replay", "run"):
         return {}
     found = {"stop": random.random() < 0.3}

@@ -106,6 +106,12 @@ def level_of_last_member(batch, i):
     return 1 + max(level_of_last_member(batch, j) for j in needed) if needed else 0
 
 
+@mistake(rules, "group_unit", "plan")
+def cluster_by_position(batch, name):
+    """A cluster of a drawing has the position of its first request, not the number of its unit."""
+    return rules.first_of(batch, name)
+
+
 @mistake(rules_of_runs, "is_success", "replay", "match", "run")
 def redirect_succeeds(status):
     """A redirect satisfies what needs it."""

@@ -337,6 +337,39 @@ def plan_text(batch):
     return "".join(plan_line(batch, i) for i in range(len(batch)))
 
 
+def first_of(batch, name):
+    """The position of a request, or that of the first request of a group."""
+    return needed_positions(batch, name)[0]
+
+
+def group_unit(batch, name):
+    """The unit of a group: how many groups and requests without a group begin before it."""
+    first = first_of(batch, name)
+    return sum(1 for j in range(first) if batch[j].group is None or first_of(batch, batch[j].group) == j)
+
+
+def node_lines(batch, i):
+    """What a drawing says of a request, and of the arrows to it."""
+    request, at = batch[i], level(batch, i)
+    yield f"  {i} [label={json_text(f'{request.id[:40]}{chr(10)}{request.method} {request.url[:40]}')}]"
+    if request.group is not None:
+        cluster = group_unit(batch, request.group)
+        yield f"  subgraph cluster_{cluster} {{ label={json_text(request.group[:40])}; {i} }}"
+    yield f'  {{ rank=same; node [shape=plaintext]; "level {at}"; {i} }}'
+    for name in needs(batch, i):
+        whole = "" if position(batch, name) is not None else f" [ltail=cluster_{group_unit(batch, name)}]"
+        yield f"  {first_of(batch, name)} -> {i}{whole}"
+
+
+def drawing_text(batch):
+    lines = ["digraph plan {", "  compound=true; newrank=true; node [shape=box]"]
+    for i in range(len(batch)):
+        lines += node_lines(batch, i)
+    for at in range(max((level(batch, i) for i in range(len(batch))), default=0)):
+        lines.append(f'  "level {at}" -> "level {at + 1}" [style=invis]')
+    return "\n".join([*lines, "}"]) + "\n"
+
+
 def json_text(value):
     return json.dumps(value, ensure_ascii=False, sort_keys=True, separators=(",", ":"))
 

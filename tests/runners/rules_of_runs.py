@@ -278,7 +278,7 @@ def text_of(command, batch, second, options):
     if command == "check":
         return rules.checked_line(batch)
     if command == "plan":
-        return rules.plan_text(batch)
+        return rules.drawing_text(batch) if options.get("dot") else rules.plan_text(batch)
     if command == "canon":
         return rules.canonical_text(batch)
     if command == "replay":

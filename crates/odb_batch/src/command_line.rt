@@ -78,6 +78,8 @@ pub enum Task<'a> {
         file: &'a str,
         form: Form,
     },
+    /// Draw the plan of the batch in the file.
+    Draw { file: &'a str },
     /// Print the canonical text of the batch in the file.
     Canon {
         file: &'a str,
@@ -176,6 +178,19 @@ fn run_of<'a>(args: &ArgMatches<'a>) -> Option<Task<'a>> {
     }))
 }
 
+/// Returns the plan, or the drawing of it, that its command asks for.
+fn plan_of<'a>(args: &ArgMatches<'a>) -> Task<'a> {
+    let file = value_of(args, "FILE");
+    if args.get_flag("dot") {
+        Task::Draw { file }
+    } else {
+        Task::Plan {
+            file,
+            form: form_of(args),
+        }
+    }
+}
+
 /// Returns the match that its command asks for.
 fn match_of<'a>(args: &ArgMatches<'a>) -> Task<'a> {
     Task::Match {
@@ -196,10 +211,7 @@ fn explanation_of<'a>(args: &ArgMatches<'a>) -> Text<'a> {
 /// Returns the task of the command of this name, or `None` if a width is not valid.
 fn task_named<'a>(name: &str, args: &ArgMatches<'a>) -> Option<Task<'a>> {
     match name {
-        "plan" => Some(Task::Plan {
-            file: value_of(args, "FILE"),
-            form: form_of(args),
-        }),
+        "plan" => Some(plan_of(args)),
         "canon" => Some(Task::Canon {
             file: value_of(args, "FILE"),
             form: form_of(args),

@@ -24,6 +24,8 @@ const WIDTH_HELP: &str = "How many requests may run at once, from 1 to 10000 [de
 
 const RESULT_HELP: &str = "Print the result, or the fault, as one line of JSON";
 
+const DRAWING_HELP: &str = "Print the plan as a drawing, in the language DOT of Graphviz";
+
 const FAULT_HELP: &str = "Print the fault of a refused document as one line of JSON";
 
 pub const PROGRAM_NOTES: &str =
@@ -144,7 +146,8 @@ fn plan_command<'a>(alloc: Global) -> Result<Command<'a>, AllocError> {
         )
         .after_help(PLAN_NOTES)
         .arg(document(alloc, "FILE", "The batch document"))?
-        .arg(flag(alloc, "json", RESULT_HELP))
+        .arg(flag(alloc, "json", RESULT_HELP))?
+        .arg(flag(alloc, "dot", DRAWING_HELP).conflicts_with("json")?)
 }
 
 /// Returns the command that prints the canonical text.

@@ -6,8 +6,8 @@ use crate::command_line::{Replay, Run};
 use crate::ending::{Status, failed, finish};
 use odb_doc::{Input, Output};
 use odb_engine::{
-    Form, Options, Setup, canon_batch_as, check_batch_as, match_batch_as, plan_batch_as,
-    replay_batch_as, run_batch_as,
+    Form, Options, Setup, canon_batch_as, check_batch_as, draw_batch_with, match_batch_as,
+    plan_batch_as, replay_batch_as, run_batch_as,
 };
 use std::rt::Runtime;
 use std::{fs, io};
@@ -99,6 +99,18 @@ pub fn plan<R: Runtime + AllocGlobal>(
                 &mut output,
                 environment.options(form),
             ),
+        ),
+        Err(status) => status,
+    }
+}
+
+/// Draws the plan of the batch in a file.
+pub fn draw<R: Runtime + AllocGlobal>(rt: &R, environment: Environment, path: &str) -> Status {
+    let mut output = Output::new(io::writer(rt));
+    match open(rt, environment, path) {
+        Ok(mut input) => finish(
+            rt,
+            draw_batch_with(rt.alloc(), &mut input, &mut output, environment.setup),
         ),
         Err(status) => status,
     }

@@ -18,7 +18,7 @@ mod texts;
 use clap::error::ErrorKind;
 use command_line::{BadArguments, Task, Text};
 use ending::{Status, failed};
-use engines::{Environment, canon, check, match_responses, plan, replay, run_events};
+use engines::{Environment, canon, check, draw, match_responses, plan, replay, run_events};
 use odb_check::Seed;
 use odb_engine::{Disposal, Setup};
 use std::io::IsTerminal;
@@ -67,6 +67,7 @@ fn perform<R: Runtime + AllocGlobal>(rt: &R, environment: Environment, task: Tas
     match task {
         Task::Check { file, form } => check(rt, environment, file, form),
         Task::Plan { file, form } => plan(rt, environment, file, form),
+        Task::Draw { file } => draw(rt, environment, file),
         Task::Canon { file, form } => canon(rt, environment, file, form),
         Task::Replay(task) => replay(rt, environment, task),
         Task::Match {

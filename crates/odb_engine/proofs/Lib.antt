@@ -17,3 +17,4 @@ mod MatchLawLemmas
 mod LiveLemmas
 mod ResultLemmas
 mod PlanLemmas
+mod DrawingLemmas

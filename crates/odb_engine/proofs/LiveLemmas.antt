@@ -1,5 +1,5 @@
 -- Runs that go on after recorded events.
-use Rattle.std.proofs.Common.{◌≡◌, ℕ, List, Option, Some, None, Result, Ok, Err, IfOk, IfErr, String, string_bytes, true, inl, inr, refl, subst}
+use Rattle.std.proofs.Common.{◌≡◌, ℕ, List, Some, Result, Ok, Err, IfOk, IfErr, String, string_bytes, true, inl, inr, refl, subst}
 use Rattle.std.specs.declared.alloc.Global.{Global}
 use Rattle.serde_json.specs.Data.{Data}
 use Rattle.odb_doc.specs.declared.fault.DocFault.{DocFault}

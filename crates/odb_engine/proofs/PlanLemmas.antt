@@ -1,5 +1,5 @@
 -- A plan as JSON, request by request.
-use Rattle.std.proofs.Common.{◌≡◌, ◌∙◌, ℕ, ◌+◌, ◌≤◌, List, ◌∷◌, ◌++◌, length, drop, true, false, nat_lt, Option, Some, None, option_map, option_and_then, slice_get, refl, ap, codes, arith, append_assoc, lt-ltb}
+use Rattle.std.proofs.Common.{◌≡◌, ◌∙◌, ℕ, ◌+◌, ◌≤◌, List, ◌∷◌, ◌++◌, length, drop, true, false, nat_lt, Option, Some, None, option_map, slice_get, refl, ap, codes, arith, append_assoc, lt-ltb}
 use Rattle.std.proofs.lemmas.List.{drop_more, drop_all}
 use Rattle.std.proofs.lemmas.Option.{slice_get_within, get_or_from_slice_get}
 use Rattle.serde_json.specs.Data.{Data, string, number, unsigned, array, object, put, no_members}

@@ -6,6 +6,7 @@ pub mod Cascade
 pub mod Engines
 pub mod Forms
 pub mod Results
+pub mod Drawings
 pub mod Commands
 pub mod ReadAgain
 pub mod Replays

@@ -11,6 +11,7 @@ ghost use Rattle.odb_sched.specs.declared.policy.Policy.{Policy};
 ghost use Rattle.odb_engine.specs.Cascade.{Accepts, Answers, IsOne};
 ghost use Rattle.odb_engine.specs.declared.form.Form.{Form};
 ghost use Rattle.odb_engine.specs.Commands.{BySecond, Canonical, CountsIn, PlansIn};
+ghost use Rattle.odb_engine.specs.Drawings.{Drawings};
 ghost use Rattle.odb_engine.specs.Inputs.{IsDocumentOf};
 ghost use Rattle.odb_engine.specs.Matches.{MatchesIn};
 ghost use Rattle.odb_engine.specs.declared.ending.Ended.TheVariants.{Done};
@@ -25,11 +26,12 @@ pub fn one_document()
 {}
 
 /// Two texts that a check may write for the same bytes are equal, and so are the ends; likewise for a
-/// plan, a canonical text and a match, with the result in each form. So what these commands write is a
-/// function of the bytes.
+/// plan, a drawing, a canonical text and a match, with the result in each form. So what these commands
+/// write is a function of the bytes.
 pub fn one_text()
     ensures check { (form : Form) (bytes : List ℕ) → IsOne (Answers (CountsIn form) bytes) }
     ensures plan { (form : Form) (bytes : List ℕ) → IsOne (Answers (PlansIn form) bytes) }
+    ensures drawing { (bytes : List ℕ) → IsOne (Answers Drawings bytes) }
     ensures canon { (bytes : List ℕ) → IsOne (Answers Canonical bytes) }
     ensures matching { (form : Form) (bytes responses : List ℕ)
         → IsOne (Answers (BySecond (Some responses) (MatchesIn form)) bytes) }

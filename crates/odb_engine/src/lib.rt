@@ -9,6 +9,8 @@
 //! it. [`laws`] states that a text is determined. Opening files, buffering small writes and turning
 //! an end into an exit status are left to the caller.
 //!
+//! [`draw_batch`] draws the plan of one document, and has a call with a [`Setup`] too.
+//!
 //! Another command is a relation in specs/, an `impl` of `Command` (one document) or of `PairCommand`
 //! (two), and a public function that passes it to `answer` or `answer_pair`.
 #![tactic(auto)]
@@ -17,6 +19,8 @@ mod canon;
 mod check;
 mod command;
 mod disposal;
+mod draw;
+mod drawing;
 mod ending;
 mod form;
 mod halt;
@@ -38,6 +42,7 @@ mod trace;
 pub use canon::{canon_batch, canon_batch_as, canon_batch_with};
 pub use check::{check_batch, check_batch_as, check_batch_with};
 pub use disposal::Disposal;
+pub use draw::{draw_batch, draw_batch_with};
 pub use ending::{Ended, EngineFault};
 pub use form::Form;
 pub use halt::Halt;

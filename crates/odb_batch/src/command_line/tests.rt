@@ -6,7 +6,7 @@ use std::alloc::{AllocError, Global};
 use std::test::Fail;
 
 /// Arguments, and what is read from them.
-const READINGS: [(&str, &str); 104] = [
+const READINGS: [(&str, &str); 108] = [
     ("", "check -"),
     (" check", "check -"),
     (" check F", "check F"),
@@ -20,6 +20,10 @@ const READINGS: [(&str, &str); 104] = [
     (" plan F G", "rejected"),
     (" plan F --order last", "rejected"),
     (" plan --json F", "plan F json"),
+    (" plan --dot F", "draw F"),
+    (" plan F --dot --json", "rejected"),
+    (" plan F --dot --dot", "rejected"),
+    (" check F --dot", "rejected"),
     (" canon", "rejected"),
     (" canon F", "canon F"),
     (" canon F G", "rejected"),
@@ -170,6 +174,7 @@ fn described(alloc: Global, task: Result<Task<'_>, BadArguments>) -> Result<Stri
             format!(in alloc; "check {}{}", file.unwrap_or("-"), form_text(form))
         }
         Ok(Task::Plan { file, form }) => format!(in alloc; "plan {file}{}", form_text(form)),
+        Ok(Task::Draw { file }) => format!(in alloc; "draw {file}"),
         Ok(Task::Canon { file, form }) => format!(in alloc; "canon {file}{}", form_text(form)),
         Ok(
             Task::Match {

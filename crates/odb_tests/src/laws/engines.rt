@@ -7,6 +7,7 @@ ghost use Rattle.odb_sched.specs.declared.chooser.Order.TheVariants as orders;
 ghost use Rattle.odb_engine.specs.declared.ending.Ended.TheVariants.{Done};
 ghost use Rattle.odb_engine.specs.Cascade.{Accepts, Answers};
 ghost use Rattle.odb_engine.specs.Commands.{BySecond, Canonical, Counts, Plans};
+ghost use Rattle.odb_engine.specs.Drawings.{Drawings};
 ghost use Rattle.odb_engine.specs.Inputs.{SomeDocument};
 ghost use Rattle.odb_engine.specs.Matches.{Matches};
 ghost use Rattle.odb_engine.specs.ReadAgain.{IsReadAgain};
@@ -16,7 +17,7 @@ ghost use Rattle.odb_engine.specs.Runs.{Runs};
 use odb_doc::{Input, Output};
 use odb_engine::laws::{one_document, one_replay, one_run, one_text, read_again};
 use odb_engine::{
-    Ended, canon_batch, check_batch, match_batch, plan_batch, replay_batch, run_batch,
+    Ended, canon_batch, check_batch, draw_batch, match_batch, plan_batch, replay_batch, run_batch,
 };
 use odb_sched::{Last, Mode, Policy};
 use std::alloc::Global;
@@ -65,6 +66,26 @@ fn planned_twice(alloc: Global, batch: &[u8]) -> Both
     one_document();
     one_text();
     (planned(alloc, batch), planned(alloc, batch))
+}
+
+fn drawn(alloc: Global, batch: &[u8]) -> Option<Written>
+    ensures { IfSome result (λ it. SomeDocument (Some batch.now) (λ bytes.
+        Answers Drawings bytes it.0 it.1.items)) }
+{
+    let mut output = Output::new(Vec::new(alloc));
+    match draw_batch(alloc, &mut Input::new(batch), &mut output) {
+        Ok(ended) => Some((ended, output.into_inner())),
+        Err(_) => None,
+    }
+}
+
+fn drawn_twice(alloc: Global, batch: &[u8]) -> Both
+    ensures { IfSome result.0 (λ one. IfSome result.1 (λ other.
+        (one.0 ≡ other.0) × (one.1.items ≡ other.1.items))) }
+{
+    one_document();
+    one_text();
+    (drawn(alloc, batch), drawn(alloc, batch))
 }
 
 fn made_canonical(alloc: Global, batch: &[u8]) -> Option<Written>
@@ -235,6 +256,7 @@ fn engines_write_one_text_of_the_same_bytes(rt: HostRuntime) {
     let (alloc, policy) = (rt.alloc(), Policy::free(Mode::Continue));
     assert!(rt; is_one(checked_twice(alloc, BATCH), "ok 2"));
     assert!(rt; is_one(planned_twice(alloc, BATCH), "0 a level 0"));
+    assert!(rt; is_one(drawn_twice(alloc, BATCH), "digraph plan {\n"));
     assert!(rt; is_one(made_canonical_twice(alloc, BATCH), "{\"requests\":"));
     assert!(rt; is_one(matched_twice(alloc, BATCH, RESPONSES), "ok 2"));
     assert!(rt; is_one(ran_twice(alloc, BATCH, EVENTS, policy), "{\"responses\":"));

@@ -1,5 +1,6 @@
 use Rattle.std.proofs.Common.{◌∙◌, Some, sym}
 use Rattle.odb_engine.specs.Commands.{BySecond, Canonical, CountsIn, PlansIn}
+use Rattle.odb_engine.specs.Drawings.{Drawings}
 use Rattle.odb_engine.specs.Matches.{MatchesIn}
 use Rattle.odb_engine.proofs.CanonLawLemmas.{canonical_one}
 use Rattle.odb_engine.proofs.LawLemmas.{AreFunctional, answers_one}
@@ -26,6 +27,7 @@ returns c =
     record {
       check = λ form bytes. answers_one law (CountsIn form) bytes (λ batch good a b s t x y. (x.0 ∙ sym y.0, x.1 ∙ sym y.1));
       plan = λ form bytes. answers_one law (PlansIn form) bytes (λ batch good a b s t x y. (x.0 ∙ sym y.0, x.1 ∙ sym y.1));
+      drawing = λ bytes. answers_one law Drawings bytes (λ batch good a b s t x y. (x.0 ∙ sym y.0, x.1 ∙ sym y.1));
       canon = λ bytes. answers_one law Canonical bytes (λ batch good. canonical_one batch);
       matching = λ form bytes responses. answers_one law (BySecond (Some responses) (MatchesIn form)) bytes (λ batch good. match_one reply form responses batch);
     }

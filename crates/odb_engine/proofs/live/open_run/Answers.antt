@@ -1,5 +1,5 @@
 -- A run that is opened.
-use Rattle.std.proofs.Common.{IfErr, inl, inr, ap}
+use Rattle.std.proofs.Common.{IfErr, inl, inr}
 use Rattle.std.proofs.lemmas.Result.{IfOk-weaker}
 use Rattle.odb_doc.specs.declared.fault.Place.TheVariants.{Batch}
 use Rattle.odb_doc.specs.batch.Batches.{records}

@@ -1,9 +1,8 @@
 -- A run after recorded events.
-use Rattle.std.proofs.Common.{IfErr, ap}
+use Rattle.std.proofs.Common.{IfErr}
 use Rattle.odb_doc.specs.declared.fault.Place.TheVariants.{Events}
 use Rattle.odb_doc.specs.recorded.EventLists.{entries}
 use Rattle.odb_check.specs.Plans.{plan_records}
-use Rattle.odb_sched.specs.run.State.{without_requests}
 use Rattle.odb_engine.specs.Cascade.{RefusesBytes}
 use Rattle.odb_engine.specs.Cascade.IsLeastOf.{OfBytes, OfValue}
 use Rattle.odb_engine.specs.Halts.{Halted}
