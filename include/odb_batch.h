@@ -84,6 +84,12 @@ enum {
     ODB_WIDE = 2   /* start all that may start, then report the first */
 };
 
+/* `form`: how a text is written. A canonical text, a response and a trace are the same in both. */
+enum {
+    ODB_LINES = 0, /* lines of words, as the calls without a form write */
+    ODB_JSON = 1   /* one line of JSON, as `--json` of the command writes */
+};
+
 /* The greatest `width`, which is the number of requests that may run at once. The least is 1. */
 #define ODB_MAX_WIDTH 10000
 
@@ -128,6 +134,23 @@ uint32_t odb_replay(const uint8_t *batch, size_t batch_size,
                     uint32_t mode, uint32_t width, uint32_t order, uint32_t trace,
                     uint8_t *text, size_t text_size, size_t *text_length, uint64_t seed);
 
+/* The same calls with the text in a form, ODB_LINES or ODB_JSON: else they return ODB_WRONG_OPTION. Otherwise each
+ * returns what the call without a form does. */
+uint32_t odb_check_as(const uint8_t *batch, size_t batch_size, uint32_t form,
+                      uint8_t *text, size_t text_size, size_t *text_length, uint64_t seed);
+uint32_t odb_plan_as(const uint8_t *batch, size_t batch_size, uint32_t form,
+                     uint8_t *text, size_t text_size, size_t *text_length, uint64_t seed);
+uint32_t odb_canon_as(const uint8_t *batch, size_t batch_size, uint32_t form,
+                      uint8_t *text, size_t text_size, size_t *text_length, uint64_t seed);
+uint32_t odb_match_as(const uint8_t *batch, size_t batch_size, const uint8_t *responses, size_t responses_size,
+                      uint32_t form, uint8_t *text, size_t text_size, size_t *text_length, uint64_t seed);
+uint32_t odb_run_as(const uint8_t *batch, size_t batch_size, const uint8_t *events, size_t events_size,
+                    uint32_t mode, uint32_t width, uint32_t form,
+                    uint8_t *text, size_t text_size, size_t *text_length, uint64_t seed);
+uint32_t odb_replay_as(const uint8_t *batch, size_t batch_size, const uint8_t *outcomes, size_t outcomes_size,
+                       uint32_t mode, uint32_t width, uint32_t order, uint32_t trace, uint32_t form,
+                       uint8_t *text, size_t text_size, size_t *text_length, uint64_t seed);
+
 /* A live run: a caller starts requests and reports how they ended, and learns what may start then. Requests are
  * named by their positions in the batch, from 0.
  *
@@ -136,8 +159,8 @@ uint32_t odb_replay(const uint8_t *batch, size_t batch_size,
  *              and is not closed; nothing checks that.
  *   Threads    One thread at a time may be in the calls on one handle, on any thread; runs of their own need
  *              no lock.
- *   Memory     A handle owns a copy of the batch document and all outcomes that were reported. No call keeps
- *              what it was passed.
+ *   Memory     A handle owns a copy of the batch document, its ids and all outcomes that were reported. No call
+ *              keeps what it was passed.
  *   Overlap    The place of the handle must not overlap the other arguments. */
 typedef struct odb_live_run {
     void *at;
@@ -167,6 +190,10 @@ uint32_t odb_run_running(odb_live_run *run, uint32_t *positions, size_t position
  * do not fit. ODB_REFUSED if the run is not finished, or ODB_OUT_OF_MEMORY: then `*count` is 0. Unless it is
  * ODB_DONE, the buffer is as it was. A handle as above. Takes O(requests) time. */
 uint32_t odb_run_undone(odb_live_run *run, uint32_t *positions, size_t positions_size, size_t *count);
+
+/* Sets `*position` to that of the request with an id, and returns ODB_DONE; or ODB_WRONG_OPTION if there is none, and
+ * `*position` is as it was. A handle as above. Takes O(log n) comparisons of ids, and allocates nothing. */
+uint32_t odb_run_position(odb_live_run *run, const uint8_t *id, size_t id_size, uint32_t *position);
 
 /* Starts a request. Returns ODB_DONE; or, with the run as it was, ODB_WRONG_OPTION if there is no such position,
  * or the cause, from ODB_ALREADY_STARTED to ODB_WIDTH_REACHED. A handle as above. Takes O(dependencies of the
@@ -208,104 +235,141 @@ static inline uint64_t odb_seed(void)
 
 /* The same calls with NULL for an empty document or buffer. A call through this header is one of them. */
 
-static inline uint32_t odb_inline_check(const uint8_t *batch, size_t batch_size,
-                                        uint8_t *text, size_t text_size, size_t *text_length, uint64_t seed)
+#define ODB_INLINE_IN(at) const uint8_t *at, size_t at##_size
+#define ODB_INLINE_TEXT uint8_t *text, size_t text_size, size_t *text_length
+#define ODB_INLINE_SLICE(at) at ? at : &none, at ? at##_size : 0
+
+static inline uint32_t odb_inline_check(ODB_INLINE_IN(batch), ODB_INLINE_TEXT, uint64_t seed)
 {
     uint8_t none = 0;
-    return odb_check(batch ? batch : &none, batch ? batch_size : 0,
-                     text ? text : &none, text ? text_size : 0, text_length, seed);
+    return odb_check(ODB_INLINE_SLICE(batch), ODB_INLINE_SLICE(text), text_length, seed);
 }
 
-static inline uint32_t odb_inline_plan(const uint8_t *batch, size_t batch_size,
-                                       uint8_t *text, size_t text_size, size_t *text_length, uint64_t seed)
+static inline uint32_t odb_inline_plan(ODB_INLINE_IN(batch), ODB_INLINE_TEXT, uint64_t seed)
 {
     uint8_t none = 0;
-    return odb_plan(batch ? batch : &none, batch ? batch_size : 0,
-                    text ? text : &none, text ? text_size : 0, text_length, seed);
+    return odb_plan(ODB_INLINE_SLICE(batch), ODB_INLINE_SLICE(text), text_length, seed);
 }
 
-static inline uint32_t odb_inline_canon(const uint8_t *batch, size_t batch_size,
-                                        uint8_t *text, size_t text_size, size_t *text_length, uint64_t seed)
+static inline uint32_t odb_inline_canon(ODB_INLINE_IN(batch), ODB_INLINE_TEXT, uint64_t seed)
 {
     uint8_t none = 0;
-    return odb_canon(batch ? batch : &none, batch ? batch_size : 0,
-                     text ? text : &none, text ? text_size : 0, text_length, seed);
+    return odb_canon(ODB_INLINE_SLICE(batch), ODB_INLINE_SLICE(text), text_length, seed);
 }
 
-static inline uint32_t odb_inline_match(const uint8_t *batch, size_t batch_size,
-                                        const uint8_t *responses, size_t responses_size,
-                                        uint8_t *text, size_t text_size, size_t *text_length, uint64_t seed)
+static inline uint32_t odb_inline_match(ODB_INLINE_IN(batch), ODB_INLINE_IN(responses), ODB_INLINE_TEXT,
+                                        uint64_t seed)
 {
     uint8_t none = 0;
-    return odb_match(batch ? batch : &none, batch ? batch_size : 0,
-                     responses ? responses : &none, responses ? responses_size : 0,
-                     text ? text : &none, text ? text_size : 0, text_length, seed);
+    return odb_match(ODB_INLINE_SLICE(batch), ODB_INLINE_SLICE(responses), ODB_INLINE_SLICE(text), text_length, seed);
 }
 
-static inline uint32_t odb_inline_run(const uint8_t *batch, size_t batch_size,
-                                      const uint8_t *events, size_t events_size,
-                                      uint32_t mode, uint32_t width,
-                                      uint8_t *text, size_t text_size, size_t *text_length, uint64_t seed)
+static inline uint32_t odb_inline_run(ODB_INLINE_IN(batch), ODB_INLINE_IN(events), uint32_t mode, uint32_t width,
+                                      ODB_INLINE_TEXT, uint64_t seed)
 {
     uint8_t none = 0;
-    return odb_run(batch ? batch : &none, batch ? batch_size : 0,
-                   events ? events : &none, events ? events_size : 0, mode, width,
-                   text ? text : &none, text ? text_size : 0, text_length, seed);
+    return odb_run(ODB_INLINE_SLICE(batch), ODB_INLINE_SLICE(events), mode, width, ODB_INLINE_SLICE(text),
+                   text_length, seed);
 }
 
-static inline uint32_t odb_inline_replay(const uint8_t *batch, size_t batch_size,
-                                         const uint8_t *outcomes, size_t outcomes_size,
-                                         uint32_t mode, uint32_t width, uint32_t order, uint32_t trace,
-                                         uint8_t *text, size_t text_size, size_t *text_length, uint64_t seed)
+static inline uint32_t odb_inline_replay(ODB_INLINE_IN(batch), ODB_INLINE_IN(outcomes), uint32_t mode,
+                                         uint32_t width, uint32_t order, uint32_t trace, ODB_INLINE_TEXT,
+                                         uint64_t seed)
 {
     uint8_t none = 0;
-    return odb_replay(batch ? batch : &none, batch ? batch_size : 0,
-                      outcomes ? outcomes : &none, outcomes ? outcomes_size : 0, mode, width, order, trace,
-                      text ? text : &none, text ? text_size : 0, text_length, seed);
+    return odb_replay(ODB_INLINE_SLICE(batch), ODB_INLINE_SLICE(outcomes), mode, width, order, trace,
+                      ODB_INLINE_SLICE(text), text_length, seed);
 }
 
-static inline uint32_t odb_inline_run_open(const uint8_t *batch, size_t batch_size,
-                                           const uint8_t *events, size_t events_size,
-                                           uint32_t mode, uint32_t width, odb_live_run *run,
-                                           uint8_t *text, size_t text_size, size_t *text_length, uint64_t seed)
+static inline uint32_t odb_inline_check_as(ODB_INLINE_IN(batch), uint32_t form, ODB_INLINE_TEXT, uint64_t seed)
 {
     uint8_t none = 0;
-    return odb_run_open(batch ? batch : &none, batch ? batch_size : 0,
-                        events ? events : &none, events ? events_size : 0, mode, width, run,
-                        text ? text : &none, text ? text_size : 0, text_length, seed);
+    return odb_check_as(ODB_INLINE_SLICE(batch), form, ODB_INLINE_SLICE(text), text_length, seed);
 }
 
-static inline uint32_t odb_inline_run_ready(odb_live_run *run, uint32_t *positions, size_t positions_size, size_t *count)
+static inline uint32_t odb_inline_plan_as(ODB_INLINE_IN(batch), uint32_t form, ODB_INLINE_TEXT, uint64_t seed)
+{
+    uint8_t none = 0;
+    return odb_plan_as(ODB_INLINE_SLICE(batch), form, ODB_INLINE_SLICE(text), text_length, seed);
+}
+
+static inline uint32_t odb_inline_canon_as(ODB_INLINE_IN(batch), uint32_t form, ODB_INLINE_TEXT, uint64_t seed)
+{
+    uint8_t none = 0;
+    return odb_canon_as(ODB_INLINE_SLICE(batch), form, ODB_INLINE_SLICE(text), text_length, seed);
+}
+
+static inline uint32_t odb_inline_match_as(ODB_INLINE_IN(batch), ODB_INLINE_IN(responses), uint32_t form,
+                                           ODB_INLINE_TEXT, uint64_t seed)
+{
+    uint8_t none = 0;
+    return odb_match_as(ODB_INLINE_SLICE(batch), ODB_INLINE_SLICE(responses), form, ODB_INLINE_SLICE(text),
+                        text_length, seed);
+}
+
+static inline uint32_t odb_inline_run_as(ODB_INLINE_IN(batch), ODB_INLINE_IN(events), uint32_t mode, uint32_t width,
+                                         uint32_t form, ODB_INLINE_TEXT, uint64_t seed)
+{
+    uint8_t none = 0;
+    return odb_run_as(ODB_INLINE_SLICE(batch), ODB_INLINE_SLICE(events), mode, width, form, ODB_INLINE_SLICE(text),
+                      text_length, seed);
+}
+
+static inline uint32_t odb_inline_replay_as(ODB_INLINE_IN(batch), ODB_INLINE_IN(outcomes), uint32_t mode,
+                                            uint32_t width, uint32_t order, uint32_t trace, uint32_t form,
+                                            ODB_INLINE_TEXT, uint64_t seed)
+{
+    uint8_t none = 0;
+    return odb_replay_as(ODB_INLINE_SLICE(batch), ODB_INLINE_SLICE(outcomes), mode, width, order, trace, form,
+                         ODB_INLINE_SLICE(text), text_length, seed);
+}
+
+static inline uint32_t odb_inline_run_open(ODB_INLINE_IN(batch), ODB_INLINE_IN(events), uint32_t mode,
+                                           uint32_t width, odb_live_run *run, ODB_INLINE_TEXT, uint64_t seed)
+{
+    uint8_t none = 0;
+    return odb_run_open(ODB_INLINE_SLICE(batch), ODB_INLINE_SLICE(events), mode, width, run, ODB_INLINE_SLICE(text),
+                        text_length, seed);
+}
+
+static inline uint32_t odb_inline_run_ready(odb_live_run *run, uint32_t *positions, size_t positions_size,
+                                            size_t *count)
 {
     uint32_t none = 0;
-    return odb_run_ready(run, positions ? positions : &none, positions ? positions_size : 0, count);
+    return odb_run_ready(run, ODB_INLINE_SLICE(positions), count);
 }
 
-static inline uint32_t odb_inline_run_running(odb_live_run *run, uint32_t *positions, size_t positions_size, size_t *count)
+static inline uint32_t odb_inline_run_running(odb_live_run *run, uint32_t *positions, size_t positions_size,
+                                              size_t *count)
 {
     uint32_t none = 0;
-    return odb_run_running(run, positions ? positions : &none, positions ? positions_size : 0, count);
+    return odb_run_running(run, ODB_INLINE_SLICE(positions), count);
 }
 
-static inline uint32_t odb_inline_run_undone(odb_live_run *run, uint32_t *positions, size_t positions_size, size_t *count)
+static inline uint32_t odb_inline_run_undone(odb_live_run *run, uint32_t *positions, size_t positions_size,
+                                             size_t *count)
 {
     uint32_t none = 0;
-    return odb_run_undone(run, positions ? positions : &none, positions ? positions_size : 0, count);
+    return odb_run_undone(run, ODB_INLINE_SLICE(positions), count);
+}
+
+static inline uint32_t odb_inline_run_position(odb_live_run *run, ODB_INLINE_IN(id), uint32_t *position)
+{
+    uint8_t none = 0;
+    return odb_run_position(run, ODB_INLINE_SLICE(id), position);
 }
 
 static inline uint32_t odb_inline_run_report(odb_live_run *run, uint32_t position, uint32_t status,
-                                             const uint8_t *headers, size_t headers_size,
-                                             const uint8_t *body, size_t body_size)
+                                             ODB_INLINE_IN(headers), ODB_INLINE_IN(body))
 {
     uint8_t none = 0;
-    return odb_run_report(run, position, status, headers ? headers : &none, headers ? headers_size : 0,
-                          body ? body : &none, body ? body_size : 0);
+    return odb_run_report(run, position, status, ODB_INLINE_SLICE(headers), ODB_INLINE_SLICE(body));
 }
 
-static inline uint32_t odb_inline_run_response(odb_live_run *run, uint8_t *text, size_t text_size, size_t *text_length)
+static inline uint32_t odb_inline_run_response(odb_live_run *run, ODB_INLINE_TEXT)
 {
     uint8_t none = 0;
-    return odb_run_response(run, text ? text : &none, text ? text_size : 0, text_length);
+    return odb_run_response(run, ODB_INLINE_SLICE(text), text_length);
 }
 
 #define odb_check odb_inline_check
@@ -314,10 +378,17 @@ static inline uint32_t odb_inline_run_response(odb_live_run *run, uint8_t *text,
 #define odb_match odb_inline_match
 #define odb_run odb_inline_run
 #define odb_replay odb_inline_replay
+#define odb_check_as odb_inline_check_as
+#define odb_plan_as odb_inline_plan_as
+#define odb_canon_as odb_inline_canon_as
+#define odb_match_as odb_inline_match_as
+#define odb_run_as odb_inline_run_as
+#define odb_replay_as odb_inline_replay_as
 #define odb_run_open odb_inline_run_open
 #define odb_run_ready odb_inline_run_ready
 #define odb_run_running odb_inline_run_running
 #define odb_run_undone odb_inline_run_undone
+#define odb_run_position odb_inline_run_position
 #define odb_run_report odb_inline_run_report
 #define odb_run_response odb_inline_run_response
 

@@ -22,7 +22,7 @@ struct document {
 /* What a call is passed: its documents, its options and its seed. */
 struct arguments {
     struct document batch, second;
-    uint32_t mode, width, order, trace;
+    uint32_t mode, width, order, trace, form;
     uint64_t seed;
 };
 
@@ -33,7 +33,7 @@ struct trial {
     const char *title;
     call *made;
     const char *batch, *second;
-    uint32_t mode, width, order, trace;
+    uint32_t mode, width, order, trace, form;
     uint32_t status;
     const char *text;
 };
@@ -71,6 +71,39 @@ static uint32_t replay(const struct arguments *it, uint8_t *text, size_t size, s
                       it->mode, it->width, it->order, it->trace, text, size, length, it->seed);
 }
 
+static uint32_t check_as(const struct arguments *it, uint8_t *text, size_t size, size_t *length)
+{
+    return odb_check_as(it->batch.bytes, it->batch.size, it->form, text, size, length, it->seed);
+}
+
+static uint32_t plan_as(const struct arguments *it, uint8_t *text, size_t size, size_t *length)
+{
+    return odb_plan_as(it->batch.bytes, it->batch.size, it->form, text, size, length, it->seed);
+}
+
+static uint32_t canon_as(const struct arguments *it, uint8_t *text, size_t size, size_t *length)
+{
+    return odb_canon_as(it->batch.bytes, it->batch.size, it->form, text, size, length, it->seed);
+}
+
+static uint32_t match_as(const struct arguments *it, uint8_t *text, size_t size, size_t *length)
+{
+    return odb_match_as(it->batch.bytes, it->batch.size, it->second.bytes, it->second.size, it->form,
+                        text, size, length, it->seed);
+}
+
+static uint32_t run_as(const struct arguments *it, uint8_t *text, size_t size, size_t *length)
+{
+    return odb_run_as(it->batch.bytes, it->batch.size, it->second.bytes, it->second.size,
+                      it->mode, it->width, it->form, text, size, length, it->seed);
+}
+
+static uint32_t replay_as(const struct arguments *it, uint8_t *text, size_t size, size_t *length)
+{
+    return odb_replay_as(it->batch.bytes, it->batch.size, it->second.bytes, it->second.size,
+                         it->mode, it->width, it->order, it->trace, it->form, text, size, length, it->seed);
+}
+
 #define ONE "{\"id\":\"a\",\"method\":\"GET\",\"url\":\"X\"}"
 #define TWO "{\"id\":\"b\",\"method\":\"get\",\"url\":\"Y\",\"dependsOn\":[\"a\"],\"atomicityGroup\":\"g\"}"
 #define BATCH "{\"requests\":[" ONE "," TWO "]}"
@@ -82,52 +115,93 @@ static uint32_t replay(const struct arguments *it, uint8_t *text, size_t size, s
 #define FREE "{\"requests\":[" ONE ",{\"id\":\"b\",\"method\":\"get\",\"url\":\"Y\"}]}"
 #define FAILURE "{\"outcomes\":[{\"id\":\"a\",\"status\":500},{\"id\":\"b\",\"status\":200}]}"
 #define NOT_JSON "fault F02 NotJson batch\n"
+#define FAULT(code, name, place) "{\"fault\":{\"code\":\"" code "\",\"name\":\"" name "\",\"place\":\"" place "\"}}\n"
 
 static const struct trial trials[] = {
-    {"a check", check, BATCH, NULL, 0, 0, 0, 0, ODB_DONE, "ok 2 requests 1 groups\n"},
-    {"a check of the empty batch", check, "{\"requests\":[]}", NULL, 0, 0, 0, 0, ODB_DONE, "ok 0 requests 0 groups\n"},
-    {"a check of no JSON", check, "[", NULL, 0, 0, 0, 0, ODB_REFUSED, NOT_JSON},
-    {"a check of nothing", check, NULL, NULL, 0, 0, 0, 0, ODB_REFUSED, NOT_JSON},
-    {"a plan", plan, BATCH, NULL, 0, 0, 0, 0, ODB_DONE,
+    {"a check", check, BATCH, NULL, 0, 0, 0, 0, 0, ODB_DONE, "ok 2 requests 1 groups\n"},
+    {"a check of the empty batch", check, "{\"requests\":[]}", NULL, 0, 0, 0, 0, 0, ODB_DONE, "ok 0 requests 0 groups\n"},
+    {"a check of no JSON", check, "[", NULL, 0, 0, 0, 0, 0, ODB_REFUSED, NOT_JSON},
+    {"a check of nothing", check, NULL, NULL, 0, 0, 0, 0, 0, ODB_REFUSED, NOT_JSON},
+    {"a plan", plan, BATCH, NULL, 0, 0, 0, 0, 0, ODB_DONE,
      "0 a level 0 group * needs *\n1 b level 1 group g needs a\n"},
-    {"a plan of the empty batch", plan, "{\"requests\":[]}", NULL, 0, 0, 0, 0, ODB_DONE, ""},
-    {"a plan of nothing", plan, NULL, NULL, 0, 0, 0, 0, ODB_REFUSED, NOT_JSON},
-    {"a canonical text", canon, "{\"requests\":[" ONE "]}", NULL, 0, 0, 0, 0, ODB_DONE,
+    {"a plan of the empty batch", plan, "{\"requests\":[]}", NULL, 0, 0, 0, 0, 0, ODB_DONE, ""},
+    {"a plan of nothing", plan, NULL, NULL, 0, 0, 0, 0, 0, ODB_REFUSED, NOT_JSON},
+    {"a canonical text", canon, "{\"requests\":[" ONE "]}", NULL, 0, 0, 0, 0, 0, ODB_DONE,
      "{\"requests\":[{\"id\":\"a\",\"method\":\"get\",\"url\":\"X\"}]}\n"},
-    {"a canonical text of nothing", canon, NULL, NULL, 0, 0, 0, 0, ODB_REFUSED, NOT_JSON},
-    {"a match", match, BATCH, RESPONSES, 0, 0, 0, 0, ODB_DONE, "ok 2 responses\na 200\nb 409\n"},
-    {"a match of nothing", match, BATCH, NULL, 0, 0, 0, 0, ODB_REFUSED, "fault F02 NotJson responses\n"},
-    {"a match of a batch that is refused", match, NULL, NULL, 0, 0, 0, 0, ODB_REFUSED, NOT_JSON},
-    {"a run", run, BATCH, EVENTS, ODB_CONTINUE, 1, 0, 0, ODB_DONE, RESPONSES "\n"},
-    {"a run that is not finished", run, BATCH, "{\"events\":[]}", ODB_STOP, 10000, 0, 0, ODB_REFUSED,
+    {"a canonical text of nothing", canon, NULL, NULL, 0, 0, 0, 0, 0, ODB_REFUSED, NOT_JSON},
+    {"a match", match, BATCH, RESPONSES, 0, 0, 0, 0, 0, ODB_DONE, "ok 2 responses\na 200\nb 409\n"},
+    {"a match of nothing", match, BATCH, NULL, 0, 0, 0, 0, 0, ODB_REFUSED, "fault F02 NotJson responses\n"},
+    {"a match of a batch that is refused", match, NULL, NULL, 0, 0, 0, 0, 0, ODB_REFUSED, NOT_JSON},
+    {"a run", run, BATCH, EVENTS, ODB_CONTINUE, 1, 0, 0, 0, ODB_DONE, RESPONSES "\n"},
+    {"a run that is not finished", run, BATCH, "{\"events\":[]}", ODB_STOP, 10000, 0, 0, 0, ODB_REFUSED,
      "fault F66 Unfinished events\n"},
-    {"a run by nothing", run, BATCH, NULL, ODB_STOP, 7, 0, 0, ODB_REFUSED, "fault F02 NotJson events\n"},
-    {"a replay", replay, BATCH, OUTCOMES, ODB_CONTINUE, 10000, ODB_FIRST, 0, ODB_DONE, RESPONSES "\n"},
-    {"a replay with its trace", replay, FREE, FAILURE, ODB_CONTINUE, 10000, ODB_FIRST, 1, ODB_DONE,
+    {"a run by nothing", run, BATCH, NULL, ODB_STOP, 7, 0, 0, 0, ODB_REFUSED, "fault F02 NotJson events\n"},
+    {"a replay", replay, BATCH, OUTCOMES, ODB_CONTINUE, 10000, ODB_FIRST, 0, 0, ODB_DONE, RESPONSES "\n"},
+    {"a replay with its trace", replay, FREE, FAILURE, ODB_CONTINUE, 10000, ODB_FIRST, 1, 0, ODB_DONE,
      "start a\nreport a 500\nstart b\nreport b 200\n"
      "{\"responses\":[{\"id\":\"a\",\"status\":500},{\"id\":\"b\",\"status\":200}]}\n"},
-    {"a replay from the last", replay, FREE, FAILURE, ODB_CONTINUE, 10000, ODB_LAST, 1, ODB_DONE,
+    {"a replay from the last", replay, FREE, FAILURE, ODB_CONTINUE, 10000, ODB_LAST, 1, 0, ODB_DONE,
      "start b\nreport b 200\nstart a\nreport a 500\n"
      "{\"responses\":[{\"id\":\"a\",\"status\":500},{\"id\":\"b\",\"status\":200}]}\n"},
-    {"a wide replay", replay, FREE, FAILURE, ODB_CONTINUE, 10000, ODB_WIDE, 1, ODB_DONE,
+    {"a wide replay", replay, FREE, FAILURE, ODB_CONTINUE, 10000, ODB_WIDE, 1, 0, ODB_DONE,
      "start a\nstart b\nreport a 500\nreport b 200\n"
      "{\"responses\":[{\"id\":\"a\",\"status\":500},{\"id\":\"b\",\"status\":200}]}\n"},
-    {"a wide replay, one at a time", replay, FREE, FAILURE, ODB_CONTINUE, 1, ODB_WIDE, 1, ODB_DONE,
+    {"a wide replay, one at a time", replay, FREE, FAILURE, ODB_CONTINUE, 1, ODB_WIDE, 1, 0, ODB_DONE,
      "start a\nreport a 500\nstart b\nreport b 200\n"
      "{\"responses\":[{\"id\":\"a\",\"status\":500},{\"id\":\"b\",\"status\":200}]}\n"},
-    {"a replay that stops", replay, FREE, FAILURE, ODB_STOP, 10000, ODB_FIRST, 0, ODB_DONE,
+    {"a replay that stops", replay, FREE, FAILURE, ODB_STOP, 10000, ODB_FIRST, 0, 0, ODB_DONE,
      "{\"responses\":[{\"id\":\"a\",\"status\":500},{\"id\":\"b\",\"status\":424}]}\n"},
-    {"a replay by nothing", replay, BATCH, NULL, ODB_CONTINUE, 10000, ODB_FIRST, 0, ODB_REFUSED,
+    {"a replay by nothing", replay, BATCH, NULL, ODB_CONTINUE, 10000, ODB_FIRST, 0, 0, ODB_REFUSED,
      "fault F02 NotJson outcomes\n"},
-    {"a run in no mode", run, BATCH, EVENTS, 2, 1, 0, 0, ODB_WRONG_OPTION, ""},
-    {"a run in a mode far off", run, BATCH, EVENTS, UINT32_MAX, 1, 0, 0, ODB_WRONG_OPTION, ""},
-    {"a run of width 0", run, BATCH, EVENTS, ODB_CONTINUE, 0, 0, 0, ODB_WRONG_OPTION, ""},
-    {"a run of width 10001", run, BATCH, EVENTS, ODB_CONTINUE, 10001, 0, 0, ODB_WRONG_OPTION, ""},
-    {"a run of nothing in no mode", run, NULL, NULL, 2, 1, 0, 0, ODB_WRONG_OPTION, ""},
-    {"a replay in no mode", replay, BATCH, OUTCOMES, 2, 1, 0, 0, ODB_WRONG_OPTION, ""},
-    {"a replay of width 0", replay, BATCH, OUTCOMES, 0, 0, 0, 0, ODB_WRONG_OPTION, ""},
-    {"a replay in no order", replay, BATCH, OUTCOMES, 0, 1, 3, 0, ODB_WRONG_OPTION, ""},
-    {"a replay with half a trace", replay, BATCH, OUTCOMES, 0, 1, 0, 2, ODB_WRONG_OPTION, ""},
+    {"a run in no mode", run, BATCH, EVENTS, 2, 1, 0, 0, 0, ODB_WRONG_OPTION, ""},
+    {"a run in a mode far off", run, BATCH, EVENTS, UINT32_MAX, 1, 0, 0, 0, ODB_WRONG_OPTION, ""},
+    {"a run of width 0", run, BATCH, EVENTS, ODB_CONTINUE, 0, 0, 0, 0, ODB_WRONG_OPTION, ""},
+    {"a run of width 10001", run, BATCH, EVENTS, ODB_CONTINUE, 10001, 0, 0, 0, ODB_WRONG_OPTION, ""},
+    {"a run of nothing in no mode", run, NULL, NULL, 2, 1, 0, 0, 0, ODB_WRONG_OPTION, ""},
+    {"a replay in no mode", replay, BATCH, OUTCOMES, 2, 1, 0, 0, 0, ODB_WRONG_OPTION, ""},
+    {"a replay of width 0", replay, BATCH, OUTCOMES, 0, 0, 0, 0, 0, ODB_WRONG_OPTION, ""},
+    {"a replay in no order", replay, BATCH, OUTCOMES, 0, 1, 3, 0, 0, ODB_WRONG_OPTION, ""},
+    {"a replay with half a trace", replay, BATCH, OUTCOMES, 0, 1, 0, 2, 0, ODB_WRONG_OPTION, ""},
+    {"a check in lines", check_as, BATCH, NULL, 0, 0, 0, 0, ODB_LINES, ODB_DONE, "ok 2 requests 1 groups\n"},
+    {"a check in JSON", check_as, BATCH, NULL, 0, 0, 0, 0, ODB_JSON, ODB_DONE, "{\"groups\":1,\"requests\":2}\n"},
+    {"a check of nothing in JSON", check_as, NULL, NULL, 0, 0, 0, 0, ODB_JSON, ODB_REFUSED, FAULT("F02", "NotJson", "batch")},
+    {"a check in no form", check_as, BATCH, NULL, 0, 0, 0, 0, 2, ODB_WRONG_OPTION, ""},
+    {"a check in a form far off", check_as, BATCH, NULL, 0, 0, 0, 0, UINT32_MAX, ODB_WRONG_OPTION, ""},
+    {"a check of nothing in no form", check_as, NULL, NULL, 0, 0, 0, 0, 2, ODB_WRONG_OPTION, ""},
+    {"a plan in lines", plan_as, BATCH, NULL, 0, 0, 0, 0, ODB_LINES, ODB_DONE,
+     "0 a level 0 group * needs *\n1 b level 1 group g needs a\n"},
+    {"a plan in JSON", plan_as, BATCH, NULL, 0, 0, 0, 0, ODB_JSON, ODB_DONE,
+     "{\"requests\":[{\"id\":\"a\",\"level\":0,\"needs\":[]},"
+     "{\"group\":\"g\",\"id\":\"b\",\"level\":1,\"needs\":[\"a\"]}]}\n"},
+    {"a plan in no form", plan_as, BATCH, NULL, 0, 0, 0, 0, 2, ODB_WRONG_OPTION, ""},
+    {"a canonical text in JSON", canon_as, "{\"requests\":[" ONE "]}", NULL, 0, 0, 0, 0, ODB_JSON, ODB_DONE,
+     "{\"requests\":[{\"id\":\"a\",\"method\":\"get\",\"url\":\"X\"}]}\n"},
+    {"a canonical text of nothing in lines", canon_as, NULL, NULL, 0, 0, 0, 0, ODB_LINES, ODB_REFUSED, NOT_JSON},
+    {"a canonical text of nothing in JSON", canon_as, NULL, NULL, 0, 0, 0, 0, ODB_JSON, ODB_REFUSED,
+     FAULT("F02", "NotJson", "batch")},
+    {"a canonical text in no form", canon_as, BATCH, NULL, 0, 0, 0, 0, 2, ODB_WRONG_OPTION, ""},
+    {"a match in lines", match_as, BATCH, RESPONSES, 0, 0, 0, 0, ODB_LINES, ODB_DONE, "ok 2 responses\na 200\nb 409\n"},
+    {"a match in JSON", match_as, BATCH, RESPONSES, 0, 0, 0, 0, ODB_JSON, ODB_DONE,
+     "{\"responses\":[{\"id\":\"a\",\"status\":200},{\"id\":\"b\",\"status\":409}]}\n"},
+    {"a match of nothing in JSON", match_as, BATCH, NULL, 0, 0, 0, 0, ODB_JSON, ODB_REFUSED,
+     FAULT("F02", "NotJson", "responses")},
+    {"a match in no form", match_as, BATCH, RESPONSES, 0, 0, 0, 0, 2, ODB_WRONG_OPTION, ""},
+    {"a run in JSON", run_as, BATCH, EVENTS, ODB_CONTINUE, 1, 0, 0, ODB_JSON, ODB_DONE, RESPONSES "\n"},
+    {"a run that is not finished in lines", run_as, BATCH, "{\"events\":[]}", ODB_STOP, 10000, 0, 0, ODB_LINES, ODB_REFUSED,
+     "fault F66 Unfinished events\n"},
+    {"a run that is not finished in JSON", run_as, BATCH, "{\"events\":[]}", ODB_STOP, 10000, 0, 0, ODB_JSON, ODB_REFUSED,
+     FAULT("F66", "Unfinished", "events")},
+    {"a run in no mode in JSON", run_as, BATCH, EVENTS, 2, 1, 0, 0, ODB_JSON, ODB_WRONG_OPTION, ""},
+    {"a run in no form", run_as, BATCH, EVENTS, ODB_CONTINUE, 1, 0, 0, 2, ODB_WRONG_OPTION, ""},
+    {"a replay in JSON with its trace", replay_as, FREE, FAILURE, ODB_CONTINUE, 10000, ODB_LAST, 1, ODB_JSON, ODB_DONE,
+     "start b\nreport b 200\nstart a\nreport a 500\n"
+     "{\"responses\":[{\"id\":\"a\",\"status\":500},{\"id\":\"b\",\"status\":200}]}\n"},
+    {"a replay by nothing in lines", replay_as, BATCH, NULL, ODB_CONTINUE, 10000, ODB_FIRST, 0, ODB_LINES, ODB_REFUSED,
+     "fault F02 NotJson outcomes\n"},
+    {"a replay by nothing in JSON", replay_as, BATCH, NULL, ODB_CONTINUE, 10000, ODB_FIRST, 0, ODB_JSON, ODB_REFUSED,
+     FAULT("F02", "NotJson", "outcomes")},
+    {"a replay in no order in JSON", replay_as, BATCH, OUTCOMES, 0, 1, 3, 0, ODB_JSON, ODB_WRONG_OPTION, ""},
+    {"a replay in no form", replay_as, BATCH, OUTCOMES, 0, 1, 0, 0, 2, ODB_WRONG_OPTION, ""},
 };
 
 static long tries, wrong;
@@ -222,7 +296,7 @@ static void try_all(const struct trial *trial)
 {
     static const uint64_t seeds[] = {0, 1, 7, UINT64_MAX};
     struct arguments given = {document_of(trial->batch), document_of(trial->second),
-                              trial->mode, trial->width, trial->order, trial->trace, 0};
+                              trial->mode, trial->width, trial->order, trial->trace, trial->form, 0};
     for (size_t at = 0; at < sizeof seeds / sizeof *seeds; at++) {
         given.seed = seeds[at];
         count(trial, "seed", (long)at, is_right(trial, &given, strlen(trial->text) + ROOM));

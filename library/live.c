@@ -6,6 +6,7 @@
 #include "odb_batch.h"
 
 #include "allocations.h"
+#include "tries.h"
 
 #include <stdio.h>
 #include <stdlib.h>
@@ -24,17 +25,6 @@
 #define UNFINISHED "fault F66 Unfinished events\n"
 #define RESPONSE "{\"responses\":[{\"body\":{\"n\":1},\"headers\":{\"etag\":\"1\"},\"id\":\"a\",\"status\":201}," \
     "{\"id\":\"b\",\"status\":200},{\"id\":\"c\",\"status\":404}]}\n"
-
-static long tries, wrong;
-
-static void count(const char *title, long at, int is_right)
-{
-    tries++;
-    if (is_right)
-        return;
-    wrong++;
-    printf("%s: %ld is wrong\n", title, at);
-}
 
 /* Returns a block of just this size. */
 static void *block_of(size_t size)
@@ -388,10 +378,5 @@ int main(void)
     try_many();
     try_allocations(0);
     try_allocations(1);
-    if (live_blocks != 0) {
-        printf("%ld blocks are not freed\n", live_blocks);
-        wrong++;
-    }
-    printf("%ld tries, %ld wrong\n", tries, wrong);
-    return wrong != 0;
+    return ended();
 }

@@ -1,6 +1,6 @@
-/* Measures a live run of the batch in a document, with all its calls: opens it, starts and reports each
- * request when it is ready, and writes the response. Prints the processor time of it all, in
- * milliseconds.
+/* Measures a live run of the batch in a document, whose ids are `r0` and so on, with all its calls: opens it,
+ * looks for each request by its id, starts and reports it when it is ready, and writes the response. Prints the
+ * processor time of it all, in milliseconds.
  *
  *   live_speed FILE */
 
@@ -15,6 +15,16 @@
 
 static const uint8_t events[] = "{\"events\":[]}", body[] = "{\"Count\":1}";
 
+/* Looks for the request whose id is `r` and its position, and starts it. */
+static int is_started(odb_live_run *run, uint32_t position)
+{
+    char id[16];
+    uint32_t found;
+    int size = sprintf(id, "r%u", (unsigned)position);
+    return odb_run_position(run, (const uint8_t *)id, (size_t)size, &found) == ODB_DONE && found == position
+        && odb_run_start(run, position) == ODB_DONE;
+}
+
 /* Starts all that is ready, reports all that runs, and so on to the end. Returns how many have run. */
 static long driven(odb_live_run *run)
 {
@@ -25,7 +35,7 @@ static long driven(odb_live_run *run)
         if (odb_run_ready(run, positions, MOST_REQUESTS, &count) != ODB_DONE || count == 0)
             return -1;
         for (size_t at = 0; at < count; at++)
-            if (odb_run_start(run, positions[at]) != ODB_DONE)
+            if (!is_started(run, positions[at]))
                 return -1;
         for (size_t at = 0; at < count; at++)
             if (odb_run_report(run, positions[at], 200, NULL, 0, body, sizeof body - 1) != ODB_DONE)

@@ -22,6 +22,7 @@ WRAPPED = ["-Wl,--wrap=malloc,--wrap=realloc,--wrap=free"]
 SANITIZERS = ["-fsanitize=address,undefined", "-fno-sanitize-recover=all"]
 MEMCHECK = ["valgrind", "-q", "--error-exitcode=9", "--leak-check=full"]
 ONE = "ok 1 requests 0 groups\n"
+LIVE_TESTS = ("live", "positions")
 
 # A program around the live run of docs/embedding.md.
 LIVE_PAGE = r"""
@@ -152,14 +153,17 @@ class Parts:
         run(*MEMCHECK, self.compile_calls("calls.c", "checked"))
 
     def live_runs_in_c(self):
-        run(self.compile_calls("live.c", "live", "-O2"))
+        for tests in LIVE_TESTS:
+            run(self.compile_calls(f"{tests}.c", tests, "-O2"))
 
     def live_runs_with_sanitizers(self):
-        run(self.compile_calls("live.c", "live_sanitized", *SANITIZERS))
+        for tests in LIVE_TESTS:
+            run(self.compile_calls(f"{tests}.c", f"{tests}_sanitized", *SANITIZERS))
 
     def live_runs_under_valgrind(self):
         need("valgrind")
-        run(*MEMCHECK, self.compile_calls("live.c", "live_checked"))
+        for tests in LIVE_TESTS:
+            run(*MEMCHECK, self.compile_calls(f"{tests}.c", f"{tests}_checked"))
 
     def stack_of_calls(self):
         source = os.path.join(HERE, "stack.c")

@@ -53,6 +53,44 @@ static int canon(void)
     return is_done(odb_canon(bytes(batch), strlen(batch), text, sizeof text, &length, 7));
 }
 
+static int check_in_json(void)
+{
+    return is_done(odb_check_as(bytes(batch), strlen(batch), ODB_JSON, text, sizeof text, &length, 7));
+}
+
+static int plan_in_json(void)
+{
+    return is_done(odb_plan_as(bytes(batch), strlen(batch), ODB_JSON, text, sizeof text, &length, 7));
+}
+
+static int canon_in_json(void)
+{
+    return is_done(odb_canon_as(bytes(batch), strlen(batch), ODB_JSON, text, sizeof text, &length, 7));
+}
+
+static int match_in_json(void)
+{
+    return is_done(odb_match_as(bytes(batch), strlen(batch), bytes(second), strlen(second), ODB_JSON,
+                                text, sizeof text, &length, 7));
+}
+
+static int run_in_json(void)
+{
+    return is_done(odb_run_as(bytes(batch), strlen(batch), bytes(second), strlen(second), ODB_CONTINUE, ODB_MAX_WIDTH,
+                              ODB_JSON, text, sizeof text, &length, 7));
+}
+
+static int replay_in_json(void)
+{
+    return is_done(odb_replay_as(bytes(batch), strlen(batch), bytes(second), strlen(second), ODB_CONTINUE, ODB_MAX_WIDTH,
+                                 ODB_WIDE, 1, ODB_JSON, text, sizeof text, &length, 7));
+}
+
+static int refused_in_json(void)
+{
+    return odb_check_as(bytes(batch), strlen(batch), ODB_JSON, text, sizeof text, &length, 7) == ODB_REFUSED;
+}
+
 static int refused(void)
 {
     return odb_check(bytes(batch), strlen(batch), text, sizeof text, &length, 7) == ODB_REFUSED;
@@ -84,7 +122,8 @@ static int live(void)
     size_t count;
     if (odb_run_open(bytes(batch), strlen(batch), bytes(none), strlen(none), ODB_STOP, 1, &opened, text, sizeof text, &length, 7))
         return 0;
-    int right = is_done(odb_run_ready(&opened, positions, 1, &count)) && is_done(odb_run_start(&opened, 0))
+    int right = is_done(odb_run_ready(&opened, positions, 1, &count))
+        && is_done(odb_run_position(&opened, bytes("a"), 1, positions)) && is_done(odb_run_start(&opened, 0))
         && is_done(odb_run_running(&opened, positions, 1, &count))
         && is_done(odb_run_report(&opened, 0, 200, bytes(headers), strlen(headers), bytes(second), strlen(second)))
         && odb_run_finished(&opened) && is_done(odb_run_undone(&opened, positions, 1, &count))
@@ -176,22 +215,30 @@ int main(void)
     measure("a canonical text of a deep body", canon);
     make(second, "{\"responses\":[{\"id\":\"a\",\"status\":200,\"body\":", DEEPEST, "}]}");
     measure("a match of a deep body", match);
+    measure("a match of a deep body in JSON", match_in_json);
     make(second, "{\"outcomes\":[{\"id\":\"a\",\"status\":200,\"body\":", DEEPEST, "}]}");
     measure("a replay of a deep body", replay);
     make(second, "{\"events\":[{\"start\":\"a\"},{\"report\":\"a\",\"status\":200,\"body\":", DEEPEST, "}]}");
     measure("a run of a deep body", run);
+    measure("a run of a deep body in JSON", run_in_json);
     make(second, "", DEEPEST + 2, "");
     measure("a live run of a deep body", live);
     make_deep(100000);
     measure("a check of a body that is too deep", refused);
+    measure("a check of a body that is too deep in JSON", refused_in_json);
     make_chain("outcomes", "");
     measure("a check of a chain", check);
     measure("a check of a chain without a seed", check_without_a_seed);
+    measure("a check of a chain in JSON", check_in_json);
     measure("a plan of a chain", plan);
+    measure("a plan of a chain in JSON", plan_in_json);
+    measure("a canonical text of a chain in JSON", canon_in_json);
     measure("a canonical text of a chain", canon);
     measure("a replay of a chain", replay);
+    measure("a replay of a chain in JSON", replay_in_json);
     make_chain("responses", "");
     measure("a match of a chain", match);
+    measure("a match of a chain in JSON", match_in_json);
     printf("%zu of %d bytes of stack\n", most, ODB_STACK_BYTES);
     return wrong != 0;
 }

@@ -26,6 +26,7 @@ function textOf(command, result) {
 function answerOf([command, documents, options]) {
   try {
     const given = documents.map((it) => Buffer.from(it, 'base64'))
+    if (options.form) return odb.output(command, given[0], given[1], options).text
     return textOf(command, odb[command](...given, ...(given.length > 1 ? [options] : [])))
   } catch (error) {
     if (!(error instanceof odb.Fault)) throw error

@@ -22,7 +22,7 @@ from runners import pages
 
 SECONDS = ("match", "run", "replay")
 OPTIONS = {"--order": "order", "--width": "width"}
-FLAGS = {"--stop": ("mode", "stop"), "--trace": ("trace", True)}
+FLAGS = {"--stop": ("mode", "stop"), "--trace": ("trace", True), "--json": ("form", "json")}
 SHARE = 3
 SHOWN = 300
 
@@ -81,6 +81,9 @@ def python_answers(calls):
     import odb_batch
 
     for command, documents, options in calls:
+        if "form" in options:
+            yield odb_batch.output(command, *documents, **options).text
+            continue
         try:
             yield text_of(command, getattr(odb_batch, command)(*documents, **options))
         except odb_batch.Fault as fault:
@@ -117,7 +120,7 @@ def main():
     runs = [(run, call_of(run)) for run in pages.read_folder(os.path.join(ROOT, "tests", "cases"))]
     chosen = [(run, call) for run, call in runs if call]
     if binding == "live":
-        chosen = [(run, call) for run, call in chosen if run.command == "run"]
+        chosen = [(run, call) for run, call in chosen if run.command == "run" and "form" not in call[2]]
     if binding == "node":
         chosen = chosen[::SHARE]
     answers_of = {"python": python_answers, "live": live_answers, "node": node_answers}[binding]

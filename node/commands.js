@@ -4,11 +4,12 @@
 
 const addon = require('./odb_batch.node')
 const { bytesOf, eventsOf } = require('./documents.js')
-const { settle } = require('./faults.js')
+const { DONE, REFUSED, settle } = require('./faults.js')
 
 const COMMANDS = ['check', 'plan', 'canon', 'match', 'run', 'replay']
 const MODES = ['continue', 'stop']
 const ORDERS = ['first', 'last', 'wide']
+const FORMS = ['lines', 'json']
 const MAX_WIDTH = 10000
 
 /** The number of a named option. */
@@ -19,17 +20,22 @@ function numberOf(names, what, value) {
 }
 
 /** The numbers of the options. */
-function numbersOf({ mode = 'continue', width = MAX_WIDTH, order = 'first', trace = false }) {
+function numbersOf({ mode = 'continue', width = MAX_WIDTH, order = 'first', trace = false, form = 'lines' }) {
   if (!Number.isInteger(width) || width < 1 || width > MAX_WIDTH) {
     throw new RangeError(`width must be a whole number from 1 to ${MAX_WIDTH}, not ${String(width)}`)
   }
-  return [numberOf(MODES, 'mode', mode), width, numberOf(ORDERS, 'order', order), trace ? 1 : 0]
+  return [numberOf(MODES, 'mode', mode), width, numberOf(ORDERS, 'order', order), trace ? 1 : 0, numberOf(FORMS, 'form', form)]
+}
+
+/** The pair of the status and the text of a command. */
+function call(command, batch, second, options) {
+  const numbers = numbersOf(options)
+  return addon.call(COMMANDS.indexOf(command), bytesOf(batch), bytesOf(second), ...numbers)
 }
 
 /** The text that a command writes; throws what else it returns. */
 function answer(command, batch, second = '', options = {}) {
-  const numbers = numbersOf(options)
-  const [status, text] = addon.call(COMMANDS.indexOf(command), bytesOf(batch), bytesOf(second), ...numbers)
+  const [status, text] = call(command, batch, second, options)
   settle(command, status, text)
   return text
 }
@@ -87,4 +93,14 @@ function replay(batch, outcomes, { mode, width, order, trace } = {}) {
   }
 }
 
-module.exports = { canon, check, match, numbersOf, plan, replay, run }
+function output(command, batch, second, { mode, width, order, trace, form = 'json' } = {}) {
+  const takesTwo = numberOf(COMMANDS, 'command', command) > 2
+  if (takesTwo !== (second !== undefined && second !== null)) {
+    throw new TypeError(`${command} takes ${takesTwo ? 'a' : 'no'} second document`)
+  }
+  const [status, text] = call(command, batch, takesTwo ? eventsOf(second) : '', { mode, width, order, trace, form })
+  if (status !== REFUSED) settle(command, status, text)
+  return { accepted: status === DONE, text }
+}
+
+module.exports = { canon, check, match, numbersOf, output, plan, replay, run }

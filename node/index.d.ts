@@ -129,6 +129,39 @@ export function run(batch: Document, events: Events, options?: RunOptions): Buff
 /** Replays a batch by recorded outcomes. Throws a `RangeError` for an option that has none of its values. */
 export function replay(batch: Document, outcomes: Document, options?: ReplayOptions): Replay
 
+/** What a command prints of its documents. */
+export interface Output {
+  /** Whether the text is the result; else it is the fault of a document. */
+  accepted: boolean
+  /** The text, with a newline at its end. */
+  text: Buffer
+}
+
+export interface OutputOptions extends ReplayOptions {
+  /** `json`, the default, for one line of JSON, as `odb_batch --json` prints, or `lines`. */
+  form?: 'json' | 'lines'
+}
+
+/**
+ * Returns the text that a command prints, to be passed on: a fault is a text, too, and is not thrown. A
+ * canonical text, a response and a trace are the same in both forms. Throws a `RangeError` for a command or
+ * an option that has none of its values, and a `TypeError` if the second document is missing or one too many.
+ *
+ * @param second The document that `match`, `run` or `replay` takes beside the batch; else null or undefined.
+ */
+export function output(
+  command: 'check' | 'plan' | 'canon',
+  batch: Document,
+  second?: null,
+  options?: OutputOptions,
+): Output
+export function output(
+  command: 'match' | 'run' | 'replay',
+  batch: Document,
+  second: Events,
+  options?: OutputOptions,
+): Output
+
 export interface LiveOptions extends RunOptions {
   /**
    * What has happened already, in order; nothing is the default. A gateway that keeps its events goes on

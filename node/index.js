@@ -3,11 +3,11 @@
 // odb_batch in this process. index.d.ts says what each call takes and returns.
 
 const { version: number } = require('./odb_batch.node')
-const { canon, check, match, plan, replay, run } = require('./commands.js')
+const { canon, check, match, output, plan, replay, run } = require('./commands.js')
 const { Fault, Refused } = require('./faults.js')
 const { Run } = require('./run.js')
 
 /** The version of the library, MAJOR.MINOR.PATCH. */
 const version = [number / 10000, number / 100, number].map((it) => Math.floor(it) % 100).join('.')
 
-module.exports = { Fault, Refused, Run, canon, check, match, plan, replay, run, version }
+module.exports = { Fault, Refused, Run, canon, check, match, output, plan, replay, run, version }

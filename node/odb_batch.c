@@ -1,6 +1,6 @@
 /* The addon of odb_batch for Node, by Node-API: the commands as one function, and live runs (runs.c).
  *
- *   call(command, batch, second, mode, width, order, trace) -> [status, text]
+ *   call(command, batch, second, mode, width, order, trace, form) -> [status, text]
  *
  * `command` is the place of a command in `commands`, `batch` and `second` are Uint8Arrays, and the other
  * arguments numbers; what a command does not take is ignored. commands.js makes the calls of it. */
@@ -9,13 +9,13 @@
 
 #include "addon.h"
 
-#define ARGUMENTS 7
+#define ARGUMENTS 8
 
 #define MORE 256 /* how much longer than its documents a text is thought to be */
 
 /* What the function is passed. */
 struct given {
-    uint32_t command, mode, width, order, trace;
+    uint32_t command, mode, width, order, trace, form;
     struct bytes batch, second;
     uint64_t seed;
 };
@@ -27,18 +27,19 @@ static uint32_t make(void *given, struct bytes text, size_t *length)
     const struct bytes a = it->batch, b = it->second;
     switch (it->command) {
     case 0:
-        return odb_check(a.at, a.size, text.at, text.size, length, it->seed);
+        return odb_check_as(a.at, a.size, it->form, text.at, text.size, length, it->seed);
     case 1:
-        return odb_plan(a.at, a.size, text.at, text.size, length, it->seed);
+        return odb_plan_as(a.at, a.size, it->form, text.at, text.size, length, it->seed);
     case 2:
-        return odb_canon(a.at, a.size, text.at, text.size, length, it->seed);
+        return odb_canon_as(a.at, a.size, it->form, text.at, text.size, length, it->seed);
     case 3:
-        return odb_match(a.at, a.size, b.at, b.size, text.at, text.size, length, it->seed);
+        return odb_match_as(a.at, a.size, b.at, b.size, it->form, text.at, text.size, length, it->seed);
     case 4:
-        return odb_run(a.at, a.size, b.at, b.size, it->mode, it->width, text.at, text.size, length, it->seed);
-    default:
-        return odb_replay(a.at, a.size, b.at, b.size, it->mode, it->width, it->order, it->trace,
+        return odb_run_as(a.at, a.size, b.at, b.size, it->mode, it->width, it->form,
                           text.at, text.size, length, it->seed);
+    default:
+        return odb_replay_as(a.at, a.size, b.at, b.size, it->mode, it->width, it->order, it->trace, it->form,
+                             text.at, text.size, length, it->seed);
     }
 }
 
@@ -115,7 +116,8 @@ static napi_value call(napi_env env, napi_callback_info info)
         || napi_get_value_uint32(env, it[3], &given.mode) != napi_ok
         || napi_get_value_uint32(env, it[4], &given.width) != napi_ok
         || napi_get_value_uint32(env, it[5], &given.order) != napi_ok
-        || napi_get_value_uint32(env, it[6], &given.trace) != napi_ok)
+        || napi_get_value_uint32(env, it[6], &given.trace) != napi_ok
+        || napi_get_value_uint32(env, it[7], &given.form) != napi_ok)
         return wrong_arguments(env);
     given.seed = seed_of(env);
     return written(env, make, &given, given.batch.size + given.second.size + MORE);

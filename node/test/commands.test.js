@@ -3,7 +3,7 @@
 const assert = require('node:assert/strict')
 const { test } = require('node:test')
 const { Worker } = require('node:worker_threads')
-const { Fault, canon, check, match, plan, replay, run, version } = require('..')
+const { Fault, canon, check, match, output, plan, replay, run, version } = require('..')
 
 const BATCH = {
   requests: [
@@ -108,6 +108,38 @@ test('returns a text longer than its documents', () => {
   const requests = Array.from({ length: 1000 }, (_, i) => ({ id: `r${i}`, method: 'get', url: 'X' }))
   const { response } = replay({ requests }, { outcomes: [{ id: 'r0', status: 500 }] }, { mode: 'stop', trace: true })
   assert.equal(JSON.parse(response).responses.filter(({ status }) => status === 424).length, 999)
+})
+
+test('returns what a command prints as JSON', () => {
+  const { accepted, text } = output('check', BATCH)
+  assert.deepEqual([accepted, text.toString()], [true, '{"groups":1,"requests":4}\n'])
+  const { requests } = JSON.parse(output('plan', BATCH, null, { form: 'json' }).text)
+  assert.deepEqual(requests[2], { group: 'lend', id: 'loan', level: 1, needs: ['book'] })
+  assert.deepEqual(JSON.parse(output('match', BATCH, RESPONSE).text).responses[1], { id: 'mark', status: 424 })
+  assert.deepEqual(JSON.parse(output('run', BATCH, EVENTS, { mode: 'stop', width: 2 }).text), RESPONSE)
+  assert.equal(output('canon', BATCH).text.toString(), `${canon(BATCH)}\n`)
+})
+
+test('returns what a command prints as lines', () => {
+  assert.equal(output('check', BATCH, null, { form: 'lines' }).text.toString(), 'ok 4 requests 1 groups\n')
+  const { text } = output('replay', BATCH, OUTCOMES, { form: 'lines', order: 'last', trace: true })
+  assert.match(text.toString(), /^start book\nreport book 200\nstart loan\nreport loan 409\n/)
+})
+
+test('returns a fault as a text', () => {
+  const { accepted, text } = output('run', BATCH, [{ step: 'start', id: 'book' }])
+  assert.equal(accepted, false)
+  assert.equal(text.toString(), '{"fault":{"code":"F66","name":"Unfinished","place":"events"}}\n')
+  assert.deepEqual(output('plan', '', null, { form: 'lines' }), { accepted: false, text: Buffer.from('fault F02 NotJson batch\n') })
+})
+
+test('refuses what a command does not take', () => {
+  for (const options of [{ form: 'xml' }, { form: 1 }, { width: 0 }, { mode: 'half' }, { order: 'middle' }]) {
+    assert.throws(() => output('replay', BATCH, OUTCOMES, options), RangeError)
+  }
+  assert.throws(() => output('explain', BATCH), RangeError)
+  assert.throws(() => output('check', BATCH, RESPONSE), TypeError)
+  for (const command of ['match', 'run', 'replay']) assert.throws(() => output(command, BATCH), TypeError)
 })
 
 test('throws the fault', () => {

@@ -16,6 +16,12 @@ Counts(requests=2, groups=0)
 ...     print(fault)
 F04 NoRequests batch
 
+:func:`output` has the text that a command prints, as JSON or as lines, for who passes it on:
+
+>>> from odb_batch import output
+>>> output("check", batch)
+Output(accepted=True, text=b'{"groups":0,"requests":2}\\n')
+
 A :class:`Run` is a live run, for who performs the requests: it says which of them may start now, takes what
 each is answered, and has the response in the end.
 
@@ -26,12 +32,14 @@ release the interpreter's lock while they work.
 
 from ._commands import (
     Counts,
+    Output,
     Plan,
     PlannedRequest,
     Replay,
     canon,
     check,
     match,
+    output,
     plan,
     replay,
     run,
@@ -46,6 +54,7 @@ __all__ = [
     "Document",
     "Events",
     "Fault",
+    "Output",
     "Plan",
     "PlannedRequest",
     "Refused",
@@ -57,6 +66,7 @@ __all__ = [
     "canon",
     "check",
     "match",
+    "output",
     "plan",
     "replay",
     "run",

@@ -8,6 +8,8 @@ from ._faults import fault_of
 
 MODES = {"continue": 0, "stop": 1}
 ORDERS = {"first": 0, "last": 1, "wide": 2}
+FORMS = {"lines": 0, "json": 1}
+COMMANDS = ("check", "plan", "canon", "match", "run", "replay")
 MAX_WIDTH = 10_000
 
 # How much longer than its documents a text is thought to be; a longer one takes a second call.
@@ -87,6 +89,18 @@ class Replay(NamedTuple):
     response: bytes
     steps: Tuple[Union[Start, Report], ...]
     undone: Tuple[str, ...]
+
+
+class Output(NamedTuple):
+    """What a command prints of its documents.
+
+    Attributes:
+        accepted: Whether the text is the result; else it is the fault of a document.
+        text: The text, with a newline at its end.
+    """
+
+    accepted: bool
+    text: bytes
 
 
 def _number(names: Dict[str, int], what: str, value: str) -> int:
@@ -242,3 +256,44 @@ def replay(
     """
     options = (*policy(mode, width), _number(ORDERS, "order", order), int(bool(trace)))
     return _traced(answer("odb_replay", batch, outcomes, options=options)[:-1].split(b"\n"))
+
+
+def output(
+    command: str,
+    batch: Document,
+    second: Optional[Events] = None,
+    *,
+    form: str = "json",
+    order: str = "first",
+    mode: str = "continue",
+    width: int = MAX_WIDTH,
+    trace: bool = False,
+) -> Output:
+    """Returns the text that a command prints, to be passed on: a fault is a text, too, and is not raised.
+
+    Args:
+        command: ``"check"``, ``"plan"``, ``"canon"``, ``"match"``, ``"run"`` or ``"replay"``.
+        batch: The batch.
+        second: The document that :func:`match`, :func:`run` or :func:`replay` takes beside the batch.
+        form: ``"json"`` for one line of JSON, as ``odb_batch --json`` prints, or ``"lines"``. A canonical
+            text, a response and a trace are the same in both.
+        order, mode, width, trace: The options of :func:`replay`, of which ``run`` takes mode and width.
+
+    Raises:
+        ValueError: The command, or an option that it takes, has a value that it may not have.
+        TypeError: The second document is missing, or there is one too many.
+        MemoryError: An allocation failed.
+    """
+    if command not in COMMANDS:
+        raise ValueError(f"command must be one of {', '.join(map(repr, COMMANDS))}, not {command!r}")
+    if (second is None) == (command in COMMANDS[3:]):
+        raise TypeError(f"{command} takes {'no second' if second is not None else 'a second'} document")
+    numbers: Tuple[int, ...] = policy(mode, width) if command in ("run", "replay") else ()
+    if command == "replay":
+        numbers = (*numbers, _number(ORDERS, "order", order), int(bool(trace)))
+    given = (bytes_of(batch),) if second is None else (bytes_of(batch), events_of(second))
+    options = (*numbers, _number(FORMS, "form", form))
+    status, text = _library.call(f"odb_{command}_as", given, options, sum(map(len, given)) + _MORE)
+    if status in (_library.DONE, _library.REFUSED):
+        return Output(status == _library.DONE, text)
+    raise failure_of(command, status)

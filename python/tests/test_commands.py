@@ -7,7 +7,7 @@ import unittest
 from unittest import mock
 
 import odb_batch
-from odb_batch import Counts, Fault, PlannedRequest, Report, Start, canon, check, match, plan, replay, run
+from odb_batch import Counts, Fault, PlannedRequest, Report, Start, canon, check, match, output, plan, replay, run
 
 BATCH = {
     "requests": [
@@ -107,6 +107,58 @@ class Commands(unittest.TestCase):
         outcomes = {"outcomes": [{"id": ids[0], "status": 500}]}
         found = replay(batch, outcomes, mode="stop", trace=True)
         self.assertEqual([it["status"] for it in json.loads(found.response)["responses"]], [500] + [424] * 999)
+
+
+class Outputs(unittest.TestCase):
+    def test_are_json(self):
+        accepted, text = output("check", BATCH)
+        self.assertTrue(accepted)
+        self.assertEqual(text, b'{"groups":1,"requests":4}\n')
+        planned = json.loads(output("plan", BATCH).text)["requests"]
+        self.assertEqual(planned[2], {"group": "lend", "id": "loan", "level": 1, "needs": ["book"]})
+        matched = json.loads(output("match", BATCH, RESPONSE).text)["responses"]
+        self.assertEqual(matched[1], {"id": "mark", "status": 424})
+
+    def test_are_lines(self):
+        self.assertEqual(output("check", BATCH, form="lines").text, b"ok 4 requests 1 groups\n")
+        text = output("replay", BATCH, OUTCOMES, form="lines", order="last", trace=True).text
+        self.assertTrue(text.startswith(b"start book\nreport book 200\nstart loan\nreport loan 409\n"))
+
+    def test_have_responses_and_canonical_texts_in_both_forms(self):
+        for form in ("json", "lines"):
+            with self.subTest(form=form):
+                self.assertEqual(output("canon", BATCH, form=form).text, canon(BATCH) + b"\n")
+                self.assertEqual(json.loads(output("run", BATCH, EVENTS, form=form, mode="stop", width=2).text), RESPONSE)
+                self.assertEqual(json.loads(output("replay", BATCH, OUTCOMES, form=form).text), RESPONSE)
+
+    def test_take_events_as_a_list(self):
+        accepted, text = output("run", BATCH, [Start("book")])
+        self.assertFalse(accepted)
+        self.assertEqual(text, b'{"fault":{"code":"F66","name":"Unfinished","place":"events"}}\n')
+
+    def test_are_faults(self):
+        accepted, text = output("match", BATCH, b"[")
+        self.assertFalse(accepted)
+        self.assertEqual(json.loads(text)["fault"], {"code": "F02", "name": "NotJson", "place": "responses"})
+        self.assertEqual(output("plan", "", form="lines"), (False, b"fault F02 NotJson batch\n"))
+
+    def test_refuse_wrong_options(self):
+        for options in ({"form": "xml"}, {"form": 1}, {"width": 0}, {"mode": "half"}, {"order": "middle"}):
+            with self.subTest(options=options), self.assertRaises(ValueError):
+                output("replay", BATCH, OUTCOMES, **options)
+        with self.assertRaises(ValueError):
+            output("explain", BATCH)
+
+    def test_take_the_documents_of_the_command(self):
+        with self.assertRaises(TypeError):
+            output("check", BATCH, RESPONSE)
+        for command in ("match", "run", "replay"):
+            with self.subTest(command=command), self.assertRaises(TypeError):
+                output(command, BATCH)
+
+    def test_run_out_of_memory(self):
+        with mock.patch("odb_batch._library.call", return_value=(4, b"")), self.assertRaises(MemoryError):
+            output("check", BATCH)
 
 
 class Refusals(unittest.TestCase):

@@ -1,5 +1,5 @@
 -- What is given to the caller is what an engine has found.
-use Rattle.std.proofs.Common.{◌≡◌, ℕ, List, Option, Some, None, IfSome, Result, Ok, Err, String, sym, subst}
+use Rattle.std.proofs.Common.{ℕ, List, Option, Some, None, IfSome, Result, Ok, Err, String, sym, subst}
 use Rattle.std.specs.declared.alloc.Global.{Global}
 use Rattle.odb_doc.specs.Refusals.{Printed, printed}
 use Rattle.odb_engine.specs.declared.ending.Ended.{Ended}

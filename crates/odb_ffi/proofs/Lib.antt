@@ -1,4 +1,5 @@
 mod ReturnLemmas
+mod FormLemmas
 mod AddressLemmas
 mod OutcomeLemmas
 mod AnswerLemmas

@@ -1,5 +1,6 @@
 -- What a call on a live run returns, and how the run changes.
-use Rattle.std.specs.Prelude.{◌≡◌, ◌≢◌, ◌<◌, ◌≤◌, ◌+◌, ◌⊎◌, ℕ, List, [], Option, Some, None, min, true, false}
+use Rattle.std.specs.Prelude.{◌≡◌, ◌≢◌, ◌<◌, ◌≤◌, ◌+◌, ℕ, List, [], Option, Some, None, min, true, false}
+use Rattle.std.specs.Str.{IsUtf8}
 use Rattle.serde_json.specs.Data.{Data}
 use Rattle.odb_doc.specs.declared.fault.DocFault.{DocFault}
 use Rattle.odb_doc.specs.declared.fault.DocFault.TheVariants as faults
@@ -14,13 +15,16 @@ use Rattle.odb_sched.specs.run.Answers.{undone}
 use Rattle.odb_sched.specs.run.State.{State, size, started, reported, without_requests}
 use Rattle.odb_engine.specs.Cascade as cascade
 use Rattle.odb_engine.specs.Live.{Opens, IsLeastOfOpening}
+use Rattle.odb_ffi.specs.declared.ids.Ids.{Ids}
 use Rattle.odb_ffi.specs.declared.session.Session.{Session}
+use Rattle.odb_ffi.specs.Ids.{AreIdsIn, at_id}
 use Rattle.odb_ffi.specs.Positions.{Are, GivesPositions}
 use Rattle.odb_ffi.specs.Returns.{IsOutOfMemory, IsWrongOption, Returns}
 
--- the run of the batch in a document after the events in another, with the document and the seed
+-- the run of the batch in a document after the events in another, with the document, its ids and the seed
 pub record IsOpened (policy : Policy) (batch events : List ℕ) (seed : ℕ) (session : Session) : Type 0 where
   pub document : session.document.items ≡ batch
+  pub ids : AreIdsIn batch session.ids
   pub of_seed : session.seed ≡ seed
   pub run : Opens policy batch events session.run
 
@@ -37,11 +41,11 @@ pub data OpeningBy (Names : Policy → Type 0) (NamesNone : Type 0) (batch event
 
 -- the session with its run in this state
 abbrev pub IsWith : Session → State → Session → Type 0
-IsWith old run new = (new.document ≡ old.document) × (new.seed ≡ old.seed) × (new.run ≡ run)
+IsWith old run new = (new.document ≡ old.document) × (new.ids ≡ old.ids) × (new.seed ≡ old.seed) × (new.run ≡ run)
 
 -- The run is as it was. It has no requests: it knows them by their positions alone.
 abbrev pub IsSame : Session → Session → Type 0
-IsSame old new = (new.document ≡ old.document) × (new.seed ≡ old.seed) × (without_requests new.run ≡ without_requests old.run)
+IsSame old new = (new.document ≡ old.document) × (new.ids ≡ old.ids) × (new.seed ≡ old.seed) × (without_requests new.run ≡ without_requests old.run)
 
 -- What a call returns that gives the undone positions of a run, from the last to the first: it gives them only of a finished
 -- run. Otherwise their number is 0, and the buffer is as it was.
@@ -49,6 +53,12 @@ pub data GivesUndone (run : State) (status count : ℕ) (old new : List ℕ) : T
   Undone : is_finished run ≡ true → GivesPositions (Are (undone run)) status count old new → GivesUndone run status count old new
   Unfinished : is_finished run ≡ false → status ≡ 1 → count ≡ 0 → new ≡ old → GivesUndone run status count old new
   OutOfMemory : is_finished run ≡ true → IsOutOfMemory status count old new → GivesUndone run status count old new
+
+-- What a call returns that looks for the request with an id: its position, or that there is none, and the place of the
+-- position is as it was.
+pub data GivesPosition (ids : Ids) (id : List ℕ) (status old new : ℕ) : Type 0 where
+  Found : at_id ids id ≡ Some new → status ≡ 0 → GivesPosition ids id status old new
+  NoRequest : (IsUtf8 id → at_id ids id ≡ None) → status ≡ 2 → new ≡ old → GivesPosition ids id status old new
 
 -- What the start of a request returns: 0 if it may come, and the run has gone on; the first cause against it, or that there
 -- is no such request, and nothing has changed.

@@ -1,8 +1,11 @@
 -- What a call from C returns, and what it leaves in the buffer of its caller.
 use Rattle.std.specs.Prelude.{◌≡◌, ◌<◌, ◌≤◌, ℕ, List, Some, ◌++◌, length, drop}
+use Rattle.odb_doc.specs.batch.Records.{Record}
 use Rattle.odb_engine.specs.declared.ending.Ended.{Ended}
 use Rattle.odb_engine.specs.declared.ending.Ended.TheVariants.{Done, Refused}
-use Rattle.odb_engine.specs.Cascade.{Writes}
+use Rattle.odb_engine.specs.declared.form.Form.{Form}
+use Rattle.odb_engine.specs.Cascade.{Writes, Answers}
+use Rattle.odb_engine.specs.Forms.{InForm}
 use Rattle.odb_engine.specs.Inputs.{SomeDocument}
 
 -- the status of an end
@@ -17,6 +20,10 @@ Is ended text ended₁ text₁ = (ended₁ ≡ ended) × (text₁ ≡ text)
 -- what a command writes of the document in these bytes
 abbrev pub WritesOf : List ℕ → (List ℕ → Writes) → Writes
 WritesOf bytes P ended text = SomeDocument (Some bytes) (λ document. P document ended text)
+
+-- the cascade of a command, in a form
+abbrev pub AnswersIn : Form → (List Record → Writes) → List ℕ → Writes
+AnswersIn form P bytes = InForm form (Answers P bytes)
 
 -- The whole text is at the start of the buffer, and its length is returned; the rest of the buffer is as it was.
 pub record IsWhole (P : Writes) (status text_length : ℕ) (old new : List ℕ) : Type 0 where

@@ -10,12 +10,13 @@ ghost use Rattle.odb_engine.specs.Matches.{Matches};
 ghost use Rattle.odb_engine.specs.Replays.{Replays};
 ghost use Rattle.odb_engine.specs.Runs.{Runs};
 ghost use Rattle.odb_ffi.specs.Options as options;
-ghost use Rattle.odb_ffi.specs.Returns.{Returns, ReturnsBy, WritesOf};
+ghost use Rattle.odb_ffi.specs.Returns.{AnswersIn, Returns, ReturnsBy, WritesOf};
 
 use crate::answer::{give, wrong_option};
 use crate::options::{ReplayOptions, policy_of, replay_options_of, setup_of};
 use crate::over_one::{checked, made_canonical, planned};
 use crate::over_two::{matched, ran, replayed};
+use odb_engine::Form;
 use odb_sched::Policy;
 use std::alloc::Global;
 
@@ -46,7 +47,11 @@ pub extern "C" fn odb_check(
     ensures { Returns (WritesOf batch.now (Answers commands.Counts))
         result text_length.new text.old text.new }
 {
-    give(checked(alloc, batch, setup_of(seed)), text, text_length)
+    give(
+        checked(alloc, batch, Form::Lines, setup_of(seed)),
+        text,
+        text_length,
+    )
 }
 
 /// Plans the batch in a document, as `odb_batch plan` does. The arguments and the status are those of
@@ -62,7 +67,11 @@ pub extern "C" fn odb_plan(
     ensures { Returns (WritesOf batch.now (Answers commands.Plans))
         result text_length.new text.old text.new }
 {
-    give(planned(alloc, batch, setup_of(seed)), text, text_length)
+    give(
+        planned(alloc, batch, Form::Lines, setup_of(seed)),
+        text,
+        text_length,
+    )
 }
 
 /// Makes the canonical text of the batch in a document, as `odb_batch canon` does. The arguments and
@@ -79,7 +88,7 @@ pub extern "C" fn odb_canon(
         result text_length.new text.old text.new }
 {
     give(
-        made_canonical(alloc, batch, setup_of(seed)),
+        made_canonical(alloc, batch, Form::Lines, setup_of(seed)),
         text,
         text_length,
     )
@@ -101,27 +110,28 @@ pub extern "C" fn odb_match(
         result text_length.new text.old text.new }
 {
     give(
-        matched(alloc, batch, responses, setup_of(seed)),
+        matched(alloc, batch, responses, Form::Lines, setup_of(seed)),
         text,
         text_length,
     )
 }
 
-/// Runs a batch under a policy.
-fn run_under(
+/// Runs a batch under a policy, and writes the text in a form.
+pub fn run_under(
     alloc: Global,
     batch: &[u8],
     events: &[u8],
     policy: Policy,
+    form: Form,
     text: &mut [u8],
     text_length: &mut usize,
     seed: u64,
 ) -> u32
-    ensures { Returns (WritesOf batch.now (Answers (Runs policy (Some events.now))))
+    ensures { Returns (WritesOf batch.now (AnswersIn form (Runs policy (Some events.now))))
         result text_length.new text.old text.new }
 {
     give(
-        ran(alloc, batch, events, policy, setup_of(seed)),
+        ran(alloc, batch, events, policy, form, setup_of(seed)),
         text,
         text_length,
     )
@@ -148,27 +158,37 @@ pub extern "C" fn odb_run(
         result text_length.new text.old text.new }
 {
     match policy_of(mode, width) {
-        Some(policy) => run_under(alloc, batch, events, policy, text, text_length, seed),
+        Some(policy) => run_under(
+            alloc,
+            batch,
+            events,
+            policy,
+            Form::Lines,
+            text,
+            text_length,
+            seed,
+        ),
         None => wrong_option(text_length),
     }
 }
 
-/// Replays a batch by these options.
-fn replay_by(
+/// Replays a batch by these options, and writes the text in a form.
+pub fn replay_by(
     alloc: Global,
     batch: &[u8],
     outcomes: &[u8],
     replay: ReplayOptions,
+    form: Form,
     text: &mut [u8],
     text_length: &mut usize,
     seed: u64,
 ) -> u32
-    ensures { Returns (WritesOf batch.now (Answers (Replays (AllowsOrder replay.order)
+    ensures { Returns (WritesOf batch.now (AnswersIn form (Replays (AllowsOrder replay.order)
         replay.policy replay.traced (Some outcomes.now))))
         result text_length.new text.old text.new }
 {
     give(
-        replayed(alloc, batch, outcomes, replay, setup_of(seed)),
+        replayed(alloc, batch, outcomes, replay, form, setup_of(seed)),
         text,
         text_length,
     )
@@ -198,7 +218,16 @@ pub extern "C" fn odb_replay(
         result text_length.new text.old text.new }
 {
     match replay_options_of(mode, width, order, trace) {
-        Some(replay) => replay_by(alloc, batch, outcomes, replay, text, text_length, seed),
+        Some(replay) => replay_by(
+            alloc,
+            batch,
+            outcomes,
+            replay,
+            Form::Lines,
+            text,
+            text_length,
+            seed,
+        ),
         None => wrong_option(text_length),
     }
 }

@@ -5,7 +5,7 @@ ghost use Rattle.odb_engine.specs.declared.disposal.Disposal.TheVariants.{Drop};
 ghost use Rattle.odb_ffi.specs.Options as options;
 
 use odb_check::Seed;
-use odb_engine::{Disposal, Setup};
+use odb_engine::{Disposal, Form, Setup};
 use odb_sched::{MAX_WIDTH, Mode, Order, Policy};
 
 /// The options of a replay.
@@ -54,6 +54,18 @@ pub fn policy_of(mode: u32, width: u32) -> Option<Policy>
         return None;
     }
     Policy::new(mode, width)
+}
+
+/// Returns the form that a number names, or `None` if it may not be.
+pub fn form_of(form: u32) -> Option<Form>
+    ensures some { IfSome result (options.IsForm form) }
+    ensures none { result ≡ None → options.NamesNoForm form }
+{
+    match form {
+        0 => Some(Form::Lines),
+        1 => Some(Form::Json),
+        _ => None,
+    }
 }
 
 /// Returns the order that a number names, or `None` if it may not be.

@@ -148,6 +148,18 @@ pub extern "C" fn odb_run_undone(
     run.session().undone(alloc, positions, count)
 }
 
+/// Looks for the request with an id.
+///
+/// Returns 0, and sets `position` to the position of the request; or 2 if there is none, and `position` is
+/// as it was. Takes O(m log n) for an id of m bytes among n requests.
+#[unsafe(no_mangle)]
+pub extern "C" fn odb_run_position(run: &mut Handle, id: &[u8], position: &mut u32) -> u32
+    ensures position { live.GivesPosition run.old.value.ids id.now result position.old position.new }
+    ensures same { run.new.value ≡ run.old.value }
+{
+    run.session().position(id, position)
+}
+
 /// Starts the request at a position.
 ///
 /// Returns 0; or, with the run as it was, from 11 to 15 for the first of the causes S1 to S5 that

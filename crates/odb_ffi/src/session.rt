@@ -1,4 +1,4 @@
-//! What a handle refers to: a live run and the bytes of its batch.
+//! What a handle refers to: a live run, and the bytes and the ids of its batch.
 
 ghost use Rattle.std.specs.Prelude.{◌≡◌, ◌<◌, ◌+◌, IfOk, IfErr, IfSome};
 ghost use Rattle.odb_dense.specs.Lists.{ListsOnce};
@@ -8,11 +8,13 @@ ghost use Rattle.odb_engine.specs.Live as engines;
 ghost use Rattle.odb_sched.specs.run.Steps.{report_number};
 ghost use Rattle.odb_sched.specs.run.State as state;
 ghost use Rattle.odb_sched.specs.run.Steps as steps;
+ghost use Rattle.odb_ffi.specs.Ids.{AreIdsIn};
 ghost use Rattle.odb_ffi.specs.Live as live;
 ghost use Rattle.odb_ffi.specs.Options as options;
 ghost use Rattle.odb_ffi.specs.Positions.{GivesPositions};
 
 use crate::answer::{Answer, answer_of};
+use crate::ids::Ids;
 use crate::options::seed_of;
 use crate::outcome::{NoOutcome, outcome_of};
 use crate::positions::give_positions;
@@ -22,10 +24,11 @@ use odb_engine::{Halt, open_run, text_of_run};
 use odb_sched::{OwnedRun, Policy, ReportRefusal};
 use std::alloc::Global;
 
-/// A run that a caller drives, with the document of its batch.
+/// A run that a caller drives, with the document of its batch and the ids in it.
 #[derive(Drop)]
 pub struct Session {
     pub(crate) document: Vec<u8>,
+    pub(crate) ids: Ids,
     pub(crate) seed: u64,
     pub(crate) run: OwnedRun,
 }
@@ -35,6 +38,17 @@ fn status_of(refused: (ReportRefusal, Outcome)) -> u32
     ensures { result ≡ 20 + report_number refused.0 }
 {
     status::of_report(refused.0)
+}
+
+/// Returns what a session keeps of the document of its batch; `None` if an allocation fails.
+fn kept_of(alloc: Global, batch: &[u8]) -> Option<(Vec<u8>, Ids)>
+    ensures { IfSome result (λ kept. (kept.0.items ≡ batch.now) × AreIdsIn batch.now kept.1) }
+{
+    let ids = Ids::in_document(alloc, batch)?;
+    match batch.to_vec(alloc) {
+        Ok(document) => Some((document, ids)),
+        Err(_) => None,
+    }
 }
 
 impl Session {
@@ -54,13 +68,14 @@ impl Session {
             Ok(run) => run,
             Err(halt) => return Err(halt),
         };
-        match batch.to_vec(alloc) {
-            Ok(document) => Ok(Session {
+        match kept_of(alloc, batch) {
+            Some((document, ids)) => Ok(Session {
                 document,
+                ids,
                 seed,
                 run,
             }),
-            Err(_) => Err(Halt::OutOfMemory),
+            None => Err(Halt::OutOfMemory),
         }
     }
 
@@ -92,6 +107,19 @@ impl Session {
         match self.run.undone(alloc) {
             Ok(found) => give_positions(&found, positions, count),
             Err(_) => status::OUT_OF_MEMORY,
+        }
+    }
+
+    /// Sets `position` to that of the request with an id, if there is one.
+    pub fn position(&self, id: &[u8], position: &mut u32) -> u32
+        ensures { live.GivesPosition self.now.ids id.now result position.old position.new }
+    {
+        match self.ids.position_of(id) {
+            Some(found) => {
+                *position = found;
+                status::DONE
+            }
+            None => status::WRONG_OPTION,
         }
     }
 

@@ -1,4 +1,3 @@
-use Rattle.std.proofs.Common.{refl}
 use Rattle.odb_ffi.specs.Live.OpeningBy.{Named}
 use Rattle.odb_ffi.proofs.run_exports.odb_run_open.Goals as goal
 

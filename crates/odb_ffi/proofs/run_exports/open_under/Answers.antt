@@ -1,4 +1,4 @@
-use Rattle.std.proofs.Common.{Err, refl}
+use Rattle.std.proofs.Common.{refl}
 use Rattle.odb_engine.specs.Cascade.{Reports}
 use Rattle.odb_engine.specs.Live.{IsLeastOfOpening}
 use Rattle.odb_ffi.specs.Live.Opening.{Opened, NotOpened}

@@ -4,21 +4,20 @@ use seplogic.Ra.Ura.{Ura}
 use base.Fraction.{full_share}
 use mir.Syntax.{named}
 use mir.Val.{Val, vptr}
-use base.Logic.{SProp, ent, sep, emp, id⊢}
+use base.Logic.{SProp, ent, sep, id⊢}
 use base.Fml.{Lft, GName, Share, Fml, ftrue, fsep, flft}
-use prog.Wp.{Env, WpFn, Calls, Loops}
+use prog.Wp.{Env}
 use types.Logic.{Logic, sem}
-use types.Kit.{‵, raw, ◌⊛◌, some, later, at_ret, ◌$◌, ◌∵◌, !, qed, by, move, keep, drop, use1, split, join, pick, fsplit, fsplit3, fjoin, fpack, suffices, frame, await, group, rewrite, done}
+use types.Kit.{‵, raw, ◌⊛◌, some, later, at_ret, ◌$◌, ◌∵◌, !, qed, move, keep, drop, use1, split, join, pick, fsplit, fsplit3, fjoin, fpack, suffices, frame, await, group, rewrite, done}
 use types.Part.{whole, sub, look_in}
 use types.Run.{stop, fld, load, of_opd, first, blocks, exec, returns, enter, addr}
 use types.ByLocal.{alloc_all, pass_all, free_all, look_at, get, through, sets, sets_last, env}
-use contract.Monad.{fact}
 use contract.Running.{tables}
 use denote.RattleType.{RattleType, owns}
 use denote.Memory.{part_at, mem, cell_at, part_of, lone}
 use denote.RawPtr.{Ptr, block_ptr}
 use denote.Ref.{MutRef, MutBor, mut_vals, mut_Tells}
-use denote.Signature.{types_at, plain, mut_ref_to}
+use denote.Signature.{plain, mut_ref_to}
 use denote.Steps.{nothing, opens}
 use denote.Follow.{follows, Part, lends_Part}
 use denote.Triple.Walked.{says, Stays, stay_dropped, walk_of, ends_at, Goes-spent_ref}
@@ -30,7 +29,7 @@ use Rattle.std.proofs.alloc.Global.TheLaws as global_laws
 use Rattle.odb_ffi.specs.declared.session.Session.{Session}
 use Rattle.odb_ffi.specs.declared.handle.Handle.{Handle}
 use Rattle.odb_ffi.specs.Handles.{with_session}
-use Rattle.odb_ffi.proofs.AddressLemmas.{word, word_good, apart, together}
+use Rattle.odb_ffi.proofs.AddressLemmas.{word, apart, together}
 use Rattle.std.specs.contracts.impls.GlobalAllocator.TheImpl.{ghosts}
 use Rattle.odb_ffi.specs.contracts.handle.Handle as handle
 use Rattle.odb_ffi.specs.contracts.session.Session as session
