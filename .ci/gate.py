@@ -4,11 +4,11 @@ The parts are `rt ci` (the proofs, the tests, the must-fail edits), the version 
 it, the places that each fault has, the questions that the edits say they ask, the commands of pages
 against the output that they show, the faults of docs/faults.md against the program, the worked cases, the
 manual page and the completions against the help, documents that are cut and documents as long as the
-program takes, random documents against plain rules, results and documents against the schemas of
-docs/schemas/, the library for other languages and its bindings, the example service, the tool that judges
-services, the archive of a release, allocations that fail, names that crowd the tables of one seed, and the
-short form of the benchmark, which compares answers and judges no time. The exit status is 0 where all of
-them pass.
+program takes, random documents against plain rules, drawings against plans, results and documents against
+the schemas of docs/schemas/, the library for other languages and its bindings, the example service, the
+tool that judges services, the archive of a release, allocations that fail, names that crowd the tables of
+one seed, and the short form of the benchmark, which compares answers and judges no time. The exit status is
+0 where all of them pass.
 
 The processor time of a part is what the system reports of its processes once they have ended. Those of
 `rt ci` do three kinds of work, so they are watched while they run.
@@ -39,6 +39,7 @@ PARTS = [
     ("documents as long as it takes", "tests sizes"),
     ("random documents", "tests fuzz --mistakes"),
     ("commands against each other", "tests agree"),
+    ("drawings of plans", "tests drawings"),
     ("documents against their schemas", "tests schemas"),
     ("library for other languages", "library/run.py"),
     ("the example service", "examples/service/tests"),
