@@ -79,7 +79,9 @@ pub enum Task<'a> {
         form: Form,
     },
     /// Draw the plan of the batch in the file.
-    Draw { file: &'a str },
+    Draw {
+        file: &'a str,
+    },
     /// Print the canonical text of the batch in the file.
     Canon {
         file: &'a str,
