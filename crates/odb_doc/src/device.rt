@@ -1,7 +1,7 @@
 //! Readers and writers that may fail, and a limit on the calls of a reader.
 
 ghost use Rattle.std.specs.Prelude.{◌≡◌, ◌+◌, ◌<◌, ◌≤◌, ◌↔◌, [], false, length, IsTrue, IsErr, IfOk, OnOk, OnErr};
-ghost use Rattle.std.specs.Io.KnownBytes.{Appends, ReadConsumes, WriteAppends};
+ghost use Rattle.std.specs.Io.KnownBytes.{Appends, Keeps, ReadConsumes, WriteAppends};
 ghost use Rattle.odb_doc.specs.Devices.{AppendsPrefix};
 
 use std::io::{Read, Write};
@@ -171,6 +171,22 @@ impl<W: Write> Output<W> {
         while !rest.is_empty() {
             let count = self.put(rest)?;
             rest = &rest[count..];
+        }
+        Ok(())
+    }
+    /// Passes on what the writer holds back.
+    ///
+    /// # Errors
+    ///
+    /// `DeviceFault` if and only if the writer fails to pass it on. Nothing new was written then.
+    pub fn flush(&mut self) -> Result<(), DeviceFault>
+        requires { self.old.failed ≡ false }
+        ensures fault { IsErr result ↔ IsTrue self.new.failed }
+        ensures bytes { Keeps (W.contents self.old.writer) (W.contents self.new.writer) }
+    {
+        self.failed = self.writer.flush().is_err();
+        if self.failed {
+            return Err(DeviceFault);
         }
         Ok(())
     }
