@@ -313,16 +313,19 @@ fn main() {
             raise Skipped("java 22 is not installed")
         os.makedirs(self.path("java"), exist_ok=True)
         self.write("java/Odb.java", block("java"))
+        self.write("java/OdbRun.java", block("java", 1))
         self.write(
             "java/Page.java",
             "class Page { public static void main(String[] args) throws Throwable {\n"
-            '  System.out.print(new String(Odb.check("{\\"requests\\":[{\\"id\\":\\"a\\",\\"method\\":\\"get\\",'
-            '\\"url\\":\\"Books\\"}]}".getBytes(), 7)));\n'
+            '  byte[] batch = "{\\"requests\\":[{\\"id\\":\\"a\\",\\"method\\":\\"get\\",\\"url\\":\\"Books\\"}]}".getBytes();\n'
+            "  System.out.print(new String(Odb.check(batch, 7)));\n"
+            "  System.out.print(new String(OdbRun.answer(batch, 128, 7)));\n"
             "} }\n",
         )
-        run("javac", "-d", self.path("java"), self.path("java/Odb.java"), self.path("java/Page.java"))
+        sources = [self.path(f"java/{name}.java") for name in ("Odb", "OdbRun", "Page")]
+        run("javac", "-d", self.path("java"), *sources)
         java = ["java", "--enable-native-access=ALL-UNNAMED", "-cp", self.path("java")]
-        run(*java, "Page", wanted=ONE, env=self.variables)
+        run(*java, "Page", wanted=ONE + ANSWERED, env=self.variables)
 
     def page_in_csharp(self):
         need("dotnet")

@@ -48,5 +48,5 @@ AreOneRecord = IsOneKind outcome_faults.outcome_row RefusesOutcomes IsOutcomesDo
 pub replays_one : (order : Order) → ((recorded : List (Option Outcome)) (first : State) → HasOrder order recorded first) → AreOneRecord
     → (policy : Policy) (traced : Bool) (outcomes : List ℕ) (batch : List Record) → IsOne (Replays (AllowsOrder order) policy traced (Some outcomes) batch)
 replays_one order courses law policy traced outcomes batch = some_document_one outcomes (ReplaysBatch (AllowsOrder order) policy traced batch) (λ bytes.
-    second_one places.Outcomes outcome_faults.outcome_row RefusesOutcomes IsOutcomesDocument AreOutcomesOf law bytes (ReplaysEntries (AllowsOrder order) policy traced batch)
+    second_one outcome_faults.outcome_row RefusesOutcomes IsOutcomesDocument AreOutcomesOf law places.Outcomes bytes (ReplaysEntries (AllowsOrder order) policy traced batch)
     (λ entries. one_replay order policy traced batch entries (courses (recorded_for batch entries) (first_state batch policy))))

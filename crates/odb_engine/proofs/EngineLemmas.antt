@@ -6,13 +6,14 @@ use Rattle.std.proofs.lemmas.Result.{err_from_is_err_and, IfOk-weaker}
 use Rattle.std.specs.declared.alloc.Global.{Global}
 use Rattle.serde_json.specs.Data.{Data}
 use Rattle.odb_doc.specs.Devices.{Writing}
-use Rattle.odb_doc.specs.declared.fault.Place.TheVariants.{Batch}
+use Rattle.odb_doc.specs.declared.fault.Place.{Place}
 use Rattle.odb_doc.specs.declared.fault.DocFault.{DocFault}
 use Rattle.odb_doc.specs.Documents.{IsDocument}
 use Rattle.odb_doc.specs.Faults.{document_row}
 use Rattle.odb_doc.specs.Refusals as refusals
 use Rattle.odb_doc.specs.batch.LeastFault.{IsWellShaped, IsLeastFault}
 use Rattle.odb_doc.specs.batch.Records.{Record, IsBatchOf}
+use Rattle.odb_check.specs.LeastNameFault.{HasGoodNames}
 use Rattle.odb_engine.specs.declared.ending.Ended.{Ended}
 use Rattle.odb_engine.specs.declared.ending.Ended.TheVariants.{Done, Refused}
 use Rattle.odb_engine.specs.declared.ending.EngineFault.{EngineFault}
@@ -22,8 +23,7 @@ use Rattle.odb_engine.specs.declared.halt.Halt.{Halt}
 use Rattle.odb_engine.specs.declared.halt.Halt.TheVariants as halts
 use Rattle.odb_engine.specs.Inputs.{most_read, GivesDocument, SomeDocument}
 use Rattle.odb_doc.specs.Refusals.{Printed}
-use Rattle.odb_engine.specs.Cascade.{Writes, Prints, line_of, Reports, RefusesBytes, IsLeast, Answers}
-use Rattle.odb_engine.specs.Cascade.IsLeast.{OfBytes, OfPlanGraph, OfNames}
+use Rattle.odb_engine.specs.Cascade.{Writes, Prints, line_of, Reports, RefusesBytes, AcceptsValue, AnswersValue, HasFault, IsLeastOfBatch, OfDocument}
 use Rattle.odb_engine.specs.Engines.{Ends, WritesPrefix}
 use Rattle.odb_engine.specs.declared.form.Form.{Form}
 use Rattle.odb_engine.specs.declared.form.Form.TheVariants.{Lines, Json}
@@ -86,26 +86,41 @@ unread-value left Q Is read r is =
     unrefused Is reads.Read = tt
     unrefused Is reads.OutOfMemory = tt
 
--- the bytes of the batch document are refused
-pub halt-bytes : (P : List Record → Writes) (bytes : List ℕ) (halt : Halt) → Halted (RefusesBytes Batch bytes) halt → Refuses (Answers P bytes) halt
-halt-bytes P bytes = Halted-weaker (RefusesBytes Batch bytes) (λ refusal. Answers P bytes Refused (line_of refusal))
-    (λ refusal refused. inl (reports (IsLeast bytes) refusal (OfBytes refused)))
+-- the value of a document at a place is written so
+pub of-value : (place : Place) (P : Data → Writes) (bytes : List ℕ) (value : Data) → IsDocument bytes value → (ended : Ended) (text : List ℕ) → P value ended text → OfDocument place P bytes ended text
+of-value place P bytes value is ended text so = inr (record { value = value; document = is; holds = so })
 
--- its value has a fault of shape
-pub halt-shape : (P : List Record → Writes) (bytes : List ℕ) (fault : DocFault) (value : Data) → IsDocument bytes value → IsLeastFault fault value
-    → (halt : Halt) → HaltsBy (document_row fault) halt → Refuses (Answers P bytes) halt
-halt-shape P bytes fault value is_document least = halted-by (λ refusal. Answers P bytes Refused (line_of refusal)) _
-    (λ refusal row. inl (reports (IsLeast bytes) refusal (OfPlanGraph fault (record { value = value; document = is_document; holds = least }) row)))
+-- the bytes of a document are refused
+pub halt-document : (place : Place) (P : Data → Writes) (bytes : List ℕ) (halt : Halt) → Halted (RefusesBytes place bytes) halt → Refuses (OfDocument place P bytes) halt
+halt-document place P bytes = Halted-weaker (RefusesBytes place bytes) (λ refusal. OfDocument place P bytes Refused (line_of refusal))
+    (λ refusal refused. inl (reports (RefusesBytes place bytes) refusal refused))
+
+-- a value has a fault
+pub halt-fault : {F : Type 0} (Refused-by : F → Data → Type 0) (row : F → Option Printed) (P : Writes) (value : Data) → ((refusal : Printed) → HasFault Refused-by row value refusal → P Refused (line_of refusal))
+    → (fault : F) → Refused-by fault value → (halt : Halt) → HaltsBy (row fault) halt → Refuses P halt
+halt-fault Refused-by row P value writes fault refuses = halted-by (λ refusal. P Refused (line_of refusal)) _ (λ refusal is. writes refusal (record { fault = fault; refuses = refuses; is = is }))
+
+-- the value of a batch document has a fault of shape
+pub halt-shape : (P : List Record → Writes) (value : Data) (fault : DocFault) → IsLeastFault fault value → (halt : Halt) → HaltsBy (document_row fault) halt → Refuses (AnswersValue P value) halt
+halt-shape P value fault least = halt-fault IsLeastFault document_row (AnswersValue P value) value (λ refusal is. inl (reports (IsLeastOfBatch value) refusal (inl is))) fault least
 
 -- the names of its requests have a fault
-pub halt-names : (P : List Record → Writes) (bytes : List ℕ) (value : Data) (batch : List Record) → IsDocument bytes value → IsWellShaped value → IsBatchOf value batch
-    → (halt : Halt) → Halted (RefusesNamesOf batch) halt → Refuses (Answers P bytes) halt
-halt-names P bytes value batch is_document plan_graph is_batch = Halted-weaker (RefusesNamesOf batch) (λ refusal. Answers P bytes Refused (line_of refusal))
-    (λ refusal refuses. inl (reports (IsLeast bytes) refusal (OfNames refuses.fault (record { value = value; document = is_document; holds = record { batch = batch; plan_graph = plan_graph; is_batch = is_batch; holds = refuses.refuses } }) refuses.is)))
+pub halt-names : (P : List Record → Writes) (value : Data) (batch : List Record) → IsWellShaped value → IsBatchOf value batch → (halt : Halt) → Halted (RefusesNamesOf batch) halt → Refuses (AnswersValue P value) halt
+halt-names P value batch plan_graph is_batch = Halted-weaker (RefusesNamesOf batch) (λ refusal. AnswersValue P value Refused (line_of refusal))
+    (λ refusal refuses. inl (reports (IsLeastOfBatch value) refusal (inr (record { fault = refuses.fault; refuses = record { batch = batch; plan_graph = plan_graph; is_batch = is_batch; holds = refuses.refuses }; is = refuses.is }))))
+
+-- the value is a batch that the check accepts
+pub accepted-value : (value : Data) (batch planned : List Record) (P : List Record → Type 0) → IsWellShaped value → IsBatchOf value batch → HasGoodNames batch → planned ≡ batch → P planned → AcceptsValue value P
+accepted-value value batch planned P plan_graph is_batch names same so = record { batch = batch; plan_graph = plan_graph; is_batch = is_batch; holds = (names, subst P same so) }
 
 -- what may be written in less cases may be written
 pub Refuses-weaker : (P Q : Writes) (halt : Halt) → ((ended : Ended) (text : List ℕ) → P ended text → Q ended text) → Refuses P halt → Refuses Q halt
 Refuses-weaker P Q halt to = Halted-weaker (λ refusal. P Refused (line_of refusal)) (λ refusal. Q Refused (line_of refusal)) (λ refusal. to Refused (line_of refusal)) halt
+
+-- what may be found in less cases may be found
+pub found-weaker : (P Q : Writes) (found : FoundText) → ((ended : Ended) (text : List ℕ) → P ended text → Q ended text) → Found P found → Found Q found
+found-weaker P Q (Ok text) to so = to Done (string_bytes text) so
+found-weaker P Q (Err halt) to so = Refuses-weaker P Q halt to so
 
 prefix-weaker : (P Q : Writes) (old new : Option (List ℕ)) → ((ended : Ended) (text : List ℕ) → P ended text → Q ended text) → WritesPrefix old new P → WritesPrefix old new Q
 prefix-weaker P Q old new to part = record { ended = part.ended; text = part.text; so = to part.ended part.text part.so; written = part.written }

@@ -15,9 +15,9 @@ use Rattle.odb_doc.specs.batch.Records.{Record, IsBatchOf}
 use Rattle.odb_check.specs.declared.fault.CheckFault.{CheckFault}
 use Rattle.odb_check.specs.FaultTable.{check_row}
 use Rattle.odb_check.specs.LeastNameFault.{HasGoodNames, RefusesNames}
-use Rattle.odb_engine.specs.Cascade.{IsOne, Writes, line_of, RefusesBytes, IsLeast, Accepts, Answers, HasValue, at_place}
+use Rattle.odb_engine.specs.declared.ending.Ended.{Ended}
+use Rattle.odb_engine.specs.Cascade.{IsOne, Writes, line_of, RefusesBytes, Accepts, AcceptsValue, Answers, AnswersValue, HasValue, IsLeastOfBatch, OfDocument, at_place}
 use Rattle.odb_doc.specs.Refusals.{Printed}
-use Rattle.odb_engine.specs.Cascade.IsLeast.{OfBytes, OfPlanGraph, OfNames}
 
 -- the laws of the lower crates on their own relations
 pub record AreFunctional : Type 0 where
@@ -75,46 +75,53 @@ pub refused_no_value : (place : Place) (bytes : List ℕ) (refusal : Printed) (P
 refused_no_value place bytes refusal P refused has =
     no_value bytes refused.fault has.value (bytes_cause place bytes refusal refused) has.document
 
+-- ---- a document, and the value of a batch document
+
+-- one text is written of a document, if one is of its value
+pub document_one : (place : Place) (P : Data → Writes) (bytes : List ℕ) → ((value : Data) → IsOne (P value)) → IsOne (OfDocument place P bytes)
+document_one place P bytes one a b s t (inl x) (inl y) = (x.ends ∙ sym y.ends, x.line ∙ ap line_of (one_refusal place bytes x.refusal y.refusal x.is y.is) ∙ sym y.line)
+document_one place P bytes one a b s t (inl x) (inr y) = absurd (refused_no_value place bytes x.refusal (λ value. P value b t) x.is y)
+document_one place P bytes one a b s t (inr x) (inl y) = absurd (refused_no_value place bytes y.refusal (λ value. P value a s) y.is x)
+document_one place P bytes one a b s t (inr x) (inr y) =
+    one y.value a b s t (subst (λ value. P value a s) (one_value bytes x.value y.value x.document y.document) x.holds) y.holds
+
+least_one : AreFunctional → (value : Data) (s t : Printed) → IsLeastOfBatch value s → IsLeastOfBatch value t → s ≡ t
+least_one law value s t (inl one) (inl two) =
+    same_Some s t (sym one.is ∙ ap document_row (law.one_plan_graph value one.fault two.fault (ap is_some one.is) (ap is_some two.is) one.refuses two.refuses) ∙ two.is)
+least_one law value s t (inl one) (inr two) = absurd (law.no_plan_graph value one.fault (ap is_some one.is) one.refuses two.refuses.plan_graph)
+least_one law value s t (inr one) (inl two) = absurd (law.no_plan_graph value two.fault (ap is_some two.is) two.refuses one.refuses.plan_graph)
+least_one law value s t (inr one) (inr two) =
+    let same = law.one_batch value _ _ one.refuses.is_batch two.refuses.is_batch in
+    same_Some s t (sym one.is ∙ ap check_row (law.one_name two.refuses.batch one.fault two.fault (ap is_some one.is) (ap is_some two.is) (subst (RefusesNames one.fault) same one.refuses.holds) two.refuses.holds) ∙ two.is)
+
+least_not_value : AreFunctional → (value : Data) (P : List Record → Type 0) (refusal : Printed) → IsLeastOfBatch value refusal → AcceptsValue value P → ⊥
+least_not_value law value P refusal (inl one) is = law.no_plan_graph value one.fault (ap is_some one.is) one.refuses is.plan_graph
+least_not_value law value P refusal (inr one) is =
+    law.no_name is.batch one.fault (ap is_some one.is) (subst (RefusesNames one.fault) (law.one_batch value _ _ one.refuses.is_batch is.is_batch) one.refuses.holds) is.holds.0
+
+value_one : AreFunctional → (P : List Record → Writes) → ((batch : List Record) → HasGoodNames batch → IsOne (P batch)) → (value : Data) → IsOne (AnswersValue P value)
+value_one law P one value a b s t (inl x) (inl y) = (x.ends ∙ sym y.ends, x.line ∙ ap line_of (least_one law value x.refusal y.refusal x.is y.is) ∙ sym y.line)
+value_one law P one value a b s t (inl x) (inr y) = absurd (least_not_value law value (λ batch. P batch b t) x.refusal x.is y)
+value_one law P one value a b s t (inr x) (inl y) = absurd (least_not_value law value (λ batch. P batch a s) y.refusal y.is x)
+value_one law P one value a b s t (inr x) (inr y) =
+    one y.batch y.holds.0 a b s t (subst (λ xs. P xs a s) (law.one_batch value _ _ x.is_batch y.is_batch) x.holds.1) y.holds.1
+
 -- ---- the cascade
-
-least_one : AreFunctional → (bytes : List ℕ) (s t : Printed) → IsLeast bytes s → IsLeast bytes t → s ≡ t
-least_one law bytes s t (OfBytes one) (OfBytes two) = one_refusal Batch bytes s t one two
-least_one law bytes s t (OfBytes one) (OfPlanGraph g has d) = absurd (refused_no_value Batch bytes s (IsLeastFault g) one has)
-least_one law bytes s t (OfBytes one) (OfNames g has d) = absurd (refused_no_value Batch bytes s _ one has)
-least_one law bytes s t (OfPlanGraph f has e) (OfBytes two) = absurd (refused_no_value Batch bytes t (IsLeastFault f) two has)
-least_one law bytes s t (OfPlanGraph f has e) (OfPlanGraph g had d) =
-    same_Some s t (sym e ∙ ap document_row (law.one_plan_graph had.value f g (ap is_some e) (ap is_some d) (subst (IsLeastFault f) (one_value bytes has.value had.value has.document had.document) has.holds) had.holds) ∙ d)
-least_one law bytes s t (OfPlanGraph f has e) (OfNames g had d) =
-    absurd (law.no_plan_graph had.value f (ap is_some e) (subst (IsLeastFault f) (one_value bytes has.value had.value has.document had.document) has.holds) had.holds.plan_graph)
-least_one law bytes s t (OfNames f has e) (OfBytes two) = absurd (refused_no_value Batch bytes t _ two has)
-least_one law bytes s t (OfNames f has e) (OfPlanGraph g had d) =
-    absurd (law.no_plan_graph has.value g (ap is_some d) (subst (IsLeastFault g) (one_value bytes had.value has.value had.document has.document) had.holds) has.holds.plan_graph)
-least_one law bytes s t (OfNames f has e) (OfNames g had d) =
-    let same = one_value bytes has.value had.value has.document had.document in
-    let is_batch = subst (λ v. IsBatchOf v has.holds.batch) same has.holds.is_batch in
-    same_Some s t (sym e ∙ ap check_row (law.one_name had.holds.batch f g (ap is_some e) (ap is_some d) (subst (RefusesNames f) (law.one_batch had.value _ _ is_batch had.holds.is_batch) has.holds.holds) had.holds.holds) ∙ d)
-
-least_not : AreFunctional → (bytes : List ℕ) (P : List Record → Type 0) (refusal : Printed) → IsLeast bytes refusal → Accepts bytes P → ⊥
-least_not law bytes P refusal (OfBytes one) is =
-    no_value bytes one.fault is.value (bytes_cause Batch bytes refusal one) is.document
-least_not law bytes P refusal (OfPlanGraph f has e) is =
-    law.no_plan_graph is.value f (ap is_some e) (subst (IsLeastFault f) (one_value bytes has.value is.value has.document is.document) has.holds) is.plan_graph
-least_not law bytes P refusal (OfNames f has e) is =
-    let same = one_value bytes has.value is.value has.document is.document in
-    let is_batch = subst (λ v. IsBatchOf v has.holds.batch) same has.holds.is_batch in
-    law.no_name is.batch f (ap is_some e) (subst (RefusesNames f) (law.one_batch is.value _ _ is_batch is.is_batch) has.holds.holds) is.names
-
--- two readings of a batch that is accepted have the same requests
-same_batch : AreFunctional → (bytes : List ℕ) (P Q : List Record → Type 0) → (one : Accepts bytes P) (two : Accepts bytes Q) → one.batch ≡ two.batch
-same_batch law bytes P Q one two =
-    law.one_batch two.value one.batch two.batch (subst (λ v. IsBatchOf v one.batch) (one_value bytes one.value two.value one.document two.document) one.is_batch) two.is_batch
 
 -- one text is written of a document, if one is of each batch whose names are good
 pub answers_one : AreFunctional → (P : List Record → Writes) (bytes : List ℕ) → ((batch : List Record) → HasGoodNames batch → IsOne (P batch)) → IsOne (Answers P bytes)
-answers_one law P bytes one a b s t (inl x) (inl y) =
-    let same = least_one law bytes x.refusal y.refusal x.is y.is in
-    (x.ends ∙ sym y.ends, x.line ∙ ap line_of same ∙ sym y.line)
-answers_one law P bytes one a b s t (inl x) (inr y) = absurd (least_not law bytes (λ batch. P batch b t) x.refusal x.is y)
-answers_one law P bytes one a b s t (inr x) (inl y) = absurd (least_not law bytes (λ batch. P batch a s) y.refusal y.is x)
-answers_one law P bytes one a b s t (inr x) (inr y) =
-    one y.batch y.names a b s t (subst (λ xs. P xs a s) (same_batch law bytes (λ batch. P batch a s) (λ batch. P batch b t) x y) x.holds) y.holds
+answers_one law P bytes one = document_one Batch (AnswersValue P) bytes (value_one law P one)
+
+-- two readings of a batch that is accepted have the same requests
+pub same_batch : AreFunctional → (bytes : List ℕ) (P Q : List Record → Type 0) → (one : Accepts bytes P) (two : Accepts bytes Q) → one.holds.batch ≡ two.holds.batch
+same_batch law bytes P Q one two =
+    law.one_batch two.value _ _ (subst (λ v. IsBatchOf v one.holds.batch) (one_value bytes one.value two.value one.document two.document) one.holds.is_batch) two.holds.is_batch
+
+-- what is written of a batch that is accepted is what P writes of its requests
+pub answers_accepted : AreFunctional → (P : List Record → Writes) (Q : List Record → Type 0) (bytes : List ℕ) (ended : Ended) (text : List ℕ) → Accepts bytes Q → Answers P bytes ended text → Accepts bytes (λ batch. P batch ended text)
+answers_accepted law P Q bytes ended text is (inl x) = absurd (refused_no_value Batch bytes x.refusal (λ value. AcceptsValue value Q) x.is is)
+answers_accepted law P Q bytes ended text is (inr y) = at y.holds
+  where
+    at : AnswersValue P y.value ended text → Accepts bytes (λ batch. P batch ended text)
+    at (inl x) = absurd (least_not_value law y.value Q x.refusal x.is (subst (λ v. AcceptsValue v Q) (one_value bytes is.value y.value is.document y.document) is.holds))
+    at (inr so) = record { value = y.value; document = y.document; holds = so }

@@ -15,6 +15,8 @@ mod MatchLemmas
 mod CanonLawLemmas
 mod MatchLawLemmas
 mod LiveLemmas
+mod IdLemmas
+mod LiveLawLemmas
 mod ResultLemmas
 mod PlanLemmas
 mod DrawingLemmas

@@ -1,5 +1,5 @@
 -- Runs that go on after recorded events.
-use Rattle.std.proofs.Common.{◌≡◌, ℕ, List, Some, Result, Ok, Err, IfOk, IfErr, String, string_bytes, true, inl, inr, refl, subst}
+use Rattle.std.proofs.Common.{◌≡◌, ℕ, List, Some, Result, Ok, Err, IfOk, IfErr, String, string_bytes, true, inl, inr, refl}
 use Rattle.std.specs.declared.alloc.Global.{Global}
 use Rattle.serde_json.specs.Data.{Data}
 use Rattle.odb_doc.specs.declared.fault.DocFault.{DocFault}
@@ -24,18 +24,16 @@ use Rattle.odb_sched.specs.run.Runs.{Refuses}
 use Rattle.odb_sched.specs.run.State.{State, first_state}
 use Rattle.odb_sched.specs.run.Steps.{is_finished}
 use Rattle.odb_reply.specs.NotWhole.{IsFirstNotWhole}
-use Rattle.odb_engine.specs.declared.ending.Ended.{Ended}
-use Rattle.odb_engine.specs.declared.ending.Ended.TheVariants.{Done, Refused}
+use Rattle.odb_engine.specs.declared.ending.Ended.TheVariants.{Refused}
 use Rattle.odb_engine.specs.declared.halt.Halt.{Halt}
-use Rattle.odb_engine.specs.Cascade.{Accepts, IsLeast, Writes, line_of}
-use Rattle.odb_engine.specs.Cascade.IsLeast.{OfPlanGraph, OfNames}
+use Rattle.odb_engine.specs.Cascade.{Accepts, IsLeast, line_of}
 use Rattle.odb_engine.specs.Halts.{Found, Halted, RefusesNamesOf}
 use Rattle.odb_engine.specs.Lines.{response_line}
 use Rattle.odb_engine.specs.Live.{IsLeastAfter, IsLeastOfState, ShowsState}
 use Rattle.odb_engine.specs.Live.IsLeastAfter.{OfIds, OfEvent}
 use Rattle.odb_engine.specs.Live.IsLeastOfState.{OfBody}
 use Rattle.odb_engine.specs.Runs.{AreEventsIn, AreResolved}
-use Rattle.odb_engine.proofs.EngineLemmas.{Halted-weaker, Refuses-weaker, reports}
+use Rattle.odb_engine.proofs.EngineLemmas.{Halted-weaker, accepted-value, reports}
 
 -- an event that names no request
 pub unknown-after : (policy : Policy) (batch : List Record) (bytes : List ℕ) (named : List EventValue) → AreEventsIn bytes named → (cause : ResolveFault) → RefusesNamed cause batch named
@@ -65,22 +63,13 @@ found-of state (Err halt) finished is least =
 -- the batch that was read is accepted
 pub accepted : (bytes : List ℕ) (value : Data) (batch planned : List Record) (P : List Record → Type 0) → IsDocument bytes value → IsWellShaped value → IsBatchOf value batch → HasGoodNames batch
     → planned ≡ batch → P planned → Accepts bytes P
-accepted bytes value batch planned P is plan_graph is_batch names same so = record { value = value; document = is; plan_graph = plan_graph; batch = batch; is_batch = is_batch; names = names; holds = subst P same so }
+accepted bytes value batch planned P is plan_graph is_batch names same so = record { value = value; document = is; holds = accepted-value value batch planned P plan_graph is_batch names same so }
 
 -- a fault of the shape of a batch document
 pub least-shape : (bytes : List ℕ) (fault : DocFault) (value : Data) → IsDocument bytes value → IsLeastFault fault value → (shown : Printed) → document_row fault ≡ Some shown → IsLeast bytes shown
-least-shape bytes fault value is least shown row = OfPlanGraph fault (record { value = value; document = is; holds = least }) row
+least-shape bytes fault value is least shown row = inr (record { value = value; document = is; holds = inl (record { fault = fault; refuses = least; is = row }) })
 
 -- a fault of the names of its requests
 pub least-names : (bytes : List ℕ) (value : Data) (batch : List Record) → IsDocument bytes value → IsWellShaped value → IsBatchOf value batch → (shown : Printed) → RefusesNamesOf batch shown → IsLeast bytes shown
 least-names bytes value batch is plan_graph is_batch shown refuses =
-    OfNames refuses.fault (record { value = value; document = is; holds = record { batch = batch; plan_graph = plan_graph; is_batch = is_batch; holds = refuses.refuses } }) refuses.is
-
-pub if-error : {T E : Type 0} (r : Result T E) (P Q : E → Type 0) → ((error : E) → P error → Q error) → IfErr r P → IfErr r Q
-if-error (Ok value) P Q to so = tt
-if-error (Err error) P Q to so = to error so
-
--- what may be found in less cases may be found
-pub found-weaker : (P Q : Writes) (found : Result (String Global) Halt) → ((ended : Ended) (text : List ℕ) → P ended text → Q ended text) → Found P found → Found Q found
-found-weaker P Q (Ok text) to so = to Done (string_bytes text) so
-found-weaker P Q (Err halt) to so = Refuses-weaker P Q halt to so
+    inr (record { value = value; document = is; holds = inr (record { fault = refuses.fault; refuses = record { batch = batch; plan_graph = plan_graph; is_batch = is_batch; holds = refuses.refuses }; is = refuses.is }) })

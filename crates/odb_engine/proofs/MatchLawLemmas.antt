@@ -43,8 +43,8 @@ entries_one law form batch entries a b s t (inr x) (inr y) =
     (x.prints.0 ∙ sym y.prints.0, x.prints.1 ∙ ap (match_text form batch) same.1 ∙ sym y.prints.1)
 
 pub matches_one : AreOneMatch → (form : Form) (batch : List Record) (bytes : List ℕ) → IsOne (MatchesIn form batch bytes)
-matches_one law form batch bytes = second_one places.Responses response_documents.responses_row RefusesResponses IsResponseDocument (λ value. AllZip ReadsAs (responses_in value))
-    (record { one_fault = law.one_fault; no_fault = law.no_fault; one_reading = λ value. law.one_list (responses_in value) }) bytes (MatchesEntries form batch) (entries_one law form batch)
+matches_one law form batch bytes = second_one response_documents.responses_row RefusesResponses IsResponseDocument (λ value. AllZip ReadsAs (responses_in value))
+    (record { one_fault = law.one_fault; no_fault = law.no_fault; one_reading = λ value. law.one_list (responses_in value) }) places.Responses bytes (MatchesEntries form batch) (entries_one law form batch)
 
 -- also by the reader of a response document
 pub match_one : AreOneMatch → (form : Form) (responses : List ℕ) (batch : List Record) → IsOne (BySecond (Some responses) (MatchesIn form) batch)

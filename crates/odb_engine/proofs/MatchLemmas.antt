@@ -1,7 +1,6 @@
 -- The lines of a match while they are made, and its exits.
 use Rattle.std.proofs.Common.{◌≡◌, ℕ, zero, suc, ◌≤◌, List, [], ◌∷◌, ◌++◌, length, drop, Some, slice_get, inl, inr, refl, arith}
 use Rattle.serde_json.specs.Data.{Data}
-use Rattle.odb_doc.specs.Documents.{IsDocument}
 use Rattle.odb_doc.specs.batch.Records.{Record}
 use Rattle.odb_reply.specs.declared.match_fault.MatchFault.{MatchFault}
 use Rattle.odb_reply.specs.declared.response_fault.ResponseFault.{ResponseFault}
@@ -14,9 +13,8 @@ use Rattle.odb_engine.specs.declared.form.Form.{Form}
 use Rattle.odb_engine.specs.declared.halt.Halt.{Halt}
 use Rattle.odb_engine.specs.Cascade.{line_of}
 use Rattle.odb_engine.specs.Halts.{Refuses, HaltsBy}
-use Rattle.odb_engine.specs.Matches.{IsLeastOfResponses, Lists, MatchesIn, Misfits, status_line, status_lines}
-use Rattle.odb_engine.specs.Cascade.IsLeastOf.{OfValue}
-use Rattle.odb_engine.proofs.EngineLemmas.{reports, halted-by}
+use Rattle.odb_engine.specs.Matches.{IsFaultOfResponses, Lists, MatchesValue, Misfits, status_line, status_lines}
+use Rattle.odb_engine.proofs.EngineLemmas.{reports, halted-by, halt-fault}
 
 -- the lines from a position on
 pub lines_left : List Record → List ℕ → ℕ → List ℕ
@@ -57,13 +55,11 @@ lines_left-none rs ss i past = none rs ss i past
 -- ---- the exits of a match
 
 -- the response document has a fault
-pub halt-responses : (form : Form) (batch : List Record) (bytes : List ℕ) (fault : ResponseFault) (value : Data) → IsDocument bytes value → RefusesResponses fault value
-    → (halt : Halt) → HaltsBy (response_documents.responses_row fault) halt → Refuses (MatchesIn form batch bytes) halt
-halt-responses form batch bytes fault value is_document least = halted-by (λ refusal. MatchesIn form batch bytes Refused (line_of refusal)) _
-    (λ refusal row. inl (reports (IsLeastOfResponses bytes) refusal (OfValue fault (record { value = value; document = is_document; holds = least }) row)))
+pub halt-responses : (form : Form) (batch : List Record) (value : Data) (fault : ResponseFault) → RefusesResponses fault value → (halt : Halt) → HaltsBy (response_documents.responses_row fault) halt → Refuses (MatchesValue form batch value) halt
+halt-responses form batch value fault least = halt-fault RefusesResponses response_documents.responses_row (MatchesValue form batch value) value (λ refusal is. inl (reports (IsFaultOfResponses value) refusal is)) fault least
 
 -- the responses do not fit the batch
-pub halt-match : (form : Form) (batch : List Record) (bytes : List ℕ) (entries : List Entry) (fault : MatchFault) → Lists bytes entries → RefusesMatch fault batch entries
-    → (halt : Halt) → HaltsBy (match_faults.match_row fault) halt → Refuses (MatchesIn form batch bytes) halt
-halt-match form batch bytes entries fault lists least = halted-by (λ refusal. MatchesIn form batch bytes Refused (line_of refusal)) _
+pub halt-match : (form : Form) (batch : List Record) (value : Data) (entries : List Entry) (fault : MatchFault) → Lists value entries → RefusesMatch fault batch entries
+    → (halt : Halt) → HaltsBy (match_faults.match_row fault) halt → Refuses (MatchesValue form batch value) halt
+halt-match form batch value entries fault lists least = halted-by (λ refusal. MatchesValue form batch value Refused (line_of refusal)) _
     (λ refusal row. inr (entries, lists, inl (reports (Misfits batch entries) refusal (record { fault = fault; least = least; is = row }))))

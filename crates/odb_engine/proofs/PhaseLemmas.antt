@@ -11,7 +11,7 @@ use Rattle.odb_engine.specs.declared.form.Form.{Form}
 use Rattle.odb_engine.specs.Forms.{InForm}
 use Rattle.odb_engine.specs.Inputs.{AskedFor, ReadsBatch}
 use Rattle.odb_engine.specs.Halts.{Sent, text_found}
-use Rattle.odb_engine.proofs.EngineLemmas.{Ends-weaker, answered, halt_in}
+use Rattle.odb_engine.proofs.EngineLemmas.{Ends-weaker, InForm-weaker, Refuses-weaker, answered, halt_in}
 
 -- a phase that halts has written nothing, so the output works
 pub Sent-works : {W : Type 0} (contents : W → Option (List ℕ)) (form : Form) (P : Writes) (F : Type 0) (old new : Writing W) (sent : Result (Result Ended EngineFault) Halt) → old.failed ≡ false → Sent contents form P F old new sent
@@ -65,3 +65,13 @@ pub Ends-of-two : {R S W : Type 0} (remaining : R → Option (List ℕ)) (conten
 Ends-of-two remaining contents form P first read bytes second asked old mid new sent result is reads unasked works failed ended halted =
     let (by_ok, by_halt) = read-of-two sent read.failed second asked failed (good-read remaining first read bytes sent reads) works unasked in
     (Ends-concluded contents form P _ _ old mid new sent result is ended halted by_ok by_halt, asked-for remaining first read bytes second asked sent reads unasked)
+
+-- what may be written in less cases may be sent
+pub Sent-weaker : {W : Type 0} (contents : W → Option (List ℕ)) (form : Form) (P Q : Writes) (F : Type 0) (old new : Writing W) (sent : Result (Result Ended EngineFault) Halt) → ((ended : Ended) (text : List ℕ) → P ended text → Q ended text)
+    → Sent contents form P F old new sent → Sent contents form Q F old new sent
+Sent-weaker contents form P Q F old new (Ok result) to sent = Ends-weaker contents (InForm form P) (InForm form Q) F F old new result (InForm-weaker form P Q to) (λ f. f, λ f. f) sent
+Sent-weaker contents form P Q F old new (Err halt) to (same, refuses) = (same, Refuses-weaker P Q halt to refuses)
+
+pub OnOk-weaker : {T E : Type 0} (r : Result T E) (P Q : Type 0) → (P → Q) → OnOk r P → OnOk r Q
+OnOk-weaker (Ok x) P Q to so = to so
+OnOk-weaker (Err error) P Q to so = tt

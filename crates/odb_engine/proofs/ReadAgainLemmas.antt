@@ -11,10 +11,10 @@ use Rattle.odb_sched.specs.declared.chooser.Order.{Order}
 use Rattle.odb_sched.specs.declared.policy.Policy.{Policy}
 use Rattle.odb_sched.specs.run.Choosing.{AllowsOrder}
 use Rattle.odb_engine.specs.declared.ending.Ended.TheVariants.{Done}
-use Rattle.odb_engine.specs.Cascade.{Writes, Accepts, Answers}
+use Rattle.odb_engine.specs.Cascade.{Writes, Accepts, AcceptsValue, Answers, AnswersValue}
 use Rattle.odb_engine.specs.ReadAgain.{IsReadAgain}
-use Rattle.odb_engine.specs.Replays.{Replays}
-use Rattle.odb_engine.specs.Runs.{Runs}
+use Rattle.odb_engine.specs.Replays.{Replays, ReplaysValue}
+use Rattle.odb_engine.specs.Runs.{Runs, RunsValue}
 
 -- the laws of odb_doc on what is read from a text, and on what documents record
 pub record AreReadings : Type 0 where
@@ -23,26 +23,38 @@ pub record AreReadings : Type 0 where
   pub outcomes : (value : Data) (entries : List Recorded) → IsHeld value → depth value ≤ 127 → AreOutcomesOf value entries → All (λ (entry : Recorded). IsRecordable entry.1) entries
   pub events : (value : Data) (events : List EventValue) → IsHeld value → depth value ≤ 127 → AreEventsOf value events → All IsRecordableEvent events
 
--- a result is written of a batch that is accepted
+-- a result is written of a value, and of a batch that is accepted
+value-done : (P : List Record → Writes) (Q : List Record → Type 0) (value : Data) (text : List ℕ) → ((batch : List Record) → P batch Done text → Q batch) → AnswersValue P value Done text → AcceptsValue value Q
+value-done P Q value text so (inl x) = absurd (cc (x.ends))
+value-done P Q value text so (inr x) = record { batch = x.batch; plan_graph = x.plan_graph; is_batch = x.is_batch; holds = (x.holds.0, so x.batch x.holds.1) }
+
 answers-done : (P : List Record → Writes) (Q : List Record → Type 0) (bytes text : List ℕ) → ((batch : List Record) → P batch Done text → Q batch) → Answers P bytes Done text → Accepts bytes Q
 answers-done P Q bytes text so (inl x) = absurd (cc (x.ends))
-answers-done P Q bytes text so (inr x) = record { value = x.value; document = x.document; plan_graph = x.plan_graph; batch = x.batch; is_batch = x.is_batch; names = x.names; holds = so x.batch x.holds }
+answers-done P Q bytes text so (inr x) = record { value = x.value; document = x.document; holds = value-done P Q x.value text so x.holds }
 
 replays-again : AreReadings → (order : Order) (policy : Policy) (outcomes text : List ℕ) (batch : List Record) → Replays (AllowsOrder order) policy false (Some outcomes) batch Done text → IsReadAgain batch text
 replays-again law order policy outcomes text batch (document, gives, inl x) = absurd (cc (x.ends))
-replays-again law order policy outcomes text batch (document, gives, inr (entries, is, inl result)) =
-    let reads = is.document.1.1 in
-    let recordable = law.outcomes is.value entries (law.held document is.value reads) (law.nests document is.value reads) is.holds.1 in
-    subst (IsReadAgain batch) (sym result.result) (result.read_again recordable)
-replays-again law order policy outcomes text batch (document, gives, inr (entries, is, inr lacks)) = absurd (cc (lacks.ends))
+replays-again law order policy outcomes text batch (document, gives, inr has) = at has.holds
+  where
+    at : ReplaysValue (AllowsOrder order) policy false batch has.value Done text → IsReadAgain batch text
+    at (inl x) = absurd (cc (x.ends))
+    at (inr (entries, is, inl result)) =
+        let reads = has.document.1.1 in
+        let recordable = law.outcomes has.value entries (law.held document has.value reads) (law.nests document has.value reads) is.1 in
+        subst (IsReadAgain batch) (sym result.result) (result.read_again recordable)
+    at (inr (entries, is, inr lacks)) = absurd (cc (lacks.ends))
 
 runs-again : AreReadings → (policy : Policy) (events text : List ℕ) (batch : List Record) → Runs policy (Some events) batch Done text → IsReadAgain batch text
 runs-again law policy events text batch (document, gives, inl x) = absurd (cc (x.ends))
-runs-again law policy events text batch (document, gives, inr (named, is, inl x)) = absurd (cc (x.ends))
-runs-again law policy events text batch (document, gives, inr (named, is, inr result)) =
-    let reads = is.document.1.1 in
-    let recordable = law.events is.value named (law.held document is.value reads) (law.nests document is.value reads) is.holds.1 in
-    subst (IsReadAgain batch) (sym result.result) (result.read_again recordable)
+runs-again law policy events text batch (document, gives, inr has) = at has.holds
+  where
+    at : RunsValue policy batch has.value Done text → IsReadAgain batch text
+    at (inl x) = absurd (cc (x.ends))
+    at (inr (named, is, inl x)) = absurd (cc (x.ends))
+    at (inr (named, is, inr result)) =
+        let reads = has.document.1.1 in
+        let recordable = law.events has.value named (law.held document has.value reads) (law.nests document has.value reads) is.1 in
+        subst (IsReadAgain batch) (sym result.result) (result.read_again recordable)
 
 pub replay-again : AreReadings → (order : Order) (policy : Policy) (bytes outcomes text : List ℕ) → Answers (Replays (AllowsOrder order) policy false (Some outcomes)) bytes Done text → Accepts bytes (λ batch. IsReadAgain batch text)
 replay-again law order policy bytes outcomes text = answers-done (Replays (AllowsOrder order) policy false (Some outcomes)) (λ batch. IsReadAgain batch text) bytes text (replays-again law order policy outcomes text)

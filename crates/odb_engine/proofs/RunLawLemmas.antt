@@ -72,7 +72,7 @@ known-one batch (named.Start id) (event.Report i o) is = absurd is
 known-one batch (named.Report id o) (event.Start i) is = absurd is
 known-one batch (named.Report id o) (event.Report i p) is = (i, is.0)
 
-not-unknown : (batch : List Record) (ns : List EventValue) (es : List Event) (at : ℕ) → AllZip (IsResolved batch) ns es → IsSomeAnd (slice_get ns at) (λ n. ¬ IsKnown batch n) → ⊥
+pub not-unknown : (batch : List Record) (ns : List EventValue) (es : List Event) (at : ℕ) → AllZip (IsResolved batch) ns es → IsSomeAnd (slice_get ns at) (λ n. ¬ IsKnown batch n) → ⊥
 not-unknown batch [] es zero all un = un
 not-unknown batch [] es (suc at) all un = un
 not-unknown batch (n ∷ ns) [] at all un = absurd all
@@ -110,7 +110,7 @@ may-come : (state : State) (xs : List Event) (e : Event) (later : List Event) �
 may-come state [] e later run = run.1
 may-come state (x ∷ xs) e later run = may-come (after state x) xs e later run.2
 
-not-stopped : (state : State) (events : List Event) (cause : RunRefusal) → StopsAt state events cause → IsRunFrom state events → ⊥
+pub not-stopped : (state : State) (events : List Event) (cause : RunRefusal) → StopsAt state events cause → IsRunFrom state events → ⊥
 not-stopped state events cause x run = both_ways _ x.barred (may-come state x.before x.event x.later (subst (IsRunFrom state) x.whole run))
 
 -- ---- what is written of a batch
@@ -119,7 +119,7 @@ module _ (causes : HaveOneCause) (policy : Policy) (batch : List Record) (good :
   abbrev first : State
   first = first_state batch policy
 
-  same-events : (es fs : List Event) → AreResolved batch ns es → AreResolved batch ns fs → es ≡ fs
+  pub same-events : (es fs : List Event) → AreResolved batch ns es → AreResolved batch ns fs → es ≡ fs
   same-events es fs a b = one-list batch good ns es fs a b
 
   one-least : (a b : Printed) → IsLeastOfRun policy batch ns a → IsLeastOfRun policy batch ns b → a ≡ b
@@ -156,4 +156,4 @@ AreOneHistory = IsOneKind event_faults.event_row RefusesEvents IsEventsDocument 
 -- a batch and the reader of events have one text
 pub runs_one : HaveOneCause → AreOneHistory → (policy : Policy) (events : List ℕ) (batch : List Record) → HasGoodNames batch → IsOne (Runs policy (Some events) batch)
 runs_one causes law policy events batch good = some_document_one events (RunsBatch policy batch) (λ bytes.
-    second_one places.Events event_faults.event_row RefusesEvents IsEventsDocument AreEventsOf law bytes (RunsEvents policy batch) (one-run causes policy batch good))
+    second_one event_faults.event_row RefusesEvents IsEventsDocument AreEventsOf law places.Events bytes (RunsEvents policy batch) (one-run causes policy batch good))

@@ -6,10 +6,9 @@ use Rattle.std.proofs.Math.Seq.{take-append_seam}
 use Rattle.serde_json.specs.Data.{Data}
 use Rattle.odb_doc.specs.declared.fault.Place.{Place}
 use Rattle.odb_doc.specs.Refusals.{Printed}
-use Rattle.odb_engine.specs.Cascade.{Writes, HasValue, IsLeastOf, Reports, line_of, IsOne}
-use Rattle.odb_engine.specs.Cascade.IsLeastOf.{OfBytes, OfValue}
+use Rattle.odb_engine.specs.Cascade.{Writes, HasFault, HasValue, OfDocument, Reports, line_of, IsOne}
 use Rattle.odb_engine.specs.Inputs.{IsDocumentOf, SomeDocument}
-use Rattle.odb_engine.proofs.LawLemmas.{one_refusal, one_value, refused_no_value}
+use Rattle.odb_engine.proofs.LawLemmas.{document_one, one_value}
 
 -- ---- one document of a reader
 
@@ -38,33 +37,32 @@ pub record IsOneKind {F X : Type 0} (row : F → Option Printed) (Refuses : F �
   pub no_fault : (value : Data) (fault : F) → IsSome (row fault) → Refuses fault value → ¬ IsGood value
   pub one_reading : (value : Data) (x y : X) → Reads value x → Reads value y → x ≡ y
 
-module _ {F X : Type 0} (place : Place) (row : F → Option Printed) (Refuses : F → Data → Type 0) (IsGood : Data → Type 0) (Reads : Data → X → Type 0) (law : IsOneKind row Refuses IsGood Reads) where
-  abbrev IsFaulty : List ℕ → Printed → Type 0
-  IsFaulty = IsLeastOf place Refuses row
+module _ {F X : Type 0} (row : F → Option Printed) (Refuses : F → Data → Type 0) (IsGood : Data → Type 0) (Reads : Data → X → Type 0) (law : IsOneKind row Refuses IsGood Reads) where
+  abbrev IsReadAs : Data → X → Type 0
+  IsReadAs value x = IsGood value × Reads value x
 
-  abbrev IsReadAs : List ℕ → X → Type 0
-  IsReadAs bytes x = HasValue bytes (λ value. IsGood value × Reads value x)
+  -- what is written of a value, by what it reads as
+  abbrev ByReading : (X → Writes) → Data → Writes
+  ByReading W value ended text = Reports (HasFault Refuses row value) ended text ⊎ ((x : X) × IsReadAs value x × W x ended text)
 
-  least_one : (bytes : List ℕ) (s t : Printed) → IsFaulty bytes s → IsFaulty bytes t → s ≡ t
-  least_one bytes s t (OfBytes one) (OfBytes two) = one_refusal place bytes s t one two
-  least_one bytes s t (OfBytes one) (OfValue g has d) = absurd (refused_no_value place bytes s (Refuses g) one has)
-  least_one bytes s t (OfValue f has e) (OfBytes two) = absurd (refused_no_value place bytes t (Refuses f) two has)
-  least_one bytes s t (OfValue f has e) (OfValue g had d) =
-      same_Some s t (sym e ∙ ap row (law.one_fault had.value f g (ap is_some e) (ap is_some d) (subst (Refuses f) (one_value bytes has.value had.value has.document had.document) has.holds) had.holds) ∙ d)
+  least_one : (value : Data) (s t : Printed) → HasFault Refuses row value s → HasFault Refuses row value t → s ≡ t
+  least_one value s t one two = same_Some s t (sym one.is ∙ ap row (law.one_fault value one.fault two.fault (ap is_some one.is) (ap is_some two.is) one.refuses two.refuses) ∙ two.is)
 
-  least_not : (bytes : List ℕ) (x : X) (refusal : Printed) → IsFaulty bytes refusal → ¬ IsReadAs bytes x
-  least_not bytes x refusal (OfBytes one) is = refused_no_value place bytes refusal _ one is
-  least_not bytes x refusal (OfValue f has e) is =
-      law.no_fault is.value f (ap is_some e) (subst (Refuses f) (one_value bytes has.value is.value has.document is.document) has.holds) is.holds.0
+  pub least_not : (value : Data) (x : X) (refusal : Printed) → HasFault Refuses row value refusal → ¬ IsReadAs value x
+  least_not value x refusal one is = law.no_fault value one.fault (ap is_some one.is) one.refuses is.0
 
-  one_reading : (bytes : List ℕ) (x y : X) → IsReadAs bytes x → IsReadAs bytes y → x ≡ y
+  -- one text is written of a value, if one is by each reading
+  pub reading_one : (W : X → Writes) → ((x : X) → IsOne (W x)) → (value : Data) → IsOne (ByReading W value)
+  reading_one W one value a b s t (inl x) (inl y) = (x.ends ∙ sym y.ends, x.line ∙ ap line_of (least_one value x.refusal y.refusal x.is y.is) ∙ sym y.line)
+  reading_one W one value a b s t (inl x) (inr (other, is, so)) = absurd (least_not value other x.refusal x.is is)
+  reading_one W one value a b s t (inr (reading, is, so)) (inl y) = absurd (least_not value reading y.refusal y.is is)
+  reading_one W one value a b s t (inr (reading, is, so)) (inr (other, too, also)) =
+      one other a b s t (subst (λ x. W x a s) (law.one_reading value reading other is.1 too.1) so) also
+
+  pub second_one : (place : Place) (bytes : List ℕ) (W : X → Writes) → ((x : X) → IsOne (W x)) → IsOne (OfDocument place (ByReading W) bytes)
+  second_one place bytes W one = document_one place (ByReading W) bytes (reading_one W one)
+
+  -- two readings of the bytes of a document are equal
+  pub one_reading : (bytes : List ℕ) (x y : X) → HasValue bytes (λ value. IsReadAs value x) → HasValue bytes (λ value. IsReadAs value y) → x ≡ y
   one_reading bytes x y one two =
       law.one_reading two.value x y (subst (λ value. Reads value x) (one_value bytes one.value two.value one.document two.document) one.holds.1) two.holds.1
-
-  -- one text is written by a document, if one is by each reading
-  pub second_one : (bytes : List ℕ) (W : X → Writes) → ((x : X) → IsOne (W x)) → IsOne (λ ended text. Reports (IsFaulty bytes) ended text ⊎ ((x : X) × IsReadAs bytes x × W x ended text))
-  second_one bytes W one a b s t (inl x) (inl y) = (x.ends ∙ sym y.ends, x.line ∙ ap line_of (least_one bytes x.refusal y.refusal x.is y.is) ∙ sym y.line)
-  second_one bytes W one a b s t (inl x) (inr (other, is, so)) = absurd (least_not bytes other x.refusal x.is is)
-  second_one bytes W one a b s t (inr (reading, is, so)) (inl y) = absurd (least_not bytes reading y.refusal y.is is)
-  second_one bytes W one a b s t (inr (reading, is, so)) (inr (other, too, also)) =
-      one other a b s t (subst (λ x. W x a s) (one_reading bytes reading other is too) so) also

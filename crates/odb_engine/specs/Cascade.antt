@@ -43,11 +43,26 @@ pub record HasValue (bytes : List ℕ) (P : Data → Type 0) : Type 0 where
   pub document : IsDocument bytes value
   pub holds : P value
 
--- The least fault of a document: of its bytes, with this place, or else of its value. `Refuses` says which fault a value
--- has, and `row` what is printed of it.
-pub data IsLeastOf {F : Type 0} (place : Place) (Refuses : F → Data → Type 0) (row : F → Option Printed) (bytes : List ℕ) (refusal : Printed) : Type 0 where
-  OfBytes : RefusesBytes place bytes refusal → IsLeastOf place Refuses row bytes refusal
-  OfValue : (fault : F) → HasValue bytes (Refuses fault) → row fault ≡ Some refusal → IsLeastOf place Refuses row bytes refusal
+-- the line of such a fault
+pub record Reports (Is : Printed → Type 0) (ended : Ended) (text : List ℕ) : Type 0 where
+  pub refusal : Printed
+  pub is : Is refusal
+  pub ends : ended ≡ Refused
+  pub line : text ≡ line_of refusal
+
+-- what is written of the document at a place: the line of the fault of its bytes, or what P writes of its value
+abbrev pub OfDocument : Place → (Data → Writes) → List ℕ → Writes
+OfDocument place P bytes ended text = Reports (RefusesBytes place bytes) ended text ⊎ HasValue bytes (λ value. P value ended text)
+
+-- the value has a fault that is printed so
+pub record HasFault {F : Type 0} (Refuses : F → Data → Type 0) (row : F → Option Printed) (value : Data) (refusal : Printed) : Type 0 where
+  pub fault : F
+  pub refuses : Refuses fault value
+  pub is : row fault ≡ Some refusal
+
+-- the least fault of a document: of its bytes, or else of its value
+abbrev pub IsLeastOf : Place → (Data → Printed → Type 0) → List ℕ → Printed → Type 0
+IsLeastOf place Is bytes refusal = RefusesBytes place bytes refusal ⊎ HasValue bytes (λ value. Is value refusal)
 
 -- the value has no fault of shape, and its requests have this property
 pub record HasBatch (value : Data) (P : List Record → Type 0) : Type 0 where
@@ -56,32 +71,33 @@ pub record HasBatch (value : Data) (P : List Record → Type 0) : Type 0 where
   pub is_batch : IsBatchOf value batch
   pub holds : P batch
 
--- The least fault of a batch document: of its bytes, or else of the shape of its value, or else of the names of its requests.
-pub data IsLeast (bytes : List ℕ) (refusal : Printed) : Type 0 where
-  OfBytes : RefusesBytes Batch bytes refusal → IsLeast bytes refusal
-  OfPlanGraph : (fault : DocFault) → HasValue bytes (IsLeastFault fault) → document_row fault ≡ Some refusal → IsLeast bytes refusal
-  OfNames : (fault : CheckFault) → HasValue bytes (λ value. HasBatch value (RefusesNames fault)) → check_row fault ≡ Some refusal → IsLeast bytes refusal
+-- the names of its requests have this fault
+abbrev pub RefusesBatch : CheckFault → Data → Type 0
+RefusesBatch fault value = HasBatch value (RefusesNames fault)
+
+-- the least fault of the value of a batch document: of its shape, or else of the names of its requests
+abbrev pub IsLeastOfBatch : Data → Printed → Type 0
+IsLeastOfBatch value refusal = HasFault IsLeastFault document_row value refusal ⊎ HasFault RefusesBatch check_row value refusal
+
+-- the value is a batch that the check accepts, and its requests have this property
+abbrev pub AcceptsValue : Data → (List Record → Type 0) → Type 0
+AcceptsValue value P = HasBatch value (λ batch. HasGoodNames batch × P batch)
+
+-- the cascade of every command: the line of the least fault of the batch, or what P writes of its requests
+abbrev pub AnswersValue : (List Record → Writes) → Data → Writes
+AnswersValue P value ended text = Reports (IsLeastOfBatch value) ended text ⊎ AcceptsValue value (λ batch. P batch ended text)
+
+-- the same of the bytes of a batch document
+abbrev pub Answers : (List Record → Writes) → List ℕ → Writes
+Answers P = OfDocument Batch (AnswersValue P)
+
+-- the least fault of the bytes of a batch document
+abbrev pub IsLeast : List ℕ → Printed → Type 0
+IsLeast = IsLeastOf Batch IsLeastOfBatch
 
 -- the bytes are a batch that the check accepts, and its requests have this property
-pub record Accepts (bytes : List ℕ) (P : List Record → Type 0) : Type 0 where
-  pub value : Data
-  pub document : IsDocument bytes value
-  pub plan_graph : IsWellShaped value
-  pub batch : List Record
-  pub is_batch : IsBatchOf value batch
-  pub names : HasGoodNames batch
-  pub holds : P batch
-
--- the line of such a fault
-pub record Reports (Is : Printed → Type 0) (ended : Ended) (text : List ℕ) : Type 0 where
-  pub refusal : Printed
-  pub is : Is refusal
-  pub ends : ended ≡ Refused
-  pub line : text ≡ line_of refusal
-
--- The cascade of every command: the line of the least fault of the batch document, or what P writes of its requests.
-abbrev pub Answers : (List Record → Writes) → List ℕ → Writes
-Answers P bytes ended text = Reports (IsLeast bytes) ended text ⊎ Accepts bytes (λ batch. P batch ended text)
+abbrev pub Accepts : List ℕ → (List Record → Type 0) → Type 0
+Accepts bytes P = HasValue bytes (λ value. AcceptsValue value P)
 
 -- two texts that may be written are equal, and so are the ends
 abbrev pub IsOne : Writes → Type 0

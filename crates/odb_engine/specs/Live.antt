@@ -1,5 +1,5 @@
 -- A run that goes on after recorded events, and what is written of it.
-use Rattle.std.specs.Prelude.{◌≡◌, ◌⊎◌, ℕ, List, Some, true, false}
+use Rattle.std.specs.Prelude.{◌≡◌, ◌⊎◌, ℕ, List, [], ◌∷◌, ◌++◌, Some, true, false}
 use Rattle.odb_doc.specs.declared.fault.TextFault.TheVariants.{NotWhole}
 use Rattle.odb_doc.specs.batch.Records.{Record}
 use Rattle.odb_doc.specs.Faults.{text_row}
@@ -10,7 +10,7 @@ use Rattle.odb_sched.specs.declared.policy.Policy.{Policy}
 use Rattle.odb_sched.specs.declared.refusal.RunRefusal.{RunRefusal}
 use Rattle.odb_sched.specs.declared.event.ResolveFault.TheVariants.{UnknownEvent}
 use Rattle.odb_sched.specs.run.Refusals.{run_row, resolve_row}
-use Rattle.odb_sched.specs.run.Resolving.{IsFirstUnknown}
+use Rattle.odb_sched.specs.run.Resolving.{IsFirstUnknown, IsResolved}
 use Rattle.odb_sched.specs.run.Runs.{IsRunFrom, StopsAt}
 use Rattle.odb_sched.specs.run.State.{State, first_state, with_requests, without_requests}
 use Rattle.odb_sched.specs.run.Steps.{is_finished}
@@ -55,3 +55,11 @@ ShowsState state ended text = Reports (IsLeastOfState state) ended text ⊎ ((is
 -- what is written of a run of the batch, which knows its requests by their positions alone
 abbrev pub Shows : State → List Record → Writes
 Shows run batch = ShowsState (with_requests batch run)
+
+-- A document of events records one event more than another, at its end, which is this event of the batch.
+pub record RecordsOneMore (batch : List Record) (events more : List ℕ) (event : Event) : Type 0 where
+  pub named : List EventValue
+  pub last : EventValue
+  pub before : AreEventsIn events named
+  pub with_it : AreEventsIn more (named ++ last ∷ [])
+  pub is : IsResolved batch last event

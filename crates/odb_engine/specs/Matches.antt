@@ -2,6 +2,7 @@
 use Rattle.std.specs.Prelude.{◌≡◌, ◌⊎◌, ℕ, List, [], ◌∷◌, ◌++◌, Some, length, codes}
 use Rattle.std.specs.Fmt.{decimal}
 use Rattle.std.specs.List.{AllZip}
+use Rattle.serde_json.specs.Data.{Data}
 use Rattle.odb_doc.specs.declared.fault.Place.TheVariants as places
 use Rattle.odb_doc.specs.batch.Records.{Record}
 use Rattle.odb_reply.specs.declared.match_fault.MatchFault.{MatchFault}
@@ -13,7 +14,7 @@ use Rattle.odb_engine.specs.declared.ending.Ended.{Ended}
 use Rattle.odb_engine.specs.declared.form.Form.{Form}
 use Rattle.odb_engine.specs.declared.form.Form.TheVariants.{Lines, Json}
 use Rattle.odb_doc.specs.Refusals.{Printed}
-use Rattle.odb_engine.specs.Cascade.{Writes, Prints, Reports, HasValue, IsLeastOf}
+use Rattle.odb_engine.specs.Cascade.{Writes, Prints, Reports, HasFault, OfDocument}
 use Rattle.odb_check.specs.Texts.{newline}
 use Rattle.odb_engine.specs.Lines.{fit_line}
 use Rattle.odb_engine.specs.Forms.{json_line}
@@ -34,13 +35,13 @@ abbrev pub match_text : Form → List Record → List ℕ → List ℕ
 match_text Lines batch statuses = fit_line (length batch) ++ status_lines batch statuses
 match_text Json batch statuses = json_line (match_value batch statuses)
 
--- the first fault of a response document
-abbrev pub IsLeastOfResponses : List ℕ → Printed → Type 0
-IsLeastOfResponses bytes refusal = IsLeastOf places.Responses RefusesResponses responses_row bytes refusal
+-- the first fault of the value of a response document
+abbrev pub IsFaultOfResponses : Data → Printed → Type 0
+IsFaultOfResponses = HasFault RefusesResponses responses_row
 
--- the bytes are a response document that lists these responses
-abbrev pub Lists : List ℕ → List Entry → Type 0
-Lists bytes entries = HasValue bytes (λ value. IsResponseDocument value × AllZip ReadsAs (responses_in value) entries)
+-- the value is a response document that lists these responses
+abbrev pub Lists : Data → List Entry → Type 0
+Lists value entries = IsResponseDocument value × AllZip ReadsAs (responses_in value) entries
 
 -- the responses do not fit the batch, and this is the least fault
 pub record Misfits (batch : List Record) (entries : List Entry) (refusal : Printed) : Type 0 where
@@ -60,9 +61,13 @@ pub record PrintsFit (form : Form) (batch : List Record) (entries : List Entry) 
 abbrev pub MatchesEntries : Form → List Record → List Entry → Writes
 MatchesEntries form batch entries ended text = Reports (Misfits batch entries) ended text ⊎ PrintsFit form batch entries ended text
 
--- what is written of a batch and the bytes of a response document, with the result in a form
+-- what is written of a batch and the value of a response document, with the result in a form
+abbrev pub MatchesValue : Form → List Record → Data → Writes
+MatchesValue form batch value ended text = Reports (IsFaultOfResponses value) ended text ⊎ ((entries : List Entry) × Lists value entries × MatchesEntries form batch entries ended text)
+
+-- the same of the bytes of a response document
 abbrev pub MatchesIn : Form → List Record → List ℕ → Writes
-MatchesIn form batch bytes ended text = Reports (IsLeastOfResponses bytes) ended text ⊎ ((entries : List Entry) × Lists bytes entries × MatchesEntries form batch entries ended text)
+MatchesIn form batch = OfDocument places.Responses (MatchesValue form batch)
 
 -- the result as lines of words
 abbrev pub Matches : List Record → List ℕ → Writes

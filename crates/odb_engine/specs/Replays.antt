@@ -1,5 +1,6 @@
 -- What a run by recorded outcomes writes of a batch.
 use Rattle.std.specs.Prelude.{◌≡◌, ◌⊎◌, ℕ, Bool, List, [], ◌++◌, Option, All, Err, codes, if◌then◌else◌}
+use Rattle.serde_json.specs.Data.{Data}
 use Rattle.odb_doc.specs.declared.fault.Place.TheVariants as places
 use Rattle.odb_doc.specs.recorded.LeastOutcomeFault.{IsOutcomesDocument, RefusesOutcomes}
 use Rattle.odb_doc.specs.recorded.OutcomeFaults.{outcome_row}
@@ -20,7 +21,7 @@ use Rattle.odb_engine.specs.declared.ending.Ended.TheVariants.{Done, Refused}
 use Rattle.odb_engine.specs.Lines.{response_line}
 use Rattle.odb_engine.specs.Traces.{trace_text}
 use Rattle.odb_doc.specs.Refusals.{Printed}
-use Rattle.odb_engine.specs.Cascade.{Writes, line_of, Reports, HasValue, IsLeastOf}
+use Rattle.odb_engine.specs.Cascade.{Writes, line_of, Reports, HasFault, OfDocument}
 use Rattle.odb_engine.specs.Commands.{BySecond}
 use Rattle.odb_engine.specs.ReadAgain.{IsReadAgain}
 
@@ -61,17 +62,21 @@ pub record LacksOutcome (allows : Allowance) (policy : Policy) (batch : List Rec
 abbrev pub ReplaysEntries : Allowance → Policy → Bool → List Record → List Recorded → Writes
 ReplaysEntries allows policy traced batch entries ended text = IsResult allows policy traced batch entries ended text ⊎ LacksOutcome allows policy batch entries ended text
 
--- the least fault of an outcomes document
-abbrev pub IsLeastOfOutcomes : List ℕ → Printed → Type 0
-IsLeastOfOutcomes bytes refusal = IsLeastOf places.Outcomes RefusesOutcomes outcome_row bytes refusal
+-- the least fault of the value of an outcomes document
+abbrev pub IsFaultOfOutcomes : Data → Printed → Type 0
+IsFaultOfOutcomes = HasFault RefusesOutcomes outcome_row
 
--- the bytes are a document of these outcomes
-abbrev pub IsRecordOf : List ℕ → List Recorded → Type 0
-IsRecordOf bytes entries = HasValue bytes (λ value. IsOutcomesDocument value × AreOutcomesOf value entries)
+-- the value is a document of these outcomes
+abbrev pub IsRecordOf : Data → List Recorded → Type 0
+IsRecordOf value entries = IsOutcomesDocument value × AreOutcomesOf value entries
 
--- what is written of a batch and the bytes of an outcomes document
+-- what is written of a batch and the value of an outcomes document
+abbrev pub ReplaysValue : Allowance → Policy → Bool → List Record → Data → Writes
+ReplaysValue allows policy traced batch value ended text = Reports (IsFaultOfOutcomes value) ended text ⊎ ((entries : List Recorded) × IsRecordOf value entries × ReplaysEntries allows policy traced batch entries ended text)
+
+-- the same of the bytes of an outcomes document
 abbrev pub ReplaysBatch : Allowance → Policy → Bool → List Record → List ℕ → Writes
-ReplaysBatch allows policy traced batch bytes ended text = Reports (IsLeastOfOutcomes bytes) ended text ⊎ ((entries : List Recorded) × IsRecordOf bytes entries × ReplaysEntries allows policy traced batch entries ended text)
+ReplaysBatch allows policy traced batch = OfDocument places.Outcomes (ReplaysValue allows policy traced batch)
 
 -- what is written of a batch by the outcomes document of a reader
 abbrev pub Replays : Allowance → Policy → Bool → Option (List ℕ) → List Record → Writes

@@ -1,6 +1,7 @@
 -- What recorded events write of a batch: the response if every event may come and the run is finished.
 use Rattle.std.specs.Prelude.{◌≡◌, ◌⊎◌, ℕ, List, Option, Some, All, true, false, codes}
 use Rattle.std.specs.List.{AllZip}
+use Rattle.serde_json.specs.Data.{Data}
 use Rattle.odb_doc.specs.declared.fault.Place.TheVariants as places
 use Rattle.odb_doc.specs.recorded.EventFaults.{event_row}
 use Rattle.odb_doc.specs.recorded.Events.{EventValue, AreEventsOf, IsRecordableEvent}
@@ -21,7 +22,7 @@ use Rattle.odb_reply.specs.Responses.{response_value}
 use Rattle.odb_engine.specs.declared.ending.Ended.{Ended}
 use Rattle.odb_engine.specs.declared.ending.Ended.TheVariants.{Done}
 use Rattle.odb_doc.specs.Refusals.{Printed}
-use Rattle.odb_engine.specs.Cascade.{Writes, Reports, HasValue, IsLeastOf}
+use Rattle.odb_engine.specs.Cascade.{Writes, Reports, HasFault, HasValue, IsLeastOf, OfDocument}
 use Rattle.odb_engine.specs.Commands.{BySecond}
 use Rattle.odb_engine.specs.ReadAgain.{IsReadAgain}
 use Rattle.odb_engine.specs.Lines.{response_line}
@@ -30,13 +31,20 @@ use Rattle.odb_engine.specs.Lines.{response_line}
 abbrev pub unfinished : Printed
 unfinished = record { code = codes "F66"; name = codes "Unfinished"; place = places.Events }
 
--- the least fault of an events document
-abbrev pub IsLeastOfEvents : List ℕ → Printed → Type 0
-IsLeastOfEvents bytes refusal = IsLeastOf places.Events RefusesEvents event_row bytes refusal
+-- the least fault of the value of an events document
+abbrev pub IsFaultOfEvents : Data → Printed → Type 0
+IsFaultOfEvents = HasFault RefusesEvents event_row
 
--- the bytes are a document of these events
+-- the value is a document of these events
+abbrev pub IsHistoryOf : Data → List EventValue → Type 0
+IsHistoryOf value named = IsEventsDocument value × AreEventsOf value named
+
+-- the same of the bytes of an events document
+abbrev pub IsLeastOfEvents : List ℕ → Printed → Type 0
+IsLeastOfEvents = IsLeastOf places.Events IsFaultOfEvents
+
 abbrev pub AreEventsIn : List ℕ → List EventValue → Type 0
-AreEventsIn bytes named = HasValue bytes (λ value. IsEventsDocument value × AreEventsOf value named)
+AreEventsIn bytes named = HasValue bytes (λ value. IsHistoryOf value named)
 
 -- the events by the positions of the requests that they name
 abbrev pub AreResolved : List Record → List EventValue → List Event → Type 0
@@ -71,9 +79,13 @@ pub record IsResult (policy : Policy) (batch : List Record) (named : List EventV
 abbrev pub RunsEvents : Policy → List Record → List EventValue → Writes
 RunsEvents policy batch named ended text = Reports (IsLeastOfRun policy batch named) ended text ⊎ IsResult policy batch named ended text
 
--- what is written of a batch and the bytes of an events document
+-- what is written of a batch and the value of an events document
+abbrev pub RunsValue : Policy → List Record → Data → Writes
+RunsValue policy batch value ended text = Reports (IsFaultOfEvents value) ended text ⊎ ((named : List EventValue) × IsHistoryOf value named × RunsEvents policy batch named ended text)
+
+-- the same of the bytes of an events document
 abbrev pub RunsBatch : Policy → List Record → List ℕ → Writes
-RunsBatch policy batch bytes ended text = Reports (IsLeastOfEvents bytes) ended text ⊎ ((named : List EventValue) × AreEventsIn bytes named × RunsEvents policy batch named ended text)
+RunsBatch policy batch = OfDocument places.Events (RunsValue policy batch)
 
 -- what is written of a batch by the events document of a reader
 abbrev pub Runs : Policy → Option (List ℕ) → List Record → Writes

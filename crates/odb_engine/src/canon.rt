@@ -20,7 +20,7 @@ use std::alloc::Global;
 use std::io::{Read, Write};
 
 /// Prints the canonical text.
-struct Canonical;
+pub(crate) struct Canonical;
 
 impl Command for Canonical {
     ghost writes = { λ _. commands.Canonical };

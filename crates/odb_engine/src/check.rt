@@ -21,8 +21,8 @@ use std::io::{Read, Write};
 
 /// Prints how many requests and groups there are.
 #[derive(Drop)]
-struct Counts {
-    form: Form,
+pub(crate) struct Counts {
+    pub(crate) form: Form,
 }
 
 impl Command for Counts {

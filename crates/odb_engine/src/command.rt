@@ -6,7 +6,8 @@ ghost use Rattle.odb_check.specs.LeastNameFault.{HasGoodNames};
 ghost use Rattle.odb_check.specs.Plans.{plan_records};
 ghost use Rattle.odb_check.specs.Seeds.{IsSeeded};
 ghost use Rattle.odb_engine.specs.declared.halt.Halt.TheVariants as halts;
-ghost use Rattle.odb_engine.specs.Cascade.{Answers};
+ghost use Rattle.serde_json.specs.View.{view};
+ghost use Rattle.odb_engine.specs.Cascade.{Answers, AnswersValue};
 ghost use Rattle.odb_engine.specs.Engines.{Ends};
 ghost use Rattle.odb_engine.specs.Forms.{InForm};
 ghost use Rattle.odb_engine.specs.Halts.{Found, RefusesNamesOf, Halted};
@@ -19,6 +20,7 @@ use crate::input::value_of;
 use crate::setup::{Options, Setup};
 use odb_check::{Plan, check_with};
 use odb_doc::{Batch, Input, Output, Place};
+use serde_json::Value;
 use std::alloc::Global;
 use std::io::{Read, Write};
 
@@ -62,6 +64,24 @@ pub fn plan_of<'a: 'b, 'b>(
     })
 }
 
+/// Returns what the command prints of the batch in a value.
+pub fn text_in<C: Command>(
+    alloc: Global,
+    value: &Value,
+    command: &C,
+    setup: Setup,
+) -> Result<String, Halt>
+    ensures found { Found (AnswersValue (C.writes command.now) (view value.now)) result }
+    ensures read { result ≢ Err halts.Read }
+{
+    let batch = DropOrLeak {
+        value: Batch::read(alloc, value)?,
+        disposal: setup.disposal,
+    };
+    let plan = plan_of(alloc, &batch.value, setup)?;
+    command.text(alloc, &batch.value, &plan.value)
+}
+
 /// Returns what the command prints of the batch in a document.
 fn text_of<R: Read, C: Command>(
     alloc: Global,
@@ -75,17 +95,11 @@ fn text_of<R: Read, C: Command>(
     ensures read { (result ≡ Err halts.Read) ↔ IsTrue input.new.failed }
     ensures input { ReadsFew R.remaining input.old input.new }
 {
-    let disposal = setup.disposal;
     let value = DropOrLeak {
         value: value_of(alloc, input, Place::Batch)?,
-        disposal,
+        disposal: setup.disposal,
     };
-    let batch = DropOrLeak {
-        value: Batch::read(alloc, &value.value)?,
-        disposal,
-    };
-    let plan = plan_of(alloc, &batch.value, setup)?;
-    command.text(alloc, &batch.value, &plan.value)
+    text_in(alloc, &value.value, command, setup)
 }
 
 /// Runs a command over one document: writes what it prints of the batch, or the least fault.

@@ -1,6 +1,6 @@
 //! Reads a document to its end, or one byte beyond the limit.
 
-ghost use Rattle.std.specs.Prelude.{◌≡◌, ◌≤◌, ◌↔◌, false, option_map, IsTrue, IfOk, IfErr, Err};
+ghost use Rattle.std.specs.Prelude.{◌≡◌, ◌≢◌, ◌≤◌, ◌↔◌, false, option_map, IsTrue, IfOk, IfErr, Err};
 ghost use Rattle.serde_json.specs.View.{view};
 ghost use Rattle.odb_doc.specs.Documents.{IsDocument};
 ghost use Rattle.odb_doc.specs.Faults.{document_row};
@@ -93,6 +93,7 @@ fn halt_at(fault: DocFault, place: Place) -> Halt
 pub fn value_in(alloc: Global, bytes: &[u8], place: Place) -> Result<Value, Halt>
     ensures value { IfOk result (λ value. IsDocument bytes.now (view value)) }
     ensures fault { IfErr result (Halted (RefusesBytes place bytes.now)) }
+    ensures read { result ≢ Err halts.Read }
 {
     match parse(alloc, bytes) {
         Ok(value) => Ok(value),

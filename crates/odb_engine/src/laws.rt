@@ -4,15 +4,21 @@
 //! The laws are clauses of functions that change nothing. They speak of the very relations that the
 //! clauses `ends` of the engines cite.
 
-ghost use Rattle.std.specs.Prelude.{◌≡◌, ℕ, Bool, false, List, Some};
+ghost use Rattle.std.specs.Prelude.{◌≡◌, ◌<◌, ℕ, Bool, true, false, List, Some};
 ghost use Rattle.odb_sched.specs.run.Choosing.{AllowsOrder};
 ghost use Rattle.odb_sched.specs.declared.chooser.Order.{Order};
+ghost use Rattle.odb_sched.specs.declared.event.Event.{Event};
 ghost use Rattle.odb_sched.specs.declared.policy.Policy.{Policy};
+ghost use Rattle.odb_sched.specs.run.Runs.{event_position};
+ghost use Rattle.odb_sched.specs.run.State.{State, after, size};
+ghost use Rattle.odb_sched.specs.run.Steps.{may_come};
 ghost use Rattle.odb_engine.specs.Cascade.{Accepts, Answers, IsOne};
+ghost use Rattle.odb_engine.specs.declared.ending.Ended.{Ended};
 ghost use Rattle.odb_engine.specs.declared.form.Form.{Form};
 ghost use Rattle.odb_engine.specs.Commands.{BySecond, Canonical, CountsIn, PlansIn};
 ghost use Rattle.odb_engine.specs.Drawings.{Drawings};
 ghost use Rattle.odb_engine.specs.Inputs.{IsDocumentOf};
+ghost use Rattle.odb_engine.specs.Live.{Opens, RecordsOneMore, Shows};
 ghost use Rattle.odb_engine.specs.Matches.{MatchesIn};
 ghost use Rattle.odb_engine.specs.declared.ending.Ended.TheVariants.{Done};
 ghost use Rattle.odb_engine.specs.ReadAgain.{IsReadAgain};
@@ -91,4 +97,28 @@ pub fn read_again()
     odb_doc::laws::every_value();
     odb_doc::laws::one_record();
     odb_doc::laws::one_history();
+}
+
+/// A live run is the run of the events that it has taken: what is written of it is what a run by
+/// recorded events writes of the same events.
+///
+/// `events` and `more` are documents of events, of which `more` records one event more than `events`.
+/// The relations are those of [`crate::open_run`], [`crate::text_of_run`] and [`crate::run_batch`].
+pub fn one_live_run()
+    ensures text { (policy : Policy) (batch events text different : List ℕ) (run : State)
+        (ended other : Ended) → Opens policy batch events run
+        → Answers (Shows run) batch ended text
+        → Answers (Runs policy (Some events)) batch other different
+        → (ended ≡ other) × (text ≡ different) }
+    ensures goes_on { (policy : Policy) (batch events more : List ℕ) (run : State) (event : Event)
+        → Opens policy batch events run
+        → Accepts batch (λ requests. RecordsOneMore requests events more event)
+        → event_position event < size run → may_come run event ≡ true
+        → Opens policy batch more (after run event) }
+{
+    odb_doc::laws::one_batch();
+    odb_doc::laws::one_fault();
+    odb_check::laws::one_fault();
+    odb_doc::laws::one_history();
+    odb_sched::laws::every_cause();
 }

@@ -7,12 +7,14 @@ ghost use Rattle.odb_sched.specs.run.State.{with_requests, without_requests};
 ghost use Rattle.odb_sched.specs.run.Steps.{is_finished};
 ghost use Rattle.odb_engine.specs.Cascade.{Accepts, Answers};
 ghost use Rattle.odb_engine.specs.Halts.{Found, Halted};
+ghost use Rattle.odb_engine.specs.Ids.{AreIdsIn};
 ghost use Rattle.odb_engine.specs.Lines.{response_line};
 ghost use Rattle.odb_engine.specs.Live as live;
 
 use crate::command::plan_of;
 use crate::disposal::Disposal;
 use crate::halt::Halt;
+use crate::ids::Ids;
 use crate::input::value_in;
 use crate::run::UNFINISHED;
 use crate::setup::Setup;
@@ -22,6 +24,15 @@ use odb_reply::response_text;
 use odb_sched::{Done, Mode, OwnedRun, Policy, Scheduler, resolve, run};
 use std::alloc::Global;
 use std::mem::replace;
+
+/// A run that has been opened, and where its requests are.
+#[derive(Drop)]
+pub struct Opened {
+    /// The run, which knows its requests by their positions alone.
+    pub run: OwnedRun,
+    /// The positions of the requests by their ids.
+    pub ids: Ids,
+}
 
 /// Returns the run of a plan after the recorded events in a document.
 fn run_after(
@@ -42,11 +53,11 @@ fn run_after(
 }
 
 /// Returns the run of the batch in a document after the recorded events in another, which may be none:
-/// `{"events":[]}`. It borrows nothing of the documents.
+/// `{"events":[]}`; and where its requests are. It borrows nothing of the documents.
 ///
 /// The policy sets whether an error stops the run and how many requests may run at once. Names are
 /// looked up by the seed. Takes O(n log n) time and O(n) memory for n bytes of documents; what is kept
-/// is O(requests + dependencies) and the outcomes that the events report.
+/// is O(requests + dependencies), the ids, and the outcomes that the events report.
 ///
 /// # Errors
 ///
@@ -59,8 +70,9 @@ pub fn open_run(
     events: &[u8],
     policy: Policy,
     seed: Seed,
-) -> Result<OwnedRun, Halt>
-    ensures run { IfOk result (live.Opens policy batch.now events.now) }
+) -> Result<Opened, Halt>
+    ensures run { IfOk result (λ opened. live.Opens policy batch.now events.now opened.run) }
+    ensures ids { IfOk result (λ opened. AreIdsIn batch.now opened.ids) }
     ensures least { IfErr result (Halted (live.IsLeastOfOpening policy batch.now events.now)) }
 {
     let value = value_in(alloc, batch, Place::Batch)?;
@@ -70,7 +82,9 @@ pub fn open_run(
         disposal: Disposal::Drop,
     };
     let plan = plan_of(alloc, &read, setup)?;
-    run_after(alloc, &plan.value, events, policy)
+    let run = run_after(alloc, &plan.value, events, policy)?;
+    let ids = Ids::of(alloc, &plan.value)?;
+    Ok(Opened { run, ids })
 }
 
 /// Returns the line of the response of a finished run.

@@ -2,7 +2,7 @@
 
 ghost use Rattle.std.specs.Prelude.{◌≡◌, ◌≢◌, ◌⊎◌, ◌++◌, ℕ, List, length, false, Err, IsTrue, IfOk, OnOk, string_bytes};
 ghost use Rattle.serde_json.specs.View.{view};
-ghost use Rattle.odb_doc.specs.Documents.{IsDocument};
+ghost use Rattle.odb_doc.specs.declared.fault.Place.TheVariants as places;
 ghost use Rattle.odb_check.specs.Plans.{plan_records};
 ghost use Rattle.odb_reply.specs.Fits.{statuses};
 ghost use Rattle.odb_engine.specs.declared.halt.Halt.TheVariants as halts;
@@ -13,13 +13,12 @@ ghost use Rattle.odb_engine.specs.Forms.{InForm};
 ghost use Rattle.odb_engine.specs.Halts.{Found};
 ghost use Rattle.odb_engine.specs.Inputs.{AskedFor, IsFresh, ReadsFew, SomeDocument};
 ghost use Rattle.odb_engine.specs.declared.form.Form.TheVariants.{Lines};
-ghost use Rattle.odb_engine.specs.Matches.{Matches, MatchesIn, match_text, status_line};
+ghost use Rattle.odb_engine.specs.Matches.{Matches, MatchesIn, MatchesValue, match_text, status_line};
 
 use crate::disposal::DropOrLeak;
 use crate::ending::{Ended, EngineFault, Sent};
 use crate::form::Form;
 use crate::halt::Halt;
-use crate::input::value_of;
 use crate::json::match_json;
 use crate::lines::fit_line;
 use crate::output::print;
@@ -72,8 +71,7 @@ fn match_text(
 
 /// Returns what is printed of the responses in a value.
 fn matched(alloc: Global, plan: &Plan<'_>, value: &Value, options: Options) -> Result<String, Halt>
-    ensures found { (bytes : List ℕ) → IsDocument bytes (view value.now)
-        → Found (MatchesIn options.form (plan_records plan.now) bytes) result }
+    ensures found { Found (MatchesValue options.form (plan_records plan.now) (view value.now)) result }
     ensures read { result ≢ Err halts.Read }
 {
     let responses = DropOrLeak {
@@ -86,31 +84,37 @@ fn matched(alloc: Global, plan: &Plan<'_>, value: &Value, options: Options) -> R
 
 /// Prints the status of each request.
 #[derive(Drop)]
-struct Match {
-    options: Options,
+pub(crate) struct Match {
+    pub(crate) options: Options,
 }
 
 impl PairCommand for Match {
-    ghost writes = { λ self. MatchesIn self.options.form };
+    ghost writes = { λ self. MatchesValue self.options.form };
 
     ghost streams = { λ _. ⊥ };
 
     ghost form = { λ self. self.options.form };
 
+    ghost place = { λ _. places.Responses };
+
     fn options(&self) -> Options {
         self.options
     }
 
-    fn perform<S: Read, W: Write>(
+    fn place(&self) -> Place {
+        Place::Responses
+    }
+
+    fn perform<W: Write>(
         &mut self,
         alloc: Global,
         plan: &Plan<'_>,
-        second: &mut Input<S>,
+        second: Value,
         output: &mut Output<W>,
     ) -> Sent {
         let options = self.options;
         let value = DropOrLeak {
-            value: value_of(alloc, second, Place::Responses)?,
+            value: second,
             disposal: options.setup.disposal,
         };
         let text = matched(alloc, plan, &value.value, options)?;

@@ -20,8 +20,8 @@ use std::io::{Read, Write};
 
 /// Prints the plan.
 #[derive(Drop)]
-struct Plans {
-    form: Form,
+pub(crate) struct Plans {
+    pub(crate) form: Form,
 }
 
 impl Command for Plans {

@@ -1,6 +1,8 @@
 //! The command `replay`: the response of a run with recorded outcomes.
 
-ghost use Rattle.std.specs.Prelude.{◌≡◌, ◌≢◌, ◌<◌, ◌↔◌, ◌⊎◌, Bool, All, false, Err, IsTrue, IfErr, IfOk};
+ghost use Rattle.std.specs.Prelude.{◌≡◌, ◌≢◌, ◌<◌, ◌⊎◌, Bool, All, false, Err, IsTrue, IfErr, IfOk};
+ghost use Rattle.serde_json.specs.View.{view};
+ghost use Rattle.odb_doc.specs.declared.fault.Place.TheVariants as places;
 ghost use Rattle.odb_doc.specs.recorded.OutcomeLists.{entries};
 ghost use Rattle.odb_check.specs.Plans.{plan_records};
 ghost use Rattle.odb_sched.specs.run.State.{size};
@@ -19,7 +21,6 @@ use crate::disposal::{Disposal, DropOrLeak};
 use crate::ending::{Ended, EngineFault, Sent};
 use crate::form::Form;
 use crate::halt::Halt;
-use crate::input::value_of;
 use crate::output::send;
 use crate::pair::{PairCommand, answer_pair};
 use crate::setup::{Options, Setup};
@@ -28,23 +29,16 @@ use odb_check::Plan;
 use odb_doc::{Input, Outcomes, Output, Place};
 use odb_reply::laws::every_response;
 use odb_sched::{Chooser, Policy, Recorded, Trace, execute};
+use serde_json::Value;
 use std::alloc::Global;
 use std::io::{Read, Write};
 
-/// Returns the outcomes in a document.
-fn outcomes_of<R: Read>(
-    alloc: Global,
-    input: &mut Input<R>,
-    disposal: Disposal,
-) -> Result<Outcomes, Halt>
-    requires { IsFresh input.old }
-    ensures outcomes { SomeDocument (R.remaining input.old.reader) (λ bytes.
-        IfOk result (λ outcomes. replays.IsRecordOf bytes (entries outcomes))
-        × IfErr result (Halted (replays.IsLeastOfOutcomes bytes))) }
-    ensures read { (result ≡ Err halts.Read) ↔ IsTrue input.new.failed }
-    ensures input { ReadsFew R.remaining input.old input.new }
+/// Returns the outcomes in a value.
+fn outcomes_of(alloc: Global, value: Value, disposal: Disposal) -> Result<Outcomes, Halt>
+    ensures outcomes { IfOk result (λ outcomes. replays.IsRecordOf (view value) (entries outcomes)) }
+    ensures least { IfErr result (Halted (replays.IsFaultOfOutcomes (view value))) }
+    ensures read { result ≢ Err halts.Read }
 {
-    let value = value_of(alloc, input, Place::Outcomes)?;
     let (outcomes, rest) = Outcomes::split(alloc, value)?;
     drop(DropOrLeak {
         value: rest,
@@ -56,11 +50,11 @@ fn outcomes_of<R: Read>(
 /// Writes the result of an execution by recorded outcomes. `C` is `&mut dyn Chooser`: a field cannot
 /// have that type itself.
 #[derive(Drop)]
-struct Replay<C> {
-    policy: Policy,
-    chooser: C,
-    traced: bool,
-    options: Options,
+pub(crate) struct Replay<C> {
+    pub(crate) policy: Policy,
+    pub(crate) chooser: C,
+    pub(crate) traced: bool,
+    pub(crate) options: Options,
 }
 
 /// Executes a plan by recorded outcomes.
@@ -95,22 +89,28 @@ fn run_of<'a: 'p, 'p>(
 }
 
 impl<'c> PairCommand for Replay<&'c mut dyn Chooser> {
-    ghost writes = { λ self. replays.ReplaysBatch
+    ghost writes = { λ self. replays.ReplaysValue
         ((Chooser-dyn self.chooser.now).allows self.chooser.now.1) self.policy self.traced };
 
     ghost streams = { λ _. Unit {0} };
 
     ghost form = { λ self. self.options.form };
 
+    ghost place = { λ _. places.Outcomes };
+
     fn options(&self) -> Options {
         self.options
     }
 
-    fn perform<S: Read, W: Write>(
+    fn place(&self) -> Place {
+        Place::Outcomes
+    }
+
+    fn perform<W: Write>(
         &mut self,
         alloc: Global,
         plan: &Plan<'_>,
-        second: &mut Input<S>,
+        second: Value,
         output: &mut Output<W>,
     ) -> Sent {
         let (disposal, traced) = (self.options.setup.disposal, self.traced);

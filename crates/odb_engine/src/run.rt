@@ -1,6 +1,8 @@
 //! The command `run`: the response of a run with recorded events.
 
-ghost use Rattle.std.specs.Prelude.{◌≡◌, ◌≢◌, ◌↔◌, ◌⊎◌, false, Err, IsTrue, IfErr, IfOk};
+ghost use Rattle.std.specs.Prelude.{◌≡◌, ◌≢◌, ◌⊎◌, false, Err, IsTrue, IfErr, IfOk};
+ghost use Rattle.serde_json.specs.View.{view};
+ghost use Rattle.odb_doc.specs.declared.fault.Place.TheVariants as places;
 ghost use Rattle.odb_doc.specs.recorded.EventLists.{entries};
 ghost use Rattle.odb_check.specs.Plans.{plan_records};
 ghost use Rattle.odb_reply.specs.NotWhole.{HasWholeBodies};
@@ -18,7 +20,6 @@ use crate::disposal::{Disposal, DropOrLeak};
 use crate::ending::{Ended, EngineFault, Sent};
 use crate::form::Form;
 use crate::halt::Halt;
-use crate::input::value_of;
 use crate::output::send;
 use crate::pair::{PairCommand, answer_pair};
 use crate::setup::{Options, Setup};
@@ -26,6 +27,7 @@ use odb_check::Plan;
 use odb_doc::{Events, Input, Output, Place, Refusal};
 use odb_reply::laws::every_response;
 use odb_sched::{Done, Policy, resolve, run};
+use serde_json::Value;
 use std::alloc::Global;
 use std::io::{Read, Write};
 
@@ -36,20 +38,12 @@ pub(crate) const UNFINISHED: Halt = Halt::Refused(Refusal {
     place: Place::Events,
 });
 
-/// Returns the events in a document.
-fn events_of<R: Read>(
-    alloc: Global,
-    input: &mut Input<R>,
-    disposal: Disposal,
-) -> Result<Events, Halt>
-    requires { IsFresh input.old }
-    ensures events { SomeDocument (R.remaining input.old.reader) (λ bytes.
-        IfOk result (λ events. runs.AreEventsIn bytes (entries events))
-        × IfErr result (Halted (runs.IsLeastOfEvents bytes))) }
-    ensures read { (result ≡ Err halts.Read) ↔ IsTrue input.new.failed }
-    ensures input { ReadsFew R.remaining input.old input.new }
+/// Returns the events in a value.
+fn events_of(alloc: Global, value: Value, disposal: Disposal) -> Result<Events, Halt>
+    ensures events { IfOk result (λ events. runs.IsHistoryOf (view value) (entries events)) }
+    ensures least { IfErr result (Halted (runs.IsFaultOfEvents (view value))) }
+    ensures read { result ≢ Err halts.Read }
 {
-    let value = value_of(alloc, input, Place::Events)?;
     let (events, rest) = Events::split(alloc, value)?;
     drop(DropOrLeak {
         value: rest,
@@ -91,27 +85,33 @@ fn done_of<'a: 'p, 'p>(
 
 /// Writes the response to a run by recorded events.
 #[derive(Drop)]
-struct Run {
-    policy: Policy,
-    options: Options,
+pub(crate) struct Run {
+    pub(crate) policy: Policy,
+    pub(crate) options: Options,
 }
 
 impl PairCommand for Run {
-    ghost writes = { λ self. runs.RunsBatch self.policy };
+    ghost writes = { λ self. runs.RunsValue self.policy };
 
     ghost streams = { λ _. Unit {0} };
 
     ghost form = { λ self. self.options.form };
 
+    ghost place = { λ _. places.Events };
+
     fn options(&self) -> Options {
         self.options
     }
 
-    fn perform<S: Read, W: Write>(
+    fn place(&self) -> Place {
+        Place::Events
+    }
+
+    fn perform<W: Write>(
         &mut self,
         alloc: Global,
         plan: &Plan<'_>,
-        second: &mut Input<S>,
+        second: Value,
         output: &mut Output<W>,
     ) -> Sent {
         let disposal = self.options.setup.disposal;

@@ -2,7 +2,6 @@
 pub mod Returns
 pub mod Options
 pub mod Positions
-pub mod Ids
 pub mod Live
 pub mod Handles
 -- What a slot owns.

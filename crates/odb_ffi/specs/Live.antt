@@ -1,6 +1,5 @@
 -- What a call on a live run returns, and how the run changes.
 use Rattle.std.specs.Prelude.{◌≡◌, ◌≢◌, ◌<◌, ◌≤◌, ◌+◌, ℕ, List, [], Option, Some, None, min, true, false}
-use Rattle.std.specs.Str.{IsUtf8}
 use Rattle.serde_json.specs.Data.{Data}
 use Rattle.odb_doc.specs.declared.fault.DocFault.{DocFault}
 use Rattle.odb_doc.specs.declared.fault.DocFault.TheVariants as faults
@@ -14,10 +13,10 @@ use Rattle.odb_sched.specs.run.Steps.{IsStartCause, IsReportCause, start_number,
 use Rattle.odb_sched.specs.run.Answers.{undone}
 use Rattle.odb_sched.specs.run.State.{State, size, started, reported, without_requests}
 use Rattle.odb_engine.specs.Cascade as cascade
+use Rattle.odb_engine.specs.declared.ids.Ids.{Ids}
+use Rattle.odb_engine.specs.Ids.{AreIdsIn, at_id}
 use Rattle.odb_engine.specs.Live.{Opens, IsLeastOfOpening}
-use Rattle.odb_ffi.specs.declared.ids.Ids.{Ids}
 use Rattle.odb_ffi.specs.declared.session.Session.{Session}
-use Rattle.odb_ffi.specs.Ids.{AreIdsIn, at_id}
 use Rattle.odb_ffi.specs.Positions.{Are, GivesPositions}
 use Rattle.odb_ffi.specs.Returns.{IsOutOfMemory, IsWrongOption, Returns}
 
@@ -58,7 +57,7 @@ pub data GivesUndone (run : State) (status count : ℕ) (old new : List ℕ) : T
 -- position is as it was.
 pub data GivesPosition (ids : Ids) (id : List ℕ) (status old new : ℕ) : Type 0 where
   Found : at_id ids id ≡ Some new → status ≡ 0 → GivesPosition ids id status old new
-  NoRequest : (IsUtf8 id → at_id ids id ≡ None) → status ≡ 2 → new ≡ old → GivesPosition ids id status old new
+  NoRequest : at_id ids id ≡ None → status ≡ 2 → new ≡ old → GivesPosition ids id status old new
 
 -- What the start of a request returns: 0 if it may come, and the run has gone on; the first cause against it, or that there
 -- is no such request, and nothing has changed.

@@ -12,7 +12,6 @@ pub mod exports;
 mod filled;
 pub mod form_exports;
 pub mod handle;
-mod ids;
 mod lent;
 mod options;
 mod outcome;

@@ -8,19 +8,17 @@ ghost use Rattle.odb_engine.specs.Live as engines;
 ghost use Rattle.odb_sched.specs.run.Steps.{report_number};
 ghost use Rattle.odb_sched.specs.run.State as state;
 ghost use Rattle.odb_sched.specs.run.Steps as steps;
-ghost use Rattle.odb_ffi.specs.Ids.{AreIdsIn};
 ghost use Rattle.odb_ffi.specs.Live as live;
 ghost use Rattle.odb_ffi.specs.Options as options;
 ghost use Rattle.odb_ffi.specs.Positions.{GivesPositions};
 
 use crate::answer::{Answer, answer_of};
-use crate::ids::Ids;
 use crate::options::seed_of;
 use crate::outcome::{NoOutcome, outcome_of};
 use crate::positions::give_positions;
 use crate::status;
 use odb_doc::Outcome;
-use odb_engine::{Halt, open_run, text_of_run};
+use odb_engine::{Halt, Ids, Opened, open_run, text_of_run};
 use odb_sched::{OwnedRun, Policy, ReportRefusal};
 use std::alloc::Global;
 
@@ -40,17 +38,6 @@ fn status_of(refused: (ReportRefusal, Outcome)) -> u32
     status::of_report(refused.0)
 }
 
-/// Returns what a session keeps of the document of its batch; `None` if an allocation fails.
-fn kept_of(alloc: Global, batch: &[u8]) -> Option<(Vec<u8>, Ids)>
-    ensures { IfSome result (λ kept. (kept.0.items ≡ batch.now) × AreIdsIn batch.now kept.1) }
-{
-    let ids = Ids::in_document(alloc, batch)?;
-    match batch.to_vec(alloc) {
-        Ok(document) => Some((document, ids)),
-        Err(_) => None,
-    }
-}
-
 impl Session {
     /// Returns the run of the batch in a document after the recorded events in another.
     pub fn open(
@@ -64,18 +51,18 @@ impl Session {
         ensures least { IfErr result
             (Halted (engines.IsLeastOfOpening policy batch.now events.now)) }
     {
-        let run = match open_run(alloc, batch, events, policy, seed_of(seed)) {
-            Ok(run) => run,
+        let Opened { run, ids } = match open_run(alloc, batch, events, policy, seed_of(seed)) {
+            Ok(opened) => opened,
             Err(halt) => return Err(halt),
         };
-        match kept_of(alloc, batch) {
-            Some((document, ids)) => Ok(Session {
+        match batch.to_vec(alloc) {
+            Ok(document) => Ok(Session {
                 document,
                 ids,
                 seed,
                 run,
             }),
-            None => Err(Halt::OutOfMemory),
+            Err(_) => Err(Halt::OutOfMemory),
         }
     }
 

@@ -1,23 +1,27 @@
 //! The engines over bytes in memory: two calls for the same bytes end alike, and write one text; and a
 //! response that they write is read again.
 
-ghost use Rattle.std.specs.Prelude.{◌≡◌, true, false, Some, IfSome};
+ghost use Rattle.std.specs.Prelude.{◌≡◌, true, false, Some, IfSome, string_bytes};
 ghost use Rattle.odb_sched.specs.run.Choosing.{AllowsOrder};
 ghost use Rattle.odb_sched.specs.declared.chooser.Order.TheVariants as orders;
+ghost use Rattle.odb_sched.specs.run.State.{State};
 ghost use Rattle.odb_engine.specs.declared.ending.Ended.TheVariants.{Done};
 ghost use Rattle.odb_engine.specs.Cascade.{Accepts, Answers};
 ghost use Rattle.odb_engine.specs.Commands.{BySecond, Canonical, Counts, Plans};
 ghost use Rattle.odb_engine.specs.Drawings.{Drawings};
 ghost use Rattle.odb_engine.specs.Inputs.{SomeDocument};
+ghost use Rattle.odb_engine.specs.Live.{Opens, Shows};
 ghost use Rattle.odb_engine.specs.Matches.{Matches};
 ghost use Rattle.odb_engine.specs.ReadAgain.{IsReadAgain};
 ghost use Rattle.odb_engine.specs.Replays.{Replays};
 ghost use Rattle.odb_engine.specs.Runs.{Runs};
 
+use odb_check::Seed;
 use odb_doc::{Input, Output};
-use odb_engine::laws::{one_document, one_replay, one_run, one_text, read_again};
+use odb_engine::laws::{one_document, one_live_run, one_replay, one_run, one_text, read_again};
 use odb_engine::{
-    Ended, canon_batch, check_batch, draw_batch, match_batch, plan_batch, replay_batch, run_batch,
+    Ended, canon_batch, check_batch, draw_batch, match_batch, open_run, plan_batch, replay_batch,
+    run_batch, text_of_run,
 };
 use odb_sched::{Last, Mode, Policy};
 use std::alloc::Global;
@@ -226,6 +230,32 @@ fn replayed_and_read(
     replayed(alloc, batch, outcomes, policy, false)
 }
 
+/// Opens a live run after recorded events, and returns its response.
+fn live(alloc: Global, batch: &[u8], events: &[u8], policy: Policy) -> Option<String>
+    ensures { IfSome result (λ text. (run : State) × Opens policy batch.now events.now run
+        × Answers (Shows run) batch.now Done (string_bytes text)) }
+{
+    let mut opened = open_run(alloc, batch, events, policy, Seed::none()).ok()?;
+    text_of_run(alloc, batch, &mut opened.run, Seed::none()).ok()
+}
+
+/// A live run and a run by recorded events, of the same events.
+fn live_and_recorded(
+    alloc: Global,
+    batch: &[u8],
+    events: &[u8],
+    policy: Policy,
+) -> Option<(String, Written)>
+    ensures { IfSome result (λ both. (both.1.0 ≡ Done)
+        × (string_bytes both.0 ≡ both.1.1.items)) }
+{
+    one_document();
+    one_live_run();
+    let text = live(alloc, batch, events, policy)?;
+    let written = ran(alloc, batch, events, policy)?;
+    Some((text, written))
+}
+
 /// Two requests, of which the second needs the first.
 const BATCH: &[u8] = br#"{"requests":[{"id":"a","method":"get","url":"X"},
     {"id":"b","method":"get","url":"X","dependsOn":["a"]}]}"#;
@@ -251,6 +281,14 @@ fn is_one(both: Both, text: &str) -> bool {
     are_one(&both, Ended::Done, text)
 }
 
+/// Whether a live run and a run by recorded events wrote the same response.
+fn are_alike(both: Option<(String, Written)>) -> bool {
+    match &both {
+        Some((text, (Ended::Done, written))) => text.as_bytes() == written.as_slice(),
+        _ => false,
+    }
+}
+
 #[test]
 fn engines_write_one_text_of_the_same_bytes(rt: HostRuntime) {
     let (alloc, policy) = (rt.alloc(), Policy::free(Mode::Continue));
@@ -261,6 +299,7 @@ fn engines_write_one_text_of_the_same_bytes(rt: HostRuntime) {
     assert!(rt; is_one(matched_twice(alloc, BATCH, RESPONSES), "ok 2"));
     assert!(rt; is_one(ran_twice(alloc, BATCH, EVENTS, policy), "{\"responses\":"));
     assert!(rt; is_one(replayed_twice(alloc, BATCH, OUTCOMES, policy), "start a\n"));
+    assert!(rt; are_alike(live_and_recorded(alloc, BATCH, EVENTS, policy)));
 }
 
 /// Whether a match finds that responses fit the batch.

@@ -1,10 +1,9 @@
 -- A run after recorded events.
-use Rattle.std.proofs.Common.{IfErr}
+use Rattle.std.proofs.Common.{IfErr, inl, inr}
 use Rattle.odb_doc.specs.declared.fault.Place.TheVariants.{Events}
 use Rattle.odb_doc.specs.recorded.EventLists.{entries}
 use Rattle.odb_check.specs.Plans.{plan_records}
 use Rattle.odb_engine.specs.Cascade.{RefusesBytes}
-use Rattle.odb_engine.specs.Cascade.IsLeastOf.{OfBytes, OfValue}
 use Rattle.odb_engine.specs.Halts.{Halted}
 use Rattle.odb_engine.specs.Live.{IsLeastAfter}
 use Rattle.odb_engine.specs.Live.IsLeastAfter.{OfDocument}
@@ -17,14 +16,14 @@ pub returns-in_err-value-clause-least : goal.returns-in_err-value-clause-least
 returns-in_err-value-clause-least c =
     let least = IsLeastAfter c.args.policy (plan_records c.args.plan.now) c.args.events.now in
     exit-error (λ r. IfErr r (Halted least)) _ _ c.from_residual.ensures.1
-    (Halted-weaker (RefusesBytes Events c.args.events.now) least (λ refusal is. OfDocument (OfBytes is)) _ c.in_err-value.ensures.fault)
+    (Halted-weaker (RefusesBytes Events c.args.events.now) least (λ refusal is. OfDocument (inl is)) _ c.in_err-value.ensures.fault)
 
 pub returns-in_err-named-clause-least : goal.returns-in_err-named-clause-least
 returns-in_err-named-clause-least c =
     let least = IsLeastAfter c.args.policy (plan_records c.args.plan.now) c.args.events.now in
     let fault = c.in_err-named.field-0.0 in
     at-exit (λ r. IfErr r (Halted least)) _ _ c.from_residual-in_err-named.ensures.1
-    (halted-by least _ (λ refusal row. OfDocument (OfValue fault (record { value = _; document = c.in_ok-value.ensures.value; holds = c.in_err-named.ensures.least }) row)))
+    (halted-by least _ (λ refusal row. OfDocument (inr (record { value = _; document = c.in_ok-value.ensures.value; holds = record { fault = fault; refuses = c.in_err-named.ensures.least; is = row } }))))
 
 pub returns-in_err-resolved-clause-least : goal.returns-in_err-resolved-clause-least
 returns-in_err-resolved-clause-least c =

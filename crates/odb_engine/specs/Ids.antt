@@ -3,8 +3,8 @@ use Rattle.std.specs.Prelude.{◌≡◌, ℕ, List, Option}
 use Rattle.std.specs.BTreeMap.{get_by_text}
 use Rattle.odb_doc.specs.batch.Records.{Record}
 use Rattle.odb_check.specs.Units.{position_of}
-use Rattle.odb_engine.specs.Cascade.{HasValue, HasBatch}
-use Rattle.odb_ffi.specs.declared.ids.Ids.{Ids}
+use Rattle.odb_engine.specs.Cascade.{Accepts}
+use Rattle.odb_engine.specs.declared.ids.Ids.{Ids}
 
 -- the position at an id
 abbrev pub at_id : Ids → List ℕ → Option ℕ
@@ -16,4 +16,4 @@ AreIdsOf batch ids = (id : List ℕ) → at_id ids id ≡ position_of batch id
 
 -- the positions are those of the requests of the batch in these bytes
 abbrev pub AreIdsIn : List ℕ → Ids → Type 0
-AreIdsIn bytes ids = HasValue bytes (λ value. HasBatch value (λ batch. AreIdsOf batch ids))
+AreIdsIn bytes ids = Accepts bytes (λ batch. AreIdsOf batch ids)

@@ -1,0 +1,191 @@
+-- That what is written of a live run is what a run by recorded events writes.
+use Rattle.std.proofs.Common.{◌≡◌, ◌∙◌, ℕ, zero, suc, ◌<◌, true, List, [], ◌∷◌, ◌++◌, All, Option, Some, None, IfSome, IsNone, IsSomeAnd, inl, inr, refl, sym, ap, subst, arith, append-nil}
+use Rattle.std.specs.List.{AllZip}
+use Rattle.std.proofs.lemmas.Bool.{cases_Bool, both_ways}
+use Rattle.std.proofs.lemmas.List.Elements.{All-nil, All-cons}
+use Rattle.serde_json.specs.Data.{Data}
+use Rattle.serde_json.specs.Written.{has_float}
+use Rattle.odb_doc.specs.declared.fault.Place.TheVariants as places
+use Rattle.odb_doc.specs.declared.recorded.event_fault.EventRule.TheVariants as rules
+use Rattle.odb_doc.specs.batch.Bodies.{body_of}
+use Rattle.odb_doc.specs.batch.Records.{Record}
+use Rattle.odb_doc.specs.recorded.EventFaults as event_faults
+use Rattle.odb_doc.specs.recorded.Events.{EventValue, AreEventsOf, IsEventBy, IsReport, IsWellFormedEvent, ReadsAs, elements}
+use Rattle.odb_doc.specs.recorded.Events as named
+use Rattle.odb_doc.specs.recorded.LeastEventFault.{AreEvents, BreaksEvent, IsEventsDocument, RefusesEvents}
+use Rattle.odb_doc.specs.WholeNumbers.{IsWhole}
+use Rattle.odb_check.specs.LeastNameFault.{HasGoodNames}
+use Rattle.odb_sched.specs.declared.event.Event.{Event}
+use Rattle.odb_sched.specs.declared.event.Event.TheVariants as event
+use Rattle.odb_sched.specs.declared.policy.Policy.{Policy}
+use Rattle.odb_sched.specs.run.Resolving.{IsResolved}
+use Rattle.odb_sched.specs.run.Runs.{IsRunFrom, after_all, event_position}
+use Rattle.odb_sched.specs.run.State.{State, after, first_state, size, with_requests, without_requests}
+use Rattle.odb_sched.specs.run.Steps.{is_finished, may_come}
+use Rattle.odb_reply.specs.NotWhole.{HasWholeBodies}
+use Rattle.odb_engine.specs.declared.ending.Ended.{Ended}
+use Rattle.odb_engine.specs.declared.ending.Ended.TheVariants.{Done}
+use Rattle.odb_doc.specs.Refusals.{Printed}
+use Rattle.odb_engine.specs.Cascade.{Accepts, Answers, HasValue}
+use Rattle.odb_engine.specs.Inputs.{IsDocumentOf}
+use Rattle.odb_engine.specs.Lines.{response_line}
+use Rattle.odb_engine.specs.Live.{IsAfter, IsLeastOfState, Opens, RecordsOneMore, Shows, ShowsState}
+use Rattle.odb_engine.specs.Live.IsLeastOfState.{OfBody, OfEnd as AtEnd}
+use Rattle.odb_engine.specs.Runs.{AreEventsIn, AreResolved, IsHistoryOf, IsLeastOfRun, Runs, RunsBatch, RunsEvents, RunsValue, end_of}
+use Rattle.odb_engine.specs.Runs.IsLeastOfRun.{OfIds, OfEvent, OfEnd}
+use Rattle.odb_engine.proofs.LawLemmas.{AreFunctional, answers_accepted, one_value, refused_no_value, same_batch}
+use Rattle.odb_engine.proofs.RunLawLemmas.{AreOneHistory, HaveOneCause, not-stopped, not-unknown, one-run, same-events}
+use Rattle.odb_engine.proofs.RunLemmas.{requests-kept, whole-bodies}
+use Rattle.odb_engine.proofs.SecondLemmas.{one_document}
+use Rattle.odb_engine.proofs.SecondLemmas as second
+
+-- ---- the bodies of a document of events hold whole numbers alone
+
+well-formed-one : (d : Data) (n : EventValue) → ¬ BreaksEvent rules.BadEvents d → ¬ BreaksEvent rules.NotWhole d → ReadsAs d n → IsWellFormedEvent n
+well-formed-one d (named.Start id) event whole reads = record { whole = tt }
+well-formed-one d (named.Report id outcome) event whole reads = record { whole = subst (λ body. IfSome body IsWhole) reads.body (at (body_of d) refl) }
+  where
+    at : (body : Option Data) → body_of d ≡ body → IfSome body IsWhole
+    at None is = tt
+    at (Some body) is = elim (cases_Bool (has_float body)) [
+      | inl floats ↦ absurd (event (λ be. whole (record {
+        reports = subst IsNone (sym reads.reports) refl;
+        report = subst (λ start. IsEventBy start d) reads.reports be;
+        body = subst (λ found. IsSomeAnd found (λ b. ¬ IsWhole b)) (sym is) (λ none. both_ways _ none floats);
+      })))
+      | inr none ↦ none
+    ]
+
+well-formed : (ds : List Data) (ns : List EventValue) → AreEvents ds → AllZip ReadsAs ds ns → All IsWellFormedEvent ns
+well-formed [] [] none reads = All-nil IsWellFormedEvent
+well-formed [] (n ∷ ns) none reads = absurd reads
+well-formed (d ∷ ds) [] none reads = absurd reads
+well-formed (d ∷ ds) (n ∷ ns) none reads =
+    All-cons IsWellFormedEvent n ns (well-formed-one d n (none rules.BadEvents zero) (none rules.NotWhole zero) reads.0)
+    (well-formed ds ns (λ rule i. none rule (suc i)) reads.1)
+
+-- ---- the state after events, and what the events write
+
+module _ (causes : HaveOneCause) (policy : Policy) (batch : List Record) (good : HasGoodNames batch) (ns : List EventValue) (es : List Event) (resolved : AreResolved batch ns es) (run : IsRunFrom (first_state batch policy) es)
+    (whole : HasWholeBodies (end_of policy batch es)) where
+  abbrev last : State
+  last = end_of policy batch es
+
+  abbrev first : State
+  first = first_state batch policy
+
+  -- a run that is finished has no fault
+  faultless : is_finished last ≡ true → (refusal : Printed) → IsLeastOfRun policy batch ns refusal → ⊥
+  faultless finished refusal (OfIds i unknown row) = not-unknown batch ns es i resolved unknown.unknown
+  faultless finished refusal (OfEvent fs cause others stops row) =
+      not-stopped first fs cause stops (subst (IsRunFrom first) (same-events causes policy batch good ns es fs resolved others) run)
+  faultless finished refusal (OfEnd fs others walk ends is) =
+      both_ways _ ends (ap (λ (l : List Event). is_finished (end_of policy batch l)) (same-events causes policy batch good ns fs es others resolved) ∙ finished)
+
+  finished-one : is_finished last ≡ true → (ended : Ended) (text : List ℕ) → RunsEvents policy batch ns ended text → (Done ≡ ended) × (response_line last ≡ text)
+  finished-one finished ended text (inl x) = absurd (faultless finished x.refusal x.is)
+  finished-one finished ended text (inr y) =
+      (sym y.ends, ap (λ (l : List Event). response_line (end_of policy batch l)) (same-events causes policy batch good ns es y.events resolved y.resolved) ∙ sym y.result)
+
+  pub live-one : (a b : Ended) (s t : List ℕ) → ShowsState last a s → RunsEvents policy batch ns b t → (a ≡ b) × (s ≡ t)
+  live-one a b s t (inl x) y = at x.is
+    where
+      at : IsLeastOfState last x.refusal → (a ≡ b) × (s ≡ t)
+      at (AtEnd goes is) = one-run causes policy batch good ns a b s t (inl (record { refusal = x.refusal; is = OfEnd es resolved run goes is; ends = x.ends; line = x.line })) y
+      at (OfBody i finished body row) = absurd (body.holds (whole i body.within))
+  live-one a b s t (inr (finished, (ends, is))) y =
+      let same = finished-one finished b t y in
+      (ends ∙ same.0, is ∙ same.1)
+
+-- ---- from bytes
+
+whole-document : (events : List ℕ) (P : Data → Type 0) → HasValue events P → IsDocumentOf events events
+whole-document events P is = record { rest = []; whole = sym (append-nil events); within = omega (arith, is.document.0); ends = λ less. refl }
+
+-- the state that knows its requests again
+with-requests : (batch : List Record) (policy : Policy) (es : List Event) → with_requests batch (without_requests (end_of policy batch es)) ≡ end_of policy batch es
+with-requests batch policy es = ap (λ rs. with_requests rs (end_of policy batch es)) (sym (requests-kept (first_state batch policy) es))
+
+module _ (law : AreFunctional) (causes : HaveOneCause) (history : AreOneHistory) (policy : Policy) where
+  after-one : (batch : List Record) → HasGoodNames batch → (events : List ℕ) (run : State) → IsAfter policy batch events run → (a b : Ended) (s t : List ℕ) → ShowsState (with_requests batch run) a s
+      → RunsBatch policy batch events b t → (a ≡ b) × (s ≡ t)
+  after-one batch good events run is a b s t shows (inl x) = absurd (refused_no_value places.Events events x.refusal _ x.is is.named_in)
+  after-one batch good events run is a b s t shows (inr has) = at has.holds
+    where
+      at : RunsValue policy batch has.value b t → (a ≡ b) × (s ≡ t)
+      at (inl x) =
+          let same = one_value events is.named_in.value has.value is.named_in.document has.document in
+          absurd (second.least_not event_faults.event_row RefusesEvents IsEventsDocument AreEventsOf history has.value is.named x.refusal x.is (subst (λ v. IsHistoryOf v is.named) same is.named_in.holds))
+      at (inr (ns, lists, writes)) =
+          let in_document : AreEventsIn events ns = record { value = has.value; document = has.document; holds = lists } in
+          let same = second.one_reading event_faults.event_row RefusesEvents IsEventsDocument AreEventsOf history events ns is.named in_document is.named_in in
+          let sound = well-formed (elements is.named_in.value) is.named is.named_in.holds.0.1 is.named_in.holds.1 in
+          live-one causes policy batch good is.named is.events is.resolved is.may_come (whole-bodies policy batch is.named is.events is.resolved sound) a b s t
+          (subst (λ (x : State). ShowsState x a s) (ap (with_requests batch) is.state ∙ with-requests batch policy is.events) shows)
+          (subst (λ xs. RunsEvents policy batch xs b t) same writes)
+
+  pub live-text : (batch events : List ℕ) (run : State) (a b : Ended) (s t : List ℕ) → Opens policy batch events run → Answers (Shows run) batch a s → Answers (Runs policy (Some events)) batch b t → (a ≡ b) × (s ≡ t)
+  live-text batch events run a b s t opens live recorded =
+      let x = answers_accepted law (Shows run) _ batch a s opens live in
+      let y = answers_accepted law (Runs policy (Some events)) _ batch b t opens recorded in
+      let is = opens.holds.holds.1 in
+      let shown = subst (λ rs. Shows run rs a s) (same_batch law batch _ _ x opens) x.holds.holds.1 in
+      let (document, gives, writes) = subst (λ rs. Runs policy (Some events) rs b t) (same_batch law batch _ _ y opens) y.holds.holds.1 in
+      let whole = one_document events document events gives (whole-document events _ is.named_in) in
+      after-one opens.holds.batch opens.holds.holds.0 events run is a b s t shown (subst (λ bytes. RunsBatch policy opens.holds.batch bytes b t) whole writes)
+
+-- ---- one event more
+
+resolved-more : (batch : List Record) (ns : List EventValue) (es : List Event) (n : EventValue) (e : Event) → AreResolved batch ns es → IsResolved batch n e → AreResolved batch (ns ++ n ∷ []) (es ++ e ∷ [])
+resolved-more batch [] [] n e all is = (is, tt)
+resolved-more batch [] (f ∷ es) n e all is = absurd all
+resolved-more batch (m ∷ ns) [] n e all is = absurd all
+resolved-more batch (m ∷ ns) (f ∷ es) n e (one, all) is = (one, resolved-more batch ns es n e all is)
+
+run-more : (state : State) (es : List Event) (e : Event) → IsRunFrom state es → event_position e < size (after_all state es) → may_come (after_all state es) e ≡ true → IsRunFrom state (es ++ e ∷ [])
+run-more state [] e run within may = (within, may, tt)
+run-more state (f ∷ es) e (inside, came, run) within may = (inside, came, run-more (after state f) es e run within may)
+
+after-more : (state : State) (es : List Event) (e : Event) → after_all state (es ++ e ∷ []) ≡ after (after_all state es) e
+after-more state [] e = refl
+after-more state (f ∷ es) e = after-more (after state f) es e
+
+after-without : (state : State) (e : Event) → after (without_requests state) e ≡ without_requests (after state e)
+after-without state (event.Start i) = refl
+after-without state (event.Report i outcome) = refl
+
+may-without : (state : State) (e : Event) → may_come (without_requests state) e ≡ may_come state e
+may-without state (event.Start i) = refl
+may-without state (event.Report i outcome) = refl
+
+module _ (law : AreFunctional) (history : AreOneHistory) (policy : Policy) where
+  after-next : (batch : List Record) (events more : List ℕ) (run : State) (e : Event) → IsAfter policy batch events run → RecordsOneMore batch events more e → event_position e < size run → may_come run e ≡ true
+      → IsAfter policy batch more (after run e)
+  after-next batch events more run e is next within may =
+      let same = second.one_reading event_faults.event_row RefusesEvents IsEventsDocument AreEventsOf history events next.named is.named next.before is.named_in in
+      let last = end_of policy batch is.events in
+      record {
+        named = is.named ++ next.last ∷ [];
+        named_in = subst (λ xs. AreEventsIn more (xs ++ next.last ∷ [])) same next.with_it;
+        events = is.events ++ e ∷ [];
+        resolved = resolved-more batch is.named is.events next.last e is.resolved next.is;
+        may_come = run-more (first_state batch policy) is.events e is.may_come
+            (subst (λ (x : State). event_position e < size x) is.state within)
+            (sym (may-without last e) ∙ subst (λ (x : State). may_come x e ≡ true) is.state may);
+        state = ap (λ (x : State). after x e) is.state ∙ after-without last e ∙ ap without_requests (sym (after-more (first_state batch policy) is.events e));
+      }
+
+  pub live-next : (batch events more : List ℕ) (run : State) (e : Event) → Opens policy batch events run → Accepts batch (λ rs. RecordsOneMore rs events more e) → event_position e < size run → may_come run e ≡ true
+      → Opens policy batch more (after run e)
+  live-next batch events more run e opens next within may =
+      let batched = opens.holds in
+      record {
+        value = opens.value;
+        document = opens.document;
+        holds = record {
+          batch = batched.batch;
+          plan_graph = batched.plan_graph;
+          is_batch = batched.is_batch;
+          holds = (batched.holds.0, after-next batched.batch events more run e batched.holds.1 (subst (λ rs. RecordsOneMore rs events more e) (same_batch law batch _ _ next opens) next.holds.holds.1) within may);
+        };
+      }
