@@ -12,6 +12,7 @@ pub mod ReadAgain
 pub mod Replays
 pub mod Runs
 pub mod Matches
+pub mod LineTasks
 pub mod Ids
 pub mod Live
 pub mod Halts

@@ -1,0 +1,244 @@
+//! The commands over one line of a log, in memory: a line holds a batch document, or an array of a batch
+//! and a second document.
+
+ghost use Rattle.std.specs.Prelude.{◌≡◌, ◌≢◌, false, None, Err, IfSome};
+ghost use Rattle.serde_json.specs.Data.{Data};
+ghost use Rattle.serde_json.specs.View.{view};
+ghost use Rattle.odb_engine.specs.declared.halt.Halt.TheVariants as halts;
+ghost use Rattle.odb_engine.specs.Cascade.{Answers, AnswersValue};
+ghost use Rattle.odb_engine.specs.Engines.{Ends};
+ghost use Rattle.odb_engine.specs.Forms.{InForm};
+ghost use Rattle.odb_engine.specs.Halts.{Found, Sent};
+ghost use Rattle.odb_engine.specs.LineTasks.{IsPair, OfLine, OfPair};
+ghost use Rattle.odb_engine.specs.Replays.{ReplaysValue};
+ghost use Rattle.odb_sched.specs.run.Choosing.{AllowsOrder};
+
+use crate::canon::Canonical;
+use crate::check::Counts;
+use crate::command::{Command, plan_of, text_in};
+use crate::disposal::DropOrLeak;
+use crate::ending::{Ended, EngineFault, Sent, conclude, end};
+use crate::halt::Halt;
+use crate::input::value_in;
+use crate::match_responses::Match;
+use crate::pair::PairCommand;
+use crate::plan::Plans;
+use crate::replay::Replay;
+use crate::run::Run;
+use crate::setup::{Options, Setup};
+use odb_doc::{Batch, Output, Place, Refusal};
+use odb_sched::{Chooser, First, Last, Order, Policy, Wide};
+use serde_json::Value;
+use std::alloc::Global;
+use std::io::Write;
+
+/// F07: the line of a command over two documents is not an array of two.
+const NOT_PAIR: Halt = Halt::Refused(Refusal {
+    code: "F07",
+    name: "NotPair",
+    place: Place::Batch,
+});
+
+/// What is done with a line: a command, and its options.
+#[derive(Clone, Copy, Debug)]
+pub enum LineTask {
+    /// Check the batch in the line.
+    Check,
+    /// Plan the batch in the line.
+    Plan,
+    /// Write the canonical text of the batch in the line.
+    Canon,
+    /// Match the responses in the line against the batch in it: `[batch, responses]`.
+    Match,
+    /// Replay the batch in the line by the recorded outcomes in it: `[batch, outcomes]`.
+    Replay { policy: Policy, order: Order },
+    /// Run the batch in the line by the recorded events in it: `[batch, events]`.
+    Run { policy: Policy },
+}
+
+/// Returns what the command prints of the batch in a line.
+fn text_of<C: Command>(
+    alloc: Global,
+    line: &[u8],
+    command: &C,
+    setup: Setup,
+) -> Result<String, Halt>
+    ensures found { Found (Answers (C.writes command.now) line.now) result }
+    ensures read { result ≢ Err halts.Read }
+{
+    let value = DropOrLeak {
+        value: value_in(alloc, line, Place::Batch)?,
+        disposal: setup.disposal,
+    };
+    text_in(alloc, &value.value, command, setup)
+}
+
+/// Writes what a command over one document prints of a line, or the least fault.
+fn answer<W: Write, C: Command>(
+    alloc: Global,
+    line: &[u8],
+    output: &mut Output<W>,
+    command: &C,
+    options: Options,
+) -> Result<Ended, EngineFault>
+    requires { output.old.failed ≡ false }
+    ensures { Ends W.contents (InForm options.form (Answers (C.writes command.now) line.now)) ⊥
+        output.old output.new result }
+{
+    let found = text_of(alloc, line, command, options.setup);
+    end(alloc, options.form, found, output)
+}
+
+/// Takes an array of two values apart; `None` if the value is no such array.
+fn pair_of(value: Value) -> Option<(Value, Value)>
+    ensures pair { IfSome result (λ pair. IsPair (view value) (view pair.0) (view pair.1)) }
+    ensures none { result ≡ None → (first second : Data) → ¬ IsPair (view value) first second }
+{
+    let Value::Array(mut values) = value else {
+        return None;
+    };
+    if values.len() != 2 {
+        return None;
+    }
+    let second = values.pop()?;
+    let first = values.pop()?;
+    Some((first, second))
+}
+
+/// Performs a command on the batch in a value and a second document.
+fn perform_on<W: Write, C: PairCommand>(
+    alloc: Global,
+    batch: &Value,
+    second: Value,
+    output: &mut Output<W>,
+    command: &mut C,
+) -> Sent
+    requires { output.old.failed ≡ false }
+    ensures sent { Sent W.contents (C.form command.old) (AnswersValue
+        (λ requests. C.writes command.old requests (view second)) (view batch.now)) ⊥
+        output.old output.new result }
+    ensures read { result ≢ Err halts.Read }
+{
+    let setup = command.options().setup;
+    let read = DropOrLeak {
+        value: Batch::read(alloc, batch)?,
+        disposal: setup.disposal,
+    };
+    let plan = plan_of(alloc, &read.value, setup)?;
+    command.perform(alloc, &plan.value, second, output)
+}
+
+/// Performs a command on the two documents in a line.
+fn perform<W: Write, C: PairCommand>(
+    alloc: Global,
+    line: &[u8],
+    output: &mut Output<W>,
+    command: &mut C,
+) -> Sent
+    requires { output.old.failed ≡ false }
+    ensures sent { Sent W.contents (C.form command.old) (OfPair (C.writes command.old) line.now) ⊥
+        output.old output.new result }
+    ensures read { result ≢ Err halts.Read }
+{
+    let Some((first, second)) = pair_of(value_in(alloc, line, Place::Batch)?) else {
+        return Err(NOT_PAIR);
+    };
+    let batch = DropOrLeak {
+        value: first,
+        disposal: command.options().setup.disposal,
+    };
+    perform_on(alloc, &batch.value, second, output, command)
+}
+
+/// Writes what a command over two documents writes of those in a line, or the least fault.
+fn answer_pair<W: Write, C: PairCommand>(
+    alloc: Global,
+    line: &[u8],
+    output: &mut Output<W>,
+    command: &mut C,
+) -> Result<Ended, EngineFault>
+    requires { output.old.failed ≡ false }
+    ensures { Ends W.contents (InForm (C.form command.old) (OfPair (C.writes command.old) line.now)) ⊥
+        output.old output.new result }
+{
+    let form = command.options().form;
+    let sent = perform(alloc, line, output, command);
+    conclude(alloc, form, sent, output)
+}
+
+/// Replays the batch in a line by the recorded outcomes in it, in the order of a chooser.
+fn replay_by<W: Write>(
+    alloc: Global,
+    line: &[u8],
+    output: &mut Output<W>,
+    chooser: &mut dyn Chooser,
+    by: (Policy, Options),
+) -> Result<Ended, EngineFault>
+    requires { output.old.failed ≡ false }
+    ensures { Ends W.contents (InForm by.1.form
+        (OfPair (ReplaysValue (allows chooser.old) by.0 false) line.now)) ⊥
+        output.old output.new result }
+{
+    let mut replay = Replay {
+        policy: by.0,
+        chooser,
+        traced: false,
+        options: by.1,
+    };
+    answer_pair(alloc, line, output, &mut replay)
+}
+
+/// Replays the batch in a line by the recorded outcomes in it, in an order.
+fn replay<W: Write>(
+    alloc: Global,
+    line: &[u8],
+    output: &mut Output<W>,
+    order: Order,
+    by: (Policy, Options),
+) -> Result<Ended, EngineFault>
+    requires { output.old.failed ≡ false }
+    ensures { Ends W.contents (InForm by.1.form
+        (OfPair (ReplaysValue (AllowsOrder order) by.0 false) line.now)) ⊥
+        output.old output.new result }
+{
+    match order {
+        Order::First => replay_by(alloc, line, output, &mut First, by),
+        Order::Last => replay_by(alloc, line, output, &mut Last, by),
+        Order::Wide => replay_by(alloc, line, output, &mut Wide, by),
+    }
+}
+
+/// Does a task on a line: writes what its command writes of the documents in it, or the line of the
+/// least fault, in the form of the options.
+///
+/// The line is the text of one document, or of a command over two documents that of an array of both;
+/// a text that is no array of two is refused as F07. It may hold any bytes. The output must not have
+/// failed. Takes the time and the memory of the command, and no copy of the line is made.
+///
+/// # Errors
+///
+/// - `Write` if and only if the output failed; it has received a prefix of what is written.
+/// - `OutOfMemory` if an allocation fails; nothing was written, or by a replay or a run nothing or a
+///   prefix of what is written.
+/// - Never `Read`.
+pub fn answer_line<W: Write>(
+    alloc: Global,
+    line: &[u8],
+    output: &mut Output<W>,
+    task: LineTask,
+    options: Options,
+) -> Result<Ended, EngineFault>
+    requires { output.old.failed ≡ false }
+    ensures { Ends W.contents (InForm options.form (OfLine task options.form line.now)) ⊥
+        output.old output.new result }
+{
+    let form = options.form;
+    match task {
+        LineTask::Check => answer(alloc, line, output, &Counts { form }, options),
+        LineTask::Plan => answer(alloc, line, output, &Plans { form }, options),
+        LineTask::Canon => answer(alloc, line, output, &Canonical, options),
+        LineTask::Match => answer_pair(alloc, line, output, &mut Match { options }),
+        LineTask::Replay { policy, order } => replay(alloc, line, output, order, (policy, options)),
+        LineTask::Run { policy } => answer_pair(alloc, line, output, &mut Run { policy, options }),
+    }
+}
