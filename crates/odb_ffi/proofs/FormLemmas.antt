@@ -1,8 +1,13 @@
 -- What an engine has written to memory is the text of its answer.
-use Rattle.std.proofs.Common.{◌≡◌, ℕ, List, [], ◌++◌, Some, Bor, Vec, Global, false, sym, subst, ap, ◌∙◌}
+use Rattle.std.proofs.Common.{◌≡◌, ℕ, List, [], ◌++◌, Option, Some, IfSome, Bor, Vec, Global, false, sym, subst, ap, ◌∙◌}
 use Rattle.odb_doc.specs.Devices.{Reading, Writing}
 use Rattle.odb_engine.specs.Engines.{WritesText}
 use Rattle.odb_engine.specs.Inputs.{IsDocumentOf}
+use Rattle.odb_engine.specs.declared.form.Form.{Form}
+use Rattle.odb_engine.specs.declared.line.LineTask.{LineTask}
+use Rattle.odb_engine.specs.Forms.{InForm}
+use Rattle.odb_engine.specs.LineTasks.{OfLine}
+use Rattle.odb_ffi.specs.declared.answer.Answer.{Answer}
 
 -- the document that was read is that of the bytes
 pub document-of : (bytes : Bor (List ℕ)) (input : Reading (Bor (List ℕ))) (document : List ℕ) → input ≡ record { reader = bytes; failed = false; reads = 0 } → IsDocumentOf input.reader.now document → IsDocumentOf bytes.now document
@@ -16,3 +21,8 @@ text-in P empty text old new none is taken w =
     let begun : old.writer.items ≡ [] = ap (λ (o : Writing (Vec ℕ Global)). o.writer.items) is ∙ none in
     let same : text.items ≡ w.text = ap (λ (v : Vec ℕ Global). v.items) taken ∙ (grown ∙ ap (λ (xs : List ℕ). xs ++ w.text) begun) in
     subst P (sym same) w.so
+
+-- what is written in the form of the options is written in the form that they were made of
+pub in-form : (task : LineTask) (form other : Form) (bytes : List ℕ) (answer : Option Answer) → other ≡ form → IfSome answer (λ a. InForm other (OfLine task other bytes) a.ended a.text.items)
+    → IfSome answer (λ a. InForm form (OfLine task form bytes) a.ended a.text.items)
+in-form task form other bytes answer same so = subst (λ f. IfSome answer (λ a. InForm f (OfLine task f bytes) a.ended a.text.items)) same so

@@ -13,10 +13,10 @@ ghost use Rattle.odb_ffi.specs.Options as options;
 ghost use Rattle.odb_ffi.specs.Returns.{AnswersIn, Returns, ReturnsBy, WritesOf};
 
 use crate::answer::{give, wrong_option};
-use crate::options::{ReplayOptions, policy_of, replay_options_of, setup_of};
-use crate::over_one::{checked, made_canonical, planned};
+use crate::options::{ReplayOptions, options_of, policy_of, replay_options_of, setup_of};
+use crate::over_one::answered;
 use crate::over_two::{matched, ran, replayed};
-use odb_engine::Form;
+use odb_engine::{Form, LineTask};
 use odb_sched::Policy;
 use std::alloc::Global;
 
@@ -44,11 +44,11 @@ pub extern "C" fn odb_check(
     text_length: &mut usize,
     seed: u64,
 ) -> u32
-    ensures { Returns (WritesOf batch.now (Answers commands.Counts))
+    ensures { Returns (Answers commands.Counts batch.now)
         result text_length.new text.old text.new }
 {
     give(
-        checked(alloc, batch, Form::Lines, setup_of(seed)),
+        answered(alloc, batch, LineTask::Check, options_of(Form::Lines, seed)),
         text,
         text_length,
     )
@@ -64,11 +64,11 @@ pub extern "C" fn odb_plan(
     text_length: &mut usize,
     seed: u64,
 ) -> u32
-    ensures { Returns (WritesOf batch.now (Answers commands.Plans))
+    ensures { Returns (Answers commands.Plans batch.now)
         result text_length.new text.old text.new }
 {
     give(
-        planned(alloc, batch, Form::Lines, setup_of(seed)),
+        answered(alloc, batch, LineTask::Plan, options_of(Form::Lines, seed)),
         text,
         text_length,
     )
@@ -84,11 +84,11 @@ pub extern "C" fn odb_canon(
     text_length: &mut usize,
     seed: u64,
 ) -> u32
-    ensures { Returns (WritesOf batch.now (Answers commands.Canonical))
+    ensures { Returns (Answers commands.Canonical batch.now)
         result text_length.new text.old text.new }
 {
     give(
-        made_canonical(alloc, batch, Form::Lines, setup_of(seed)),
+        answered(alloc, batch, LineTask::Canon, options_of(Form::Lines, seed)),
         text,
         text_length,
     )

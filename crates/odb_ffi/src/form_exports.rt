@@ -15,9 +15,10 @@ ghost use Rattle.odb_ffi.specs.Returns.{AnswersIn, ReturnsBy, WritesOf};
 
 use crate::answer::{give, wrong_option};
 use crate::exports::{replay_by, run_under};
-use crate::options::{form_of, policy_of, replay_options_of, setup_of};
-use crate::over_one::{checked, made_canonical, planned};
+use crate::options::{form_of, options_of, policy_of, replay_options_of, setup_of};
+use crate::over_one::answered;
 use crate::over_two::matched;
+use odb_engine::LineTask;
 use std::alloc::Global;
 
 /// Checks the batch in a document, as [`crate::exports::odb_check`] does, and writes the text in a form.
@@ -31,12 +32,12 @@ pub extern "C" fn odb_check_as(
     seed: u64,
 ) -> u32
     ensures { ReturnsBy (options.IsForm form) (options.NamesNoForm form)
-        (λ form. WritesOf batch.now (AnswersIn form (commands.CountsIn form)))
+        (λ form. AnswersIn form (commands.CountsIn form) batch.now)
         result text_length.new text.old text.new }
 {
     match form_of(form) {
         Some(form) => give(
-            checked(alloc, batch, form, setup_of(seed)),
+            answered(alloc, batch, LineTask::Check, options_of(form, seed)),
             text,
             text_length,
         ),
@@ -55,12 +56,12 @@ pub extern "C" fn odb_plan_as(
     seed: u64,
 ) -> u32
     ensures { ReturnsBy (options.IsForm form) (options.NamesNoForm form)
-        (λ form. WritesOf batch.now (AnswersIn form (commands.PlansIn form)))
+        (λ form. AnswersIn form (commands.PlansIn form) batch.now)
         result text_length.new text.old text.new }
 {
     match form_of(form) {
         Some(form) => give(
-            planned(alloc, batch, form, setup_of(seed)),
+            answered(alloc, batch, LineTask::Plan, options_of(form, seed)),
             text,
             text_length,
         ),
@@ -80,12 +81,12 @@ pub extern "C" fn odb_canon_as(
     seed: u64,
 ) -> u32
     ensures { ReturnsBy (options.IsForm form) (options.NamesNoForm form)
-        (λ form. WritesOf batch.now (AnswersIn form commands.Canonical))
+        (λ form. AnswersIn form commands.Canonical batch.now)
         result text_length.new text.old text.new }
 {
     match form_of(form) {
         Some(form) => give(
-            made_canonical(alloc, batch, form, setup_of(seed)),
+            answered(alloc, batch, LineTask::Canon, options_of(form, seed)),
             text,
             text_length,
         ),

@@ -5,7 +5,7 @@ ghost use Rattle.odb_engine.specs.declared.disposal.Disposal.TheVariants.{Drop};
 ghost use Rattle.odb_ffi.specs.Options as options;
 
 use odb_check::Seed;
-use odb_engine::{Disposal, Form, Setup};
+use odb_engine::{Disposal, Form, Options, Setup};
 use odb_sched::{MAX_WIDTH, Mode, Order, Policy};
 
 /// The options of a replay.
@@ -37,6 +37,19 @@ pub fn setup_of(seed: u64) -> Setup
     Setup {
         seed: seed_of(seed),
         disposal: Disposal::Drop,
+    }
+}
+
+/// Returns what an engine takes that writes in a form and keeps nothing. 0 is no seed.
+pub fn options_of(form: Form, seed: u64) -> Options
+    ensures form { result.form ≡ form }
+    ensures disposal { result.setup.disposal ≡ Drop }
+    ensures none { seed ≡ 0 → result.setup.seed.number ≡ None }
+    ensures some { seed ≢ 0 → result.setup.seed.number ≡ Some seed }
+{
+    Options {
+        form,
+        setup: setup_of(seed),
     }
 }
 

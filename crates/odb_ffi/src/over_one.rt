@@ -1,67 +1,21 @@
-//! The commands over one document in memory, in a form. Each returns `None` if an allocation fails: no read of
-//! memory fails, and a write does only if the text cannot grow.
+//! The commands over one document in memory, in a form.
 
 ghost use Rattle.std.specs.Prelude.{IfSome};
-ghost use Rattle.odb_engine.specs.Commands as commands;
-ghost use Rattle.odb_ffi.specs.Returns.{AnswersIn, WritesOf};
+ghost use Rattle.odb_engine.specs.Forms.{InForm};
+ghost use Rattle.odb_engine.specs.LineTasks.{OfLine};
 
 use crate::answer::Answer;
-use odb_doc::{Input, Output};
-use odb_engine::{Form, Options, Setup, canon_batch_as, check_batch_as, plan_batch_as};
+use odb_doc::Output;
+use odb_engine::{LineTask, Options, answer_line};
 use std::alloc::Global;
 
-/// Checks a batch.
-pub fn checked(alloc: Global, batch: &[u8], form: Form, setup: Setup) -> Option<Answer>
-    ensures { IfSome result (λ answer.
-        WritesOf batch.now (AnswersIn form (commands.CountsIn form)) answer.ended answer.text.items) }
+/// Does a task on a document, without a copy of it. Returns `None` if an allocation fails.
+pub fn answered(alloc: Global, document: &[u8], task: LineTask, options: Options) -> Option<Answer>
+    ensures { IfSome result (λ answer. InForm options.form (OfLine task options.form document.now)
+        answer.ended answer.text.items) }
 {
     let mut output = Output::new(Vec::new(alloc));
-    match check_batch_as(
-        alloc,
-        &mut Input::new(batch),
-        &mut output,
-        Options { form, setup },
-    ) {
-        Ok(ended) => Some(Answer {
-            ended,
-            text: output.into_inner(),
-        }),
-        Err(_) => None,
-    }
-}
-
-/// Plans a batch.
-pub fn planned(alloc: Global, batch: &[u8], form: Form, setup: Setup) -> Option<Answer>
-    ensures { IfSome result (λ answer.
-        WritesOf batch.now (AnswersIn form (commands.PlansIn form)) answer.ended answer.text.items) }
-{
-    let mut output = Output::new(Vec::new(alloc));
-    match plan_batch_as(
-        alloc,
-        &mut Input::new(batch),
-        &mut output,
-        Options { form, setup },
-    ) {
-        Ok(ended) => Some(Answer {
-            ended,
-            text: output.into_inner(),
-        }),
-        Err(_) => None,
-    }
-}
-
-/// Makes the canonical text of a batch.
-pub fn made_canonical(alloc: Global, batch: &[u8], form: Form, setup: Setup) -> Option<Answer>
-    ensures { IfSome result (λ answer.
-        WritesOf batch.now (AnswersIn form commands.Canonical) answer.ended answer.text.items) }
-{
-    let mut output = Output::new(Vec::new(alloc));
-    match canon_batch_as(
-        alloc,
-        &mut Input::new(batch),
-        &mut output,
-        Options { form, setup },
-    ) {
+    match answer_line(alloc, document, &mut output, task, options) {
         Ok(ended) => Some(Answer {
             ended,
             text: output.into_inner(),

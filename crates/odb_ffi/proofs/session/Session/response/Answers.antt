@@ -9,4 +9,4 @@ pub returns-clause-text : goal.returns-clause-text
 returns-clause-text c =
     let session = c.args.self.now in
     answer-written (Answers (Shows session.run) session.document.items) c.text_of_run-found.result c.answer_of.result
-        (subst (λ bytes. Found (Answers (Shows session.run) bytes) c.text_of_run-found.result) c.deref.ensures.value c.text_of_run-found.ensures.found) c.answer_of.ensures
+    (subst (λ bytes. Found (Answers (Shows session.run) bytes) c.text_of_run-found.result) c.deref.ensures.value c.text_of_run-found.ensures.found) c.answer_of.ensures
