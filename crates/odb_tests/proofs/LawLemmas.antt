@@ -1,5 +1,7 @@
 -- What a law says of two calls: two texts of one document, and two readings of one thing.
-use Rattle.std.proofs.Common.{◌≡◌, ◌∙◌, ℕ, List, Option, Some, None, Result, Ok, Err, IfSome, unwrap_or, sym, ap, subst}
+use Rattle.std.proofs.Common.{◌≡◌, ◌∙◌, ℕ, List, [], ◌++◌, Bor, Global, Option, Some, None, Result, Ok, Err, IfSome, Vec, false, unwrap_or, refl, sym, ap, subst, append-nil, arith}
+use Rattle.odb_doc.specs.Devices.{Reading, Writing}
+use Rattle.odb_engine.specs.Engines.{WritesText}
 use Rattle.odb_engine.specs.declared.ending.Ended.{Ended}
 use Rattle.odb_engine.specs.declared.ending.Ended.TheVariants.{Done}
 use Rattle.serde_json.specs.Data.{Data}
@@ -28,6 +30,21 @@ pub done_written : {X : Type 0} (ended : X → Ended) (text : X → List ℕ) (l
     → IfSome a (λ x. SomeDocument (Some left) (λ bytes. W bytes (ended x) (text x))) → IfSome a (λ x. ended x ≡ Done → SomeDocument (Some left) (λ bytes. Q bytes (text x)))
 done_written ended text left W Q so None _ = tt
 done_written ended text left W Q so (Some x) (bytes, gives, is) = λ done. (bytes, gives, so bytes (text x) (subst (λ e. W bytes e (text x)) done is))
+
+-- the document that a reader over these bytes gives is one of the bytes
+pub document_of : (bytes : Bor (List ℕ)) (input : Reading (Bor (List ℕ))) (document : List ℕ) → input ≡ record { reader = bytes; failed = false; reads = 0 } → IsDocumentOf input.reader.now document → IsDocumentOf bytes.now document
+document_of bytes input document is of = subst (λ (r : Reading (Bor (List ℕ))). IsDocumentOf r.reader.now document) is of
+
+-- what was written to an empty vector is what it holds
+pub text_in : (P : List ℕ → Type 0) (empty text : Vec ℕ Global) (old new : Writing (Vec ℕ Global)) → empty.items ≡ [] → old ≡ record { writer = empty; failed = false } → text ≡ new.writer
+    → WritesText (Some old.writer.items) (Some new.writer.items) P → P text.items
+text_in P empty text old new none is taken w =
+    let begun : old.writer.items ≡ [] = ap (λ (o : Writing (Vec ℕ Global)). o.writer.items) is ∙ none in
+    subst P (sym (ap (λ (v : Vec ℕ Global). v.items) taken ∙ (w.written ∙ ap (λ (xs : List ℕ). xs ++ w.text) begun))) w.so
+
+-- the bytes of a document are all that a reader over them gives
+pub whole_document : (bytes : List ℕ) (P : Data → Type 0) → HasValue bytes P → IsDocumentOf bytes bytes
+whole_document bytes P is = record { rest = []; whole = sym (append-nil bytes); within = omega (arith, is.document.0); ends = λ less. refl }
 
 -- ---- one reading
 

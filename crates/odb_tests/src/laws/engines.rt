@@ -235,8 +235,15 @@ fn live(alloc: Global, batch: &[u8], events: &[u8], policy: Policy) -> Option<St
     ensures { IfSome result (λ text. (run : State) × Opens policy batch.now events.now run
         × Answers (Shows run) batch.now Done (string_bytes text)) }
 {
-    let mut opened = open_run(alloc, batch, events, policy, Seed::none()).ok()?;
-    text_of_run(alloc, batch, &mut opened.run, Seed::none()).ok()
+    match open_run(alloc, batch, events, policy, Seed::none()) {
+        Ok(mut opened) => {
+            match text_of_run(alloc, batch, &mut opened.run, Seed::none()) {
+                Ok(text) => Some(text),
+                Err(_) => None,
+            }
+        }
+        Err(_) => None,
+    }
 }
 
 /// A live run and a run by recorded events, of the same events.
