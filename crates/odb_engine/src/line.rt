@@ -1,7 +1,7 @@
 //! The commands over one line of a log, in memory: a line holds a batch document, or an array of a batch
 //! and a second document.
 
-ghost use Rattle.std.specs.Prelude.{◌≡◌, ◌≢◌, false, None, Err, IfSome};
+ghost use Rattle.std.specs.Prelude.{◌≡◌, ◌≢◌, ◌⊎◌, false, None, Ok, Err, IfSome};
 ghost use Rattle.serde_json.specs.Data.{Data};
 ghost use Rattle.serde_json.specs.View.{view};
 ghost use Rattle.odb_engine.specs.declared.halt.Halt.TheVariants as halts;
@@ -9,7 +9,7 @@ ghost use Rattle.odb_engine.specs.Cascade.{Answers, AnswersValue};
 ghost use Rattle.odb_engine.specs.Engines.{Ends};
 ghost use Rattle.odb_engine.specs.Forms.{InForm};
 ghost use Rattle.odb_engine.specs.Halts.{Found, Sent};
-ghost use Rattle.odb_engine.specs.LineTasks.{IsPair, OfLine, OfPair};
+ghost use Rattle.odb_engine.specs.LineTasks.{IsPair, OfLine, OfPair, Streams};
 ghost use Rattle.odb_engine.specs.Replays.{ReplaysValue};
 ghost use Rattle.odb_sched.specs.run.Choosing.{AllowsOrder};
 
@@ -82,8 +82,9 @@ fn answer<W: Write, C: Command>(
     options: Options,
 ) -> Result<Ended, EngineFault>
     requires { output.old.failed ≡ false }
-    ensures { Ends W.contents (InForm options.form (Answers (C.writes command.now) line.now)) ⊥
+    ensures ends { Ends W.contents (InForm options.form (Answers (C.writes command.now) line.now)) ⊥
         output.old output.new result }
+    ensures memory { result ≡ Err EngineFault.OutOfMemory → output.new ≡ output.old }
 {
     let found = text_of(alloc, line, command, options.setup);
     end(alloc, options.form, found, output)
@@ -117,6 +118,7 @@ fn perform_on<W: Write, C: PairCommand>(
     ensures sent { Sent W.contents (C.form command.old) (AnswersValue
         (λ requests. C.writes command.old requests (view second)) (view batch.now)) ⊥
         output.old output.new result }
+    ensures memory { result ≡ Ok (Err EngineFault.OutOfMemory) → C.streams command.old }
     ensures read { result ≢ Err halts.Read }
 {
     let setup = command.options().setup;
@@ -138,6 +140,7 @@ fn perform<W: Write, C: PairCommand>(
     requires { output.old.failed ≡ false }
     ensures sent { Sent W.contents (C.form command.old) (OfPair (C.writes command.old) line.now) ⊥
         output.old output.new result }
+    ensures memory { result ≡ Ok (Err EngineFault.OutOfMemory) → C.streams command.old }
     ensures read { result ≢ Err halts.Read }
 {
     let Some((first, second)) = pair_of(value_in(alloc, line, Place::Batch)?) else {
@@ -158,8 +161,10 @@ fn answer_pair<W: Write, C: PairCommand>(
     command: &mut C,
 ) -> Result<Ended, EngineFault>
     requires { output.old.failed ≡ false }
-    ensures { Ends W.contents (InForm (C.form command.old) (OfPair (C.writes command.old) line.now)) ⊥
-        output.old output.new result }
+    ensures ends { Ends W.contents (InForm (C.form command.old)
+        (OfPair (C.writes command.old) line.now)) ⊥ output.old output.new result }
+    ensures memory { result ≡ Err EngineFault.OutOfMemory
+        → (output.new ≡ output.old) ⊎ C.streams command.old }
 {
     let form = command.options().form;
     let sent = perform(alloc, line, output, command);
@@ -229,8 +234,10 @@ pub fn answer_line<W: Write>(
     options: Options,
 ) -> Result<Ended, EngineFault>
     requires { output.old.failed ≡ false }
-    ensures { Ends W.contents (InForm options.form (OfLine task options.form line.now)) ⊥
+    ensures ends { Ends W.contents (InForm options.form (OfLine task options.form line.now)) ⊥
         output.old output.new result }
+    ensures memory { result ≡ Err EngineFault.OutOfMemory
+        → (output.new ≡ output.old) ⊎ Streams task }
 {
     let form = options.form;
     match task {

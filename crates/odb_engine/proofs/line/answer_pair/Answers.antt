@@ -6,8 +6,8 @@ use Rattle.odb_engine.specs.LineTasks.{OfPair}
 use Rattle.odb_engine.proofs.PhaseLemmas.{Ends-concluded, Sent-works, read-by-halt}
 use Rattle.odb_engine.proofs.line.answer_pair.Goals as goal
 
-pub returns : goal.returns
-returns g c =
+pub returns-clause-ends : goal.returns-clause-ends
+returns-clause-ends g c =
     let contents = g.W.Write.contents in
     let form = g.C.PairCommand.form c.args.command.now in
     let sent = c.perform-sent.result in
