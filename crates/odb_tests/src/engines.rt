@@ -4,7 +4,7 @@
 ghost use Rattle.std.specs.Prelude.{◌≡◌, false};
 ghost use Rattle.odb_engine.specs.Inputs.{IsFresh};
 
-mod devices;
+pub mod devices;
 mod disposal;
 mod embedding;
 mod failures;

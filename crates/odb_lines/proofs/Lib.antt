@@ -1,0 +1,4 @@
+mod ByteLemmas
+mod LineLemmas
+mod AnswerLemmas
+mod LawLemmas

@@ -1,0 +1,6 @@
+-- What public clauses cite: it has to be believed.
+pub mod Lines
+pub mod Sources
+pub mod Answers
+-- For invariants and private clauses.
+pub mod Steps

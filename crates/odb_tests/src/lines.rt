@@ -1,0 +1,267 @@
+//! The lines of an input that comes in pieces, answered by a command that writes how long each is.
+
+ghost use Rattle.std.specs.Prelude.{◌≡◌, IfSome};
+ghost use Rattle.odb_lines.specs.Answers.{AnswersEach, OfAnyLine};
+ghost use Rattle.odb_lines.specs.Lines.{lines_of};
+ghost use Rattle.odb_tests.specs.Lengths.{WritesLength};
+
+use crate::engines::devices::{Narrow, Pace, Slow};
+use odb_doc::Output;
+use odb_engine::{Ended, EngineFault};
+use odb_lines::laws::one_text;
+use odb_lines::{LineCommand, LineInput, answer_lines};
+use std::alloc::{AllocError, Global};
+use std::cell::Cell;
+use std::io::{self, Read, Write, repeat};
+
+/// Writes how long a line is; refuses an empty one.
+#[derive(Drop)]
+struct Length;
+
+impl LineCommand for Length {
+    ghost use Rattle.odb_tests.specs.Lengths.{WritesLength};
+
+    ghost writes = { λ _. WritesLength };
+
+    ghost streams = { λ _. ⊥ };
+
+    fn answer<W: Write>(
+        &self,
+        alloc: Global,
+        line: &[u8],
+        output: &mut Output<W>,
+    ) -> Result<Ended, EngineFault> {
+        let text = format!(in alloc; "{}\n", line.len())?;
+        output.put_text(&text)?;
+        Ok(if line.is_empty() {
+            Ended::Refused
+        } else {
+            Ended::Done
+        })
+    }
+}
+
+/// What is read, what is written of it, and how that ends.
+const EXAMPLES: [(&str, &str, Ended); 8] = [
+    ("", "", Ended::Done),
+    ("\n", "0\n", Ended::Refused),
+    ("a", "1\n", Ended::Done),
+    ("ab\n", "2\n", Ended::Done),
+    ("a\r\nbcd", "2\n3\n", Ended::Done),
+    ("ab\n\nabc", "2\n0\n3\n", Ended::Refused),
+    ("\n\nabcd\n", "0\n0\n4\n", Ended::Refused),
+    ("abcdefghij\nabcdefghijk\nl\n", "10\n11\n1\n", Ended::Done),
+];
+
+/// Turns of a byte, of three, of uneven numbers, and of more than a text has.
+const TURNS: [[usize; 3]; 4] = [[1, 1, 1], [3, 3, 3], [1, 7, 2], [1_000, 1_000, 1_000]];
+
+/// More calls than a device is called.
+const ENOUGH: usize = 1_000;
+
+/// How the lines of a text end, and what is written of them.
+type Answers = (Result<Ended, EngineFault>, Vec<u8>);
+
+/// Answers the lines of a text by devices that work at these paces.
+fn answers(
+    alloc: Global,
+    text: &str,
+    [reads, writes]: [Pace; 2],
+    flush: bool,
+) -> Result<Answers, AllocError> {
+    let mut input = LineInput::new(alloc, Slow::new(text.as_bytes(), reads))?;
+    let mut output = Output::new(Narrow::new(alloc, writes));
+    let ended = answer_lines(alloc, &mut input, &mut output, &Length, flush);
+    let Narrow { bytes, .. } = output.into_inner();
+    Ok((ended, bytes))
+}
+
+/// Whether a text is answered so by devices of which none fails.
+fn are_answered(alloc: Global, (text, written, ended): (&str, &str, Ended), flush: bool) -> bool {
+    for turns in &TURNS {
+        let pace = Pace {
+            turns: *turns,
+            calls: ENOUGH,
+        };
+        let Ok((end, bytes)) = answers(alloc, text, [pace; 2], flush) else {
+            return false;
+        };
+        if end != Ok(ended) || bytes.as_slice() != written.as_bytes() {
+            return false;
+        }
+    }
+    true
+}
+
+#[test]
+fn each_line_is_answered(rt: HostRuntime) {
+    for example in &EXAMPLES {
+        assert!(rt; are_answered(rt.alloc(), *example, false));
+        assert!(rt; are_answered(rt.alloc(), *example, true));
+    }
+}
+
+/// How the lines of a text in memory end, and what is written of them.
+type Written = (Ended, Vec<u8>);
+
+fn written(alloc: Global, text: &[u8]) -> Option<Written>
+    ensures { IfSome result (λ it.
+        AnswersEach (OfAnyLine WritesLength) (lines_of text.now) it.0 it.1.items) }
+{
+    let mut input = LineInput::new(alloc, text).ok()?;
+    let mut output = Output::new(Vec::new(alloc));
+    match answer_lines(alloc, &mut input, &mut output, &Length, false) {
+        Ok(ended) => Some((ended, output.into_inner())),
+        Err(_) => None,
+    }
+}
+
+fn written_twice(alloc: Global, text: &[u8]) -> (Option<Written>, Option<Written>)
+    ensures { IfSome result.0 (λ one. IfSome result.1 (λ other.
+        (one.0 ≡ other.0) × (one.1.items ≡ other.1.items))) }
+{
+    one_text(&Length);
+    (written(alloc, text), written(alloc, text))
+}
+
+#[test]
+fn the_same_text_is_written_again(rt: HostRuntime) {
+    let (one, other) = written_twice(rt.alloc(), b"ab\n\nc");
+    assert!(rt; one.is_some() && one == other);
+}
+
+/// How many bytes are read of `ab`, an empty line, `c` and `de`, and what is written of them.
+const CUT: [(usize, &str); 7] = [
+    (0, ""),
+    (2, ""),
+    (3, "2\n"),
+    (4, "2\n0\n"),
+    (5, "2\n0\n"),
+    (6, "2\n0\n1\n"),
+    (8, "2\n0\n1\n"),
+];
+
+/// Whether a call of a device fails, and this is written.
+fn fails(alloc: Global, calls: [usize; 2], fault: EngineFault, written: &str) -> bool {
+    let paces = calls.map(|calls| Pace {
+        turns: [1, 1, 1],
+        calls,
+    });
+    let Ok((end, bytes)) = answers(alloc, "ab\n\nc\nde", paces, false) else {
+        return false;
+    };
+    end == Err(fault) && bytes.as_slice() == written.as_bytes()
+}
+
+#[test]
+fn the_lines_before_a_failed_read_are_answered(rt: HostRuntime) {
+    for (calls, written) in &CUT {
+        assert!(rt; fails(rt.alloc(), [*calls, ENOUGH], EngineFault::Read, written));
+    }
+}
+
+#[test]
+fn a_failed_write_ends_it(rt: HostRuntime) {
+    let written = "2\n0\n1\n2\n";
+    for calls in 0..written.len() {
+        assert!(rt;
+            fails(
+                rt.alloc(),
+                [ENOUGH, calls],
+                EngineFault::Write,
+                &written[..calls]
+            )
+        );
+    }
+}
+
+/// Whether a line of so many bytes and a short one are answered so.
+fn is_cut(alloc: Global, count: u64, written: &str) -> Result<bool, AllocError> {
+    let reader = repeat(b'a').take(count).chain("\nab".as_bytes());
+    let mut input = LineInput::new(alloc, reader)?;
+    let mut output = Output::new(Vec::new(alloc));
+    let ended = answer_lines(alloc, &mut input, &mut output, &Length, false);
+    Ok(ended == Ok(Ended::Done) && output.into_inner().as_slice() == written.as_bytes())
+}
+
+#[test]
+fn a_long_line_is_cut(rt: HostRuntime) {
+    for (count, written) in [
+        (16_777_216, "16777216\n2\n"),
+        (16_777_217, "16777217\n2\n"),
+        (17_000_000, "16777217\n2\n"),
+    ] {
+        assert!(rt; is_cut(rt.alloc(), count, written) == Ok(true));
+    }
+}
+
+/// Sends three bytes at a time, or all at once, and notes whether it was kept waiting for an answer.
+#[derive(Drop)]
+struct Peer<'a> {
+    left: &'a [u8],
+    count: usize,
+    is_held: &'a Cell<bool>,
+    was_kept_waiting: &'a Cell<bool>,
+}
+
+impl Read for Peer<'_> {
+    fn read(&mut self, buffer: &mut [u8]) -> io::Result<usize> {
+        if self.is_held.get() {
+            self.was_kept_waiting.set(true);
+        }
+        let count = self.left.len().min(buffer.len()).min(self.count);
+        let (given, left) = self.left.split_at(count);
+        buffer[..count].copy_from_slice(given);
+        self.left = left;
+        Ok(count)
+    }
+}
+
+/// Holds what is written until it is flushed, and notes whether it held one answer as the next came.
+#[derive(Drop)]
+struct Holding<'a> {
+    is_held: &'a Cell<bool>,
+    were_gathered: &'a Cell<bool>,
+}
+
+impl Write for Holding<'_> {
+    fn write(&mut self, bytes: &[u8]) -> io::Result<usize> {
+        if self.is_held.replace(true) {
+            self.were_gathered.set(true);
+        }
+        Ok(bytes.len())
+    }
+
+    fn flush(&mut self) -> io::Result<()> {
+        self.is_held.set(false);
+        Ok(())
+    }
+}
+
+/// Whether a peer that sends so many bytes at a time was kept waiting, and whether answers were
+/// gathered.
+fn passing(alloc: Global, count: usize, flush: bool) -> Result<(bool, bool), AllocError> {
+    let is_held = Cell::new(false);
+    let was_kept_waiting = Cell::new(false);
+    let were_gathered = Cell::new(false);
+    let reader = Peer {
+        left: "ab\nab\na\nab\n".as_bytes(),
+        count,
+        is_held: &is_held,
+        was_kept_waiting: &was_kept_waiting,
+    };
+    let writer = Holding {
+        is_held: &is_held,
+        were_gathered: &were_gathered,
+    };
+    let mut input = LineInput::new(alloc, reader)?;
+    let _ended = answer_lines(alloc, &mut input, &mut Output::new(writer), &Length, flush);
+    Ok((was_kept_waiting.get(), were_gathered.get()))
+}
+
+#[test]
+fn what_was_answered_is_passed_on_before_a_read(rt: HostRuntime) {
+    for (count, flush, are_gathered) in [(3, false, false), (11, false, true), (11, true, false)] {
+        assert!(rt; passing(rt.alloc(), count, flush) == Ok((false, are_gathered)));
+    }
+}
