@@ -11,7 +11,9 @@ mod command;
 mod input;
 pub mod laws;
 mod line;
+mod task;
 
 pub use answer::answer_lines;
 pub use command::LineCommand;
 pub use input::LineInput;
+pub use task::EachLine;

@@ -7,9 +7,9 @@ ghost use Rattle.odb_tests.specs.Lengths.{WritesLength};
 
 use crate::engines::devices::{Narrow, Pace, Slow};
 use odb_doc::Output;
-use odb_engine::{Ended, EngineFault};
+use odb_engine::{Ended, EngineFault, Form, LineTask, Options, Setup};
 use odb_lines::laws::one_text;
-use odb_lines::{LineCommand, LineInput, answer_lines};
+use odb_lines::{EachLine, LineCommand, LineInput, answer_lines};
 use std::alloc::{AllocError, Global};
 use std::cell::Cell;
 use std::io::{self, Read, Write, repeat};
@@ -128,6 +128,41 @@ fn written_twice(alloc: Global, text: &[u8]) -> (Option<Written>, Option<Written
 fn the_same_text_is_written_again(rt: HostRuntime) {
     let (one, other) = written_twice(rt.alloc(), b"ab\n\nc");
     assert!(rt; one.is_some() && one == other);
+}
+
+/// A batch, an empty line, and a batch whose request has no identifier.
+const LOG: &str = r#"{"requests":[{"id":"1","method":"get","url":"A"}]}
+
+{"requests":[{"method":"get","url":"A"}]}
+"#;
+
+/// What is written of these lines by a task in a form, and how that ends.
+fn done(alloc: Global, task: LineTask, form: Form) -> Result<Answers, AllocError> {
+    let setup = Setup::plain();
+    let options = Options { form, setup };
+    let mut input = LineInput::new(alloc, LOG.as_bytes())?;
+    let mut output = Output::new(Vec::new(alloc));
+    let command = EachLine { task, options };
+    let ended = answer_lines(alloc, &mut input, &mut output, &command, false);
+    Ok((ended, output.into_inner()))
+}
+
+/// Whether a task writes this of these lines.
+fn is_done(alloc: Global, task: LineTask, form: Form, written: &str) -> bool {
+    let Ok((ended, bytes)) = done(alloc, task, form) else {
+        return false;
+    };
+    ended == Ok(Ended::Refused) && bytes.as_slice() == written.as_bytes()
+}
+
+#[test]
+fn a_task_is_done_on_each_line(rt: HostRuntime) {
+    let lines = "ok 1 requests 0 groups\nfault F02 NotJson batch\nfault F13 BadId /requests/0\n";
+    let json = "{\"requests\":[{\"id\":\"1\",\"level\":0,\"needs\":[]}]}\n\
+        {\"fault\":{\"code\":\"F02\",\"name\":\"NotJson\",\"place\":\"batch\"}}\n\
+        {\"fault\":{\"code\":\"F13\",\"name\":\"BadId\",\"place\":\"/requests/0\"}}\n";
+    assert!(rt; is_done(rt.alloc(), LineTask::Check, Form::Lines, lines));
+    assert!(rt; is_done(rt.alloc(), LineTask::Plan, Form::Json, json));
 }
 
 /// How many bytes are read of `ab`, an empty line, `c` and `de`, and what is written of them.
