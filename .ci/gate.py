@@ -4,7 +4,7 @@ The parts are `rt ci` (the proofs, the tests, the must-fail edits), the version 
 it, the places that each fault has, the questions that the edits say they ask, the commands of pages
 against the output that they show, the faults of docs/faults.md against the program, the worked cases, the
 manual page and the completions against the help, documents that are cut and documents as long as the
-program takes, random documents against plain rules, drawings against plans, results and documents against
+program takes, random documents against plain rules, logs against single runs, drawings against plans, results and documents against
 the schemas of docs/schemas/, the library for other languages and its bindings, the example service, the
 tool that judges services, the archive of a release, allocations that fail, names that crowd the tables of
 one seed, and the short form of the benchmark, which compares answers and judges no time. The exit status is
@@ -39,6 +39,7 @@ PARTS = [
     ("documents as long as it takes", "tests sizes"),
     ("random documents", "tests fuzz --mistakes"),
     ("commands against each other", "tests agree"),
+    ("logs, a line each", "tests lines"),
     ("drawings of plans", "tests drawings"),
     ("documents against their schemas", "tests schemas"),
     ("library for other languages", "library/run.py"),

@@ -9,7 +9,7 @@ import sys
 
 sys.dont_write_bytecode = True
 
-RUNNERS = ("cases", "manual", "completions", "cut", "sizes", "fuzz", "agree", "drawings", "schemas", "memory", "seeds")
+RUNNERS = ("cases", "manual", "completions", "cut", "sizes", "fuzz", "agree", "lines", "drawings", "schemas", "memory", "seeds")
 
 
 def runner(name):

@@ -27,7 +27,7 @@ TEXTS = os.path.join(ROOT, "crates", "odb_batch", "src", "explain")
 
 # The files of texts: which codes they have, and what they are about.
 FILES = {
-    "documents": (r"F[012]\d", "the document and the form of its requests"),
+    "documents": (r"F[012]\d", "the document, a line, and the form of its requests"),
     "names": (r"F[34]\d", "ids, groups, names and references"),
     "records": (r"F[56]\d", "texts, recorded outcomes and recorded events"),
     "responses": (r"F7\d", "the responses of a service"),
@@ -113,6 +113,8 @@ def call(binary, folder, *words):
 
 def command_for(fault, document):
     """The command that reads a document of this fault, with the options that the fault needs."""
+    if fault.code == "F07":
+        return ["replay", "--lines", "document"]
     second = next(iter(json.loads(document)), "") if not fault.code.startswith("F0") else ""
     if second == "outcomes":
         return ["replay", "batch", "document"]

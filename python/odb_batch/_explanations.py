@@ -26,6 +26,11 @@ EXPLANATIONS = {
     "F06": (
         "The batch has more than 10,000 requests, which is the limit of this product. Split the batch."
     ),
+    "F07": (
+        "With --lines, the line of a command over two documents is JSON, but not an array of two. Such a line\n"
+        "holds both documents, [batch, second] (a choice of this product). Write the batch and the second\n"
+        "document as the two elements of an array."
+    ),
     "F10": (
         "The element of requests is not an object. Each request is one (OData JSON Format 4.01, section\n"
         "19.1). Write the request as an object with id, method and url. No other fault of its form is\n"

@@ -16,6 +16,7 @@ RESERVED = ("batch", "crossjoin", "all", "entity", "root", "id", "metadata")
 
 NAMES = dict(
     F01="TooLong", F02="NotJson", F03="NotObject", F04="NoRequests", F05="UnknownMember", F06="TooMany",
+    F07="NotPair",
     F10="NotRequestObject", F11="IfMember", F12="UnknownRequestMember", F13="BadId", F14="BadMethod",
     F15="BadUrl", F16="BadGroup", F17="BadDependsOn", F18="BadHeaders", F19="HeaderTwice",
     F20="BodyNotAllowed", F21="BadBody", F22="NestedBatch", F23="BadReference",

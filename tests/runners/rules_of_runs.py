@@ -1,5 +1,7 @@
 """The rules of runs, outcomes, events and responses as a plain program: the second part of rules.py."""
 
+import json
+import re
 from dataclasses import dataclass, field
 
 from . import rules
@@ -294,3 +296,24 @@ def printed(command, first, second=b"", **options):
         return text_of(command, rules.check(first), second, options).encode(), 0
     except Fault as fault:
         return str(fault).encode(), 1
+
+
+# Lines
+
+
+def skip(text, at, mark):
+    """Where the text goes on after white space, this mark and white space."""
+    return re.compile(rf"[ \t\r]*{re.escape(mark)}[ \t\r]*").match(text, at).end()
+
+
+def documents_of(command, line):
+    """The documents in a line: the line itself, or the texts of the two elements of its array, or F01, F02 or F07."""
+    value = rules.parse(line, "batch")
+    if command in ("check", "plan", "canon"):
+        return [line]
+    if not (isinstance(value, list) and len(value) == 2):
+        raise Fault("F07", "batch")
+    text, decode = line.decode(), json.JSONDecoder().raw_decode
+    first = skip(text, 0, "[")
+    second = skip(text, end := decode(text, first)[1], ",")
+    return [text[first:end].encode(), text[second : decode(text, second)[1]].encode()]

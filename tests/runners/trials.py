@@ -40,7 +40,7 @@ class Trial:
     @property
     def may_begin(self):
         """Whether a part of the output may have been written when an allocation fails."""
-        return self.command in WRITE_AS_THEY_GO
+        return self.command in WRITE_AS_THEY_GO or "--lines" in self.arguments
 
 
 def many_requests():
@@ -86,6 +86,19 @@ def write(folder, examples):
     for name, value in made.items():
         with open(os.path.join(folder, name), "w", encoding="utf-8") as file:
             json.dump(value, file)
+    write_logs(folder, examples)
+
+
+def write_logs(folder, examples):
+    """Writes logs: of batches, and of batches with a second document, each with a line that is refused."""
+    texts = []
+    for name in ("usual.json", "lent.json"):
+        with open(os.path.join(examples, name), encoding="utf-8") as file:
+            texts.append(json.dumps(json.load(file)))
+    batch, outcomes = texts
+    for name, lines in (("log.jsonl", [batch, "", batch]), ("pairs.jsonl", [f"[{batch},{outcomes}]", f"[{batch}]"])):
+        with open(os.path.join(folder, name), "w", encoding="utf-8") as file:
+            file.write("".join(line + "\n" for line in lines))
 
 
 def trial(line, status=0, large=False):
@@ -120,6 +133,10 @@ def trials(commands):
         trial("match usual.json lent.json", 1),
         trial("run usual.json usual_events.json"),
         trial("run usual.json usual_events.json --stop --width 1", 1),
+        trial("check --lines log.jsonl", 1),
+        trial("plan --lines log.jsonl", 1),
+        trial("replay --lines pairs.jsonl --order wide --json", 1),
+        trial("match --lines --flush pairs.jsonl", 1),
         trial("explain NotWhole"),
         trial("explain"),
         trial("explain F99", 2),

@@ -1,8 +1,9 @@
 //! What the arguments ask for.
 
 use crate::commands::{ORDER, WIDTH, program};
+use crate::log::Log;
 use clap::{ArgMatches, Error};
-use odb_engine::Form;
+use odb_engine::{Form, LineTask};
 use odb_sched::{MAX_WIDTH, Mode, Order, Policy};
 use std::alloc::{AllocError, Global};
 
@@ -97,6 +98,8 @@ pub enum Task<'a> {
     },
     /// Run the batch in a file by the events in another.
     Run(Run<'a>),
+    /// Do one of these on each line of a log.
+    Log(Log<'a>),
     /// Print a text that depends on no document.
     Print(Text<'a>),
 }
@@ -158,48 +161,85 @@ fn value_of<'a>(args: &ArgMatches<'a>, id: &str) -> &'a str {
     args.get_str(id).unwrap_or("")
 }
 
+/// Returns this task on each line of a log, if a command is asked for that.
+fn log_of<'a>(args: &ArgMatches<'a>, task: LineTask, form: Form) -> Option<Task<'a>> {
+    args.get_flag("lines").then_some(Task::Log(Log {
+        file: args.get_str("FILE"),
+        task,
+        form,
+        flush: args.get_flag("flush"),
+    }))
+}
+
 /// Returns the replay that its command asks for, or `None` if the width is not valid.
 fn replay_of<'a>(args: &ArgMatches<'a>) -> Option<Task<'a>> {
-    Some(Task::Replay(Replay {
+    let (policy, order) = (policy_of(args)?, order_of(args.get_str(ORDER)));
+    let form = form_of(args);
+    let replay = Task::Replay(Replay {
         file: value_of(args, "FILE"),
         outcomes: value_of(args, "OUTCOMES"),
-        order: order_of(args.get_str(ORDER)),
-        policy: policy_of(args)?,
+        order,
+        policy,
         traced: args.get_flag("trace"),
-        form: form_of(args),
-    }))
+        form,
+    });
+    Some(log_of(args, LineTask::Replay { policy, order }, form).unwrap_or(replay))
 }
 
 /// Returns the run that its command asks for, or `None` if the width is not valid.
 fn run_of<'a>(args: &ArgMatches<'a>) -> Option<Task<'a>> {
-    Some(Task::Run(Run {
+    let (policy, form) = (policy_of(args)?, form_of(args));
+    let run = Task::Run(Run {
         file: value_of(args, "FILE"),
         events: value_of(args, "EVENTS"),
-        policy: policy_of(args)?,
-        form: form_of(args),
-    }))
+        policy,
+        form,
+    });
+    Some(log_of(args, LineTask::Run { policy }, form).unwrap_or(run))
 }
 
-/// Returns the plan, or the drawing of it, that its command asks for.
+/// Returns the check that its command asks for.
+fn check_of<'a>(args: &ArgMatches<'a>) -> Task<'a> {
+    let form = form_of(args);
+    let check = Task::Check {
+        file: args.get_str("FILE"),
+        form,
+    };
+    log_of(args, LineTask::Check, form).unwrap_or(check)
+}
+
+/// Returns the plan, or the drawing of it, that its command asks for. Of each line it is JSON.
 fn plan_of<'a>(args: &ArgMatches<'a>) -> Task<'a> {
     let file = value_of(args, "FILE");
-    if args.get_flag("dot") {
+    let plan = if args.get_flag("dot") {
         Task::Draw { file }
     } else {
         Task::Plan {
             file,
             form: form_of(args),
         }
-    }
+    };
+    log_of(args, LineTask::Plan, Form::Json).unwrap_or(plan)
 }
 
-/// Returns the match that its command asks for.
+/// Returns the canonical text that its command asks for.
+fn canon_of<'a>(args: &ArgMatches<'a>) -> Task<'a> {
+    let form = form_of(args);
+    let canon = Task::Canon {
+        file: value_of(args, "FILE"),
+        form,
+    };
+    log_of(args, LineTask::Canon, form).unwrap_or(canon)
+}
+
+/// Returns the match that its command asks for. Of each line it is JSON.
 fn match_of<'a>(args: &ArgMatches<'a>) -> Task<'a> {
-    Task::Match {
+    let one = Task::Match {
         file: value_of(args, "FILE"),
         responses: value_of(args, "RESPONSES"),
         form: form_of(args),
-    }
+    };
+    log_of(args, LineTask::Match, Form::Json).unwrap_or(one)
 }
 
 /// Returns the explanations that their command asks for.
@@ -214,20 +254,14 @@ fn explanation_of<'a>(args: &ArgMatches<'a>) -> Text<'a> {
 fn task_named<'a>(name: &str, args: &ArgMatches<'a>) -> Option<Task<'a>> {
     match name {
         "plan" => Some(plan_of(args)),
-        "canon" => Some(Task::Canon {
-            file: value_of(args, "FILE"),
-            form: form_of(args),
-        }),
+        "canon" => Some(canon_of(args)),
         "replay" => replay_of(args),
         "match" => Some(match_of(args)),
         "run" => run_of(args),
         "explain" => Some(Task::Print(explanation_of(args))),
         "completions" => Some(Task::Print(Text::Completions(shell_of(args.get_str("SHELL"))))),
         "man" => Some(Task::Print(Text::Manual)),
-        _ => Some(Task::Check {
-            file: args.get_str("FILE"),
-            form: form_of(args),
-        }),
+        _ => Some(check_of(args)),
     }
 }
 

@@ -28,6 +28,16 @@ const DRAWING_HELP: &str = "Print the plan as a drawing, in the language DOT of 
 
 const FAULT_HELP: &str = "Print the fault of a refused document as one line of JSON";
 
+const FILE_HELP: &str =
+    "The batch document; with --lines the log, or standard input where it is absent";
+
+const LINES_HELP: &str = "Read a batch from each line, and print a line for each";
+
+const PAIRS_HELP: &str =
+    "Read a batch and its second document from each line, as an array of both, and print a line for each";
+
+const FLUSH_HELP: &str = "Write each line at once";
+
 pub const PROGRAM_NOTES: &str =
     "Exit status: 0 for a result, 1 for a fault of a document, 2 for wrong \
     arguments, 3 if a file or the output fails, 4 if out of memory";
@@ -72,9 +82,9 @@ fn replay_command<'a>(alloc: Global) -> Result<Command<'a>, AllocError> {
     let replay = Command::new(alloc, "replay")
         .about("Replay a batch by recorded outcomes: print its response")
         .after_help(REPLAY_NOTES)
-        .arg(document(alloc, "FILE", "The batch document"))?
-        .arg(document(alloc, "OUTCOMES", "The document of recorded outcomes"))?;
-    with_replay_options(alloc, replay)
+        .arg(batch(alloc)?)?
+        .arg(second(alloc, "OUTCOMES", "The document of recorded outcomes")?)?;
+    with_lines(alloc, with_replay_options(alloc, replay)?, PAIRS_HELP)
 }
 
 /// Adds the options of a replay: those of a run, and the order and the trace.
@@ -90,7 +100,8 @@ fn with_replay_options<'a>(alloc: Global, replay: Command<'a>) -> Result<Command
             alloc,
             "trace",
             "Print the steps, and what has to be undone, before the response",
-        ))?
+        )
+        .conflicts_with("lines")?)?
         .arg(flag(alloc, "json", FAULT_HELP))
 }
 
@@ -111,12 +122,39 @@ fn run_command<'a>(alloc: Global) -> Result<Command<'a>, AllocError> {
             "Run a batch by recorded events: print its response, or the first event that may not come",
         )
         .after_help(RUN_NOTES)
-        .arg(document(alloc, "FILE", "The batch document"))?
-        .arg(document(alloc, "EVENTS", "The document of recorded events"))?;
-    with_policy(alloc, run)?.arg(flag(alloc, "json", FAULT_HELP))
+        .arg(batch(alloc)?)?
+        .arg(second(alloc, "EVENTS", "The document of recorded events")?)?;
+    let run = with_policy(alloc, run)?.arg(flag(alloc, "json", FAULT_HELP))?;
+    with_lines(alloc, run, PAIRS_HELP)
 }
 
-/// Returns the argument for a document that has to be named.
+/// Adds the options of a command that takes a log.
+fn with_lines<'a>(
+    alloc: Global,
+    command: Command<'a>,
+    help: &'a str,
+) -> Result<Command<'a>, AllocError> {
+    command
+        .arg(flag(alloc, "lines", help))?
+        .arg(flag(alloc, "flush", FLUSH_HELP).requires_arg("lines")?)
+}
+
+/// Returns the argument for a batch, or for a log, which may be absent.
+fn batch<'a>(alloc: Global) -> Result<Arg<'a>, AllocError> {
+    Arg::new(alloc, "FILE")
+        .help(FILE_HELP)
+        .required_unless_present("lines")
+}
+
+/// Returns the argument for a second document, which is in the lines of a log.
+fn second<'a>(alloc: Global, name: &'a str, help: &'a str) -> Result<Arg<'a>, AllocError> {
+    Arg::new(alloc, name)
+        .help(help)
+        .required_unless_present("lines")?
+        .conflicts_with("lines")
+}
+
+/// Returns the argument for a word that has to be given.
 fn document<'a>(alloc: Global, name: &'a str, help: &'a str) -> Arg<'a> {
     Arg::new(alloc, name).help(help).required(true)
 }
@@ -131,42 +169,50 @@ fn flag<'a>(alloc: Global, name: &'a str, help: &'a str) -> Arg<'a> {
 
 /// Returns the command that checks.
 fn check_command<'a>(alloc: Global) -> Result<Command<'a>, AllocError> {
-    Command::new(alloc, "check")
+    let check = Command::new(alloc, "check")
         .about("Check a batch: print one line, that it is accepted or its least fault")
         .after_help(CHECK_NOTES)
         .arg(Arg::new(alloc, "FILE").help(CHECK_HELP))?
-        .arg(flag(alloc, "json", RESULT_HELP))
+        .arg(flag(alloc, "json", RESULT_HELP))?;
+    with_lines(alloc, check, LINES_HELP)
 }
 
 /// Returns the command that plans.
 fn plan_command<'a>(alloc: Global) -> Result<Command<'a>, AllocError> {
-    Command::new(alloc, "plan")
+    let plan = Command::new(alloc, "plan")
         .about(
             "Plan a batch: print a line per request, with its level, its group and its dependencies",
         )
         .after_help(PLAN_NOTES)
-        .arg(document(alloc, "FILE", "The batch document"))?
+        .arg(batch(alloc)?)?
         .arg(flag(alloc, "json", RESULT_HELP))?
-        .arg(flag(alloc, "dot", DRAWING_HELP).conflicts_with("json")?)
+        .arg(
+            flag(alloc, "dot", DRAWING_HELP)
+                .conflicts_with("json")?
+                .conflicts_with("lines")?,
+        )?;
+    with_lines(alloc, plan, LINES_HELP)
 }
 
 /// Returns the command that prints the canonical text.
 fn canon_command<'a>(alloc: Global) -> Result<Command<'a>, AllocError> {
-    Command::new(alloc, "canon")
+    let canon = Command::new(alloc, "canon")
         .about("Print the canonical text of a batch: equal texts mean equal batches")
         .after_help(CANON_NOTES)
-        .arg(document(alloc, "FILE", "The batch document"))?
-        .arg(flag(alloc, "json", FAULT_HELP))
+        .arg(batch(alloc)?)?
+        .arg(flag(alloc, "json", FAULT_HELP))?;
+    with_lines(alloc, canon, LINES_HELP)
 }
 
 /// Returns the command that matches.
 fn match_command<'a>(alloc: Global) -> Result<Command<'a>, AllocError> {
-    Command::new(alloc, "match")
+    let matching = Command::new(alloc, "match")
         .about("Match a service's responses against a batch: print the status of each request")
         .after_help(MATCH_NOTES)
-        .arg(document(alloc, "FILE", "The batch document"))?
-        .arg(document(alloc, "RESPONSES", "The response document of the service"))?
-        .arg(flag(alloc, "json", RESULT_HELP))
+        .arg(batch(alloc)?)?
+        .arg(second(alloc, "RESPONSES", "The response document of the service")?)?
+        .arg(flag(alloc, "json", RESULT_HELP))?;
+    with_lines(alloc, matching, PAIRS_HELP)
 }
 
 /// Returns the command that explains a fault.

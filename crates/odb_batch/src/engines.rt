@@ -19,6 +19,8 @@ pub struct Environment {
     pub setup: Setup,
     /// Whether standard error is a terminal: then it is also printed why a file cannot be opened.
     pub stderr_is_terminal: bool,
+    /// Whether standard output is a terminal: then each answer to a line is written at once.
+    pub stdout_is_terminal: bool,
 }
 
 impl Environment {
@@ -32,7 +34,7 @@ impl Environment {
 }
 
 /// Prints that the file cannot be opened, and why if a person reads it. Returns the status.
-fn not_opened<R: Runtime>(
+pub fn not_opened<R: Runtime>(
     rt: &R,
     environment: Environment,
     path: &str,

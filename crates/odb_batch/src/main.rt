@@ -11,6 +11,7 @@ mod completions;
 mod ending;
 mod engines;
 mod explain;
+mod log;
 mod man;
 mod page;
 mod texts;
@@ -19,6 +20,7 @@ use clap::error::ErrorKind;
 use command_line::{BadArguments, Task, Text};
 use ending::{Status, failed};
 use engines::{Environment, canon, check, draw, match_responses, plan, replay, run_events};
+use log::answer_log;
 use odb_check::Seed;
 use odb_engine::{Disposal, Setup};
 use std::io::IsTerminal;
@@ -76,6 +78,7 @@ fn perform<R: Runtime + AllocGlobal>(rt: &R, environment: Environment, task: Tas
             form,
         } => match_responses(rt, environment, file, responses, form),
         Task::Run(task) => run_events(rt, environment, task),
+        Task::Log(log) => answer_log(rt, environment, log),
         Task::Print(text) => print_text(rt, text),
     }
 }
@@ -103,6 +106,7 @@ fn environment_of(rt: &HostRuntime) -> Environment {
             disposal: Disposal::Leak,
         },
         stderr_is_terminal: rt.stderr().is_terminal(),
+        stdout_is_terminal: rt.stdout().is_terminal(),
     }
 }
 

@@ -1,12 +1,12 @@
 //! Tests of the command line: lists of arguments, and the task that each asks for.
 
-use super::{BadArguments, Form, Replay, Run, Task, Text};
+use super::{BadArguments, Form, LineTask, Log, Policy, Replay, Run, Task, Text};
 use clap::error::ErrorKind;
 use std::alloc::{AllocError, Global};
 use std::test::Fail;
 
 /// Arguments, and what is read from them.
-const READINGS: [(&str, &str); 108] = [
+const READINGS: [(&str, &str); 127] = [
     ("", "check -"),
     (" check", "check -"),
     (" check F", "check F"),
@@ -127,6 +127,31 @@ const READINGS: [(&str, &str); 108] = [
     (" run F G --order last", "rejected"),
     (" run F G --trace", "rejected"),
     (" run -h", "help"),
+    (" check --lines", "log - check"),
+    (" check --lines F", "log F check"),
+    (" check F --lines --flush --json", "log F check json flush"),
+    (" check --flush", "rejected"),
+    (" plan --lines", "log - plan json"),
+    (" plan F --lines --json", "log F plan json"),
+    (" plan F --lines --dot", "rejected"),
+    (" plan --flush", "rejected"),
+    (" canon --lines F", "log F canon"),
+    (" canon --lines --json", "log - canon json"),
+    (" match --lines", "log - match json"),
+    (" match --lines F", "log F match json"),
+    (" match --lines F G", "rejected"),
+    (" replay --lines", "log - replay First Continue 10000"),
+    (
+        " replay --lines F --order last --stop --width 2",
+        "log F replay Last Stop 2",
+    ),
+    (" replay --lines --width 0", "width"),
+    (" replay --lines --trace", "rejected"),
+    (
+        " run --lines --width 3 --flush",
+        "log - run Continue 3 flush",
+    ),
+    (" run --lines F G", "rejected"),
     (" explain", "explain -"),
     (" explain F41", "explain F41"),
     (" explain forwardname", "explain forwardname"),
@@ -184,6 +209,7 @@ fn described(alloc: Global, task: Result<Task<'_>, BadArguments>) -> Result<Stri
             },
         ) => { format!(in alloc; "match {file} {responses}{}", form_text(form)) }
         Ok(Task::Run(run)) => described_run(alloc, &run),
+        Ok(Task::Log(log)) => described_log(alloc, &log),
         Ok(Task::Print(text)) => described_text(alloc, text),
         Ok(Task::Replay(replay)) => described_replay(alloc, &replay),
         Err(BadArguments::Width) => String::from_str(alloc, "width"),
@@ -234,6 +260,39 @@ fn described_replay(alloc: Global, replay: &Replay<'_>) -> Result<String, AllocE
     format!(in alloc;
         "replay {file} {outcomes} {order:?} {mode:?} {width} {traced}{}",
         form_text(form)
+    )
+}
+
+fn described_policy(alloc: Global, policy: Policy) -> Result<String, AllocError> {
+    format!(in alloc; "{:?} {}", policy.mode, policy.width)
+}
+
+fn described_task(alloc: Global, task: LineTask) -> Result<String, AllocError> {
+    match task {
+        LineTask::Check => String::from_str(alloc, "check"),
+        LineTask::Plan => String::from_str(alloc, "plan"),
+        LineTask::Canon => String::from_str(alloc, "canon"),
+        LineTask::Match => String::from_str(alloc, "match"),
+        LineTask::Replay { policy, order } => {
+            format!(in alloc; "replay {order:?} {}", described_policy(alloc, policy)?)
+        }
+        LineTask::Run { policy } => format!(in alloc; "run {}", described_policy(alloc, policy)?),
+    }
+}
+
+fn described_log(alloc: Global, log: &Log<'_>) -> Result<String, AllocError> {
+    let Log {
+        file,
+        task,
+        form,
+        flush,
+    } = *log;
+    format!(in alloc;
+        "log {} {}{}{}",
+        file.unwrap_or("-"),
+        described_task(alloc, task)?,
+        form_text(form),
+        if flush { " flush" } else { "" }
     )
 }
 

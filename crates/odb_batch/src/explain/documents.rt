@@ -1,11 +1,9 @@
-//! The explanations of the faults of a batch document, generated from docs/faults.md.
-
 // Generated from docs/faults.md by tools/faults.py --write; do not edit.
-//! The faults of the document and the form of its requests.
+//! The faults of the document, a line, and the form of its requests.
 
 use super::Explanation;
 
-pub const FAULTS: [Explanation; 20] = [
+pub const FAULTS: [Explanation; 21] = [
     Explanation {
         code: "F01",
         name: "TooLong",
@@ -60,6 +58,16 @@ pub const FAULTS: [Explanation; 20] = [
         meaning: "The batch has more than 10,000 requests, which is the limit of this product. Split the batch.",
         refused: "a batch of 10,001 requests",
         accepted: "a batch of 10,000 requests",
+    },
+    Explanation {
+        code: "F07",
+        name: "NotPair",
+        places: "batch",
+        meaning: "With --lines, the line of a command over two documents is JSON, but not an array of two. Such a line\n\
+            holds both documents, [batch, second] (a choice of this product). Write the batch and the second\n\
+            document as the two elements of an array.",
+        refused: r#"[{"requests":[]}]"#,
+        accepted: r#"[{"requests":[]},{"outcomes":[]}]"#,
     },
     Explanation {
         code: "F10",

@@ -1,5 +1,3 @@
-//! The explanations of the faults of names, generated from docs/faults.md.
-
 // Generated from docs/faults.md by tools/faults.py --write; do not edit.
 //! The faults of ids, groups, names and references.
 

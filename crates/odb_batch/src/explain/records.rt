@@ -1,5 +1,3 @@
-//! The explanations of the faults of recorded outcomes and events, generated from docs/faults.md.
-
 // Generated from docs/faults.md by tools/faults.py --write; do not edit.
 //! The faults of texts, recorded outcomes and recorded events.
 

@@ -1,5 +1,3 @@
-//! The explanations of the faults of responses, generated from docs/faults.md.
-
 // Generated from docs/faults.md by tools/faults.py --write; do not edit.
 //! The faults of the responses of a service.
 

@@ -1,5 +1,3 @@
-//! The explanations of the faults of executions and runs, generated from docs/faults.md.
-
 // Generated from docs/faults.md by tools/faults.py --write; do not edit.
 //! The faults of executions, and events that may not come.
 

@@ -1,0 +1,169 @@
+"""Compares the answers to the lines of logs with what single runs print of the documents in them.
+
+Logs are made of random documents, good ones and slightly damaged ones; of lines longer than a document may
+be; cut at each byte; and fed by a pipe that waits for each answer. The audit of examples/ counts a log. The
+last line is `N passed, N failed`.
+"""
+
+import json
+import os
+import shutil
+import subprocess
+import sys
+import tempfile
+from concurrent.futures import ThreadPoolExecutor
+from random import Random
+
+from . import fuzz, rules, rules_of_runs
+from .pages import OF_BATCHES
+from .program import ROOT, read_arguments
+
+SECONDS = 60
+LONG_BYTES = 16_777_216
+JSON_ALONE = ("plan", "match")
+BATCH = b'{"requests":[{"id":"1","method":"get","url":"A"}]}'
+ACCEPTED = b"ok 1 requests 0 groups\n"
+TOO_LONG = b"fault F01 TooLong batch\n"
+
+
+def words_of(trial):
+    """The options of a trial that a log takes too."""
+    words = trial.arguments()[1:]
+    return [it for it in words if it not in ("--trace", "--dot")] + ["--json"] * (trial.command in JSON_ALONE)
+
+
+def single(program, command, words, documents):
+    """What a run on these documents prints, and its exit status."""
+    with tempfile.TemporaryDirectory(prefix="lines-") as folder:
+        paths = [os.path.join(folder, f"document{k}") for k in range(len(documents))]
+        for path, data in zip(paths, documents):
+            with open(path, "wb") as file:
+                file.write(data)
+        done = subprocess.run([program, command, *words, *paths], capture_output=True, timeout=SECONDS)
+    return done.stdout + done.stderr, done.returncode
+
+
+def fault_text(fault, words):
+    """A fault as the options want it."""
+    code, name, place = str(fault).split()[1:]
+    value = {"fault": {"code": code, "name": name, "place": place}}
+    return json.dumps(value, separators=(",", ":")).encode() + b"\n" if "--json" in words else str(fault).encode()
+
+
+def wanted(program, command, words, line):
+    """The answer to a line, and its exit status: what a run on its documents prints, or the fault of the line."""
+    try:
+        return single(program, command, words, rules_of_runs.documents_of(command, line))
+    except rules.Fault as fault:
+        return fault_text(fault, words), 1
+
+
+def line_of(trial):
+    """The line of a trial, or None if its documents stand in no line."""
+    documents = trial.documents
+    line = documents[0] if len(documents) == 1 else b"[" + b",".join(documents) + b"]"
+    return None if b"\n" in line else line
+
+
+def answered(program, command, words, log):
+    done = subprocess.run([program, command, "--lines", *words], input=log, capture_output=True, timeout=SECONDS)
+    return done.stdout + done.stderr, done.returncode
+
+
+def log_difference(program, command, seed, count):
+    """What differs of a log of so many random lines of a command, with the options of the first, or None."""
+    trials = [fuzz.trial(Random(f"{seed} {command} {k}"), [command]) for k in range(count)]
+    words, lines = words_of(trials[0]), [it for it in map(line_of, trials) if it is not None]
+    parts = [wanted(program, command, words, line) for line in lines]
+    text, status = b"".join(part for part, _ in parts), max(status for _, status in parts)
+    if answered(program, command, words, b"\n".join(lines) + b"\n") != (text, status):
+        return f"{command} {' '.join(words)}: the log of seed {seed} is answered otherwise than its lines"
+    return None
+
+
+def long_lines(program):
+    """Lines as long as a document may be, one byte longer, and much longer."""
+    for spaces, answer in ((0, ACCEPTED), (1, TOO_LONG), (3_000_000, TOO_LONG)):
+        line = BATCH + b" " * (LONG_BYTES - len(BATCH) + spaces)
+        yield line + b"\n" + BATCH + b"\n", answer + ACCEPTED
+        yield BATCH + b"\n" + line, ACCEPTED + answer
+
+
+def long_difference(program):
+    for log, text in long_lines(program):
+        if answered(program, "check", [], log)[0] != text:
+            return f"a log of {len(log)} bytes is answered otherwise"
+    return None
+
+
+def cut_difference(program):
+    """A log that ends in each of its bytes."""
+    log = BATCH + b"\n" + BATCH
+    for end in range(len(log) + 1):
+        parts = [it for k, it in enumerate(log[:end].split(b"\n")) if it or k < log[:end].count(b"\n")]
+        text = b"".join(wanted(program, "check", [], it)[0] for it in parts)
+        if answered(program, "check", [], log[:end])[0] != text:
+            return f"a log of the first {end} bytes is answered otherwise"
+    return None
+
+
+def talk_difference(program, words):
+    """A pipe in both directions: each line is answered before the next one is written."""
+    with subprocess.Popen([program, "check", "--lines", *words], stdin=subprocess.PIPE, stdout=subprocess.PIPE) as process:
+        for line, text in ((BATCH, ACCEPTED), (b"", b"fault F02 NotJson batch\n"), (BATCH, ACCEPTED)):
+            process.stdin.write(line + b"\n")
+            process.stdin.flush()
+            if process.stdout.readline() != text:
+                return "a line is answered otherwise, or not before the next one"
+        process.stdin.close()
+        return None if process.wait(SECONDS) == 1 else "the status is not 1"
+
+
+def device_difference(program):
+    """A device that fails: the answers before are whole lines, and the status is 3."""
+    with open("/dev/full", "wb") as full:
+        words = [program, "check", "--lines"]
+        done = subprocess.run(words, input=BATCH + b"\n", stdout=full, stderr=subprocess.PIPE, timeout=SECONDS)
+    return None if (done.stderr, done.returncode) == (b"error: write\n", 3) else "a full device is not noticed"
+
+
+def audited(program, log, words):
+    """The counts of an audit of a log of pairs."""
+    audit = [sys.executable, os.path.join(ROOT, "examples", "audit.py"), log, "--program", program, "--jobs", "3", *words]
+    done = subprocess.run(audit, capture_output=True, text=True, timeout=SECONDS)
+    return done.stdout + done.stderr, done.returncode
+
+
+def audit_difference(program):
+    """The audit of a log counts its lines by fault, by GNU parallel where it is installed and by processes of its own."""
+    responses = [b'{"responses":[{"id":"1","status":200}]}', b'{"responses":[]}']
+    lines = [b"[" + BATCH + b"," + responses[k % 7 == 0] + b"]" for k in range(1000)] + [b"[1]"]
+    with tempfile.TemporaryDirectory(prefix="lines-") as folder:
+        log = os.path.join(folder, "log.jsonl")
+        with open(log, "wb") as file:
+            file.write(b"".join(line + b"\n" for line in lines))
+        ways = [["--own"], *([[]] if shutil.which("parallel") else [])]
+        found = [audited(program, log, words) for words in ways]
+    if len(ways) == 1:
+        print("skipped: parallel is not installed")
+    wrong = [it for it in found if it != ("ok 857\nF07 1\nF73 143\n", 1)]
+    return f"an audit is {wrong[0]}" if wrong else None
+
+
+def more_options(option):
+    option("--logs", type=int, default=8, metavar="N", help="how many logs of each command; 8")
+    option("--count", type=int, default=25, metavar="N", help="how many lines a log has; 25")
+
+
+def main():
+    options = read_arguments("Compares the answers to the lines of logs with single runs.", more_options)
+    program = options.program
+    logs = [(command, seed) for command in OF_BATCHES for seed in range(options.logs)]
+    with ThreadPoolExecutor(options.jobs) as pool:
+        found = list(pool.map(lambda it: log_difference(program, *it, options.count), logs))
+    found += [long_difference(program), cut_difference(program), device_difference(program), audit_difference(program)]
+    found += [talk_difference(program, words) for words in ([], ["--flush"])]
+    failed = [it for it in found if it]
+    print(*failed[:5], sep="\n", end="\n" if failed else "")
+    print(f"{len(found) - len(failed)} passed, {len(failed)} failed")
+    return 1 if failed else 0
