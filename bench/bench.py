@@ -17,6 +17,7 @@ sys.dont_write_bytecode = True
 sys.path.append(os.path.join(ROOT, "tests"))
 
 import floods
+import logs
 import longest
 import tables
 import turns
@@ -27,7 +28,9 @@ from runners.program import add_program, ready
 TURNS = 12
 FLOODED = "flooded"
 LONGEST = "longest"
-NAMES = (*workloads.NAMES, FLOODED, LONGEST)
+LINES = "lines"
+SHARED = "shared"
+NAMES = (*workloads.NAMES, FLOODED, LONGEST, LINES, SHARED)
 
 
 class Parser(argparse.ArgumentParser):
@@ -107,10 +110,22 @@ def longest_text(program, folder, count):
     return "\n\n".join([tables.table(longest.HEADS, rows, 2), longest.LEGEND])
 
 
+def lines_text(words, program, folder, count):
+    """The table of logs with lines of several sizes."""
+    report("logs of batches, a line each")
+    return "\n\n".join([tables.table(logs.HEADS, logs.rows(program, folder, count, words.short), 2), logs.LEGEND])
+
+
+def shared_text(program, folder):
+    """The table of processes that share a log."""
+    report("a log of 1 GB that processes share")
+    return "\n\n".join([tables.table(logs.SHARE_HEADS, logs.share_rows(program, folder), 0), logs.SHARE_LEGEND])
+
+
 def measured_text(words, program, folder):
     """The tables of a whole run."""
     report("making the workloads, and trying each command on them")
-    names = [name for name in words.only if name not in (FLOODED, LONGEST)]
+    names = [name for name in words.only if name in workloads.NAMES]
     cases, jobs = prepare(program, folder, names, words.short)
     count = words.turns or (1 if words.short else TURNS)
     before = load()
@@ -128,6 +143,8 @@ def measured_text(words, program, folder):
     parts += [flood_text(words, program, folder, count)] if FLOODED in words.only else []
     # a short run leaves them out: `python3 tests sizes` compares what is printed of them
     parts += [longest_text(program, folder, count)] if LONGEST in words.only and not words.short else []
+    parts += [lines_text(words, program, folder, count)] if LINES in words.only else []
+    parts += [shared_text(program, folder)] if SHARED in words.only and not words.short else []
     return "\n\n".join(parts)
 
 
