@@ -7,10 +7,13 @@ last line is `N passed, N failed`.
 
 import json
 import os
+import pty
+import re
 import shutil
 import subprocess
 import sys
 import tempfile
+import time
 from concurrent.futures import ThreadPoolExecutor
 from random import Random
 
@@ -119,6 +122,33 @@ def talk_difference(program, words):
         return None if process.wait(SECONDS) == 1 else "the status is not 1"
 
 
+def progress(program, pauses):
+    """What a terminal shows of a log whose lines come after such pauses, in seconds."""
+    screen, terminal = pty.openpty()
+    words = [program, "check", "--lines"]
+    with subprocess.Popen(words, stdin=subprocess.PIPE, stdout=subprocess.PIPE, stderr=terminal) as process:
+        os.close(terminal)
+        for pause in pauses:
+            time.sleep(pause)
+            process.stdin.write(BATCH + b"\n")
+            process.stdin.flush()
+        process.stdin.close()
+        process.stdout.read()
+    with open(screen, "rb", buffering=0) as file:
+        try:
+            return file.read(4096)
+        except OSError:
+            return b""
+
+
+def progress_difference(program):
+    """A terminal shows how far a log is, but nothing of one that takes less than a second."""
+    count = rb"\r\d lines, 0 refused, 0\.0 MB/s +"
+    if not re.fullmatch(rb"(?:%s){2,4}\r\n" % count, progress(program, (0, 1.1, 1.1))):
+        return "the terminal shows something else than how far a log is"
+    return "the terminal shows how far a short log is" if progress(program, (0, 0)) else None
+
+
 def device_difference(program):
     """A device that fails: the answers before are whole lines, and the status is 3."""
     with open("/dev/full", "wb") as full:
@@ -161,7 +191,7 @@ def main():
     logs = [(command, seed) for command in OF_BATCHES for seed in range(options.logs)]
     with ThreadPoolExecutor(options.jobs) as pool:
         found = list(pool.map(lambda it: log_difference(program, *it, options.count), logs))
-    found += [long_difference(program), cut_difference(program), device_difference(program), audit_difference(program)]
+    found += [it(program) for it in (long_difference, cut_difference, device_difference, progress_difference, audit_difference)]
     found += [talk_difference(program, words) for words in ([], ["--flush"])]
     failed = [it for it in found if it]
     print(*failed[:5], sep="\n", end="\n" if failed else "")

@@ -5,9 +5,10 @@ ghost use Rattle.std.specs.Prelude.{◌≡◌, false};
 
 use crate::ending::{Status, failed, finish};
 use crate::engines::{Environment, not_opened};
+use crate::progress::Watched;
 use odb_doc::Output;
 use odb_engine::{Disposal, Ended, EngineFault, Form, LineTask, Options, Setup};
-use odb_lines::{EachLine, LineInput, answer_lines};
+use odb_lines::{EachLine, LineCommand, LineInput, answer_lines};
 use std::alloc::Global;
 use std::io::{BufWriter, Read, Write};
 use std::rt::Runtime;
@@ -44,42 +45,62 @@ impl Log<'_> {
 }
 
 /// Answers the lines that a reader gives, and writes what is held back at the end.
-fn answer<R: Read + Drop, W: Write>(
+fn answer<R: Read + Drop, W: Write, C: LineCommand>(
     alloc: Global,
     reader: R,
     output: &mut Output<W>,
-    command: EachLine,
+    command: &C,
     flush: bool,
 ) -> Result<Ended, EngineFault>
     requires { output.old.failed ≡ false }
 {
     let mut input = LineInput::new(alloc, reader)?;
-    let ended = answer_lines(alloc, &mut input, output, &command, flush);
+    let ended = answer_lines(alloc, &mut input, output, command, flush);
     if !output.failed() {
         output.flush()?;
     }
     ended
 }
 
-/// Answers a log, with its answers to a writer.
-fn answer_to<R: Runtime + AllocGlobal, W: Write>(
+/// Answers the lines that a reader gives, and shows how far it is to who waits at a terminal.
+fn answer_watched<R: Runtime + AllocGlobal, I: Read + Drop, W: Write>(
     rt: &R,
     environment: Environment,
     log: Log<'_>,
+    reader: I,
     output: &mut Output<W>,
-) -> Status
+) -> Result<Ended, EngineFault>
     requires { output.old.failed ≡ false }
 {
     let command = log.command(environment);
     let flush = log.flush || environment.stdout_is_terminal;
-    let ended = match log.file {
-        None => answer(rt.alloc(), rt.reader(), output, command, flush),
-        Some(path) => match fs::open(rt, path) {
-            Ok(file) => answer(rt.alloc(), file, output, command, flush),
-            Err(error) => return not_opened(rt, environment, path, error),
-        },
-    };
-    finish(rt, ended)
+    if environment.stderr_is_terminal && !environment.stdout_is_terminal {
+        if let Ok(watched) = Watched::new(rt, command) {
+            let ended = answer(rt.alloc(), reader, output, &watched, flush);
+            watched.end();
+            return ended;
+        }
+    }
+    answer(rt.alloc(), reader, output, &command, flush)
+}
+
+/// Answers the lines that a reader gives.
+fn answer_from<R: Runtime + AllocGlobal, I: Read + Drop>(
+    rt: &R,
+    environment: Environment,
+    log: Log<'_>,
+    reader: I,
+) -> Status {
+    match BufWriter::with_capacity(rt.alloc(), BUFFER_BYTES, io::writer(rt)) {
+        Ok(writer) => {
+            let mut output = Output::new(writer);
+            finish(
+                rt,
+                answer_watched(rt, environment, log, reader, &mut output),
+            )
+        }
+        Err(_) => failed(rt, "memory", Status::Memory),
+    }
 }
 
 /// Answers each line of a log, in order.
@@ -88,8 +109,11 @@ pub fn answer_log<R: Runtime + AllocGlobal>(
     environment: Environment,
     log: Log<'_>,
 ) -> Status {
-    match BufWriter::with_capacity(rt.alloc(), BUFFER_BYTES, io::writer(rt)) {
-        Ok(writer) => answer_to(rt, environment, log, &mut Output::new(writer)),
-        Err(_) => failed(rt, "memory", Status::Memory),
+    match log.file {
+        None => answer_from(rt, environment, log, rt.reader()),
+        Some(path) => match fs::open(rt, path) {
+            Ok(file) => answer_from(rt, environment, log, file),
+            Err(error) => not_opened(rt, environment, path, error),
+        },
     }
 }

@@ -14,6 +14,7 @@ mod explain;
 mod log;
 mod man;
 mod page;
+mod progress;
 mod texts;
 
 use clap::error::ErrorKind;
