@@ -1,6 +1,7 @@
 -- What a replay may write of a batch, by one document of outcomes, in an order: one text.
 use Rattle.std.proofs.Common.{◌∙◌, ℕ, Bool, List, Option, Some, inl, inr, sym, ap, rules}
 use Rattle.std.proofs.lemmas.Option.{same_Some}
+use Rattle.serde_json.specs.Data.{Data}
 use Rattle.odb_doc.specs.declared.recorded.outcome.Outcome.{Outcome}
 use Rattle.odb_doc.specs.declared.fault.Place.TheVariants as places
 use Rattle.odb_doc.specs.recorded.LeastOutcomeFault.{IsOutcomesDocument, RefusesOutcomes}
@@ -16,8 +17,9 @@ use Rattle.odb_sched.specs.run.Recordings.{Faults, HasOneCourse, HasOneFault, Fa
 use Rattle.odb_sched.specs.run.State.{State, first_state}
 use Rattle.odb_engine.specs.declared.ending.Ended.{Ended}
 use Rattle.odb_engine.specs.Cascade.{line_of, IsOne}
-use Rattle.odb_engine.specs.Replays.{Replays, ReplaysBatch, ReplaysEntries, LacksOutcome, result_text}
-use Rattle.odb_engine.proofs.SecondLemmas.{IsOneKind, second_one, some_document_one}
+use Rattle.odb_engine.specs.Replays.{Replays, ReplaysBatch, ReplaysEntries, ReplaysValue, LacksOutcome, result_text}
+use Rattle.odb_engine.proofs.LawLemmas.{document_one}
+use Rattle.odb_engine.proofs.SecondLemmas.{IsOneKind, reading_one, some_document_one}
 
 -- the laws of odb_sched on an order, at the start of a run and with recorded outcomes
 pub record HasOrder (order : Order) (recorded : List (Option Outcome)) (first : State) : Type 0 where
@@ -44,9 +46,15 @@ module _ (order : Order) (policy : Policy) (traced : Bool) (batch : List Record)
 abbrev pub AreOneRecord : Type 0
 AreOneRecord = IsOneKind outcome_faults.outcome_row RefusesOutcomes IsOutcomesDocument AreOutcomesOf
 
+-- a batch and the value of a document of outcomes have one text
+pub replays_value_one : (order : Order) → ((recorded : List (Option Outcome)) (first : State) → HasOrder order recorded first) → AreOneRecord
+    → (policy : Policy) (traced : Bool) (batch : List Record) (value : Data) → IsOne (ReplaysValue (AllowsOrder order) policy traced batch value)
+replays_value_one order courses law policy traced batch =
+    reading_one outcome_faults.outcome_row RefusesOutcomes IsOutcomesDocument AreOutcomesOf law (ReplaysEntries (AllowsOrder order) policy traced batch)
+    (λ entries. one_replay order policy traced batch entries (courses (recorded_for batch entries) (first_state batch policy)))
+
 -- a batch and the reader of outcomes have one text
 pub replays_one : (order : Order) → ((recorded : List (Option Outcome)) (first : State) → HasOrder order recorded first) → AreOneRecord
     → (policy : Policy) (traced : Bool) (outcomes : List ℕ) (batch : List Record) → IsOne (Replays (AllowsOrder order) policy traced (Some outcomes) batch)
 replays_one order courses law policy traced outcomes batch = some_document_one outcomes (ReplaysBatch (AllowsOrder order) policy traced batch) (λ bytes.
-    second_one outcome_faults.outcome_row RefusesOutcomes IsOutcomesDocument AreOutcomesOf law places.Outcomes bytes (ReplaysEntries (AllowsOrder order) policy traced batch)
-    (λ entries. one_replay order policy traced batch entries (courses (recorded_for batch entries) (first_state batch policy))))
+    document_one places.Outcomes (ReplaysValue (AllowsOrder order) policy traced batch) bytes (replays_value_one order courses law policy traced batch))

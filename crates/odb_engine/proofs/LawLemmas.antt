@@ -99,7 +99,7 @@ least_not_value law value P refusal (inl one) is = law.no_plan_graph value one.f
 least_not_value law value P refusal (inr one) is =
     law.no_name is.batch one.fault (ap is_some one.is) (subst (RefusesNames one.fault) (law.one_batch value _ _ one.refuses.is_batch is.is_batch) one.refuses.holds) is.holds.0
 
-value_one : AreFunctional → (P : List Record → Writes) → ((batch : List Record) → HasGoodNames batch → IsOne (P batch)) → (value : Data) → IsOne (AnswersValue P value)
+pub value_one : AreFunctional → (P : List Record → Writes) → ((batch : List Record) → HasGoodNames batch → IsOne (P batch)) → (value : Data) → IsOne (AnswersValue P value)
 value_one law P one value a b s t (inl x) (inl y) = (x.ends ∙ sym y.ends, x.line ∙ ap line_of (least_one law value x.refusal y.refusal x.is y.is) ∙ sym y.line)
 value_one law P one value a b s t (inl x) (inr y) = absurd (least_not_value law value (λ batch. P batch b t) x.refusal x.is y)
 value_one law P one value a b s t (inr x) (inl y) = absurd (least_not_value law value (λ batch. P batch a s) y.refusal y.is x)

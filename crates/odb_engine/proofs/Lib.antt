@@ -17,6 +17,7 @@ mod MatchLawLemmas
 mod LiveLemmas
 mod IdLemmas
 mod LiveLawLemmas
+mod LineLawLemmas
 mod ResultLemmas
 mod PlanLemmas
 mod DrawingLemmas

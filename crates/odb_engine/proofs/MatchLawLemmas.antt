@@ -14,10 +14,11 @@ use Rattle.odb_reply.specs.ResponseDocuments.{Entry, IsResponseDocument, Refuses
 use Rattle.odb_reply.specs.ResponseDocuments as response_documents
 use Rattle.odb_doc.specs.Refusals.{Printed}
 use Rattle.odb_engine.specs.Cascade.{line_of, IsOne}
-use Rattle.odb_engine.specs.Matches.{MatchesIn, MatchesEntries, Misfits, match_text}
+use Rattle.odb_engine.specs.Matches.{MatchesIn, MatchesEntries, MatchesValue, Misfits, match_text}
 use Rattle.odb_engine.specs.Commands.{BySecond}
 use Rattle.odb_engine.specs.declared.form.Form.{Form}
-use Rattle.odb_engine.proofs.SecondLemmas.{second_one, some_document_one}
+use Rattle.odb_engine.proofs.LawLemmas.{document_one}
+use Rattle.odb_engine.proofs.SecondLemmas.{reading_one, some_document_one}
 
 -- the laws of odb_reply on its own relations
 pub record AreOneMatch : Type 0 where
@@ -42,9 +43,13 @@ entries_one law form batch entries a b s t (inr x) (inr y) =
     let same = law.one_table batch entries x.places y.places x.statuses y.statuses x.fits x.table y.table in
     (x.prints.0 ∙ sym y.prints.0, x.prints.1 ∙ ap (match_text form batch) same.1 ∙ sym y.prints.1)
 
-pub matches_one : AreOneMatch → (form : Form) (batch : List Record) (bytes : List ℕ) → IsOne (MatchesIn form batch bytes)
-matches_one law form batch bytes = second_one response_documents.responses_row RefusesResponses IsResponseDocument (λ value. AllZip ReadsAs (responses_in value))
-    (record { one_fault = law.one_fault; no_fault = law.no_fault; one_reading = λ value. law.one_list (responses_in value) }) places.Responses bytes (MatchesEntries form batch) (entries_one law form batch)
+-- a batch and the value of a response document have one text
+pub matches_value_one : AreOneMatch → (form : Form) (batch : List Record) (value : Data) → IsOne (MatchesValue form batch value)
+matches_value_one law form batch = reading_one response_documents.responses_row RefusesResponses IsResponseDocument (λ value. AllZip ReadsAs (responses_in value))
+    (record { one_fault = law.one_fault; no_fault = law.no_fault; one_reading = λ value. law.one_list (responses_in value) }) (MatchesEntries form batch) (entries_one law form batch)
+
+matches_one : AreOneMatch → (form : Form) (batch : List Record) (bytes : List ℕ) → IsOne (MatchesIn form batch bytes)
+matches_one law form batch bytes = document_one places.Responses (MatchesValue form batch) bytes (matches_value_one law form batch)
 
 -- also by the reader of a response document
 pub match_one : AreOneMatch → (form : Form) (responses : List ℕ) (batch : List Record) → IsOne (BySecond (Some responses) (MatchesIn form) batch)

@@ -3,6 +3,7 @@ use Rattle.std.proofs.Common.{◌≡◌, ◌⊎◌, ◌∙◌, ℕ, zero, suc, �
 use Rattle.std.specs.List.{AllZip}
 use Rattle.std.proofs.lemmas.Bool.{cases_order, both_ways}
 use Rattle.std.proofs.lemmas.Option.{same_Some}
+use Rattle.serde_json.specs.Data.{Data}
 use Rattle.odb_doc.specs.declared.fault.Place.TheVariants as places
 use Rattle.odb_doc.specs.recorded.EventFaults as event_faults
 use Rattle.odb_doc.specs.recorded.Events.{EventValue, AreEventsOf}
@@ -28,9 +29,10 @@ use Rattle.odb_engine.specs.declared.ending.Ended.{Ended}
 use Rattle.odb_doc.specs.Refusals.{Printed}
 use Rattle.odb_engine.specs.Cascade.{line_of, IsOne}
 use Rattle.odb_engine.specs.Lines.{response_line}
-use Rattle.odb_engine.specs.Runs.{AreResolved, IsLeastOfRun, IsResult, Runs, RunsBatch, RunsEvents, end_of}
+use Rattle.odb_engine.specs.Runs.{AreResolved, IsLeastOfRun, IsResult, Runs, RunsBatch, RunsEvents, RunsValue, end_of}
 use Rattle.odb_engine.specs.Runs.IsLeastOfRun.{OfIds, OfEvent, OfEnd}
-use Rattle.odb_engine.proofs.SecondLemmas.{IsOneKind, second_one, some_document_one}
+use Rattle.odb_engine.proofs.LawLemmas.{document_one}
+use Rattle.odb_engine.proofs.SecondLemmas.{IsOneKind, reading_one, some_document_one}
 
 -- ---- events by positions
 
@@ -153,7 +155,11 @@ module _ (causes : HaveOneCause) (policy : Policy) (batch : List Record) (good :
 abbrev pub AreOneHistory : Type 0
 AreOneHistory = IsOneKind event_faults.event_row RefusesEvents IsEventsDocument AreEventsOf
 
+-- a batch and the value of a document of events have one text
+pub runs_value_one : HaveOneCause → AreOneHistory → (policy : Policy) (batch : List Record) → HasGoodNames batch → (value : Data) → IsOne (RunsValue policy batch value)
+runs_value_one causes law policy batch good = reading_one event_faults.event_row RefusesEvents IsEventsDocument AreEventsOf law (RunsEvents policy batch) (one-run causes policy batch good)
+
 -- a batch and the reader of events have one text
 pub runs_one : HaveOneCause → AreOneHistory → (policy : Policy) (events : List ℕ) (batch : List Record) → HasGoodNames batch → IsOne (Runs policy (Some events) batch)
 runs_one causes law policy events batch good = some_document_one events (RunsBatch policy batch) (λ bytes.
-    second_one event_faults.event_row RefusesEvents IsEventsDocument AreEventsOf law places.Events bytes (RunsEvents policy batch) (one-run causes policy batch good))
+    document_one places.Events (RunsValue policy batch) bytes (runs_value_one causes law policy batch good))

@@ -4,11 +4,10 @@ use Rattle.std.proofs.lemmas.Bool.{cases_order}
 use Rattle.std.proofs.lemmas.Option.{same_Some}
 use Rattle.std.proofs.Math.Seq.{take-append_seam}
 use Rattle.serde_json.specs.Data.{Data}
-use Rattle.odb_doc.specs.declared.fault.Place.{Place}
 use Rattle.odb_doc.specs.Refusals.{Printed}
-use Rattle.odb_engine.specs.Cascade.{Writes, HasFault, HasValue, OfDocument, Reports, line_of, IsOne}
+use Rattle.odb_engine.specs.Cascade.{Writes, HasFault, HasValue, Reports, line_of, IsOne}
 use Rattle.odb_engine.specs.Inputs.{IsDocumentOf, SomeDocument}
-use Rattle.odb_engine.proofs.LawLemmas.{document_one, one_value}
+use Rattle.odb_engine.proofs.LawLemmas.{one_value}
 
 -- ---- one document of a reader
 
@@ -58,9 +57,6 @@ module _ {F X : Type 0} (row : F → Option Printed) (Refuses : F → Data → T
   reading_one W one value a b s t (inr (reading, is, so)) (inl y) = absurd (least_not value reading y.refusal y.is is)
   reading_one W one value a b s t (inr (reading, is, so)) (inr (other, too, also)) =
       one other a b s t (subst (λ x. W x a s) (law.one_reading value reading other is.1 too.1) so) also
-
-  pub second_one : (place : Place) (bytes : List ℕ) (W : X → Writes) → ((x : X) → IsOne (W x)) → IsOne (OfDocument place (ByReading W) bytes)
-  second_one place bytes W one = document_one place (ByReading W) bytes (reading_one W one)
 
   -- two readings of the bytes of a document are equal
   pub one_reading : (bytes : List ℕ) (x y : X) → HasValue bytes (λ value. IsReadAs value x) → HasValue bytes (λ value. IsReadAs value y) → x ≡ y

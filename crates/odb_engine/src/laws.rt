@@ -18,6 +18,8 @@ ghost use Rattle.odb_engine.specs.declared.form.Form.{Form};
 ghost use Rattle.odb_engine.specs.Commands.{BySecond, Canonical, CountsIn, PlansIn};
 ghost use Rattle.odb_engine.specs.Drawings.{Drawings};
 ghost use Rattle.odb_engine.specs.Inputs.{IsDocumentOf};
+ghost use Rattle.odb_engine.specs.declared.line.LineTask.{LineTask};
+ghost use Rattle.odb_engine.specs.LineTasks.{OfLine};
 ghost use Rattle.odb_engine.specs.Live.{Opens, RecordsOneMore, Shows};
 ghost use Rattle.odb_engine.specs.Matches.{MatchesIn};
 ghost use Rattle.odb_engine.specs.declared.ending.Ended.TheVariants.{Done};
@@ -119,6 +121,24 @@ pub fn one_live_run()
     odb_doc::laws::one_batch();
     odb_doc::laws::one_fault();
     odb_check::laws::one_fault();
+    odb_doc::laws::one_history();
+    odb_sched::laws::every_cause();
+}
+
+/// Two texts that a task may write of the same line are equal, and so are the ends: of a line with one
+/// document, and of one with two.
+///
+/// The relation is that of [`crate::answer_line`], in the form of lines; a replay has a named order there.
+pub fn one_line()
+    ensures { (task : LineTask) (form : Form) (line : List ℕ) → IsOne (OfLine task form line) }
+{
+    odb_doc::laws::one_batch();
+    odb_doc::laws::one_fault();
+    odb_check::laws::one_fault();
+    odb_reply::laws::one_document();
+    odb_reply::laws::one_match();
+    odb_doc::laws::one_record();
+    odb_sched::laws::every_order();
     odb_doc::laws::one_history();
     odb_sched::laws::every_cause();
 }

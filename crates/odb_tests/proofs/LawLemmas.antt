@@ -25,6 +25,13 @@ one_written ended text left document W one (Some x) None _ _ = tt
 one_written ended text left document W one (Some x) (Some y) (bytes, gives, is) (others, give, too) =
     one others (ended x) (ended y) (text x) (text y) (subst (λ d. W d (ended x) (text x)) (document bytes others gives give) is) too
 
+-- two calls that may each write such a text, of which there is one, have written one, and ended alike
+pub one_of : {X : Type 0} (ended : X → Ended) (text : X → List ℕ) (W : Writes) → IsOne W → (a b : Option X) → IfSome a (λ x. W (ended x) (text x)) → IfSome b (λ y. W (ended y) (text y))
+    → IfSome a (λ x. IfSome b (λ y. (ended x ≡ ended y) × (text x ≡ text y)))
+one_of ended text W one None b _ _ = tt
+one_of ended text W one (Some x) None _ _ = tt
+one_of ended text W one (Some x) (Some y) is too = one (ended x) (ended y) (text x) (text y) is too
+
 -- what holds of each result that may be written of a document holds of what a call wrote
 pub done_written : {X : Type 0} (ended : X → Ended) (text : X → List ℕ) (left : List ℕ) (W : List ℕ → Writes) (Q : List ℕ → List ℕ → Type 0) → ((bytes written : List ℕ) → W bytes Done written → Q bytes written) → (a : Option X)
     → IfSome a (λ x. SomeDocument (Some left) (λ bytes. W bytes (ended x) (text x))) → IfSome a (λ x. ended x ≡ Done → SomeDocument (Some left) (λ bytes. Q bytes (text x)))

@@ -10,6 +10,8 @@ ghost use Rattle.odb_engine.specs.Cascade.{Accepts, Answers};
 ghost use Rattle.odb_engine.specs.Commands.{BySecond, Canonical, Counts, Plans};
 ghost use Rattle.odb_engine.specs.Drawings.{Drawings};
 ghost use Rattle.odb_engine.specs.Inputs.{SomeDocument};
+ghost use Rattle.odb_engine.specs.declared.form.Form.TheVariants.{Lines};
+ghost use Rattle.odb_engine.specs.LineTasks.{OfLine};
 ghost use Rattle.odb_engine.specs.Live.{Opens, Shows};
 ghost use Rattle.odb_engine.specs.Matches.{Matches};
 ghost use Rattle.odb_engine.specs.ReadAgain.{IsReadAgain};
@@ -18,10 +20,12 @@ ghost use Rattle.odb_engine.specs.Runs.{Runs};
 
 use odb_check::Seed;
 use odb_doc::{Input, Output};
-use odb_engine::laws::{one_document, one_live_run, one_replay, one_run, one_text, read_again};
+use odb_engine::laws::{
+    one_document, one_line, one_live_run, one_replay, one_run, one_text, read_again,
+};
 use odb_engine::{
-    Ended, canon_batch, check_batch, draw_batch, match_batch, open_run, plan_batch, replay_batch,
-    run_batch, text_of_run,
+    Ended, Form, LineTask, Options, Setup, answer_line, canon_batch, check_batch, draw_batch,
+    match_batch, open_run, plan_batch, replay_batch, run_batch, text_of_run,
 };
 use odb_sched::{Last, Mode, Policy};
 use std::alloc::Global;
@@ -263,6 +267,31 @@ fn live_and_recorded(
     Some((text, written))
 }
 
+fn line_answered(alloc: Global, line: &[u8], task: LineTask) -> Option<Written>
+    ensures { IfSome result (λ it. OfLine task Lines line.now it.0 it.1.items) }
+{
+    let mut output = Output::new(Vec::new(alloc));
+    let options = Options {
+        form: Form::Lines,
+        setup: Setup::plain(),
+    };
+    match answer_line(alloc, line, &mut output, task, options) {
+        Ok(ended) => Some((ended, output.into_inner())),
+        Err(_) => None,
+    }
+}
+
+fn line_answered_twice(alloc: Global, line: &[u8], task: LineTask) -> Both
+    ensures { IfSome result.0 (λ one. IfSome result.1 (λ other.
+        (one.0 ≡ other.0) × (one.1.items ≡ other.1.items))) }
+{
+    one_line();
+    (
+        line_answered(alloc, line, task),
+        line_answered(alloc, line, task),
+    )
+}
+
 /// Two requests, of which the second needs the first.
 const BATCH: &[u8] = br#"{"requests":[{"id":"a","method":"get","url":"X"},
     {"id":"b","method":"get","url":"X","dependsOn":["a"]}]}"#;
@@ -307,6 +336,7 @@ fn engines_write_one_text_of_the_same_bytes(rt: HostRuntime) {
     assert!(rt; is_one(ran_twice(alloc, BATCH, EVENTS, policy), "{\"responses\":"));
     assert!(rt; is_one(replayed_twice(alloc, BATCH, OUTCOMES, policy), "start a\n"));
     assert!(rt; are_alike(live_and_recorded(alloc, BATCH, EVENTS, policy)));
+    assert!(rt; is_one(line_answered_twice(alloc, BATCH, LineTask::Check), "ok 2"));
 }
 
 /// Whether a match finds that responses fit the batch.

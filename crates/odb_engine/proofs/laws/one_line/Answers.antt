@@ -1,0 +1,30 @@
+use Rattle.odb_engine.proofs.LawLemmas.{AreFunctional}
+use Rattle.odb_engine.proofs.LineLawLemmas.{line-one}
+use Rattle.odb_engine.proofs.MatchLawLemmas.{AreOneMatch}
+use Rattle.odb_engine.proofs.laws.one_line.Goals as goal
+
+pub returns : goal.returns
+returns c =
+    let batch : AreFunctional = record {
+      one_plan_graph = c.one_fault.ensures.one;
+      no_plan_graph = c.one_fault.ensures.none;
+      one_batch = c.one_batch.ensures;
+      one_name = c.one_fault-2.ensures.one;
+      no_name = c.one_fault-2.ensures.none;
+    } in
+    let matching : AreOneMatch = record {
+      one_fault = c.one_document.ensures.one;
+      no_fault = c.one_document.ensures.none;
+      one_list = c.one_document.ensures.entries;
+      one_misfit = c.one_match.ensures.one;
+      no_misfit = c.one_match.ensures.none;
+      one_table = c.one_match.ensures.table;
+    } in
+    line-one (record {
+      batch = batch;
+      matching = matching;
+      recorded = record { one_fault = c.one_record.ensures.one; no_fault = c.one_record.ensures.none; one_reading = c.one_record.ensures.outcomes };
+      order = λ order outcomes first. record { course = c.every_order.ensures.one_course order outcomes first; fault = c.every_order.ensures.one_fault order outcomes first; apart = c.every_order.ensures.fault_or_end order outcomes first };
+      history = record { one_fault = c.one_history.ensures.one; no_fault = c.one_history.ensures.none; one_reading = c.one_history.ensures.events };
+      causes = record { one_refusal = c.every_cause.ensures.one_refusal; one_unknown = c.every_cause.ensures.one_unknown };
+    })
