@@ -10,9 +10,9 @@ import sys
 import time
 
 import shapes
-from measure import BenchFault, staying_on, stir_memory
+from measure import BenchFault
 from runners.program import ROOT
-from turns import Job, run_job, summary
+from turns import Job, measured
 
 SIZES = (300, 1_000, 100_000)
 LOG_BYTES = 8_000_000
@@ -58,17 +58,6 @@ def jobs_of(program, folder, size, log_bytes):
             Job(f"{size}", 1, "read", (program, "check", "--lines", floor), 1),
             Job(f"{size}", 1, "one", one, 0),
         ]
-
-
-def measured(jobs, turns):
-    """Measures jobs in turns."""
-    runs, processors = [[] for _ in jobs], sorted(os.sched_getaffinity(0))
-    for turn in range(turns):
-        with staying_on(processors[turn % len(processors)]):
-            for job, found in zip(jobs, runs):
-                stir_memory()
-                found.append(run_job(job))
-    return [summary(found) for found in runs]
 
 
 def rows(program, folder, turns, short):

@@ -6,9 +6,8 @@ have 16 MB each. What the program prints of them is compared there.
 
 import os
 
-from measure import staying_on, stir_memory
 from runners import sizes
-from turns import Job, run_job, start_job, summary
+from turns import Job, measured, start_job
 from workloads import write_tiny
 
 KINDS = (sizes.names, sizes.dense, sizes.members, sizes.headers, sizes.seconds, sizes.urls, sizes.escapes, sizes.runs)
@@ -40,24 +39,13 @@ def joined(readings, start):
     return whole
 
 
-def measured(program, folder, trial, count):
-    """Measures the call of a trial and the readings of its documents, in turns."""
-    jobs = [*jobs_of(program, folder, trial), start_job(program, write_tiny(folder))]
-    runs, processors = [[] for _ in jobs], sorted(os.sched_getaffinity(0))
-    for turn in range(count):
-        with staying_on(processors[turn % len(processors)]):
-            for job, found in zip(jobs, runs):
-                stir_memory()
-                found.append(run_job(job))
-    return [summary(found) for found in runs]
-
-
 def rows(program, folder, count, report):
     """The rows of the table, one for each document."""
     for kind in KINDS:
         report(f"the longest documents: {kind.__name__}")
         for trial in kind():
-            whole, *readings, start = measured(program, folder, trial, count)
+            jobs = [*jobs_of(program, folder, trial), start_job(program, write_tiny(folder))]
+            whole, *readings, start = measured(jobs, count)
             yield row(trial, whole, readings, start)
 
 

@@ -138,3 +138,14 @@ def measure_in_turns(jobs, turns, report):
                 stir_memory()
                 runs[job.name, job.part, job.command].append(run_job(job))
     return {key: summary(measured) for key, measured in runs.items()}
+
+
+def measured(jobs, count):
+    """Measures jobs in turns, each turn on one processor."""
+    runs, processors = [[] for _ in jobs], sorted(os.sched_getaffinity(0))
+    for turn in range(count):
+        with staying_on(processors[turn % len(processors)]):
+            for job, found in zip(jobs, runs):
+                stir_memory()
+                found.append(run_job(job))
+    return [summary(found) for found in runs]
