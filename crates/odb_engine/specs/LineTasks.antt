@@ -23,7 +23,7 @@ IsPair value first second = value ≡ array (item first (item second no_items))
 abbrev pub not_pair : Printed
 not_pair = record { code = codes "F07"; name = codes "NotPair"; place = Batch }
 
--- why a value has no two documents: it is no array of two values
+-- the fault of a value that is not an array of two values
 pub record IsNoPair (value : Data) (refusal : Printed) : Type 0 where
   pub none : (first second : Data) → ¬ IsPair value first second
   pub is : refusal ≡ not_pair

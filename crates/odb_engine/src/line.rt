@@ -32,7 +32,7 @@ use serde_json::Value;
 use std::alloc::Global;
 use std::io::Write;
 
-/// F07: the line of a command over two documents is not an array of two.
+/// F07: the line of a command over two documents is not an array of two elements.
 const NOT_PAIR: Halt = Halt::Refused(Refusal {
     code: "F07",
     name: "NotPair",
@@ -216,9 +216,9 @@ fn replay<W: Write>(
 /// Does a task on a line: writes what its command writes of the documents in it, or the line of the
 /// least fault, in the form of the options.
 ///
-/// The line is the text of one document, or of a command over two documents that of an array of both;
-/// a text that is no array of two is refused as F07. It may hold any bytes. The output must not have
-/// failed. Takes the time and the memory of the command, and no copy of the line is made.
+/// The line holds one document, or for a command over two documents an array of both; a line that is not
+/// an array of two elements is refused as F07. `line` may be any bytes, and the output must not have
+/// failed. Takes the time and memory of the command. The line is not copied.
 ///
 /// # Errors
 ///
