@@ -17,8 +17,8 @@ use std::{fs, io};
 pub struct Environment {
     /// What each engine is passed beside its documents and options.
     pub setup: Setup,
-    /// Whether standard error is a terminal: then it is also printed why a file cannot be opened, and
-    /// how far a log is.
+    /// Whether standard error is a terminal: then the reason is also printed if a file cannot be opened,
+    /// and the progress of a log is shown.
     pub stderr_is_terminal: bool,
     /// Whether standard output is a terminal: then each answer to a line is written at once.
     pub stdout_is_terminal: bool,

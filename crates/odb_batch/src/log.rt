@@ -1,5 +1,4 @@
-//! The commands over a log: what stands in each line of a file, or of standard input, is answered by a
-//! line.
+//! The commands over a log: for each line of a file, or of standard input, they print a line.
 
 ghost use Rattle.std.specs.Prelude.{◌≡◌, false};
 
@@ -14,7 +13,7 @@ use std::io::{BufWriter, Read, Write};
 use std::rt::Runtime;
 use std::{fs, io};
 
-/// How many bytes of answers are held back before they are written.
+/// Size of the output buffer.
 const BUFFER_BYTES: usize = 65_536;
 
 /// How a log is answered.
@@ -29,7 +28,7 @@ pub struct Log<'a> {
 }
 
 impl Log<'_> {
-    /// Returns what is done with each line. Nothing of a line stays after it.
+    /// Returns the command on each line. It frees the memory of a line before the next one.
     fn command(&self, environment: Environment) -> EachLine {
         EachLine {
             task: self.task,
@@ -44,7 +43,7 @@ impl Log<'_> {
     }
 }
 
-/// Answers the lines that a reader gives, and writes what is held back at the end.
+/// Answers each line of a reader, and flushes the output at the end.
 fn answer<R: Read + Drop, W: Write, C: LineCommand>(
     alloc: Global,
     reader: R,
@@ -62,7 +61,7 @@ fn answer<R: Read + Drop, W: Write, C: LineCommand>(
     ended
 }
 
-/// Answers the lines that a reader gives, and shows how far it is to who waits at a terminal.
+/// Answers each line of a reader, and shows the progress if only standard error is a terminal.
 fn answer_watched<R: Runtime + AllocGlobal, I: Read + Drop, W: Write>(
     rt: &R,
     environment: Environment,
@@ -84,7 +83,7 @@ fn answer_watched<R: Runtime + AllocGlobal, I: Read + Drop, W: Write>(
     answer(rt.alloc(), reader, output, &command, flush)
 }
 
-/// Answers the lines that a reader gives.
+/// Answers each line of a reader, and returns the exit status.
 fn answer_from<R: Runtime + AllocGlobal, I: Read + Drop>(
     rt: &R,
     environment: Environment,

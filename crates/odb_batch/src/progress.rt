@@ -1,4 +1,4 @@
-//! How far a log is, shown on standard error to who waits for it.
+//! Shows the progress of a log on standard error.
 
 ghost use Rattle.odb_engine.specs.Forms.{InForm};
 ghost use Rattle.odb_engine.specs.LineTasks as tasks;
@@ -21,23 +21,23 @@ struct Counts {
     bytes: u64,
 }
 
-/// A command on each line that shows in each second how far it is, in one line that it writes anew.
+/// A command on each line that shows its progress once a second, in one line that it overwrites.
 #[derive(Drop)]
 pub struct Watched<'r, R> {
     rt: &'r R,
     command: EachLine,
     begun: Instant,
-    /// The second that was shown last, counted from 0 at the begin.
+    /// The second that was shown last, counted from the start.
     shown: Cell<u64>,
     counts: Cell<Counts>,
 }
 
 impl<'r, R: Runtime> Watched<'r, R> {
-    /// Watches a command from now on.
+    /// Makes a command that shows its progress, counted from now.
     ///
     /// # Errors
     ///
-    /// The clock fails.
+    /// If the clock cannot be read.
     pub fn new(rt: &'r R, command: EachLine) -> io::Result<Self> {
         let counts = Counts {
             lines: 0,
@@ -67,7 +67,7 @@ impl<'r, R: Runtime> Watched<'r, R> {
         });
     }
 
-    /// Writes the line of counts anew. A failure to write it is ignored.
+    /// Overwrites the line of counts. A failure to write it is ignored.
     fn show(&self, seconds: u64) {
         let Counts {
             lines,

@@ -171,45 +171,52 @@ fn answer_pair<W: Write, C: PairCommand>(
     conclude(alloc, form, sent, output)
 }
 
+/// How a batch is replayed, but for the order. There is no trace.
+#[derive(Clone, Copy)]
+struct Unordered {
+    policy: Policy,
+    options: Options,
+}
+
 /// Replays the batch in a line by the recorded outcomes in it, in the order of a chooser.
 fn replay_by<W: Write>(
     alloc: Global,
     line: &[u8],
     output: &mut Output<W>,
     chooser: &mut dyn Chooser,
-    by: (Policy, Options),
+    replay: Unordered,
 ) -> Result<Ended, EngineFault>
     requires { output.old.failed ≡ false }
-    ensures { Ends W.contents (InForm by.1.form
-        (OfPair (ReplaysValue (allows chooser.old) by.0 false) line.now)) ⊥
+    ensures { Ends W.contents (InForm replay.options.form
+        (OfPair (ReplaysValue (allows chooser.old) replay.policy false) line.now)) ⊥
         output.old output.new result }
 {
-    let mut replay = Replay {
-        policy: by.0,
+    let mut ordered = Replay {
+        policy: replay.policy,
         chooser,
         traced: false,
-        options: by.1,
+        options: replay.options,
     };
-    answer_pair(alloc, line, output, &mut replay)
+    answer_pair(alloc, line, output, &mut ordered)
 }
 
 /// Replays the batch in a line by the recorded outcomes in it, in an order.
-fn replay<W: Write>(
+fn replay_in<W: Write>(
     alloc: Global,
     line: &[u8],
     output: &mut Output<W>,
     order: Order,
-    by: (Policy, Options),
+    replay: Unordered,
 ) -> Result<Ended, EngineFault>
     requires { output.old.failed ≡ false }
-    ensures { Ends W.contents (InForm by.1.form
-        (OfPair (ReplaysValue (AllowsOrder order) by.0 false) line.now)) ⊥
+    ensures { Ends W.contents (InForm replay.options.form
+        (OfPair (ReplaysValue (AllowsOrder order) replay.policy false) line.now)) ⊥
         output.old output.new result }
 {
     match order {
-        Order::First => replay_by(alloc, line, output, &mut First, by),
-        Order::Last => replay_by(alloc, line, output, &mut Last, by),
-        Order::Wide => replay_by(alloc, line, output, &mut Wide, by),
+        Order::First => replay_by(alloc, line, output, &mut First, replay),
+        Order::Last => replay_by(alloc, line, output, &mut Last, replay),
+        Order::Wide => replay_by(alloc, line, output, &mut Wide, replay),
     }
 }
 
@@ -245,7 +252,13 @@ pub fn answer_line<W: Write>(
         LineTask::Plan => answer(alloc, line, output, &Plans { form }, options),
         LineTask::Canon => answer(alloc, line, output, &Canonical, options),
         LineTask::Match => answer_pair(alloc, line, output, &mut Match { options }),
-        LineTask::Replay { policy, order } => replay(alloc, line, output, order, (policy, options)),
+        LineTask::Replay { policy, order } => replay_in(
+            alloc,
+            line,
+            output,
+            order,
+            Unordered { policy, options },
+        ),
         LineTask::Run { policy } => answer_pair(alloc, line, output, &mut Run { policy, options }),
     }
 }

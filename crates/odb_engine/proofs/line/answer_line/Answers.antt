@@ -13,7 +13,7 @@ pub returns-in-Match-clause-ends : goal.returns-in-Match-clause-ends
 returns-in-Match-clause-ends g c = rw c.in-Match.is c.answer_pair.ensures.ends
 
 pub returns-in-Replay-clause-ends : goal.returns-in-Replay-clause-ends
-returns-in-Replay-clause-ends g c = rw c.in-Replay.is c.replay.ensures
+returns-in-Replay-clause-ends g c = rw c.in-Replay.is c.replay_in.ensures
 
 pub returns-in-Run-clause-ends : goal.returns-in-Run-clause-ends
 returns-in-Run-clause-ends g c = rw c.in-Run.is c.answer_pair-in-Run.ensures.ends

@@ -1,4 +1,4 @@
-use Rattle.odb_engine.proofs.line.replay.Goals as goal
+use Rattle.odb_engine.proofs.line.replay_in.Goals as goal
 
 pub returns-in-First : goal.returns-in-First
 returns-in-First g c = rw c.in-First.is c.replay_by.ensures
