@@ -206,26 +206,27 @@ fn take<S: Service>(
 fn take_all<S: Service>(
     scheduler: &mut Scheduler<'_>,
     plan: &Plan<'_>,
-    policy: Policy,
     chooser: &mut dyn Chooser,
     service: &mut S,
     steps: &mut Vec<Step>,
 ) -> Result<(), ExecFault>
-    requires first { scheduler.old ≡ initial plan.now policy }
+    requires first { scheduler.old ≡ initial plan.now scheduler.old.policy }
     requires unlisted { steps.old.items ≡ [] }
     requires room { 2 * length (plan_records plan.now) ≤ vec_capacity steps.old }
     ensures execution { OnOk result (IsExecution (allows chooser.old) (S.offers service.old)
-        S.performs (Behind chooses) names (plan_records plan.now) (initial plan.now policy)
-        service.old service.new chooser.old chooser.new steps.new.items scheduler.new) }
+        S.performs (Behind chooses) names (plan_records plan.now)
+        (initial plan.now scheduler.old.policy) service.old service.new chooser.old chooser.new
+        steps.new.items scheduler.new) }
     ensures cut_short { IfErr result (IsCutShort (allows chooser.old) (S.offers service.old)
-        S.performs (Behind chooses) names (plan_records plan.now) (initial plan.now policy)
-        service.old service.new chooser.old chooser.new) }
+        S.performs (Behind chooses) names (plan_records plan.now)
+        (initial plan.now scheduler.old.policy) service.old service.new chooser.old chooser.new) }
     ensures finished { OnOk result (is_finished scheduler.new ≡ true) }
     ensures few_steps { OnOk result
         (length steps.new.items ≤ 2 * length (plan_records plan.now)) }
-    ensures mode { OnOk result (scheduler.new.policy.mode ≡ policy.mode) }
-    ensures fault { IfErr result (IsCausedBy (S.offers service.old) (IsReportEnabled (allows chooser.old)
-        (S.offers service.old) (initial plan.now policy))) }
+    ensures policy { OnOk result (scheduler.new.policy ≡ scheduler.old.policy) }
+    ensures fault { IfErr result (IsCausedBy (S.offers service.old)
+        (IsReportEnabled (allows chooser.old) (S.offers service.old)
+        (initial plan.now scheduler.old.policy))) }
 {
     every_run(plan);
     odb_check::laws::every_plan(plan);
@@ -298,7 +299,7 @@ pub fn execute<'a: 'p, 'p, S: Service>(
     ensures rests_on_successes { IfOk result (λ trace. laws.RestsOnSuccesses trace.done) }
 {
     let (mut scheduler, mut steps) = prepared(alloc, plan, policy)?;
-    take_all(&mut scheduler, plan, policy, chooser, service, &mut steps)?;
+    take_all(&mut scheduler, plan, chooser, service, &mut steps)?;
     Ok(Trace {
         done: scheduler.close(),
         steps,

@@ -11,9 +11,9 @@ abbrev pub invariant-loop-step : goal.invariant-loop-step
 invariant-loop-step g l = record {
   far : SoFar ((goal.Chooser-dyn g l.fn.chooser.now).allows l.fn.chooser.now.1) ((goal.Chooser-dyn g l.chooser.now).allows l.chooser.now.1)
       (g.S.Service.offers l.fn.service) (g.S.Service.offers l.service)
-      (initial l.fn.plan l.fn.policy) l.scheduler l.steps.items;
+      (initial l.fn.plan l.fn.scheduler.policy) l.scheduler l.steps.items;
   calls : AsksAll g.S.Service.performs (plan_records l.fn.plan) far.events l.fn.service l.service;
-  choices : PicksAll (Behind (λ z. (goal.Chooser-dyn g z).chooses z.1)) (λ z. (goal.Chooser-dyn g z).names z.1) (initial l.fn.plan l.fn.policy) far.events l.fn.chooser.now l.chooser.now;
+  choices : PicksAll (Behind (λ z. (goal.Chooser-dyn g z).chooses z.1)) (λ z. (goal.Chooser-dyn g z).names z.1) (initial l.fn.plan l.fn.scheduler.policy) far.events l.fn.chooser.now l.chooser.now;
   room : length l.steps.items + events_left l.scheduler ≤ vec_capacity l.steps;
 }
 
