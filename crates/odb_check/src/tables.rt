@@ -72,55 +72,56 @@ pub(crate) struct Tables<'b> {
         units.items starts.items } by { Prim.hlevel props },
 }
 
-/// Adds the request at the position `i` to the tables of those before it.
-fn add<'b>(
-    alloc: Global,
+/// The tables of the first requests of a batch.
+#[derive(Drop)]
+struct FirstTables<'b> {
     batch: &'b Batch<'b>,
-    i: u32,
-    ids: &mut Table<'b>,
-    groups: &mut Table<'b>,
-    units: &mut Vec<u32>,
-    starts: &mut Vec<u32>,
-) -> Result<(), AllocError>
-    requires within { i < length (records batch.now) }
-    requires before { AreTablesOf (records batch.now) i ids.old groups.old units.old.items
-        starts.old.items }
-    ensures tables { OnOk result (AreTablesOf (records batch.now) (i + 1) ids.new groups.new
-        units.new.items starts.new.items) }
-    ensures ids { table_start ids.new ≡ table_start ids.old }
-    ensures groups { table_start groups.new ≡ table_start groups.old }
-{
-    let request = batch.request(i);
-    let unit = unit_in(groups, request.group, starts.len() as u32);
-    ids.note(alloc, request.id, i)?;
-    note_group(alloc, groups, request.group, unit)?;
-    note_start(starts, unit, i)?;
-    Ok(units.push(unit)?)
+    ids: Table<'b>,
+    groups: Table<'b>,
+    units: Vec<u32>,
+    starts: Vec<u32>,
 }
 
-/// Fills empty tables with the requests of a batch.
-fn fill<'b>(
-    alloc: Global,
-    batch: &'b Batch<'b>,
-    ids: &mut Table<'b>,
-    groups: &mut Table<'b>,
-    units: &mut Vec<u32>,
-    starts: &mut Vec<u32>,
-) -> Result<(), AllocError>
-    requires { AreTablesOf (records batch.now) 0 ids.old groups.old units.old.items
-        starts.old.items }
-    ensures tables { OnOk result (AreTablesOf (records batch.now) (length (records batch.now))
-        ids.new groups.new units.new.items starts.new.items) }
-    ensures ids { table_start ids.new ≡ table_start ids.old }
-    ensures groups { table_start groups.new ≡ table_start groups.old }
-{
-    let count = batch.len();
-    ids.reserve(count as usize)?;
-    units.reserve(count as usize)?;
-    for i in 0..count {
-        add(alloc, batch, i, ids, groups, units, starts)?;
+impl<'b> FirstTables<'b> {
+    /// Adds the request at the position `i` to those before it.
+    fn add(&mut self, alloc: Global, i: u32) -> Result<(), AllocError>
+        requires within { i < length (records self.old.batch.now) }
+        requires before { AreTablesOf (records self.old.batch.now) i self.old.ids self.old.groups
+            self.old.units.items self.old.starts.items }
+        ensures batch { self.new.batch ≡ self.old.batch }
+        ensures tables { OnOk result (AreTablesOf (records self.old.batch.now) (i + 1) self.new.ids
+            self.new.groups self.new.units.items self.new.starts.items) }
+        ensures ids { table_start self.new.ids ≡ table_start self.old.ids }
+        ensures groups { table_start self.new.groups ≡ table_start self.old.groups }
+    {
+        let request = self.batch.request(i);
+        let unit = unit_in(&self.groups, request.group, self.starts.len() as u32);
+        self.ids.note(alloc, request.id, i)?;
+        note_group(alloc, &mut self.groups, request.group, unit)?;
+        note_start(&mut self.starts, unit, i)?;
+        Ok(self.units.push(unit)?)
     }
-    Ok(())
+
+    /// Adds all requests to empty tables.
+    fn fill(&mut self, alloc: Global) -> Result<(), AllocError>
+        requires { AreTablesOf (records self.old.batch.now) 0 self.old.ids self.old.groups
+            self.old.units.items self.old.starts.items }
+        ensures batch { self.new.batch ≡ self.old.batch }
+        ensures tables { OnOk result (AreTablesOf (records self.old.batch.now)
+            (length (records self.old.batch.now)) self.new.ids self.new.groups self.new.units.items
+            self.new.starts.items) }
+        ensures ids { table_start self.new.ids ≡ table_start self.old.ids }
+        ensures groups { table_start self.new.groups ≡ table_start self.old.groups }
+    {
+        let batch = self.batch;
+        let count = batch.len();
+        self.ids.reserve(count as usize)?;
+        self.units.reserve(count as usize)?;
+        for i in 0..count {
+            self.add(alloc, i)?;
+        }
+        Ok(())
+    }
 }
 
 /// The tables of a batch.
@@ -136,11 +137,21 @@ pub(crate) fn tables_of<'b>(
         ≡ option_map start_of seed.number) }
 {
     let start = seed.start();
-    let mut ids = Table::new(alloc, start);
-    let mut groups = Table::new(alloc, start);
-    let mut units = Vec::new(alloc);
-    let mut starts = Vec::new(alloc);
-    fill(alloc, batch, &mut ids, &mut groups, &mut units, &mut starts)?;
+    let mut tables = FirstTables {
+        batch,
+        ids: Table::new(alloc, start),
+        groups: Table::new(alloc, start),
+        units: Vec::new(alloc),
+        starts: Vec::new(alloc),
+    };
+    tables.fill(alloc)?;
+    let FirstTables {
+        batch,
+        ids,
+        groups,
+        units,
+        starts,
+    } = tables;
     Ok(Tables {
         batch,
         ids,

@@ -3,13 +3,15 @@ use Rattle.odb_doc.specs.batch.Records.{record_of}
 use Rattle.odb_doc.specs.batch.Batches.{records}
 use Rattle.odb_check.specs.Tables.{unit_among}
 use Rattle.odb_check.proofs.TableLemmas.{tables_more}
-use Rattle.odb_check.proofs.tables.add.Goals as goal
+use Rattle.odb_check.proofs.tables.FirstTables.add.Goals as goal
 
 pub returns-clause-tables : goal.returns-clause-tables
 returns-clause-tables c =
-    let next : c.len.result ≡ length c.args.starts.now.items = search rules in
-    let among : c.unit_in-unit.result ≡ unit_among c.args.groups.now (record_of c.request-request.result.now).group (length c.args.starts.now.items) =
-    c.unit_in-unit.ensures ∙ ap (unit_among c.args.groups.now (record_of c.request-request.result.now).group) next in
-    rw add-one (tables_more (records c.args.batch.now) c.args.i (record_of c.request-request.result.now) c.args.ids.now c.note.new.self c.args.groups.now c.note_group.new.groups
-    c.args.units.now.items c.args.starts.now.items c.push.new.self.items c.note_start.new.starts.items c.unit_in-unit.result
+    let old = c.args.self.now in
+    let request = record_of c.request-request.result.now in
+    let next : c.len.result ≡ length old.starts.items = search rules in
+    let among : c.unit_in-unit.result ≡ unit_among old.groups request.group (length old.starts.items) =
+    c.unit_in-unit.ensures ∙ ap (unit_among old.groups request.group) next in
+    rw add-one (tables_more (records old.batch.now) c.args.i request old.ids c.note.new.self old.groups c.note_group.new.groups
+    old.units.items old.starts.items c.push.new.self.items c.note_start.new.starts.items c.unit_in-unit.result
     c.request-request.ensures.value c.request-request.ensures.well_formed.names c.requires.before among c.in_ok-note.ensures.texts c.in_ok-note_group.ensures.texts c.in_ok-note_group.ensures.len c.in_ok-note_start.ensures c.in_ok-push.ensures.items)

@@ -2,12 +2,13 @@ use Rattle.std.specs.Prelude.{◌≡◌}
 use Rattle.odb_doc.specs.batch.Batches.{records}
 use Rattle.odb_check.specs.Starts.{table_start}
 use Rattle.odb_check.specs.Tables.{AreTablesOf}
-use Rattle.odb_check.proofs.tables.fill.Given as goal
+use Rattle.odb_check.proofs.tables.FirstTables.fill.Given as goal
 
 -- the requests before i are in the tables, whose hashes begin where they did
 abbrev pub invariant-loop-i : goal.invariant-loop-i
 invariant-loop-i l = record {
-  tables : AreTablesOf (records l.batch) l.i l.ids l.groups l.units.items l.starts.items;
-  ids : table_start l.ids ≡ table_start l.initial.ids;
-  groups : table_start l.groups ≡ table_start l.initial.groups;
+  batch : l.self.batch ≡ l.fn.self.batch;
+  tables : AreTablesOf (records l.fn.self.batch.now) l.i l.self.ids l.self.groups l.self.units.items l.self.starts.items;
+  ids : table_start l.self.ids ≡ table_start l.fn.self.ids;
+  groups : table_start l.self.groups ≡ table_start l.fn.self.groups;
 }
