@@ -152,8 +152,30 @@ impl<W: Write> Output<W> {
         }
     }
 
-    /// Writes a whole text, in as many writes as the writer takes, none for the empty text. The writer
-    /// is not flushed.
+    /// Writes all bytes, in as many writes as the writer takes, none if there are no bytes. The writer is
+    /// not flushed.
+    ///
+    /// # Errors
+    ///
+    /// `DeviceFault` if and only if a write failed. The writer has received a prefix of the bytes then.
+    pub fn put_all(&mut self, bytes: &[u8]) -> Result<(), DeviceFault>
+        requires { self.old.failed ≡ false }
+        ensures fault { IsErr result ↔ IsTrue self.new.failed }
+        ensures ok { OnOk result (Appends (W.contents self.old.writer)
+            (W.contents self.new.writer) bytes.now) }
+        ensures empty { bytes.now ≡ [] → self.new ≡ self.old }
+        ensures err { OnErr result (AppendsPrefix (W.contents self.old.writer)
+            (W.contents self.new.writer) bytes.now) }
+    {
+        let mut rest = bytes;
+        while !rest.is_empty() {
+            let count = self.put(rest)?;
+            rest = &rest[count..];
+        }
+        Ok(())
+    }
+
+    /// Writes a whole text, as [`Output::put_all`] writes its bytes.
     ///
     /// # Errors
     ///
@@ -167,13 +189,9 @@ impl<W: Write> Output<W> {
         ensures err { OnErr result (AppendsPrefix (W.contents self.old.writer)
             (W.contents self.new.writer) text.now) }
     {
-        let mut rest = text.as_bytes();
-        while !rest.is_empty() {
-            let count = self.put(rest)?;
-            rest = &rest[count..];
-        }
-        Ok(())
+        self.put_all(text.as_bytes())
     }
+
     /// Passes on what the writer holds back.
     ///
     /// # Errors
