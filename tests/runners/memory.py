@@ -3,8 +3,8 @@
 For each command on small documents the first allocation fails, then the second, and so on until a run
 has none that fails. That is done twice: the one allocation fails, or all from that one on. On a batch
 of 1,000 requests one of ten allocations is tried, chosen by a seed. A run has to end with status 4,
-`error: memory`, and the beginning of what it prints otherwise; or exactly as if none had failed. The
-last line is `N runs, M wrong`.
+`error: memory`, and the beginning of what it prints otherwise, of a log in whole lines; or exactly as
+if none had failed. The last line is `N runs, M wrong`.
 """
 
 import os
@@ -73,7 +73,7 @@ def is_right(trial, got, whole):
     """Whether a run with a failed allocation ended as it may, beside the same run without one."""
     if got.text() == whole.text():
         return True
-    begun = whole.out.startswith(got.out) and (trial.may_begin or not got.out)
+    begun = whole.out.startswith(got.out) and trial.may_print(got.out)
     return (got.status, got.err) == MEMORY and begun
 
 

@@ -37,10 +37,11 @@ class Trial:
     input: bytes = b""
     large: bool = False
 
-    @property
-    def may_begin(self):
-        """Whether a part of the output may have been written when an allocation fails."""
-        return self.command in WRITE_AS_THEY_GO or "--lines" in self.arguments
+    def may_print(self, begun):
+        """Whether this part of the output may have been written when an allocation fails."""
+        if "--lines" in self.arguments:
+            return begun.endswith(b"\n") or not begun
+        return self.command in WRITE_AS_THEY_GO or not begun
 
 
 def many_requests():

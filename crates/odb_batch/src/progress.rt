@@ -104,8 +104,6 @@ impl<'r, R: Runtime> LineCommand for Watched<'r, R> {
     ghost writes = { λ self line. InForm self.command.options.form
         (tasks.OfLine self.command.task self.command.options.form line) };
 
-    ghost streams = { λ self. tasks.Streams self.command.task };
-
     fn answer<W: Write>(
         &self,
         alloc: Global,

@@ -1,6 +1,7 @@
 mod ReadLemmas
 mod TraceLemmas
 mod EngineLemmas
+mod AnswerLemmas
 mod PhaseLemmas
 mod SendLemmas
 mod ReplayLemmas

@@ -51,12 +51,3 @@ OfLine tasks.Canon form = Answers Canonical
 OfLine tasks.Match form = OfPair (MatchesValue form)
 OfLine (tasks.Replay policy order) form = OfPair (ReplaysValue (AllowsOrder order) policy false)
 OfLine (tasks.Run policy) form = OfPair (RunsValue policy)
-
--- that a task writes its result in parts, so that an allocation may fail between two of them
-abbrev pub Streams : LineTask → Type 0
-Streams tasks.Check = ⊥
-Streams tasks.Plan = ⊥
-Streams tasks.Canon = ⊥
-Streams tasks.Match = ⊥
-Streams (tasks.Replay policy order) = Unit {0}
-Streams (tasks.Run policy) = Unit {0}

@@ -62,7 +62,7 @@ impl From<AllocError> for EngineFault {
 pub type Sent = Result<Result<Ended, EngineFault>, Halt>;
 
 /// Returns a fault in a form.
-fn fault_text(alloc: Global, form: Form, refusal: Refusal) -> Result<String, AllocError>
+pub fn fault_text(alloc: Global, form: Form, refusal: Refusal) -> Result<String, AllocError>
     ensures { IfOk result (λ text. string_bytes text ≡ fault_text form (printed refusal)) }
 {
     match form {

@@ -15,6 +15,7 @@
 //! (two), and a public function that passes it to `answer` or `answer_pair`.
 #![tactic(auto)]
 
+mod answer;
 mod canon;
 mod check;
 mod command;
@@ -41,6 +42,7 @@ mod run;
 mod setup;
 mod trace;
 
+pub use answer::Answer;
 pub use canon::{canon_batch, canon_batch_as, canon_batch_with};
 pub use check::{check_batch, check_batch_as, check_batch_with};
 pub use disposal::Disposal;

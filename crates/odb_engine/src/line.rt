@@ -1,23 +1,23 @@
 //! The commands over one line of a log, in memory: a line holds a batch document, or an array of a batch
 //! and a second document.
 
-ghost use Rattle.std.specs.Prelude.{◌≡◌, ◌≢◌, ◌⊎◌, false, None, Ok, Err, IfSome};
+ghost use Rattle.std.specs.Prelude.{◌≡◌, ◌≢◌, false, None, Err, IfOk, IfSome};
 ghost use Rattle.serde_json.specs.Data.{Data};
 ghost use Rattle.serde_json.specs.View.{view};
 ghost use Rattle.odb_engine.specs.declared.halt.Halt.TheVariants as halts;
 ghost use Rattle.odb_engine.specs.Cascade.{Answers, AnswersValue};
-ghost use Rattle.odb_engine.specs.Engines.{Ends};
 ghost use Rattle.odb_engine.specs.Forms.{InForm};
 ghost use Rattle.odb_engine.specs.Halts.{Found, Sent};
-ghost use Rattle.odb_engine.specs.LineTasks.{IsPair, OfLine, OfPair, Streams};
+ghost use Rattle.odb_engine.specs.LineTasks.{IsPair, OfLine, OfPair};
 ghost use Rattle.odb_engine.specs.Replays.{ReplaysValue};
 ghost use Rattle.odb_sched.specs.run.Choosing.{AllowsOrder};
 
+use crate::answer::Answer;
 use crate::canon::Canonical;
 use crate::check::Counts;
 use crate::command::{Command, plan_of, text_in};
 use crate::disposal::DropOrLeak;
-use crate::ending::{Ended, EngineFault, Sent, conclude, end};
+use crate::ending::{Sent, conclude};
 use crate::halt::Halt;
 use crate::input::value_in;
 use crate::match_responses::Match;
@@ -29,7 +29,7 @@ use crate::setup::{Options, Setup};
 use odb_doc::{Batch, Output, Place, Refusal};
 use odb_sched::{Chooser, First, Last, Order, Policy, Wide};
 use serde_json::Value;
-use std::alloc::Global;
+use std::alloc::{AllocError, Global};
 use std::io::Write;
 
 /// F07: the line of a command over two documents is not an array of two elements.
@@ -73,21 +73,18 @@ fn text_of<C: Command>(
     text_in(alloc, &value.value, command, setup)
 }
 
-/// Writes what a command over one document prints of a line, or the least fault.
-fn answer<W: Write, C: Command>(
+/// Returns what a command over one document writes of a line, or the least fault.
+fn answer<C: Command>(
     alloc: Global,
     line: &[u8],
-    output: &mut Output<W>,
     command: &C,
     options: Options,
-) -> Result<Ended, EngineFault>
-    requires { output.old.failed ≡ false }
-    ensures ends { Ends W.contents (InForm options.form (Answers (C.writes command.now) line.now)) ⊥
-        output.old output.new result }
-    ensures memory { result ≡ Err EngineFault.OutOfMemory → output.new ≡ output.old }
+) -> Result<Answer, AllocError>
+    ensures { IfOk result (λ answer. InForm options.form
+        (Answers (C.writes command.now) line.now) answer.ended answer.text.items) }
 {
     let found = text_of(alloc, line, command, options.setup);
-    end(alloc, options.form, found, output)
+    Answer::of(alloc, options.form, found)
 }
 
 /// Takes an array of two values apart; `None` if the value is no such array.
@@ -118,7 +115,6 @@ fn perform_on<W: Write, C: PairCommand>(
     ensures sent { Sent W.contents (C.form command.old) (AnswersValue
         (λ requests. C.writes command.old requests (view second)) (view batch.now)) ⊥
         output.old output.new result }
-    ensures memory { result ≡ Ok (Err EngineFault.OutOfMemory) → C.streams command.old }
     ensures read { result ≢ Err halts.Read }
 {
     let setup = command.options().setup;
@@ -140,7 +136,6 @@ fn perform<W: Write, C: PairCommand>(
     requires { output.old.failed ≡ false }
     ensures sent { Sent W.contents (C.form command.old) (OfPair (C.writes command.old) line.now) ⊥
         output.old output.new result }
-    ensures memory { result ≡ Ok (Err EngineFault.OutOfMemory) → C.streams command.old }
     ensures read { result ≢ Err halts.Read }
 {
     let Some((first, second)) = pair_of(value_in(alloc, line, Place::Batch)?) else {
@@ -153,22 +148,26 @@ fn perform<W: Write, C: PairCommand>(
     perform_on(alloc, &batch.value, second, output, command)
 }
 
-/// Writes what a command over two documents writes of those in a line, or the least fault.
-fn answer_pair<W: Write, C: PairCommand>(
+/// Returns what a command over two documents writes of those in a line, or the least fault. A write to
+/// memory fails only if it cannot grow.
+fn answer_pair<C: PairCommand>(
     alloc: Global,
     line: &[u8],
-    output: &mut Output<W>,
     command: &mut C,
-) -> Result<Ended, EngineFault>
-    requires { output.old.failed ≡ false }
-    ensures ends { Ends W.contents (InForm (C.form command.old)
-        (OfPair (C.writes command.old) line.now)) ⊥ output.old output.new result }
-    ensures memory { result ≡ Err EngineFault.OutOfMemory
-        → (output.new ≡ output.old) ⊎ C.streams command.old }
+) -> Result<Answer, AllocError>
+    ensures { IfOk result (λ answer. InForm (C.form command.old)
+        (OfPair (C.writes command.old) line.now) answer.ended answer.text.items) }
 {
     let form = command.options().form;
-    let sent = perform(alloc, line, output, command);
-    conclude(alloc, form, sent, output)
+    let mut output = Output::new(Vec::new(alloc));
+    let sent = perform(alloc, line, &mut output, command);
+    match conclude(alloc, form, sent, &mut output) {
+        Ok(ended) => Ok(Answer {
+            ended,
+            text: output.into_inner(),
+        }),
+        Err(_) => Err(AllocError),
+    }
 }
 
 /// How a batch is replayed, but for the order. There is no trace.
@@ -179,17 +178,15 @@ struct Unordered {
 }
 
 /// Replays the batch in a line by the recorded outcomes in it, in the order of a chooser.
-fn replay_by<W: Write>(
+fn replay_by(
     alloc: Global,
     line: &[u8],
-    output: &mut Output<W>,
     chooser: &mut dyn Chooser,
     replay: Unordered,
-) -> Result<Ended, EngineFault>
-    requires { output.old.failed ≡ false }
-    ensures { Ends W.contents (InForm replay.options.form
-        (OfPair (ReplaysValue (allows chooser.old) replay.policy false) line.now)) ⊥
-        output.old output.new result }
+) -> Result<Answer, AllocError>
+    ensures { IfOk result (λ answer. InForm replay.options.form
+        (OfPair (ReplaysValue (allows chooser.old) replay.policy false) line.now)
+        answer.ended answer.text.items) }
 {
     let mut ordered = Replay {
         policy: replay.policy,
@@ -197,68 +194,55 @@ fn replay_by<W: Write>(
         traced: false,
         options: replay.options,
     };
-    answer_pair(alloc, line, output, &mut ordered)
+    answer_pair(alloc, line, &mut ordered)
 }
 
 /// Replays the batch in a line by the recorded outcomes in it, in an order.
-fn replay_in<W: Write>(
+fn replay_in(
     alloc: Global,
     line: &[u8],
-    output: &mut Output<W>,
     order: Order,
     replay: Unordered,
-) -> Result<Ended, EngineFault>
-    requires { output.old.failed ≡ false }
-    ensures { Ends W.contents (InForm replay.options.form
-        (OfPair (ReplaysValue (AllowsOrder order) replay.policy false) line.now)) ⊥
-        output.old output.new result }
+) -> Result<Answer, AllocError>
+    ensures { IfOk result (λ answer. InForm replay.options.form
+        (OfPair (ReplaysValue (AllowsOrder order) replay.policy false) line.now)
+        answer.ended answer.text.items) }
 {
     match order {
-        Order::First => replay_by(alloc, line, output, &mut First, replay),
-        Order::Last => replay_by(alloc, line, output, &mut Last, replay),
-        Order::Wide => replay_by(alloc, line, output, &mut Wide, replay),
+        Order::First => replay_by(alloc, line, &mut First, replay),
+        Order::Last => replay_by(alloc, line, &mut Last, replay),
+        Order::Wide => replay_by(alloc, line, &mut Wide, replay),
     }
 }
 
-/// Does a task on a line: writes what its command writes of the documents in it, or the line of the
+/// Does a task on a line: returns what its command writes of the documents in it, or the line of the
 /// least fault, in the form of the options.
 ///
 /// The line holds one document, or for a command over two documents an array of both; a line that is not
-/// an array of two elements is refused as F07. `line` may be any bytes, and the output must not have
-/// failed. Takes the time and memory of the command. The line is not copied.
+/// an array of two elements is refused as F07. `line` may be any bytes; they are not copied. Takes the
+/// time and memory of the command, and the memory of its text.
 ///
 /// # Errors
 ///
-/// - `Write` if and only if the output failed; it has received a prefix of what is written.
-/// - `OutOfMemory` if an allocation fails; nothing was written, or by a replay or a run nothing or a
-///   prefix of what is written.
-/// - Never `Read`.
-pub fn answer_line<W: Write>(
+/// `AllocError` if an allocation fails.
+pub fn answer_line(
     alloc: Global,
     line: &[u8],
-    output: &mut Output<W>,
     task: LineTask,
     options: Options,
-) -> Result<Ended, EngineFault>
-    requires { output.old.failed ≡ false }
-    ensures ends { Ends W.contents (InForm options.form (OfLine task options.form line.now)) ⊥
-        output.old output.new result }
-    ensures memory { result ≡ Err EngineFault.OutOfMemory
-        → (output.new ≡ output.old) ⊎ Streams task }
+) -> Result<Answer, AllocError>
+    ensures { IfOk result (λ answer. InForm options.form (OfLine task options.form line.now)
+        answer.ended answer.text.items) }
 {
     let form = options.form;
     match task {
-        LineTask::Check => answer(alloc, line, output, &Counts { form }, options),
-        LineTask::Plan => answer(alloc, line, output, &Plans { form }, options),
-        LineTask::Canon => answer(alloc, line, output, &Canonical, options),
-        LineTask::Match => answer_pair(alloc, line, output, &mut Match { options }),
-        LineTask::Replay { policy, order } => replay_in(
-            alloc,
-            line,
-            output,
-            order,
-            Unordered { policy, options },
-        ),
-        LineTask::Run { policy } => answer_pair(alloc, line, output, &mut Run { policy, options }),
+        LineTask::Check => answer(alloc, line, &Counts { form }, options),
+        LineTask::Plan => answer(alloc, line, &Plans { form }, options),
+        LineTask::Canon => answer(alloc, line, &Canonical, options),
+        LineTask::Match => answer_pair(alloc, line, &mut Match { options }),
+        LineTask::Replay { policy, order } => {
+            replay_in(alloc, line, order, Unordered { policy, options })
+        }
+        LineTask::Run { policy } => answer_pair(alloc, line, &mut Run { policy, options }),
     }
 }

@@ -9,7 +9,7 @@ use Rattle.odb_engine.specs.declared.form.Form.TheVariants as forms
 use Rattle.odb_engine.specs.declared.halt.Halt.TheVariants as halts
 use Rattle.odb_engine.specs.Cascade.{Reports, Writes}
 use Rattle.odb_engine.specs.Halts.{Found, Halted, text_found}
-use Rattle.odb_ffi.specs.declared.answer.Answer.{Answer}
+use Rattle.odb_engine.specs.declared.answer.Answer.{Answer}
 
 written : (P : Writes) (found : Result (String Global) Halt) (ended : Ended) (text : List ℕ) → Found P found → text_found forms.Lines found ended text → P ended text
 written P (Ok line) ended text so (ends, same) = subst (λ e. P e text) (sym ends) (subst (P Done) (sym same) so)

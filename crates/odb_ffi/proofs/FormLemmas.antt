@@ -7,7 +7,7 @@ use Rattle.odb_engine.specs.declared.form.Form.{Form}
 use Rattle.odb_engine.specs.declared.line.LineTask.{LineTask}
 use Rattle.odb_engine.specs.Forms.{InForm}
 use Rattle.odb_engine.specs.LineTasks.{OfLine}
-use Rattle.odb_ffi.specs.declared.answer.Answer.{Answer}
+use Rattle.odb_engine.specs.declared.answer.Answer.{Answer}
 
 -- the document that was read is that of the bytes
 pub document-of : (bytes : Bor (List ℕ)) (input : Reading (Bor (List ℕ))) (document : List ℕ) → input ≡ record { reader = bytes; failed = false; reads = 0 } → IsDocumentOf input.reader.now document → IsDocumentOf bytes.now document

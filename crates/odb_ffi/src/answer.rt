@@ -1,4 +1,4 @@
-//! What a command writes, and how it reaches the buffer of the caller.
+//! How the answer of a command reaches the buffer of the caller.
 
 ghost use Rattle.std.specs.Prelude.{◌≡◌, ◌≤◌, ◌++◌, None, length, drop, IfSome};
 ghost use Rattle.odb_engine.specs.declared.form.Form.TheVariants as forms;
@@ -6,36 +6,14 @@ ghost use Rattle.odb_engine.specs.Halts.{text_found};
 ghost use Rattle.odb_ffi.specs.Returns.{Is, IsOutOfMemory, IsWrongOption, Returns};
 
 use crate::status::{OUT_OF_MEMORY, SMALL_BUFFER, WRONG_OPTION, of_end};
-use odb_engine::{Ended, Halt, fault_line};
+use odb_engine::{Answer, Form, Halt};
 use std::alloc::Global;
-
-/// How a command ended, and the whole text that it wrote.
-#[derive(Drop)]
-pub struct Answer {
-    pub ended: Ended,
-    pub text: Vec<u8>,
-}
 
 /// Returns what is written of what an engine has found; `None` if it has found nothing.
 pub fn answer_of(alloc: Global, found: Result<String, Halt>) -> Option<Answer>
     ensures { IfSome result (λ answer. text_found forms.Lines found answer.ended answer.text.items) }
 {
-    match found {
-        Ok(text) => Some(Answer {
-            ended: Ended::Done,
-            text: text.into_bytes(),
-        }),
-        Err(Halt::Refused(refusal)) => {
-            match fault_line(alloc, refusal.code, refusal.name, refusal.place) {
-                Ok(line) => Some(Answer {
-                    ended: Ended::Refused,
-                    text: line.into_bytes(),
-                }),
-                Err(_) => None,
-            }
-        }
-        Err(_) => None,
-    }
+    Answer::of(alloc, Form::Lines, found).ok()
 }
 
 /// Copies bytes to the start of a buffer.

@@ -12,13 +12,13 @@ ghost use Rattle.odb_ffi.specs.Live as live;
 ghost use Rattle.odb_ffi.specs.Options as options;
 ghost use Rattle.odb_ffi.specs.Positions.{GivesPositions};
 
-use crate::answer::{Answer, answer_of};
+use crate::answer::answer_of;
 use crate::options::seed_of;
 use crate::outcome::{NoOutcome, outcome_of};
 use crate::positions::give_positions;
 use crate::status;
 use odb_doc::Outcome;
-use odb_engine::{Halt, Ids, Opened, open_run, text_of_run};
+use odb_engine::{Answer, Halt, Ids, Opened, open_run, text_of_run};
 use odb_sched::{OwnedRun, Policy, ReportRefusal};
 use std::alloc::Global;
 

@@ -157,13 +157,13 @@ pub not_failed : (b : Bool) → (IsTrue b → ⊥) → b ≡ false
 not_failed true never = absurd (never refl)
 not_failed false never = refl
 
-module _ {R W : Type 0} (remaining : R → Option (List ℕ)) (contents : W → Option (List ℕ)) (Streams : Type 0) (Q : List ℕ → Writes) (before : LineReading R) (old : Writing W) where
+module _ {R W : Type 0} (remaining : R → Option (List ℕ)) (contents : W → Option (List ℕ)) (Q : List ℕ → Writes) (before : LineReading R) (old : Writing W) where
   -- what was read and answered before
   abbrev pub So : LineReading R → Writing W → List ℕ → Ended → Type 0
   So after new held ended = IsAnswered Q (left remaining before) (left remaining after) (contents old.writer) (contents new.writer) held ended
 
   abbrev pub EndsAs : LineReading R → Writing W → Result Ended EngineFault → Type 0
-  EndsAs after new result = AnswersLines remaining contents Streams (OfAnyLine Q) before after old new result
+  EndsAs after new result = AnswersLines remaining contents (OfAnyLine Q) before after old new result
 
   pub ends-read : (after : LineReading R) (new : Writing W) (held : List ℕ) (ended : Ended) → So after new held ended → IsTrue after.failed → (IsTrue new.failed → ⊥) → EndsAs after new (Err faults.Read)
   ends-read after new held ended is failed fine = record {
@@ -193,7 +193,7 @@ module _ {R W : Type 0} (remaining : R → Option (List ℕ)) (contents : W → 
   }
 
   pub ends-memory : (after : LineReading R) (new : Writing W) (bytes : List ℕ) (n : ℕ) → Consumes (left remaining before) (left remaining after) bytes
-      → HasAnswered (contents old.writer) (contents new.writer) (OfAnyLine Q) (take n (lines_of bytes)) ⊎ (Streams × WritesPrefix (contents old.writer) (contents new.writer) (AnswersEach (OfAnyLine Q) (take n (lines_of bytes))))
+      → HasAnswered (contents old.writer) (contents new.writer) (OfAnyLine Q) (take n (lines_of bytes))
       → (IsTrue after.failed → ⊥) → (IsTrue new.failed → ⊥) → EndsAs after new (Err faults.OutOfMemory)
   ends-memory after new bytes n given answered fine sound = record {
     bytes = bytes;
@@ -244,7 +244,7 @@ module _ {R W : Type 0} (remaining : R → Option (List ℕ)) (contents : W → 
 
   -- a step went well
   pub advanced : (mid after : LineReading R) (out new : Writing W) (held kept : List ℕ) (ended last : Ended) (r : Result Ended EngineFault) → So mid out held ended → out.failed ≡ false
-      → Advances contents Streams Q (left remaining mid) (left remaining after) held kept out new r → r ≡ Ok last → (new.failed ≡ false) × So after new kept (both ended last)
+      → Advances contents Q (left remaining mid) (left remaining after) held kept out new r → r ≡ Ok last → (new.failed ≡ false) × So after new kept (both ended last)
   advanced mid after out new held kept ended last r so fine (Holds piece open' taken same keeps is) was =
       let done : last ≡ Done = cc in (
         ap (λ (o : Writing W). o.failed) same ∙ fine,
@@ -281,30 +281,23 @@ module _ {R W : Type 0} (remaining : R → Option (List ℕ)) (contents : W → 
   -- the answer to a line failed: the line is read, and the ones before it are answered
   pub ends-answer : (mid after : LineReading R) (out new : Writing W) (held : List ℕ) (ended : Ended) (r : Result Ended EngineFault) (e : EngineFault) (line bytes : List ℕ) → (is : So mid out held ended)
       → Consumes (left remaining before) (left remaining after) bytes → lines_of bytes ≡ is.lines ++ line ∷ [] → (IsTrue after.failed → ⊥)
-      → EndsAnswer contents Streams (Q (cut line)) out new r → r ≡ Err e → EndsAs after new (Err e)
+      → EndsAnswer contents (Q (cut line)) out new r → r ≡ Err e → EndsAs after new (Err e)
   ends-answer mid after out new held ended r faults.Read line bytes is given lines fine ends was = absurd (ends.ends.read.0 was)
   ends-answer mid after out new held ended r faults.Write line bytes is given lines fine ends was =
       ends-write after new bytes (length (lines_of bytes)) given (part_more mid out new held ended line bytes is lines (ends.ends.part was)) fine (ends.ends.write.0 was)
-  ends-answer mid after out new held ended r faults.OutOfMemory line bytes is given lines fine ends was = from (ends.memory was) (ends.ends.memory was)
-    where
-      sound : IsTrue new.failed → ⊥
-      sound t = write≢memory r (ends.ends.write.1 t) was
-
-      from : (new ≡ out) ⊎ Streams → (new ≡ out) ⊎ WritesPrefix (contents out.writer) (contents new.writer) (Q (cut line)) → EndsAs after new (Err faults.OutOfMemory)
-      from (inl same) more = ends-memory after new bytes (length is.lines) given (inl (none_more mid out new held ended line bytes is lines same)) fine sound
-      from (inr streams) (inl same) = ends-memory after new bytes (length is.lines) given (inl (none_more mid out new held ended line bytes is lines same)) fine sound
-      from (inr streams) (inr part) = ends-memory after new bytes (length (lines_of bytes)) given (inr (streams, part_more mid out new held ended line bytes is lines part)) fine sound
+  ends-answer mid after out new held ended r faults.OutOfMemory line bytes is given lines fine ends was =
+      ends-memory after new bytes (length is.lines) given (none_more mid out new held ended line bytes is lines (ends.memory was)) fine (λ t. write≢memory r (ends.ends.write.1 t) was)
 
   -- a step failed
   pub ends-advance : (mid after : LineReading R) (out new : Writing W) (held kept : List ℕ) (ended : Ended) (r : Result Ended EngineFault) (e : EngineFault) → So mid out held ended → (IsTrue after.failed → ⊥)
-      → out.failed ≡ false → Advances contents Streams Q (left remaining mid) (left remaining after) held kept out new r → r ≡ Err e → EndsAs after new (Err e)
+      → out.failed ≡ false → Advances contents Q (left remaining mid) (left remaining after) held kept out new r → r ≡ Err e → EndsAs after new (Err e)
   ends-advance mid after out new held kept ended r e so fine sound (Holds piece open' taken same keeps is) was = absurd (ok≢err r Done e is was)
   ends-advance mid after out new held kept ended r e so fine sound (Lacks piece open' taken same is) was =
       let here = IsAnswered-held Q _ _ _ _ _ held piece ended so open' taken in
       let memory : faults.OutOfMemory ≡ e = cc in
       subst (λ f. EndsAs after new (Err f)) memory
       (ends-memory after new (joined here.lines ++ here.begun) (length here.lines) here.given
-      (inl (ended, record { text = here.text; so = answered-before after out (cut (held ++ piece)) here.begun ended here here.open'; written = subst (λ (o : Writing W). Appends (contents old.writer) (contents o.writer) here.text) (sym same) here.written }))
+      (ended, record { text = here.text; so = answered-before after out (cut (held ++ piece)) here.begun ended here here.open'; written = subst (λ (o : Writing W). Appends (contents old.writer) (contents o.writer) here.text) (sym same) here.written })
       fine (works new.failed (ap (λ (o : Writing W). o.failed) same ∙ sound)))
   ends-advance mid after out new held kept ended r e so fine sound (Answers piece open' taken ends emptied) was =
       let line = so.begun ++ piece in
@@ -316,7 +309,7 @@ module _ {R W : Type 0} (remaining : R → Option (List ℕ)) (contents : W → 
       let given = subst (Consumes (left remaining before) (left remaining after)) same (Consumes-trans _ _ _ _ (with_end piece) so.given taken) in
       let all : lines_of (joined lines ++ []) ≡ lines = lines-joined lines [] whole (All-nil (λ byte. byte ≢ newline)) ∙ append-nil lines in
       let cuts : cut (held ++ piece) ≡ cut line = ap (λ l. cut (l ++ piece)) so.kept ∙ cut-append so.begun piece in
-      ends-answer mid after out new held ended r e line (joined lines ++ []) so given all fine (subst (λ l. EndsAnswer contents Streams (Q l) out new r) cuts ends) was
+      ends-answer mid after out new held ended r e line (joined lines ++ []) so given all fine (subst (λ l. EndsAnswer contents (Q l) out new r) cuts ends) was
 
   -- nothing is held at the end
   pub ends-none : (mid after : LineReading R) (out new : Writing W) (held : List ℕ) (ended : Ended) → So mid out held ended → held ≡ [] → IsAtEnd (left remaining mid)
@@ -337,9 +330,9 @@ module _ {R W : Type 0} (remaining : R → Option (List ℕ)) (contents : W → 
 
   -- the last line was answered
   pub ends-last : (mid after : LineReading R) (out new : Writing W) (held : List ℕ) (ended last : Ended) (r : Result Ended EngineFault) → So mid out held ended → held ≢ [] → IsAtEnd (left remaining mid)
-      → Keeps (left remaining mid) (left remaining after) → (IsTrue after.failed → ⊥) → EndsAnswer contents Streams (Q (cut (held ++ []))) out new r → r ≡ Ok last → EndsAs after new (Ok (both ended last))
+      → Keeps (left remaining mid) (left remaining after) → (IsTrue after.failed → ⊥) → EndsAnswer contents (Q (cut (held ++ []))) out new r → r ≡ Ok last → EndsAs after new (Ok (both ended last))
   ends-last mid after out new held ended last r so some end same fine ends was =
-      let here = subst (λ l. EndsAnswer contents Streams (Q l) out new r) (last_cut mid out held ended so) ends in
+      let here = subst (λ l. EndsAnswer contents (Q l) out new r) (last_cut mid out held ended so) ends in
       let wrote = IfOk-at_ok (λ ended. WritesText (contents out.writer) (contents new.writer) (Q (cut so.begun) ended)) was here.ends.ended in
       ends-done mid after new (joined so.lines ++ so.begun) (so.text ++ wrote.text) (both ended last) so.given end same (Appends-trans _ _ _ so.text wrote.text so.written wrote.written)
       (subst (λ l. AnswersEach (OfAnyLine Q) l (both ended last) (so.text ++ wrote.text)) (sym (last_lines mid out held ended so some)) (answered-more (OfAnyLine Q) so.begun wrote.text last so.so (OfAnyLine-cut Q so.begun wrote.text last wrote.so)))
@@ -347,7 +340,7 @@ module _ {R W : Type 0} (remaining : R → Option (List ℕ)) (contents : W → 
 
   -- the last line was not answered
   pub ends-unfinished : (mid after : LineReading R) (out new : Writing W) (held : List ℕ) (ended : Ended) (r : Result Ended EngineFault) (e : EngineFault) → So mid out held ended → held ≢ []
-      → Keeps (left remaining mid) (left remaining after) → (IsTrue after.failed → ⊥) → EndsAnswer contents Streams (Q (cut (held ++ []))) out new r → r ≡ Err e → EndsAs after new (Err e)
+      → Keeps (left remaining mid) (left remaining after) → (IsTrue after.failed → ⊥) → EndsAnswer contents (Q (cut (held ++ []))) out new r → r ≡ Err e → EndsAs after new (Err e)
   ends-unfinished mid after out new held ended r e so some same fine ends was =
       ends-answer mid after out new held ended r e so.begun (joined so.lines ++ so.begun) so (Consumes-kept _ _ _ _ so.given same) (last_lines mid out held ended so some) fine
-      (subst (λ l. EndsAnswer contents Streams (Q l) out new r) (last_cut mid out held ended so) ends) was
+      (subst (λ l. EndsAnswer contents (Q l) out new r) (last_cut mid out held ended so) ends) was

@@ -1,5 +1,5 @@
 -- What is written of the lines of an input.
-use Rattle.std.specs.Prelude.{◌≡◌, ◌↔◌, ◌⊎◌, ℕ, List, [], ◌∷◌, ◌++◌, Option, Some, Result, Err, IfOk, IfSome, IsTrue, take}
+use Rattle.std.specs.Prelude.{◌≡◌, ◌↔◌, ℕ, List, [], ◌∷◌, ◌++◌, Option, Some, Result, Err, IfOk, IfSome, IsTrue, take}
 use Rattle.std.specs.Io.KnownBytes.{Consumes}
 use Rattle.odb_doc.specs.Devices.{Writing}
 use Rattle.odb_engine.specs.declared.ending.Ended.{Ended}
@@ -33,9 +33,8 @@ HasAnswered old new P lines = (ended : Ended) × WritesText old new (AnswersEach
 
 -- How the lines of an input are answered, if this is written of each, and what was read then. Read means exactly that a read
 -- failed, and each line that a newline ends was answered then; Write means exactly that the output failed, and it has received a
--- prefix of the answers to some first lines. Out of memory it has received the answers to some first lines, or a prefix of them if
--- an answer is written in parts.
-pub record AnswersLines {R W : Type 0} (remaining : R → Option (List ℕ)) (contents : W → Option (List ℕ)) (Streams : Type 0)
+-- prefix of the answers to some first lines. Out of memory it has received the answers to some first lines, each of them whole.
+pub record AnswersLines {R W : Type 0} (remaining : R → Option (List ℕ)) (contents : W → Option (List ℕ))
     (P : List ℕ → Writes) (before after : LineReading R) (old new : Writing W) (result : Result Ended EngineFault) : Type 0 where
   pub bytes : List ℕ
   pub given : Consumes (left remaining before) (left remaining after) bytes
@@ -46,4 +45,4 @@ pub record AnswersLines {R W : Type 0} (remaining : R → Option (List ℕ)) (co
   pub write : (result ≡ Err faults.Write) ↔ IsTrue new.failed
   pub part : result ≡ Err faults.Write → (n : ℕ) × WritesPrefix (contents old.writer) (contents new.writer) (AnswersEach P (take n (lines_of bytes)))
   pub memory : result ≡ Err faults.OutOfMemory
-      → (n : ℕ) × (HasAnswered (contents old.writer) (contents new.writer) P (take n (lines_of bytes)) ⊎ (Streams × WritesPrefix (contents old.writer) (contents new.writer) (AnswersEach P (take n (lines_of bytes)))))
+      → (n : ℕ) × HasAnswered (contents old.writer) (contents new.writer) P (take n (lines_of bytes))

@@ -1,5 +1,5 @@
 -- For private clauses: one step of the way through the lines.
-use Rattle.std.specs.Prelude.{◌≡◌, ◌≢◌, ◌⊎◌, ℕ, List, [], ◌∷◌, ◌++◌, All, Option, Result, Ok, Err, OnOk, take}
+use Rattle.std.specs.Prelude.{◌≡◌, ◌≢◌, ℕ, List, [], ◌∷◌, ◌++◌, All, Option, Result, Ok, Err, OnOk, take}
 use Rattle.std.specs.Io.KnownBytes.{Consumes}
 use Rattle.odb_check.specs.Texts.{newline}
 use Rattle.odb_doc.specs.Devices.{Writing}
@@ -19,14 +19,14 @@ IsOpen bytes = All (λ byte. byte ≢ newline) bytes
 abbrev pub cut : List ℕ → List ℕ
 cut line = take most_read line
 
--- a command over a line ends as this is written, and out of memory it has written nothing, or it writes in parts
-pub record EndsAnswer {W : Type 0} (contents : W → Option (List ℕ)) (Streams : Type 0) (P : Writes) (old new : Writing W) (result : Result Ended EngineFault) : Type 0 where
+-- a command over a line ends as this is written, and out of memory it has written nothing
+pub record EndsAnswer {W : Type 0} (contents : W → Option (List ℕ)) (P : Writes) (old new : Writing W) (result : Result Ended EngineFault) : Type 0 where
   pub ends : Ends contents P ⊥ old new result
-  pub memory : result ≡ Err faults.OutOfMemory → (new ≡ old) ⊎ Streams
+  pub memory : result ≡ Err faults.OutOfMemory → new ≡ old
 
 -- What is held of a line and a piece of the input: the piece is held too, or its newline ends the line, which is answered.
-pub data Advances {W : Type 0} (contents : W → Option (List ℕ)) (Streams : Type 0) (P : List ℕ → Writes) (left rest : Option (List ℕ)) (held kept : List ℕ) (old new : Writing W) (result : Result Ended EngineFault) : Type 0 where
-  Holds : (piece : List ℕ) → IsOpen piece → Consumes left rest piece → new ≡ old → kept ≡ cut (held ++ piece) → result ≡ Ok Done → Advances contents Streams P left rest held kept old new result
-  Lacks : (piece : List ℕ) → IsOpen piece → Consumes left rest piece → new ≡ old → result ≡ Err faults.OutOfMemory → Advances contents Streams P left rest held kept old new result
-  Answers : (piece : List ℕ) → IsOpen piece → Consumes left rest (piece ++ newline ∷ []) → EndsAnswer contents Streams (P (cut (held ++ piece))) old new result → OnOk result (kept ≡ [])
-      → Advances contents Streams P left rest held kept old new result
+pub data Advances {W : Type 0} (contents : W → Option (List ℕ)) (P : List ℕ → Writes) (left rest : Option (List ℕ)) (held kept : List ℕ) (old new : Writing W) (result : Result Ended EngineFault) : Type 0 where
+  Holds : (piece : List ℕ) → IsOpen piece → Consumes left rest piece → new ≡ old → kept ≡ cut (held ++ piece) → result ≡ Ok Done → Advances contents P left rest held kept old new result
+  Lacks : (piece : List ℕ) → IsOpen piece → Consumes left rest piece → new ≡ old → result ≡ Err faults.OutOfMemory → Advances contents P left rest held kept old new result
+  Answers : (piece : List ℕ) → IsOpen piece → Consumes left rest (piece ++ newline ∷ []) → EndsAnswer contents (P (cut (held ++ piece))) old new result → OnOk result (kept ≡ [])
+      → Advances contents P left rest held kept old new result

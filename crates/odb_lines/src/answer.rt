@@ -64,8 +64,7 @@ fn advance<R: Read, W: Write, C: LineCommand>(
 ) -> Result<Ended, EngineFault>
     requires works { output.old.failed ≡ false }
     requires held { length held.old.items ≤ most_read }
-    ensures advances { Advances W.contents (C.streams command.now) (C.writes command.now)
-        (left R.remaining input.old) (left R.remaining input.new) held.old.items held.new.items
+    ensures advances { Advances W.contents (C.writes command.now) (left R.remaining input.old) (left R.remaining input.new) held.old.items held.new.items
         output.old output.new result }
     ensures failed { input.new.failed ≡ input.old.failed }
     ensures fills { input.new.fills ≡ input.old.fills }
@@ -101,8 +100,8 @@ fn advance<R: Read, W: Write, C: LineCommand>(
 ///
 /// - `Read` if and only if a read failed. Each line that a newline ends was answered.
 /// - `Write` if and only if the output failed. It has received a prefix of the answers.
-/// - `OutOfMemory` if an allocation fails. The output has received the answers to some first lines, and
-///   a prefix of the next one if the command writes in parts.
+/// - `OutOfMemory` if an allocation fails. The output has received the answers to some first lines, each
+///   of them whole.
 pub fn answer_lines<R: Read, W: Write, C: LineCommand>(
     alloc: Global,
     input: &mut LineInput<R>,
@@ -112,8 +111,7 @@ pub fn answer_lines<R: Read, W: Write, C: LineCommand>(
 ) -> Result<Ended, EngineFault>
     requires input { input.old.failed ≡ false }
     requires output { output.old.failed ≡ false }
-    ensures ends { AnswersLines R.remaining W.contents (C.streams command.now)
-        (OfAnyLine (C.writes command.now)) input.old input.new output.old output.new result }
+    ensures ends { AnswersLines R.remaining W.contents (OfAnyLine (C.writes command.now)) input.old input.new output.old output.new result }
 {
     let mut held = Vec::new(alloc);
     let mut ended = Ended::Done;

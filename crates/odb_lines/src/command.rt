@@ -9,7 +9,7 @@ use std::io::Write;
 ///
 /// [`crate::answer_lines`] runs it on each line of an input.
 pub trait LineCommand {
-    ghost use Rattle.std.specs.Prelude.{◌≡◌, ◌⊎◌, ℕ, List, false, Err};
+    ghost use Rattle.std.specs.Prelude.{◌≡◌, ℕ, List, false, Err};
     ghost use Rattle.odb_engine.specs.declared.ending.Ended.{Ended};
     ghost use Rattle.odb_engine.specs.declared.ending.EngineFault.TheVariants as faults;
     ghost use Rattle.odb_engine.specs.Engines.{Ends};
@@ -17,15 +17,12 @@ pub trait LineCommand {
     /// How it ends for the bytes of a line, and what it has written then.
     ghost writes: { Self → List ℕ → Ended → List ℕ → Type 0 };
 
-    /// That it writes in parts, so that an allocation may fail between two of them.
-    ghost streams: { Self → Type 0 };
-
     /// Writes what the command writes of a line, and returns how it ended.
     ///
     /// # Errors
     ///
     /// - `Write` if and only if the output failed; it has received a prefix of what is written.
-    /// - `OutOfMemory` if an allocation fails; nothing was written, or a prefix if it writes in parts.
+    /// - `OutOfMemory` if an allocation fails; nothing was written.
     fn answer<W: Write>(
         &self,
         alloc: Global,
@@ -34,6 +31,5 @@ pub trait LineCommand {
     ) -> Result<Ended, EngineFault>
         requires { output.old.failed ≡ false }
         ensures ends { Ends W.contents (writes self.now line.now) ⊥ output.old output.new result }
-        ensures memory { result ≡ Err faults.OutOfMemory
-            → (output.new ≡ output.old) ⊎ streams self.now };
+        ensures memory { result ≡ Err faults.OutOfMemory → output.new ≡ output.old };
 }

@@ -35,8 +35,7 @@ pub fn answer_line<W: Write, C: LineCommand>(
 ) -> Result<Ended, EngineFault>
     requires works { output.old.failed ≡ false }
     requires held { length held.old.items ≤ most_read }
-    ensures ends { EndsAnswer W.contents (C.streams command.now)
-        (C.writes command.now (cut (held.old.items ++ end.now))) output.old output.new result }
+    ensures ends { EndsAnswer W.contents (C.writes command.now (cut (held.old.items ++ end.now))) output.old output.new result }
     ensures emptied { OnOk result (held.new.items ≡ []) }
 {
     if held.is_empty() {

@@ -6,7 +6,8 @@ use odb_engine::{Ended, EngineFault, LineTask, Options, answer_line};
 use std::alloc::Global;
 use std::io::Write;
 
-/// A task that is done on each line, with its options.
+/// A task that is done on each line, with its options. What it writes of a line is held in memory until
+/// it is whole.
 #[derive(Clone, Copy)]
 pub struct EachLine {
     pub task: LineTask,
@@ -15,12 +16,10 @@ pub struct EachLine {
 
 impl LineCommand for EachLine {
     ghost use Rattle.odb_engine.specs.Forms.{InForm};
-    ghost use Rattle.odb_engine.specs.LineTasks.{OfLine, Streams};
+    ghost use Rattle.odb_engine.specs.LineTasks.{OfLine};
 
     ghost writes = { λ self line.
         InForm self.options.form (OfLine self.task self.options.form line) };
-
-    ghost streams = { λ self. Streams self.task };
 
     fn answer<W: Write>(
         &self,
@@ -28,6 +27,8 @@ impl LineCommand for EachLine {
         line: &[u8],
         output: &mut Output<W>,
     ) -> Result<Ended, EngineFault> {
-        answer_line(alloc, line, output, self.task, self.options)
+        let answer = answer_line(alloc, line, self.task, self.options)?;
+        output.put_all(&answer.text)?;
+        Ok(answer.ended)
     }
 }

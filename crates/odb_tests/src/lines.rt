@@ -23,8 +23,6 @@ impl LineCommand for Length {
 
     ghost writes = { λ _. WritesLength };
 
-    ghost streams = { λ _. ⊥ };
-
     fn answer<W: Write>(
         &self,
         alloc: Global,
