@@ -10,14 +10,13 @@ ghost use Rattle.odb_engine.specs.Matches.{Matches};
 ghost use Rattle.odb_engine.specs.Replays.{Replays};
 ghost use Rattle.odb_engine.specs.Runs.{Runs};
 ghost use Rattle.odb_ffi.specs.Options as options;
-ghost use Rattle.odb_ffi.specs.Returns.{AnswersIn, Returns, ReturnsBy, WritesOf};
+ghost use Rattle.odb_ffi.specs.Returns.{Returns, ReturnsBy, WritesOf};
 
 use crate::answer::{give, wrong_option};
-use crate::options::{ReplayOptions, options_of, policy_of, replay_options_of, setup_of};
+use crate::options::{options_of, policy_of, replay_options_of, setup_of};
 use crate::over_one::answered;
-use crate::over_two::{matched, ran, replayed};
+use crate::over_two::{Documents, matched, ran, replayed};
 use odb_engine::{Form, LineTask};
-use odb_sched::Policy;
 use std::alloc::Global;
 
 /// The version of the library, MAJOR.MINOR.PATCH, as MAJOR * 10000 + MINOR * 100 + PATCH.
@@ -109,29 +108,12 @@ pub extern "C" fn odb_match(
         (Answers (commands.BySecond (Some responses.now) Matches)))
         result text_length.new text.old text.new }
 {
+    let documents = Documents {
+        batch,
+        second: responses,
+    };
     give(
-        matched(alloc, batch, responses, Form::Lines, setup_of(seed)),
-        text,
-        text_length,
-    )
-}
-
-/// Runs a batch under a policy, and writes the text in a form.
-pub fn run_under(
-    alloc: Global,
-    batch: &[u8],
-    events: &[u8],
-    policy: Policy,
-    form: Form,
-    text: &mut [u8],
-    text_length: &mut usize,
-    seed: u64,
-) -> u32
-    ensures { Returns (WritesOf batch.now (AnswersIn form (Runs policy (Some events.now))))
-        result text_length.new text.old text.new }
-{
-    give(
-        ran(alloc, batch, events, policy, form, setup_of(seed)),
+        matched(alloc, documents, Form::Lines, setup_of(seed)),
         text,
         text_length,
     )
@@ -157,41 +139,18 @@ pub extern "C" fn odb_run(
         (λ policy. WritesOf batch.now (Answers (Runs policy (Some events.now))))
         result text_length.new text.old text.new }
 {
+    let documents = Documents {
+        batch,
+        second: events,
+    };
     match policy_of(mode, width) {
-        Some(policy) => run_under(
-            alloc,
-            batch,
-            events,
-            policy,
-            Form::Lines,
+        Some(policy) => give(
+            ran(alloc, documents, policy, Form::Lines, setup_of(seed)),
             text,
             text_length,
-            seed,
         ),
         None => wrong_option(text_length),
     }
-}
-
-/// Replays a batch by these options, and writes the text in a form.
-pub fn replay_by(
-    alloc: Global,
-    batch: &[u8],
-    outcomes: &[u8],
-    replay: ReplayOptions,
-    form: Form,
-    text: &mut [u8],
-    text_length: &mut usize,
-    seed: u64,
-) -> u32
-    ensures { Returns (WritesOf batch.now (AnswersIn form (Replays (AllowsOrder replay.order)
-        replay.policy replay.traced (Some outcomes.now))))
-        result text_length.new text.old text.new }
-{
-    give(
-        replayed(alloc, batch, outcomes, replay, form, setup_of(seed)),
-        text,
-        text_length,
-    )
 }
 
 /// Replays the batch in a document by the recorded outcomes in another, as `odb_batch replay` does.
@@ -217,16 +176,15 @@ pub extern "C" fn odb_replay(
         replay.policy replay.traced (Some outcomes.now))))
         result text_length.new text.old text.new }
 {
+    let documents = Documents {
+        batch,
+        second: outcomes,
+    };
     match replay_options_of(mode, width, order, trace) {
-        Some(replay) => replay_by(
-            alloc,
-            batch,
-            outcomes,
-            replay,
-            Form::Lines,
+        Some(replay) => give(
+            replayed(alloc, documents, replay, Form::Lines, setup_of(seed)),
             text,
             text_length,
-            seed,
         ),
         None => wrong_option(text_length),
     }

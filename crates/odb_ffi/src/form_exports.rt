@@ -14,10 +14,9 @@ ghost use Rattle.odb_ffi.specs.Options as options;
 ghost use Rattle.odb_ffi.specs.Returns.{AnswersIn, ReturnsBy, WritesOf};
 
 use crate::answer::{give, wrong_option};
-use crate::exports::{replay_by, run_under};
 use crate::options::{form_of, options_of, policy_of, replay_options_of, setup_of};
 use crate::over_one::answered;
-use crate::over_two::matched;
+use crate::over_two::{Documents, matched, ran, replayed};
 use odb_engine::LineTask;
 use std::alloc::Global;
 
@@ -111,9 +110,13 @@ pub extern "C" fn odb_match_as(
         (AnswersIn form (commands.BySecond (Some responses.now) (MatchesIn form))))
         result text_length.new text.old text.new }
 {
+    let documents = Documents {
+        batch,
+        second: responses,
+    };
     match form_of(form) {
         Some(form) => give(
-            matched(alloc, batch, responses, form, setup_of(seed)),
+            matched(alloc, documents, form, setup_of(seed)),
             text,
             text_length,
         ),
@@ -142,8 +145,16 @@ pub extern "C" fn odb_run_as(
     let Some(form) = form_of(form) else {
         return wrong_option(text_length);
     };
+    let documents = Documents {
+        batch,
+        second: events,
+    };
     match policy_of(mode, width) {
-        Some(policy) => run_under(alloc, batch, events, policy, form, text, text_length, seed),
+        Some(policy) => give(
+            ran(alloc, documents, policy, form, setup_of(seed)),
+            text,
+            text_length,
+        ),
         None => wrong_option(text_length),
     }
 }
@@ -174,16 +185,15 @@ pub extern "C" fn odb_replay_as(
     let Some(form) = form_of(form) else {
         return wrong_option(text_length);
     };
+    let documents = Documents {
+        batch,
+        second: outcomes,
+    };
     match replay_options_of(mode, width, order, trace) {
-        Some(replay) => replay_by(
-            alloc,
-            batch,
-            outcomes,
-            replay,
-            form,
+        Some(replay) => give(
+            replayed(alloc, documents, replay, form, setup_of(seed)),
             text,
             text_length,
-            seed,
         ),
         None => wrong_option(text_length),
     }

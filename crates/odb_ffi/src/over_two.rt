@@ -9,29 +9,30 @@ ghost use Rattle.odb_engine.specs.Replays.{Replays};
 ghost use Rattle.odb_engine.specs.Runs.{Runs};
 ghost use Rattle.odb_ffi.specs.Returns.{AnswersIn, WritesOf};
 
-use crate::answer::Answer;
 use crate::options::ReplayOptions;
 use odb_doc::{Input, Output};
-use odb_engine::{Form, Options, Setup, match_batch_as, replay_batch_as, run_batch_as};
+use odb_engine::{Answer, Form, Options, Setup, match_batch_as, replay_batch_as, run_batch_as};
 use odb_sched::{Chooser, First, Last, Order, Policy, Wide};
 use std::alloc::Global;
 
+/// A batch document, and the second document of a command.
+#[derive(Clone, Copy)]
+pub struct Documents<'d> {
+    pub batch: &'d [u8],
+    pub second: &'d [u8],
+}
+
 /// Matches the responses of a service against a batch.
-pub fn matched(
-    alloc: Global,
-    batch: &[u8],
-    responses: &[u8],
-    form: Form,
-    setup: Setup,
-) -> Option<Answer>
-    ensures { IfSome result (λ answer. WritesOf batch.now
-        (AnswersIn form (BySecond (Some responses.now) (MatchesIn form))) answer.ended answer.text.items) }
+pub fn matched(alloc: Global, documents: Documents<'_>, form: Form, setup: Setup) -> Option<Answer>
+    ensures { IfSome result (λ answer. WritesOf documents.entry.batch.now
+        (AnswersIn form (BySecond (Some documents.entry.second.now) (MatchesIn form)))
+        answer.ended answer.text.items) }
 {
     let mut output = Output::new(Vec::new(alloc));
     match match_batch_as(
         alloc,
-        &mut Input::new(batch),
-        &mut Input::new(responses),
+        &mut Input::new(documents.batch),
+        &mut Input::new(documents.second),
         &mut output,
         Options { form, setup },
     ) {
@@ -46,20 +47,19 @@ pub fn matched(
 /// Runs a batch by recorded events.
 pub fn ran(
     alloc: Global,
-    batch: &[u8],
-    events: &[u8],
+    documents: Documents<'_>,
     policy: Policy,
     form: Form,
     setup: Setup,
 ) -> Option<Answer>
-    ensures { IfSome result (λ answer. WritesOf batch.now
-        (AnswersIn form (Runs policy (Some events.now))) answer.ended answer.text.items) }
+    ensures { IfSome result (λ answer. WritesOf documents.entry.batch.now
+        (AnswersIn form (Runs policy (Some documents.entry.second.now))) answer.ended answer.text.items) }
 {
     let mut output = Output::new(Vec::new(alloc));
     match run_batch_as(
         alloc,
-        &mut Input::new(batch),
-        &mut Input::new(events),
+        &mut Input::new(documents.batch),
+        &mut Input::new(documents.second),
         &mut output,
         policy,
         Options { form, setup },
@@ -75,27 +75,25 @@ pub fn ran(
 /// Replays a batch by recorded outcomes, in the order of a chooser.
 fn replayed_by(
     alloc: Global,
-    batch: &[u8],
-    outcomes: &[u8],
+    documents: Documents<'_>,
     replay: ReplayOptions,
     chooser: &mut dyn Chooser,
-    form: Form,
-    setup: Setup,
+    options: Options,
 ) -> Option<Answer>
-    ensures { IfSome result (λ answer. WritesOf batch.now
-        (AnswersIn form (Replays (allows chooser.old) replay.policy replay.traced
-        (Some outcomes.now))) answer.ended answer.text.items) }
+    ensures { IfSome result (λ answer. WritesOf documents.entry.batch.now
+        (AnswersIn options.form (Replays (allows chooser.old) replay.policy replay.traced
+        (Some documents.entry.second.now))) answer.ended answer.text.items) }
 {
     let mut output = Output::new(Vec::new(alloc));
     match replay_batch_as(
         alloc,
-        &mut Input::new(batch),
-        &mut Input::new(outcomes),
+        &mut Input::new(documents.batch),
+        &mut Input::new(documents.second),
         &mut output,
         replay.policy,
         chooser,
         replay.traced,
-        Options { form, setup },
+        options,
     ) {
         Ok(ended) => Some(Answer {
             ended,
@@ -108,19 +106,19 @@ fn replayed_by(
 /// Replays a batch by recorded outcomes.
 pub fn replayed(
     alloc: Global,
-    batch: &[u8],
-    outcomes: &[u8],
+    documents: Documents<'_>,
     replay: ReplayOptions,
     form: Form,
     setup: Setup,
 ) -> Option<Answer>
-    ensures { IfSome result (λ answer. WritesOf batch.now
+    ensures { IfSome result (λ answer. WritesOf documents.entry.batch.now
         (AnswersIn form (Replays (AllowsOrder replay.order) replay.policy replay.traced
-        (Some outcomes.now))) answer.ended answer.text.items) }
+        (Some documents.entry.second.now))) answer.ended answer.text.items) }
 {
+    let options = Options { form, setup };
     match replay.order {
-        Order::First => replayed_by(alloc, batch, outcomes, replay, &mut First, form, setup),
-        Order::Last => replayed_by(alloc, batch, outcomes, replay, &mut Last, form, setup),
-        Order::Wide => replayed_by(alloc, batch, outcomes, replay, &mut Wide, form, setup),
+        Order::First => replayed_by(alloc, documents, replay, &mut First, options),
+        Order::Last => replayed_by(alloc, documents, replay, &mut Last, options),
+        Order::Wide => replayed_by(alloc, documents, replay, &mut Wide, options),
     }
 }

@@ -47,30 +47,6 @@ fn opened(
     }
 }
 
-/// Opens a run under a policy.
-fn open_under(
-    alloc: Global,
-    batch: &[u8],
-    events: &[u8],
-    policy: Policy,
-    run: &mut Slot,
-    text: &mut [u8],
-    text_length: &mut usize,
-    seed: u64,
-) -> u32
-    ensures { live.Opening policy batch.now events.now seed result text_length.new text.old text.new
-        run.old.value run.new.value }
-{
-    match opened(alloc, batch, events, policy, seed) {
-        Ok(handle) => {
-            *run = Slot::of(handle);
-            *text_length = 0;
-            DONE
-        }
-        Err(halt) => give(answer_of(alloc, Err(halt)), text, text_length),
-    }
-}
-
 /// Opens the run of the batch in a document after the recorded events in another, which may be none:
 /// `{"events":[]}`.
 ///
@@ -95,9 +71,16 @@ pub extern "C" fn odb_run_open(
         batch.now events.now seed result text_length.new text.old text.new run.old.value
         run.new.value }
 {
-    match policy_of(mode, width) {
-        Some(policy) => open_under(alloc, batch, events, policy, run, text, text_length, seed),
-        None => wrong_option(text_length),
+    let Some(policy) = policy_of(mode, width) else {
+        return wrong_option(text_length);
+    };
+    match opened(alloc, batch, events, policy, seed) {
+        Ok(handle) => {
+            *run = Slot::of(handle);
+            *text_length = 0;
+            DONE
+        }
+        Err(halt) => give(answer_of(alloc, Err(halt)), text, text_length),
     }
 }
 
