@@ -51,22 +51,6 @@ impl Service for Statuses<'_> {
     }
 }
 
-/// Adds the trace of an execution, or its fault.
-fn note_execution(
-    alloc: Global,
-    plan: &Plan<'_>,
-    policy: Policy,
-    chooser: &mut dyn Chooser,
-    statuses: &'static [u16],
-    notes: &mut String,
-) -> Result<(), AllocError> {
-    let mut service = Statuses { alloc, statuses };
-    match execute(alloc, plan, policy, chooser, &mut service) {
-        Ok(trace) => note_trace(alloc, &trace, notes),
-        Err(fault) => note_fault(alloc, fault, notes),
-    }
-}
-
 /// Executes a plan.
 #[derive(Clone, Copy)]
 struct Execution {
@@ -75,21 +59,28 @@ struct Execution {
     statuses: &'static [u16],
 }
 
+impl Execution {
+    /// Adds the trace of the execution, or its fault.
+    fn note(&self, alloc: Global, plan: &Plan<'_>, notes: &mut String) -> Result<(), AllocError> {
+        let mut picks = self.picks;
+        let mut service = Statuses {
+            alloc,
+            statuses: self.statuses,
+        };
+        match execute(alloc, plan, self.policy, &mut picks, &mut service) {
+            Ok(trace) => note_trace(alloc, &trace, notes),
+            Err(fault) => note_fault(alloc, fault, notes),
+        }
+    }
+}
+
 impl OnPlan for Execution {
     /// The trace of the execution, or its fault.
     type Found = String;
 
     fn on_plan(&mut self, alloc: Global, plan: &Plan<'_>) -> Result<String, Fail> {
         let mut notes = String::new(alloc);
-        let mut picks = self.picks;
-        note_execution(
-            alloc,
-            plan,
-            self.policy,
-            &mut picks,
-            self.statuses,
-            &mut notes,
-        )?;
+        self.note(alloc, plan, &mut notes)?;
         Ok(notes)
     }
 }

@@ -117,50 +117,52 @@ fn run_taken(
     Ok(if agrees { taken } else { Taken::Otherwise })
 }
 
-/// How a list of events is taken.
-fn list_taken(
-    alloc: Global,
-    plan: &Plan<'_>,
-    small: &Small,
+/// A small batch, and the policy of its runs.
+#[derive(Clone, Copy)]
+struct Runs<'s> {
+    small: &'s Small,
     policy: Policy,
-    events: &[(u32, u16)],
-) -> Result<Taken, AllocError> {
-    let mut plain = Plain::new(alloc, small.units, small.needs, policy);
-    run_taken(alloc, plan, &mut plain, policy, events)
 }
 
-/// Whether each list that begins with these events and has at most so many more is taken as the
-/// rules say. A list is not looked at further than to an event that may not come.
-fn agrees_from(
-    alloc: Global,
-    plan: &Plan<'_>,
-    small: &Small,
-    policy: Policy,
-    events: &mut Vec<(u32, u16)>,
-    more: u32,
-) -> Result<bool, AllocError> {
-    let taken = list_taken(alloc, plan, small, policy, events)?;
-    if taken != Taken::Whole || more == 0 {
-        return Ok(taken != Taken::Otherwise);
+impl<'s> Runs<'s> {
+    /// How a list of events is taken.
+    fn taken(
+        self,
+        alloc: Global,
+        plan: &Plan<'_>,
+        events: &[(u32, u16)],
+    ) -> Result<Taken, AllocError> {
+        let mut plain = Plain::new(alloc, self.small.units, self.small.needs, self.policy);
+        run_taken(alloc, plan, &mut plain, self.policy, events)
     }
-    for event in EVENTS {
-        events.push(*event)?;
-        if !agrees_from(alloc, plan, small, policy, events, more - 1)? {
-            return Ok(false);
+
+    /// Whether each list that begins with these events and has at most so many more is taken as the
+    /// rules say. A list is not looked at further than to an event that may not come.
+    fn agree_from(
+        self,
+        alloc: Global,
+        plan: &Plan<'_>,
+        events: &mut Vec<(u32, u16)>,
+        more: u32,
+    ) -> Result<bool, AllocError> {
+        let taken = self.taken(alloc, plan, events)?;
+        if taken != Taken::Whole || more == 0 {
+            return Ok(taken != Taken::Otherwise);
         }
-        let _last = events.pop();
+        for event in EVENTS {
+            events.push(*event)?;
+            if !self.agree_from(alloc, plan, events, more - 1)? {
+                return Ok(false);
+            }
+            let _last = events.pop();
+        }
+        Ok(true)
     }
-    Ok(true)
-}
 
-/// Whether each list of up to six events is taken as the rules say.
-fn agrees(
-    alloc: Global,
-    plan: &Plan<'_>,
-    small: &Small,
-    policy: Policy,
-) -> Result<bool, AllocError> {
-    agrees_from(alloc, plan, small, policy, &mut Vec::new(alloc), 6)
+    /// Whether each list of up to six events is taken as the rules say.
+    fn agree(self, alloc: Global, plan: &Plan<'_>) -> Result<bool, AllocError> {
+        self.agree_from(alloc, plan, &mut Vec::new(alloc), 6)
+    }
 }
 
 const POLICIES: &[(Mode, u32)] = &[
@@ -176,7 +178,11 @@ impl OnPlan for EachList {
 
     fn on_plan(&mut self, alloc: Global, plan: &Plan<'_>) -> Result<bool, Fail> {
         for (mode, width) in POLICIES {
-            if !agrees(alloc, plan, self.small, policy(*mode, *width))? {
+            let runs = Runs {
+                small: self.small,
+                policy: policy(*mode, *width),
+            };
+            if !runs.agree(alloc, plan)? {
                 return Ok(false);
             }
         }

@@ -1,5 +1,5 @@
-use Rattle.odb_tests.proofs.runs.lists.+agrees_from.Given as goal
+use Rattle.odb_tests.proofs.runs.lists.Runs.+agree_from.Given as goal
 
 -- a list gets longer until no more events are left
-abbrev pub decreases-agrees_from : goal.decreases-agrees_from
-decreases-agrees_from l = l.more
+abbrev pub decreases-agree_from : goal.decreases-agree_from
+decreases-agree_from l = l.more
