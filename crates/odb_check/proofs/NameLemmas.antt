@@ -1,6 +1,6 @@
 -- Where the names of the request that is checked break a rule.
 use Rattle.std.proofs.Common.{◌≡◌, ◌≤◌, ◌<◌, ◌+◌, ◌⊎◌, ℕ, Bool, true, false, not, List, Option, Some, None, refl, sym, ◌∙◌, subst, inl, inr, arith, length, get_or}
-use Rattle.std.specs.Prelude.{◌==◌, ◌↔◌, nat_lt, nat_le, is_some, slice_index, Contains, IsSomeAnd}
+use Rattle.std.specs.Prelude.{◌==◌, ◌↔◌, MatchBool, nat_lt, nat_le, is_some, slice_index, Contains, IsSomeAnd}
 use Rattle.std.specs.Bool.{Decides}
 use Rattle.std.specs.List.{list_any, IsAnyAnswer}
 use Rattle.std.proofs.lemmas.Bool.{cases_lt, eqb-true, eq-eqb, ltb-true, lt-ltb, leb-true, le-leb, false≢true}
@@ -12,7 +12,7 @@ use Rattle.odb_check.specs.declared.fault.NameRule.TheVariants.{IdTwice, IdIsGro
 use Rattle.odb_check.specs.declared.names.Resolved.{Resolved}
 use Rattle.odb_check.specs.declared.need.Need.{Need}
 use Rattle.odb_check.specs.declared.need.Need.TheVariants.{One, Group}
-use Rattle.odb_check.specs.Resolved.{IsAnswer, MissesGroupOf, batch_of}
+use Rattle.odb_check.specs.Resolved.{BreaksByName, IsAnswer, MissesGroupOf, batch_of}
 use Rattle.odb_check.specs.Walks.{HasValidIds, named_at}
 use Rattle.odb_check.specs.Marks.{same_need}
 use Rattle.odb_check.specs.NameFaults.{SomeName, IsBrokenAt, IsMemberAlone}
@@ -152,3 +152,26 @@ alone_Decides j p name answer is =
     let there : IsSomeAnd (group_at rs p) (λ g. ¬ (group_at rs j.i ≡ Some g) × ¬ Contains (names_at rs j.i) g) = rw same at h.3 in
     let missed = (alone_cases rs j.i p (group_at rs p) refl).1 there in
     ((omega (arith, h.1), missed.1, missed.2), missed.0))
+
+-- ---- names that break no rule
+
+-- an earlier request in no group breaks none
+pub plain_one : (j : Resolved) (p : ℕ) (name : List ℕ) → IsMeant (batch_of j) name (One p) → p < j.i → group_at (batch_of j) p ≡ None → ¬ BreaksByName (batch_of j) j.i name
+plain_one j p name is less none (inl later) = omega (arith, leb-true j.i p ((later_one j p name is).1 later), less)
+plain_one j p name is less none (inr (inl own)) = own_one j p name is own
+plain_one j p name is less none (inr (inr alone)) =
+    let rs = batch_of j in
+    let same : alone.0 ≡ p = one_id rs (once rs j.valid_ids) name alone.0 p alone.2 is.1.here in
+    let free : group_at rs alone.0 ≡ None = subst (λ k. group_at rs k ≡ None) (sym same) none in
+    subst (λ o. IsSomeAnd o (λ group. ¬ (group_at rs j.i ≡ Some group) × ¬ Contains (names_at rs j.i) group)) free alone.3
+
+-- a group that begins earlier breaks none
+pub plain_group : (j : Resolved) (u : ℕ) (name : List ℕ) → IsMeant (batch_of j) name (Group u) → u < unit_at (batch_of j) j.i → ¬ BreaksByName (batch_of j) j.i name
+plain_group j u name is less (inl later) = omega (arith, ltb-true (unit_at (batch_of j) j.i) u ((later_group j u name is).1 later), less)
+plain_group j u name is less (inr (inl own)) = omega (arith, eqb-true u (unit_at (batch_of j) j.i) ((own_group j u name is).1 own), less)
+plain_group j u name is less (inr (inr alone)) = is.no_id alone.0 alone.2
+
+-- no name breaks a rule if none of the needs may
+pub none_breaks : (j : Resolved) (P : List ℕ → Type 0) (X : Type 0) (r : Bool) → MatchBool r X (IsAnyAnswer (λ need b. IsAnswer (batch_of j) need b P) j.named.now false) → r ≡ false → ¬ SomeName (batch_of j) j.i P
+none_breaks j P X true cases e some = false≢true (sym e)
+none_breaks j P X false cases e some = false≢true ((any_Decides j P false cases).1 some)

@@ -1,9 +1,9 @@
 //! The rules of `dependsOn` and of references, F40 to F46, for one request whose names are looked up.
 
-ghost use Rattle.std.specs.Prelude.{IsTrue, ◌↔◌, ◌≡◌, ◌<◌, ◌+◌, ◌⊎◌, ◌∷◌, [], ℕ, List, length, Some, None, IfSome, Contains};
+ghost use Rattle.std.specs.Prelude.{IsTrue, ◌↔◌, ◌≡◌, ◌<◌, ◌+◌, ◌⊎◌, ◌∷◌, [], ℕ, List, length, Some, None, IfSome, Contains, false};
 ghost use Rattle.std.proofs.Props.{props};
 ghost use Rattle.odb_check.specs.Marks.{AreMarksOf};
-ghost use Rattle.odb_check.specs.NameFaults.{IsBrokenAt, IsMemberAlone};
+ghost use Rattle.odb_check.specs.NameFaults.{IsBrokenAt, IsMemberAlone, SomeName};
 ghost use Rattle.odb_check.specs.Positions.{id_at, group_at, names_at, IsIdFrom, IsGroupAfter, IsInGroupOf, NamesGroupOf};
 ghost use Rattle.odb_check.specs.Requests.{requests};
 ghost use Rattle.odb_check.specs.Walks.{BreaksFirst, BreaksNone, HasValidIds, named_at, further_needs};
@@ -32,7 +32,7 @@ pub(crate) struct Resolved<'w, 'b> {
 }
 
 impl Resolved<'_, '_> {
-    ghost use Rattle.odb_check.specs.Resolved.{IsAnswer, MissesGroupOf, batch_of, referred_by};
+    ghost use Rattle.odb_check.specs.Resolved.{BreaksByName, IsAnswer, MissesGroupOf, batch_of, referred_by};
 
     /// Whether what is needed is this request or a later one, or a group that begins later.
     fn is_later(&self, need: Need) -> bool
@@ -106,6 +106,26 @@ impl Resolved<'_, '_> {
         }
     }
 
+    /// Whether what is needed may break a rule on names. An earlier request in no group and a group that
+    /// begins earlier break none.
+    fn may_break(&self, need: Need) -> bool
+        ensures { result ≡ false → IsAnswer (batch_of self.now) need false
+            (BreaksByName (batch_of self.now) self.now.i) }
+    {
+        match need {
+            Need::One(position) => self.i <= position || self.tables.group(position).is_some(),
+            Need::Group(unit) => self.tables.unit_of(self.i) <= unit,
+        }
+    }
+
+    /// Whether one of the names may break a rule on names.
+    fn names_may_break(&self) -> bool
+        ensures { result ≡ false → ¬ SomeName (batch_of self.now) self.now.i
+            (BreaksByName (batch_of self.now) self.now.i) }
+    {
+        self.named.iter().any(|need| self.may_break(*need))
+    }
+
     /// The request that the URL refers to, if the batch has it.
     fn referred(&self) -> Option<u32>
         ensures { result ≡ referred_by self.now }
@@ -166,11 +186,17 @@ impl Resolved<'_, '_> {
         }
     }
 
-    /// The first rule on names and references that the request breaks.
-    pub(crate) fn broken_rule(&self) -> Option<NameRule>
+    /// The first rule on names that the request breaks. Most requests are passed after one look at each
+    /// name.
+    fn broken_by_name(&self) -> Option<NameRule>
         ensures some { IfSome result (BreaksFirst 4 (batch_of self.now) self.now.i) }
-        ensures none { result ≡ None → BreaksNone 4 (batch_of self.now) self.now.i }
+        ensures later { result ≡ None → ¬ IsBrokenAt rules.ForwardName (batch_of self.now) self.now.i }
+        ensures own { result ≡ None → ¬ IsBrokenAt rules.OwnGroup (batch_of self.now) self.now.i }
+        ensures alone { result ≡ None → ¬ IsBrokenAt rules.GroupNotListed (batch_of self.now) self.now.i }
     {
+        if !self.names_may_break() {
+            return None;
+        }
         if self.names_later() {
             return Some(NameRule::ForwardName);
         }
@@ -179,6 +205,17 @@ impl Resolved<'_, '_> {
         }
         if self.names_member_alone() {
             return Some(NameRule::GroupNotListed);
+        }
+        None
+    }
+
+    /// The first rule on names and references that the request breaks.
+    pub(crate) fn broken_rule(&self) -> Option<NameRule>
+        ensures some { IfSome result (BreaksFirst 4 (batch_of self.now) self.now.i) }
+        ensures none { result ≡ None → BreaksNone 4 (batch_of self.now) self.now.i }
+    {
+        if let Some(rule) = self.broken_by_name() {
+            return Some(rule);
         }
         if self.has_unknown_reference() {
             return Some(NameRule::UnknownReference);

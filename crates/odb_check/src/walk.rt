@@ -20,6 +20,8 @@ use crate::tables::Tables;
 use std::alloc::Global;
 
 /// F40: adds and marks what the names of the request at `i` resolve to, unless one resolves to nothing.
+/// Clients often list the requests just before, or some in a row, so each name is guessed: the first as
+/// that of a request just before, and each further one as the id after the one before it.
 fn add_names(
     tables: &Tables<'_>,
     i: u32,
@@ -28,6 +30,7 @@ fn add_names(
     marks: &mut Marks,
 ) -> Result<(), CheckFault>
     requires position { i < length (requests tables.now) }
+    requires valid_ids { HasValidIds (requests tables.now) }
     requires names { texts_in names.now ≡ names_at (requests tables.now) i }
     requires marks { AreUpTo (requests tables.now) i marks.old.ones.items marks.old.groups.items }
     ensures known { OnOk result (¬ IsBrokenAt rules.UnknownName (requests tables.now) i) }
@@ -36,14 +39,18 @@ fn add_names(
         (i + 1) marks.new.ones.items marks.new.groups.items) }
     ensures least { IfErr result (FailsAt 4 (requests tables.now) i) }
 {
+    let mut guess = (i as usize).saturating_sub(names.len()) as u32;
     for name in names {
-        let Some(need) = tables.need_of(name) else {
+        let Some(need) = tables.need_near(guess, name) else {
             let at = i as usize;
             let rule = NameRule::UnknownName;
             return Err(CheckFault::Request { at, rule });
         };
         marks.mark(need, i + 1);
         list.push(need)?;
+        if let Need::One(position) = need {
+            guess = position.saturating_add(1);
+        }
     }
     Ok(())
 }
