@@ -1,6 +1,6 @@
 -- One more request in the tables.
 use Rattle.std.proofs.Common.{◌≡◌, ◌≢◌, ◌≤◌, ◌<◌, ◌+◌, ℕ, suc, Bool, true, false, cond, List, [], ◌∷◌, ◌++◌, Option, Some, None, refl, sym, ap, ◌∙◌, subst, inl, inr, arith, length, length-append}
-use Rattle.std.specs.Prelude.{◌==◌, slice_get, slice_index, option_map, option_and_then, unwrap_or, is_some, bytes_eq}
+use Rattle.std.specs.Prelude.{◌==◌, IsSomeAnd, slice_get, slice_index, option_map, option_and_then, unwrap_or, is_some, bytes_eq}
 use Rattle.std.specs.List.{IsDistinct, list_any}
 use Rattle.std.proofs.lemmas.Bool.{both_ways, cases_Bool, cases_lt, eq-eqb, ne_eqb}
 use Rattle.std.proofs.lemmas.List.{get_or_append_left, get_or_push}
@@ -8,12 +8,14 @@ use Rattle.std.proofs.lemmas.Option.{slice_get_within}
 use Rattle.odb_doc.specs.batch.Records.{Record}
 use Rattle.odb_check.specs.declared.table.Table.{Table}
 use Rattle.odb_check.specs.Firsts.{or_else, is_text, first_below, list_below}
-use Rattle.odb_check.specs.Positions.{id_at, group_at, names_at}
-use Rattle.odb_check.specs.Tables.{AreTablesOf, IsStartOf, at_text, more_with, table_len, unit_among, groups_below, with_group}
-use Rattle.odb_check.specs.Units.{first_in_group, begins_unit, units_before, begin_in, unit_begin, unit_at}
+use Rattle.odb_check.specs.declared.fault.NameRule.TheVariants.{IdTwice}
+use Rattle.odb_check.specs.NameFaults.{IsBrokenAt}
+use Rattle.odb_check.specs.Positions.{id_at, group_at, names_at, IsIdBefore}
+use Rattle.odb_check.specs.Tables.{AreIdsApart, AreTablesOf, IsStartOf, at_text, more_with, table_len, unit_among, groups_below, with_group}
+use Rattle.odb_check.specs.Units.{first_id, first_in_group, begins_unit, units_before, begin_in, unit_begin, unit_at}
 use Rattle.odb_check.proofs.GroupLemmas.{any-groups_below, length-groups_below, length-with}
 use Rattle.odb_check.proofs.FirstLemmas.{below_more, count_few, count_less}
-use Rattle.odb_check.proofs.PositionLemmas.{text_Decides}
+use Rattle.odb_check.proofs.PositionLemmas.{text_Decides, text_none}
 use Rattle.odb_check.proofs.UnitLemmas.{BeginsAt, unit_begins, unit_at_begin}
 
 -- where units begin, with one more request
@@ -100,3 +102,13 @@ tables_more rs i r ids ids' groups groups' units starts units' starts' unit here
       few = omega (arith, starts_next.count, count_few (suc i) (begins_unit rs));
       names_apart = below_more i (λ k. IsDistinct bytes_eq (names_at rs k)) tables.names_apart (subst (IsDistinct bytes_eq) (sym (ap (λ o. unwrap_or (option_map (λ x. x.names) o) []) here)) apart);
     }
+
+-- one more request, whose identifier is new
+pub apart_more : (rs : List Record) (i : ℕ) (r : Record) (ids : Table) → slice_get rs i ≡ Some r → ((q : List ℕ) → at_text ids q ≡ first_id rs i q) → at_text ids r.id ≡ None → AreIdsApart rs i → AreIdsApart rs (suc i)
+apart_more rs i r ids here are new before = below_more i (λ k. ¬ IsBrokenAt IdTwice rs k) before last
+  where
+    last : ¬ IsBrokenAt IdTwice rs i
+    last broken =
+        let id_is : id_at rs i ≡ Some r.id = ap (λ o. option_map (λ x. x.id) o) here in
+        let twice : IsIdBefore rs r.id i = subst (λ o. IsSomeAnd o (λ id. IsIdBefore rs id i)) id_is broken in
+        text_none (id_at rs) r.id i (sym (are r.id) ∙ new) twice.0 twice.1 twice.2

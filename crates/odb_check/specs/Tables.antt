@@ -7,6 +7,8 @@ use Rattle.odb_doc.specs.batch.Names.{with_name}
 use Rattle.odb_doc.specs.batch.Records.{Record}
 use Rattle.odb_check.specs.declared.table.Table.{Table}
 use Rattle.odb_check.specs.declared.table.Table.TheVariants as tables
+use Rattle.odb_check.specs.declared.fault.NameRule.TheVariants.{IdTwice}
+use Rattle.odb_check.specs.NameFaults.{IsBrokenAt}
 use Rattle.odb_check.specs.Positions.{group_at, names_at}
 use Rattle.odb_check.specs.Firsts.{list_below}
 use Rattle.odb_check.specs.Units.{first_id, first_in_group, units_before, unit_at, begins_unit}
@@ -45,6 +47,10 @@ with_group names (Some group) = with_name names group
 abbrev pub groups_below : List Record → ℕ → List (List ℕ)
 groups_below rs zero = []
 groups_below rs (suc n) = with_group (groups_below rs n) (group_at rs n)
+
+-- none of the first n requests has the identifier of one before it
+abbrev pub AreIdsApart : List Record → ℕ → Type 0
+AreIdsApart rs n = (k : ℕ) → k < n → ¬ IsBrokenAt IdTwice rs k
 
 -- the first n requests, as tables
 pub record AreTablesOf (rs : List Record) (n : ℕ) (ids groups : Table) (units starts : List ℕ) : Type 0 where

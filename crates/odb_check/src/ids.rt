@@ -16,6 +16,9 @@ fn repeats_id(tables: &Tables<'_>, i: u32) -> bool
     requires { i < length (requests tables.now) }
     ensures { IsTrue result ↔ IsBrokenAt rules.IdTwice (requests tables.now) i }
 {
+    if !tables.has_twins() {
+        return false;
+    }
     match tables.position_of(tables.id(i)) {
         Some(first) => first < i,
         None => false,

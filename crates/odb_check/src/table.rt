@@ -1,6 +1,6 @@
 //! A table from texts to numbers.
 
-ghost use Rattle.std.specs.Prelude.{◌≡◌, ◌+◌, ℕ, List, Some, None, cond, bytes_eq, OnOk};
+ghost use Rattle.std.specs.Prelude.{◌≡◌, ◌+◌, ℕ, List, Some, None, cond, bytes_eq, true, IfOk, OnOk};
 ghost use Rattle.odb_check.specs.Firsts.{or_else};
 ghost use Rattle.odb_check.specs.Starts.{table_start};
 ghost use Rattle.odb_check.specs.Tables.{at_text, more_with, table_len};
@@ -64,14 +64,15 @@ impl<'b> Table<'b> {
         }
     }
 
-    /// Puts the number at the text, unless the text has one.
+    /// Puts the number at the text, unless the text has one. Returns whether the text is new.
     #[tactic(auto, using(std::proofs::lemmas::Map::Text::text_keys))]
     pub(crate) fn note(
         &mut self,
         alloc: Global,
         text: &'b str,
         number: u32,
-    ) -> Result<(), AllocError>
+    ) -> Result<bool, AllocError>
+        ensures new { IfOk result (λ is_new. is_new ≡ true → at_text self.old text.now ≡ None) }
         ensures len { OnOk result (table_len self.new
             ≡ table_len self.old + more_with self.old (Some text.now)) }
         ensures texts { OnOk result ((q : List ℕ) → at_text self.new q
@@ -79,7 +80,7 @@ impl<'b> Table<'b> {
         ensures start { table_start self.new ≡ table_start self.old }
     {
         if self.get(text).is_some() {
-            return Ok(());
+            return Ok(false);
         }
         match self {
             Table::Hashed(map) => {
@@ -89,6 +90,6 @@ impl<'b> Table<'b> {
                 map.insert(String::from_str(alloc, text)?, number)?;
             }
         }
-        Ok(())
+        Ok(true)
     }
 }

@@ -1,13 +1,13 @@
 //! The tables of a batch: ids and groups by name, and the units of requests.
 
-ghost use Rattle.std.specs.Prelude.{◌≡◌, ◌≤◌, ◌<◌, ◌==◌, ◌+◌, ◌∷◌, ◌++◌, [], ℕ, List, length, cond, Some, None, option_copied, option_map, OnOk, IfOk, slice_get};
+ghost use Rattle.std.specs.Prelude.{◌≡◌, ◌≤◌, ◌<◌, ◌==◌, ◌+◌, ◌∷◌, ◌++◌, [], ℕ, List, length, cond, Some, None, option_copied, option_map, OnOk, IfOk, slice_get, false};
 ghost use Rattle.std.proofs.Props.{props};
 ghost use Rattle.odb_doc.specs.batch.Records.{IsWellFormedRecord, record_of};
 ghost use Rattle.odb_doc.specs.batch.Batches.{records};
 ghost use Rattle.odb_doc.specs.batch.Names.{texts_in};
 ghost use Rattle.odb_check.specs.Firsts.{or_else, is_text};
 ghost use Rattle.odb_check.specs.Starts.{start_of, table_start};
-ghost use Rattle.odb_check.specs.Tables.{AreTablesOf, IsStartOf, at_text, more_with, table_len, unit_among};
+ghost use Rattle.odb_check.specs.Tables.{AreIdsApart, AreTablesOf, IsStartOf, at_text, more_with, table_len, unit_among};
 
 use crate::need::Need;
 use crate::seed::Seed;
@@ -39,10 +39,10 @@ fn note_group<'b>(
         (cond (is_text q (option_copied group.entry)) (Some unit) None)) }
     ensures start { table_start groups.new ≡ table_start groups.old }
 {
-    match group {
-        Some(name) => groups.note(alloc, name, unit),
-        None => Ok(()),
+    if let Some(name) = group {
+        let _is_new = groups.note(alloc, name, unit)?;
     }
+    Ok(())
 }
 
 /// Records `i` as the first position of `unit` if the unit is new.
@@ -68,8 +68,12 @@ pub(crate) struct Tables<'b> {
     units: Vec<u32>,
     /// The position at which each unit begins.
     starts: Vec<u32>,
+    /// Whether two requests have one identifier.
+    has_twins: bool,
     ghost exact: { AreTablesOf (records batch.now) (length (records batch.now)) ids groups
         units.items starts.items } by { Prim.hlevel props },
+    ghost apart: { has_twins ≡ false → AreIdsApart (records batch.now)
+        (length (records batch.now)) } by { Prim.hlevel props },
 }
 
 /// The tables of the first requests of a batch.
@@ -80,6 +84,7 @@ struct FirstTables<'b> {
     groups: Table<'b>,
     units: Vec<u32>,
     starts: Vec<u32>,
+    has_twins: bool,
 }
 
 impl<'b> FirstTables<'b> {
@@ -88,28 +93,35 @@ impl<'b> FirstTables<'b> {
         requires within { i < length (records self.old.batch.now) }
         requires before { AreTablesOf (records self.old.batch.now) i self.old.ids self.old.groups
             self.old.units.items self.old.starts.items }
+        requires apart { self.old.has_twins ≡ false → AreIdsApart (records self.old.batch.now) i }
         ensures batch { self.new.batch ≡ self.old.batch }
         ensures tables { OnOk result (AreTablesOf (records self.old.batch.now) (i + 1) self.new.ids
             self.new.groups self.new.units.items self.new.starts.items) }
+        ensures apart { OnOk result (self.new.has_twins ≡ false
+            → AreIdsApart (records self.old.batch.now) (i + 1)) }
         ensures ids { table_start self.new.ids ≡ table_start self.old.ids }
         ensures groups { table_start self.new.groups ≡ table_start self.old.groups }
     {
         let request = self.batch.request(i);
         let unit = unit_in(&self.groups, request.group, self.starts.len() as u32);
-        self.ids.note(alloc, request.id, i)?;
+        let is_new = self.ids.note(alloc, request.id, i)?;
         note_group(alloc, &mut self.groups, request.group, unit)?;
         note_start(&mut self.starts, unit, i)?;
-        Ok(self.units.push(unit)?)
+        self.units.push(unit)?;
+        self.has_twins |= !is_new;
+        Ok(())
     }
 
     /// Adds all requests to empty tables.
     fn fill(&mut self, alloc: Global) -> Result<(), AllocError>
-        requires { AreTablesOf (records self.old.batch.now) 0 self.old.ids self.old.groups
+        requires tables { AreTablesOf (records self.old.batch.now) 0 self.old.ids self.old.groups
             self.old.units.items self.old.starts.items }
         ensures batch { self.new.batch ≡ self.old.batch }
         ensures tables { OnOk result (AreTablesOf (records self.old.batch.now)
             (length (records self.old.batch.now)) self.new.ids self.new.groups self.new.units.items
             self.new.starts.items) }
+        ensures apart { OnOk result (self.new.has_twins ≡ false
+            → AreIdsApart (records self.old.batch.now) (length (records self.old.batch.now))) }
         ensures ids { table_start self.new.ids ≡ table_start self.old.ids }
         ensures groups { table_start self.new.groups ≡ table_start self.old.groups }
     {
@@ -143,6 +155,7 @@ pub(crate) fn tables_of<'b>(
         groups: Table::new(alloc, start),
         units: Vec::new(alloc),
         starts: Vec::new(alloc),
+        has_twins: false,
     };
     tables.fill(alloc)?;
     let FirstTables {
@@ -151,6 +164,7 @@ pub(crate) fn tables_of<'b>(
         groups,
         units,
         starts,
+        has_twins,
     } = tables;
     Ok(Tables {
         batch,
@@ -158,6 +172,7 @@ pub(crate) fn tables_of<'b>(
         groups,
         units,
         starts,
+        has_twins,
     })
 }
 
@@ -260,6 +275,13 @@ impl<'b> Tables<'b> {
         ensures { result ≡ spec.position_of (requests self.now) id.now }
     {
         self.ids.get(id)
+    }
+
+    /// Whether two requests have one identifier.
+    pub(crate) fn has_twins(&self) -> bool
+        ensures { result ≡ false → AreIdsApart (requests self.now) (length (requests self.now)) }
+    {
+        self.has_twins
     }
 
     pub(crate) fn unit_of_group(&self, group: &str) -> Option<u32>
