@@ -77,66 +77,88 @@ const COMPLETIONS_NOTES: &str = "Example: source <(odb_batch completions bash)\n
 const MAN_NOTES: &str = "Example: odb_batch man | man -l -\n\n\
     Exit status: 0 for a page, 2 for wrong arguments, 3 if the output fails, 4 if out of memory";
 
+/// A command of the program, unless memory ran out while it was made.
+type Made<'a> = Result<Command<'a>, AllocError>;
+
+/// Adds an argument to a command.
+fn add<'a>(command: Made<'a>, arg: Result<Arg<'a>, AllocError>) -> Made<'a> {
+    command?.arg(arg?)
+}
+
+/// Adds an option without a value.
+fn add_flag<'a>(alloc: Global, command: Made<'a>, name: &'a str, help: &'a str) -> Made<'a> {
+    add(command, Ok(flag(alloc, name, help)))
+}
+
+/// Returns a command over a batch and a second document.
+fn over_two<'a>(
+    alloc: Global,
+    command: Command<'a>,
+    second: Result<Arg<'a>, AllocError>,
+) -> Made<'a> {
+    add(add(Ok(command), batch(alloc)), second)
+}
+
 /// Returns the command that replays.
-fn replay_command<'a>(alloc: Global) -> Result<Command<'a>, AllocError> {
+fn replay_command<'a>(alloc: Global) -> Made<'a> {
     let replay = Command::new(alloc, "replay")
         .about("Replay a batch by recorded outcomes: print its response")
-        .after_help(REPLAY_NOTES)
-        .arg(batch(alloc)?)?
-        .arg(second(alloc, "OUTCOMES", "The document of recorded outcomes")?)?;
-    with_lines(alloc, with_replay_options(alloc, replay)?, PAIRS_HELP)
+        .after_help(REPLAY_NOTES);
+    let outcomes = second(alloc, "OUTCOMES", "The document of recorded outcomes");
+    let replay = over_two(alloc, replay, outcomes);
+    with_lines(alloc, with_replay_options(alloc, replay), PAIRS_HELP)
 }
 
 /// Adds the options of a replay: those of a run, and the order and the trace.
-fn with_replay_options<'a>(alloc: Global, replay: Command<'a>) -> Result<Command<'a>, AllocError> {
-    let ordered = replay.arg(
-        Arg::new(alloc, ORDER)
-            .long("order")
-            .value_parser(ORDERS.as_slice())
-            .help(ORDER_HELP),
-    )?;
-    with_policy(alloc, ordered)?
-        .arg(flag(
-            alloc,
-            "trace",
-            "Print the steps, and what has to be undone, before the response",
-        )
-        .conflicts_with("lines")?)?
-        .arg(flag(alloc, "json", FAULT_HELP))
+fn with_replay_options<'a>(alloc: Global, replay: Made<'a>) -> Made<'a> {
+    let order = Arg::new(alloc, ORDER)
+        .long("order")
+        .value_parser(ORDERS.as_slice())
+        .help(ORDER_HELP);
+    let trace = flag(
+        alloc,
+        "trace",
+        "Print the steps, and what has to be undone, before the response",
+    )
+    .conflicts_with("lines");
+    let replay = with_policy(alloc, add(replay, Ok(order)));
+    add_flag(alloc, add(replay, trace), "json", FAULT_HELP)
 }
 
 /// Adds the options that every run has.
-fn with_policy<'a>(alloc: Global, run: Command<'a>) -> Result<Command<'a>, AllocError> {
-    run.arg(flag(
+fn with_policy<'a>(alloc: Global, run: Made<'a>) -> Made<'a> {
+    let run = add_flag(
         alloc,
+        run,
         "stop",
         "Start nothing more after a status from 400 to 599",
-    ))?
-    .arg(Arg::new(alloc, WIDTH).long("width").help(WIDTH_HELP))
+    );
+    add(
+        run,
+        Ok(Arg::new(alloc, WIDTH).long("width").help(WIDTH_HELP)),
+    )
 }
 
 /// Returns the command that runs recorded events.
-fn run_command<'a>(alloc: Global) -> Result<Command<'a>, AllocError> {
+fn run_command<'a>(alloc: Global) -> Made<'a> {
     let run = Command::new(alloc, "run")
         .about(
             "Run a batch by recorded events: print its response, or the first event that may not come",
         )
-        .after_help(RUN_NOTES)
-        .arg(batch(alloc)?)?
-        .arg(second(alloc, "EVENTS", "The document of recorded events")?)?;
-    let run = with_policy(alloc, run)?.arg(flag(alloc, "json", FAULT_HELP))?;
+        .after_help(RUN_NOTES);
+    let run = over_two(
+        alloc,
+        run,
+        second(alloc, "EVENTS", "The document of recorded events"),
+    );
+    let run = add_flag(alloc, with_policy(alloc, run), "json", FAULT_HELP);
     with_lines(alloc, run, PAIRS_HELP)
 }
 
 /// Adds the options of a command that takes a log.
-fn with_lines<'a>(
-    alloc: Global,
-    command: Command<'a>,
-    help: &'a str,
-) -> Result<Command<'a>, AllocError> {
-    command
-        .arg(flag(alloc, "lines", help))?
-        .arg(flag(alloc, "flush", FLUSH_HELP).requires_arg("lines")?)
+fn with_lines<'a>(alloc: Global, command: Made<'a>, help: &'a str) -> Made<'a> {
+    let flush = flag(alloc, "flush", FLUSH_HELP).requires_arg("lines");
+    add(add_flag(alloc, command, "lines", help), flush)
 }
 
 /// Returns the argument for a batch, or for a log, which may be absent.
@@ -168,55 +190,57 @@ fn flag<'a>(alloc: Global, name: &'a str, help: &'a str) -> Arg<'a> {
 }
 
 /// Returns the command that checks.
-fn check_command<'a>(alloc: Global) -> Result<Command<'a>, AllocError> {
+fn check_command<'a>(alloc: Global) -> Made<'a> {
     let check = Command::new(alloc, "check")
         .about("Check a batch: print one line, that it is accepted or its least fault")
-        .after_help(CHECK_NOTES)
-        .arg(Arg::new(alloc, "FILE").help(CHECK_HELP))?
-        .arg(flag(alloc, "json", RESULT_HELP))?;
+        .after_help(CHECK_NOTES);
+    let check = add(Ok(check), Ok(Arg::new(alloc, "FILE").help(CHECK_HELP)));
+    let check = add_flag(alloc, check, "json", RESULT_HELP);
     with_lines(alloc, check, LINES_HELP)
 }
 
+/// Returns the option of a plan that draws it.
+fn drawing<'a>(alloc: Global) -> Result<Arg<'a>, AllocError> {
+    flag(alloc, "dot", DRAWING_HELP)
+        .conflicts_with("json")?
+        .conflicts_with("lines")
+}
+
 /// Returns the command that plans.
-fn plan_command<'a>(alloc: Global) -> Result<Command<'a>, AllocError> {
+fn plan_command<'a>(alloc: Global) -> Made<'a> {
     let plan = Command::new(alloc, "plan")
         .about(
             "Plan a batch: print a line per request, with its level, its group and its dependencies",
         )
-        .after_help(PLAN_NOTES)
-        .arg(batch(alloc)?)?
-        .arg(flag(alloc, "json", RESULT_HELP))?
-        .arg(
-            flag(alloc, "dot", DRAWING_HELP)
-                .conflicts_with("json")?
-                .conflicts_with("lines")?,
-        )?;
-    with_lines(alloc, plan, LINES_HELP)
+        .after_help(PLAN_NOTES);
+    let plan = add(Ok(plan), batch(alloc));
+    let plan = add_flag(alloc, plan, "json", RESULT_HELP);
+    with_lines(alloc, add(plan, drawing(alloc)), LINES_HELP)
 }
 
 /// Returns the command that prints the canonical text.
-fn canon_command<'a>(alloc: Global) -> Result<Command<'a>, AllocError> {
+fn canon_command<'a>(alloc: Global) -> Made<'a> {
     let canon = Command::new(alloc, "canon")
         .about("Print the canonical text of a batch: equal texts mean equal batches")
-        .after_help(CANON_NOTES)
-        .arg(batch(alloc)?)?
-        .arg(flag(alloc, "json", FAULT_HELP))?;
+        .after_help(CANON_NOTES);
+    let canon = add(Ok(canon), batch(alloc));
+    let canon = add_flag(alloc, canon, "json", FAULT_HELP);
     with_lines(alloc, canon, LINES_HELP)
 }
 
 /// Returns the command that matches.
-fn match_command<'a>(alloc: Global) -> Result<Command<'a>, AllocError> {
+fn match_command<'a>(alloc: Global) -> Made<'a> {
     let matching = Command::new(alloc, "match")
         .about("Match a service's responses against a batch: print the status of each request")
-        .after_help(MATCH_NOTES)
-        .arg(batch(alloc)?)?
-        .arg(second(alloc, "RESPONSES", "The response document of the service")?)?
-        .arg(flag(alloc, "json", RESULT_HELP))?;
+        .after_help(MATCH_NOTES);
+    let responses = second(alloc, "RESPONSES", "The response document of the service");
+    let matching = over_two(alloc, matching, responses);
+    let matching = add_flag(alloc, matching, "json", RESULT_HELP);
     with_lines(alloc, matching, PAIRS_HELP)
 }
 
 /// Returns the command that explains a fault.
-pub fn explain_command<'a>(alloc: Global) -> Result<Command<'a>, AllocError> {
+pub fn explain_command<'a>(alloc: Global) -> Made<'a> {
     Command::new(alloc, "explain")
         .about("Explain a fault: what it means, why it is asked, and how to repair it")
         .after_help(EXPLAIN_NOTES)
@@ -226,7 +250,7 @@ pub fn explain_command<'a>(alloc: Global) -> Result<Command<'a>, AllocError> {
 }
 
 /// Returns the command that prints completions.
-fn completions_command<'a>(alloc: Global) -> Result<Command<'a>, AllocError> {
+fn completions_command<'a>(alloc: Global) -> Made<'a> {
     Command::new(alloc, "completions")
         .about("Print a completion script for a shell")
         .after_help(COMPLETIONS_NOTES)
@@ -241,32 +265,29 @@ fn man_command<'a>(alloc: Global) -> Command<'a> {
 }
 
 /// Adds a command to the program.
-fn with<'a>(
-    program: Command<'a>,
-    command: Result<Command<'a>, AllocError>,
-) -> Result<Command<'a>, AllocError> {
-    program.subcommand(command?)
+fn with<'a>(program: Made<'a>, command: Made<'a>) -> Made<'a> {
+    program?.subcommand(command?)
 }
 
 /// Adds the commands over documents.
-fn with_engines<'a>(alloc: Global, program: Command<'a>) -> Result<Command<'a>, AllocError> {
-    let program = with(program, check_command(alloc))?;
-    let program = with(program, plan_command(alloc))?;
-    let program = with(program, canon_command(alloc))?;
-    let program = with(program, replay_command(alloc))?;
-    let program = with(program, match_command(alloc))?;
+fn with_engines<'a>(alloc: Global, program: Made<'a>) -> Made<'a> {
+    let program = with(program, check_command(alloc));
+    let program = with(program, plan_command(alloc));
+    let program = with(program, canon_command(alloc));
+    let program = with(program, replay_command(alloc));
+    let program = with(program, match_command(alloc));
     with(program, run_command(alloc))
 }
 
 /// Returns the whole program.
-pub fn program<'a>(alloc: Global) -> Result<Command<'a>, AllocError> {
+pub fn program<'a>(alloc: Global) -> Made<'a> {
     let program = Command::new(alloc, "odb_batch")
         .about("Checks OData JSON batch requests. Without a command it checks standard input.")
         .version(VERSION)
         .after_help(PROGRAM_NOTES)
         .disable_help_subcommand(true);
-    let program = with_engines(alloc, program)?;
-    let program = with(program, explain_command(alloc))?;
-    let program = with(program, completions_command(alloc))?;
+    let program = with_engines(alloc, Ok(program));
+    let program = with(program, explain_command(alloc));
+    let program = with(program, completions_command(alloc));
     with(program, Ok(man_command(alloc)))
 }
