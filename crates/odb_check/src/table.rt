@@ -65,6 +65,9 @@ impl<'b> Table<'b> {
     }
 
     /// Puts the number at the text, unless the text has one. Returns whether the text is new.
+    ///
+    /// A text with a number gets it back after the insertion, which takes one look-up less if most
+    /// texts are new.
     #[tactic(auto, using(std::proofs::lemmas::Map::Text::text_keys))]
     pub(crate) fn note(
         &mut self,
@@ -79,14 +82,19 @@ impl<'b> Table<'b> {
             ≡ or_else (at_text self.old q) (cond (bytes_eq q text.now) (Some number) None)) }
         ensures start { table_start self.new ≡ table_start self.old }
     {
-        if self.get(text).is_some() {
-            return Ok(false);
-        }
         match self {
             Table::Hashed(map) => {
-                map.insert(text, number)?;
+                if let Some(before) = map.insert(text, number)? {
+                    if before != number {
+                        map.insert(text, before)?;
+                    }
+                    return Ok(false);
+                }
             }
             Table::Sorted(map) => {
+                if map.contains_key(text) {
+                    return Ok(false);
+                }
                 map.insert(String::from_str(alloc, text)?, number)?;
             }
         }
