@@ -11,7 +11,7 @@ use Rattle.odb_check.specs.Firsts.{or_else, is_text, first_below, list_below}
 use Rattle.odb_check.specs.declared.fault.NameRule.TheVariants.{IdTwice}
 use Rattle.odb_check.specs.NameFaults.{IsBrokenAt}
 use Rattle.odb_check.specs.Positions.{id_at, group_at, names_at, IsIdBefore}
-use Rattle.odb_check.specs.Tables.{AreIdsApart, AreTablesOf, IsStartOf, at_text, more_with, table_len, unit_among, groups_below, with_group}
+use Rattle.odb_check.specs.Tables.{AreIdsDistinct, AreTablesOf, IsStartOf, at_text, more_with, table_len, unit_among, groups_below, with_group}
 use Rattle.odb_check.specs.Units.{first_id, first_in_group, begins_unit, units_before, begin_in, unit_begin, unit_at}
 use Rattle.odb_check.proofs.GroupLemmas.{any-groups_below, length-groups_below, length-with}
 use Rattle.odb_check.proofs.FirstLemmas.{below_more, count_few, count_less}
@@ -104,7 +104,7 @@ tables_more rs i r ids ids' groups groups' units starts units' starts' unit here
     }
 
 -- one more request, whose identifier is new
-pub apart_more : (rs : List Record) (i : ℕ) (r : Record) (ids : Table) → slice_get rs i ≡ Some r → ((q : List ℕ) → at_text ids q ≡ first_id rs i q) → at_text ids r.id ≡ None → AreIdsApart rs i → AreIdsApart rs (suc i)
+pub apart_more : (rs : List Record) (i : ℕ) (r : Record) (ids : Table) → slice_get rs i ≡ Some r → ((q : List ℕ) → at_text ids q ≡ first_id rs i q) → at_text ids r.id ≡ None → AreIdsDistinct rs i → AreIdsDistinct rs (suc i)
 apart_more rs i r ids here are new before = below_more i (λ k. ¬ IsBrokenAt IdTwice rs k) before last
   where
     last : ¬ IsBrokenAt IdTwice rs i

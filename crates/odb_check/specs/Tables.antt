@@ -49,8 +49,8 @@ groups_below rs zero = []
 groups_below rs (suc n) = with_group (groups_below rs n) (group_at rs n)
 
 -- none of the first n requests has the identifier of one before it
-abbrev pub AreIdsApart : List Record → ℕ → Type 0
-AreIdsApart rs n = (k : ℕ) → k < n → ¬ IsBrokenAt IdTwice rs k
+abbrev pub AreIdsDistinct : List Record → ℕ → Type 0
+AreIdsDistinct rs n = (k : ℕ) → k < n → ¬ IsBrokenAt IdTwice rs k
 
 -- the first n requests, as tables
 pub record AreTablesOf (rs : List Record) (n : ℕ) (ids groups : Table) (units starts : List ℕ) : Type 0 where

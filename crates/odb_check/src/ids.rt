@@ -16,7 +16,7 @@ fn repeats_id(tables: &Tables<'_>, i: u32) -> bool
     requires { i < length (requests tables.now) }
     ensures { IsTrue result ↔ IsBrokenAt rules.IdTwice (requests tables.now) i }
 {
-    if !tables.has_twins() {
+    if !tables.has_repeated_id() {
         return false;
     }
     match tables.position_of(tables.id(i)) {

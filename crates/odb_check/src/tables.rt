@@ -7,7 +7,7 @@ ghost use Rattle.odb_doc.specs.batch.Batches.{records};
 ghost use Rattle.odb_doc.specs.batch.Names.{texts_in};
 ghost use Rattle.odb_check.specs.Firsts.{or_else, is_text};
 ghost use Rattle.odb_check.specs.Starts.{start_of, table_start};
-ghost use Rattle.odb_check.specs.Tables.{AreIdsApart, AreTablesOf, IsStartOf, at_text, more_with, table_len, unit_among};
+ghost use Rattle.odb_check.specs.Tables.{AreIdsDistinct, AreTablesOf, IsStartOf, at_text, more_with, table_len, unit_among};
 
 use crate::need::Need;
 use crate::seed::Seed;
@@ -69,10 +69,10 @@ pub(crate) struct Tables<'b> {
     /// The position at which each unit begins.
     starts: Vec<u32>,
     /// Whether two requests have one identifier.
-    has_twins: bool,
+    has_repeated_id: bool,
     ghost exact: { AreTablesOf (records batch.now) (length (records batch.now)) ids groups
         units.items starts.items } by { Prim.hlevel props },
-    ghost apart: { has_twins ≡ false → AreIdsApart (records batch.now)
+    ghost apart: { has_repeated_id ≡ false → AreIdsDistinct (records batch.now)
         (length (records batch.now)) } by { Prim.hlevel props },
 }
 
@@ -84,7 +84,7 @@ struct FirstTables<'b> {
     groups: Table<'b>,
     units: Vec<u32>,
     starts: Vec<u32>,
-    has_twins: bool,
+    has_repeated_id: bool,
 }
 
 impl<'b> FirstTables<'b> {
@@ -93,12 +93,12 @@ impl<'b> FirstTables<'b> {
         requires within { i < length (records self.old.batch.now) }
         requires before { AreTablesOf (records self.old.batch.now) i self.old.ids self.old.groups
             self.old.units.items self.old.starts.items }
-        requires apart { self.old.has_twins ≡ false → AreIdsApart (records self.old.batch.now) i }
+        requires apart { self.old.has_repeated_id ≡ false → AreIdsDistinct (records self.old.batch.now) i }
         ensures batch { self.new.batch ≡ self.old.batch }
         ensures tables { OnOk result (AreTablesOf (records self.old.batch.now) (i + 1) self.new.ids
             self.new.groups self.new.units.items self.new.starts.items) }
-        ensures apart { OnOk result (self.new.has_twins ≡ false
-            → AreIdsApart (records self.old.batch.now) (i + 1)) }
+        ensures apart { OnOk result (self.new.has_repeated_id ≡ false
+            → AreIdsDistinct (records self.old.batch.now) (i + 1)) }
         ensures ids { table_start self.new.ids ≡ table_start self.old.ids }
         ensures groups { table_start self.new.groups ≡ table_start self.old.groups }
     {
@@ -108,7 +108,7 @@ impl<'b> FirstTables<'b> {
         note_group(alloc, &mut self.groups, request.group, unit)?;
         note_start(&mut self.starts, unit, i)?;
         self.units.push(unit)?;
-        self.has_twins |= !is_new;
+        self.has_repeated_id |= !is_new;
         Ok(())
     }
 
@@ -120,8 +120,8 @@ impl<'b> FirstTables<'b> {
         ensures tables { OnOk result (AreTablesOf (records self.old.batch.now)
             (length (records self.old.batch.now)) self.new.ids self.new.groups self.new.units.items
             self.new.starts.items) }
-        ensures apart { OnOk result (self.new.has_twins ≡ false
-            → AreIdsApart (records self.old.batch.now) (length (records self.old.batch.now))) }
+        ensures apart { OnOk result (self.new.has_repeated_id ≡ false
+            → AreIdsDistinct (records self.old.batch.now) (length (records self.old.batch.now))) }
         ensures ids { table_start self.new.ids ≡ table_start self.old.ids }
         ensures groups { table_start self.new.groups ≡ table_start self.old.groups }
     {
@@ -155,7 +155,7 @@ pub(crate) fn tables_of<'b>(
         groups: Table::new(alloc, start),
         units: Vec::new(alloc),
         starts: Vec::new(alloc),
-        has_twins: false,
+        has_repeated_id: false,
     };
     tables.fill(alloc)?;
     let FirstTables {
@@ -164,7 +164,7 @@ pub(crate) fn tables_of<'b>(
         groups,
         units,
         starts,
-        has_twins,
+        has_repeated_id,
     } = tables;
     Ok(Tables {
         batch,
@@ -172,7 +172,7 @@ pub(crate) fn tables_of<'b>(
         groups,
         units,
         starts,
-        has_twins,
+        has_repeated_id,
     })
 }
 
@@ -278,10 +278,10 @@ impl<'b> Tables<'b> {
     }
 
     /// Whether two requests have one identifier.
-    pub(crate) fn has_twins(&self) -> bool
-        ensures { result ≡ false → AreIdsApart (requests self.now) (length (requests self.now)) }
+    pub(crate) fn has_repeated_id(&self) -> bool
+        ensures { result ≡ false → AreIdsDistinct (requests self.now) (length (requests self.now)) }
     {
-        self.has_twins
+        self.has_repeated_id
     }
 
     pub(crate) fn unit_of_group(&self, group: &str) -> Option<u32>

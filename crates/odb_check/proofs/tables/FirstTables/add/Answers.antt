@@ -25,5 +25,5 @@ neither false false e = absurd (false≢true (sym e))
 pub returns-clause-apart : goal.returns-clause-apart
 returns-clause-apart c = λ none.
     let old = c.args.self.now in
-    let (before, is_new) = neither old.has_twins c.in_ok-is_new.is_new none in
+    let (before, is_new) = neither old.has_repeated_id c.in_ok-is_new.is_new none in
     rw add-one (apart_more (records old.batch.now) c.args.i (record_of c.request-request.result.now) old.ids c.request-request.ensures.value c.requires.before.ids_are (c.in_ok-is_new.ensures.new is_new) (c.requires.apart before))
