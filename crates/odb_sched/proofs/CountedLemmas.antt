@@ -14,10 +14,11 @@ use Rattle.odb_sched.specs.run.State.{is_unstarted, is_running, State, size, pha
 use Rattle.odb_sched.specs.run.Steps.{satisfied_in, all_satisfied, unit_failed, is_stopped, running_count, may_start, is_finished}
 use Rattle.odb_sched.specs.invariants.Kept.{IsReached, IsCounted}
 use Rattle.odb_sched.specs.invariants.Counts.{is_skipped}
-use Rattle.odb_sched.proofs.BelowLemmas.{any_below-Decides, count_by-none}
+use Rattle.odb_sched.proofs.BelowLemmas.{any_below-Decides}
 use Rattle.odb_sched.proofs.ListLemmas.{lists_alike}
 use Rattle.odb_sched.proofs.PropagateLemmas.{same_test}
 use Rattle.odb_sched.proofs.KeptLemmas.{finished_idle}
+use Rattle.odb_dense.proofs.CountLemmas.{count_none}
 
 count_map : {X : Type 0} (test : X → Bool) (xs : List X) → count_by (λ b. b) (map test xs) ≡ count_by test xs
 count_map test [] = refl
@@ -36,7 +37,7 @@ none_unmet test (x ∷ xs) = rw (sum_by-cons (λ y. cond (not (test y)) 1 0) x x
 none_pass : {X : Type 0} (test : X → Bool) (xs : List X) (d : X) → (count_by test xs == 0) ≡ not (any_below (length xs) (λ i. test (get_or xs i d)))
 none_pass test xs d = elim (cases_Bool (any_below (length xs) (λ i. test (get_or xs i d)))) [
   | inl some ↦ rw some (passes ((any_below-Decides (length xs) (λ i. test (get_or xs i d))).0 some))
-  | inr none ↦ rw none (eq-eqb _ 0 (count_by-none test xs (λ k other within. false_from_ne_true _ (λ e.
+  | inr none ↦ rw none (eq-eqb _ 0 (count_none test xs (λ k other within. false_from_ne_true _ (λ e.
       both_ways _ none ((any_below-Decides (length xs) (λ i. test (get_or xs i d))).1 (k, within, ap test (get_or_default xs k d other within) ∙ e))))))
 ]
   where
@@ -80,7 +81,7 @@ runs_is state counted i are = ap (λ running. get_or running i false) are.counts
 pub ready_listed : (state : State) (counted : Counts) (xs : List ℕ) → IsReached state → IsCounted state counted
     → ListsOnce (length counted.progress.ready) (λ i. get_or counted.progress.ready i false && not counted.stopped && nat_lt (count_by (λ runs. runs) counted.progress.running) state.policy.width) xs → ListsOnce (size state) (may_start state) xs
 ready_listed state counted xs reached are listed = lists_alike (size state) _ (may_start state) xs (λ i within. starts_is state counted i reached are within)
-    (subst (λ n. ListsOnce n (λ i. get_or counted.progress.ready i false && not counted.stopped && nat_lt (count_by (λ runs. runs) counted.progress.running) state.policy.width) xs) are.counts.ready.each listed)
+    (subst (λ n. ListsOnce n (λ i. get_or counted.progress.ready i false && not counted.stopped && nat_lt (count_by (λ runs. runs) counted.progress.running) state.policy.width) xs) are.counts.ready.entries.ready listed)
 
 -- the positions that run are listed
 pub running_listed : (state : State) (counted : Counts) (xs : List ℕ) → IsReached state → IsCounted state counted → ListsOnce (length counted.progress.running) (λ i. get_or counted.progress.running i false) xs → ListsOnce (size state) (λ i. is_running (phase_at state i)) xs
@@ -96,7 +97,7 @@ none_in members i none = elim (cases_lt i (length members)) [
 
 -- a set of which no position is a member is empty
 empty_from : (members : List Bool) → ((i : ℕ) → i < length members → get_or members i false ≡ false) → (count_by (λ b. b) members == 0) ≡ true
-empty_from members none = eq-eqb _ 0 (count_by-none (λ b. b) members (λ k d within. get_or_default members k d false within ∙ none k within))
+empty_from members none = eq-eqb _ 0 (count_none (λ b. b) members (λ k d within. get_or_default members k d false within ∙ none k within))
 
 -- nothing runs, and the run was stopped or nothing is ready, exactly when the run is finished
 pub finished_is : (state : State) (counted : Counts) → IsReached state → IsCounted state counted → ((count_by (λ runs. runs) counted.progress.running == 0) && (counted.stopped || (count_by (λ ready. ready) counted.progress.ready == 0))) ≡ is_finished state
@@ -116,5 +117,5 @@ finished_is state counted reached are = same_test _ _
     waits : ((i : ℕ) → i < size state → (may_start state i ≡ false) × (is_running (phase_at state i) ≡ false)) → (counted.stopped ≡ true) ⊎ (counted.stopped ≡ false) → (counted.stopped || (count_by (λ ready. ready) counted.progress.ready == 0)) ≡ true
     waits idle (inl stopped) = or_left _ _ stopped
     waits idle (inr unstopped) = or_right _ _ (empty_from counted.progress.ready (λ i inside. false_from_ne_true _ (λ ready.
-        let within : i < size state = subst (λ n. i < n) are.counts.ready.each inside in
+        let within : i < size state = subst (λ n. i < n) are.counts.ready.entries.ready inside in
         both_ways _ (idle i within).0 (sym (starts_is state counted i reached are within) ∙ rw (ready, unstopped, eqb-true _ _ (still idle)) (lt-ltb 0 state.policy.width state.policy.wide)))))

@@ -72,7 +72,7 @@ pub starts_at : (state : State) (counted : Counts) (end : End) (found : Option �
     → IfSome found (λ i. (i < size state) × (may_start state i ≡ true) × IsAt end (ready_set state) i)
 starts_at state counted end None reached are at allowed = tt
 starts_at state counted end (Some i) reached are at allowed =
-    let within : i < size state = subst (λ n. i < n) are.counts.ready.each at.within in
+    let within : i < size state = subst (λ n. i < n) are.counts.ready.entries.ready at.within in
     let open_run = allowed refl in
     let may : may_start state i ≡ true = sym (starts_is state counted i reached are within) ∙ rw (at.among, open_run.0, open_run.1) refl in
     (within, may, end_at end (size state) (may_start state) i within may (λ j inside nearer. sym (starts_is state counted j reached are inside) ∙ rw (at.nearest j nearer) refl))

@@ -1,49 +1,23 @@
 -- A running request fails: the counts of the successes stay, and its unit is put on the worklist.
-use Rattle.std.proofs.Common.{◌≡◌, ◌⊎◌, ℕ, ◌<◌, ◌∙◌, sym, ap, refl, subst, arith, Bool, true, false, ◌&&◌, ◌||◌, not, eqb, List, length, get_or, set, map, get_or-set_other, get_or-set_same, length-set, inl, inr, count_by, if◌then◌else◌}
-use Rattle.std.proofs.Math.Path.{fun_ext}
-use Rattle.std.proofs.lemmas.Bool.{cases_eq, cases_lt, both_ways, true≢false, not-true}
+use Rattle.std.proofs.Common.{◌≡◌, ◌⊎◌, ℕ, ◌<◌, ◌∙◌, sym, ap, refl, subst, Bool, true, false, List, length, get_or, set, map, get_or-set_other, get_or-set_same, length-set, inl, inr, if◌then◌else◌}
+use Rattle.std.proofs.lemmas.Bool.{cases_eq, cases_lt, both_ways, true≢false}
 use Rattle.std.proofs.lemmas.List.{get_or_past}
-use Rattle.odb_check.specs.declared.need.Need.{Need}
-use Rattle.odb_check.specs.declared.need.Need.TheVariants.{One, Group}
-use Rattle.odb_check.specs.PlanGraph.{PlanGraph, IsPlan, unit_of, needs_of}
+use Rattle.odb_check.specs.PlanGraph.{PlanGraph, IsPlan, unit_of}
 use Rattle.odb_dense.specs.declared.worklist.Mark.{Mark}
 use Rattle.odb_dense.specs.declared.worklist.Mark.TheVariants.{Unvisited, Queued, Visited}
 use Rattle.odb_sched.specs.declared.phase.Phase.{Phase}
-use Rattle.odb_sched.specs.declared.phase.Phase.TheVariants.{Unstarted, Running, Reported}
+use Rattle.odb_sched.specs.declared.phase.Phase.TheVariants.{Unstarted, Running}
 use Rattle.odb_sched.specs.declared.counts.Progress.{Progress}
-use Rattle.odb_check.specs.Firsts.{all_below}
 use Rattle.odb_sched.specs.run.State.{is_running, has_succeeded, has_failed}
 use Rattle.odb_sched.specs.run.Failing.{own}
-use Rattle.odb_sched.specs.run.Steps.{satisfied_in, failed_in}
+use Rattle.odb_sched.specs.run.Steps.{failed_in}
 use Rattle.odb_dense.specs.Marks.{is_marked, is_visited, marked}
-use Rattle.odb_sched.specs.invariants.Counts.{is_skipped, unmet_in, pending_in, ArePropagated, AreReady, AreCounts}
+use Rattle.odb_sched.specs.invariants.Counts.{ArePropagated, AreCounts, HasReady}
 use Rattle.odb_sched.specs.invariants.Propagation.{NeedsUnit, HaveMarked, ArePropagating}
-use Rattle.odb_sched.proofs.CountLemmas.{count_same}
 use Rattle.odb_sched.proofs.FailingLemmas.{Fails-from_fails, fails-from_Fails, Fails-as}
 use Rattle.odb_sched.proofs.PropagateLemmas.{own_fails, need_fails}
-
-failed_not_succeeded : (phase : Phase) → has_failed phase ≡ true → has_succeeded phase ≡ false
-failed_not_succeeded Unstarted e = refl
-failed_not_succeeded Running e = refl
-failed_not_succeeded (Reported outcome) e = not-true _ e
-
--- a test that has the same answer for a running request and for this one has the answer that it had before
-pub as_before : (test : Phase → Bool) (phases : List Phase) (i : ℕ) → i < length phases → test Running ≡ test (get_or phases i Unstarted) → (j : ℕ) → test (get_or (set phases i Running) j Unstarted) ≡ test (get_or phases j Unstarted)
-as_before test phases i within same j = elim (cases_eq j i) [
-  | inl here ↦ rw (here, get_or-set_same phases i Running Unstarted within) same
-  | inr elsewhere ↦ ap test (get_or-set_other phases i j Running Unstarted elsewhere)
-]
-
--- if the same requests have succeeded, the same needs are satisfied
-pub satisfied_same : (plan : PlanGraph) (phases other : List Phase) → ((j : ℕ) → has_succeeded (get_or phases j Unstarted) ≡ has_succeeded (get_or other j Unstarted)) → (need : Need) → satisfied_in plan phases need ≡ satisfied_in plan other need
-satisfied_same plan phases other same (One r) = same r
-satisfied_same plan phases other same (Group u) = ap (λ (f : ℕ → Bool). all_below (length plan.units) (λ j. not (eqb (unit_of plan j) u) || f j)) (fun_ext same)
-
-pub unmet_same : (plan : PlanGraph) (phases other : List Phase) → ((j : ℕ) → has_succeeded (get_or phases j Unstarted) ≡ has_succeeded (get_or other j Unstarted)) → (i : ℕ) → unmet_in plan phases i ≡ unmet_in plan other i
-unmet_same plan phases other same i = ap (λ (f : Need → Bool). count_by (λ need. not (f need)) (needs_of plan i)) (fun_ext (satisfied_same plan phases other same))
-
-pub pending_same : (plan : PlanGraph) (phases other : List Phase) → ((j : ℕ) → has_succeeded (get_or phases j Unstarted) ≡ has_succeeded (get_or other j Unstarted)) → (u : ℕ) → pending_in plan phases u ≡ pending_in plan other u
-pending_same plan phases other same u = count_same (length plan.units) _ _ (λ j below. ap (λ b. eqb (unit_of plan j) u && not b) (same j))
+use Rattle.odb_sched.proofs.SameLemmas.{as_before, unmet_same, pending_same}
+use Rattle.odb_sched.proofs.PhaseLemmas.{failed_not_succeeded, get_or-set_cases}
 
 -- a unit that is put on the worklist
 not_visited : (s : Mark) → is_marked s ≡ false → is_visited s ≡ false
@@ -92,17 +66,17 @@ put_only units u v = at (is_marked (get_or units u Unvisited))
     ]
 
 -- what had failed fails still
-fails_still : (plan : PlanGraph) (phases : List Phase) (i v : ℕ) → IsPlan plan → i < length phases → failed_in plan (set phases i Running) v ≡ true → failed_in plan phases v ≡ true
-fails_still plan phases i v laws within failed =
+fails_still : (plan : PlanGraph) (phases : List Phase) (i v : ℕ) → IsPlan plan → failed_in plan (set phases i Running) v ≡ true → failed_in plan phases v ≡ true
+fails_still plan phases i v laws failed =
     fails-from_Fails plan (λ j. has_failed (get_or phases j Unstarted)) v laws
     (Fails-as plan (λ j. has_failed (get_or (set phases i Running) j Unstarted)) (λ j. has_failed (get_or phases j Unstarted)) v
     (λ j below bad. own j below (still j bad))
     (Fails-from_fails plan (λ j. has_failed (get_or (set phases i Running) j Unstarted)) v failed))
   where
     still : (j : ℕ) → has_failed (get_or (set phases i Running) j Unstarted) ≡ true → has_failed (get_or phases j Unstarted) ≡ true
-    still j bad = elim (cases_eq j i) [
-      | inl here ↦ absurd (true≢false (sym bad ∙ ap (λ k. has_failed (get_or (set phases i Running) k Unstarted)) here ∙ ap has_failed (get_or-set_same phases i Running Unstarted within)))
-      | inr elsewhere ↦ sym (ap has_failed (get_or-set_other phases i j Running Unstarted elsewhere)) ∙ bad
+    still j bad = elim (get_or-set_cases phases i j Running) [
+      | inl written ↦ absurd (true≢false (sym bad ∙ ap has_failed written.1))
+      | inr kept ↦ ap has_failed (sym kept) ∙ bad
     ]
 
 marked_within : (units : List Mark) (v : ℕ) → is_marked (get_or units v Unvisited) ≡ true → v < length units
@@ -112,12 +86,12 @@ marked_within units v e = elim (cases_lt v (length units)) [
 ]
 
 -- the unit of the request is on the worklist, and the other failed ones were taken from it
-pub propagating_failed : (plan : PlanGraph) (phases : List Phase) (units : List Mark) (i : ℕ) → IsPlan plan → i < length plan.units → length phases ≡ length plan.units → has_failed (get_or phases i Unstarted) ≡ true → ArePropagated plan (set phases i Running) units
+pub propagating_failed : (plan : PlanGraph) (phases : List Phase) (units : List Mark) (i : ℕ) → IsPlan plan → i < length plan.units → has_failed (get_or phases i Unstarted) ≡ true → ArePropagated plan (set phases i Running) units
     → ArePropagating plan phases (marked units (unit_of plan i))
-propagating_failed plan phases units i laws within as_long failed are = record {
+propagating_failed plan phases units i laws within failed are = record {
   each = marks.each ∙ are.each;
   failed = λ v now. elim (put_only units (unit_of plan i) v now) [
-    | inl before ↦ fails_still plan phases i v laws (omega arith) (sym (are.failed v (subst (λ n. v < n) are.each (marked_within units v before))) ∙ sym (are.marked v) ∙ before)
+    | inl before ↦ fails_still plan phases i v laws (sym (are.failed v (subst (λ n. v < n) are.each (marked_within units v before))) ∙ sym (are.marked v) ∙ before)
     | inr here ↦ subst (λ x. failed_in plan phases x ≡ true) (sym here) (own_fails plan phases i laws within failed)
   ];
   own = λ j below bad. elim (cases_eq j i) [
@@ -143,21 +117,18 @@ propagating_failed plan phases units i laws within as_long failed are = record {
     taken v below bad = marks.kept v (are.marked v ∙ are.failed v below ∙ bad)
 
 -- the counts are right again
-pub counts_failed : (plan : PlanGraph) (phases : List Phase) (i : ℕ) (before t : Progress) → i < length phases → has_failed (get_or phases i Unstarted) ≡ true → AreCounts plan (set phases i Running) before
-    → t.unmet.items ≡ before.unmet.items → t.pending.items ≡ before.pending.items → t.running ≡ map is_running phases → ArePropagated plan phases t.units → AreReady plan (is_skipped plan t.units) phases t.unmet.items t.ready
-    → AreCounts plan phases t
-counts_failed plan phases i before t within failed counts unmet pending running units ready = record {
-  each = sym (length-set phases i Running) ∙ counts.each;
+pub counts_failed : (plan : PlanGraph) (phases : List Phase) (i : ℕ) (before t : Progress) → has_failed (get_or phases i Unstarted) ≡ true → AreCounts plan (set phases i Running) before
+    → t.unmet.items ≡ before.unmet.items → t.pending.items ≡ before.pending.items → t.running ≡ map is_running phases → ArePropagated plan phases t.units → HasReady plan phases t → AreCounts plan phases t
+counts_failed plan phases i before t failed counts unmet pending running units ready = record {
+  ready = ready;
   unmet = λ j below. ap (λ xs. get_or xs j 0) unmet ∙ counts.unmet j below ∙ unmet_same plan (set phases i Running) phases same j;
-  members = ap length pending ∙ counts.members;
   pending = λ u below. ap (λ xs. get_or xs u 0) pending ∙ counts.pending u below ∙ pending_same plan (set phases i Running) phases same u;
   units = units;
-  ready = ready;
   running = running;
 }
   where
     same : (j : ℕ) → has_succeeded (get_or (set phases i Running) j Unstarted) ≡ has_succeeded (get_or phases j Unstarted)
-    same = as_before has_succeeded phases i within (sym (failed_not_succeeded (get_or phases i Unstarted) failed))
+    same = as_before has_succeeded phases i Running (sym (failed_not_succeeded (get_or phases i Unstarted) failed))
 
 -- the unit of the request is put on the worklist as it was before
 pub put_unit : (plan : PlanGraph) (units between after : List Mark) (i u : ℕ) → between ≡ units → u ≡ unit_of plan i → after ≡ marked between u → after ≡ marked units (unit_of plan i)

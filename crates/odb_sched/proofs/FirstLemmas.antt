@@ -15,12 +15,12 @@ use Rattle.odb_sched.specs.declared.phase.Phase.TheVariants.{Unstarted}
 use Rattle.odb_sched.specs.declared.counts.Progress.{Progress}
 use Rattle.odb_sched.specs.run.State.{is_running, is_unstarted, has_succeeded, has_failed}
 use Rattle.odb_sched.specs.run.Failing.{Fails, own, propagated, unit_needed}
-use Rattle.odb_sched.specs.invariants.Counts.{needs_in, members_in, need_counts, member_counts, AreCounts, AreReady, ArePropagated, is_skipped, pending_in, unmet_in}
+use Rattle.odb_sched.specs.invariants.Counts.{needs_in, members_in, need_counts, member_counts, AreCounts, ArePropagated, is_skipped, pending_in, unmet_in}
 use Rattle.odb_sched.specs.run.Steps.{satisfied_in, failed_in}
 use Rattle.odb_sched.proofs.CountLemmas.{count_same, count_none}
 use Rattle.odb_sched.proofs.FailingLemmas.{Fails-from_fails}
 use Rattle.odb_sched.proofs.PhaseLemmas.{get_or-replicate_Unstarted}
-use Rattle.odb_sched.proofs.PlanLemmas.{length-list_below, get_or-list_below}
+use Rattle.odb_check.proofs.BelowLemmas.{length-list_below, get_or-list_below}
 use Rattle.odb_sched.proofs.SpanLemmas.{known_needs}
 use Rattle.odb_sched.proofs.UnmetLemmas.{none_pending}
 
@@ -122,30 +122,29 @@ none_running : (n : ℕ) → replicate n false ≡ map is_running (replicate n U
 none_running zero = refl
 none_running (suc n) = ap (λ (bs : List Bool). false ∷ bs) (none_running n)
 
-ready_first : (plan : PlanGraph) (free : List Bool) → length free ≡ length plan.units → ((i : ℕ) → i < length plan.units → get_or free i false ≡ (needs_in plan i == 0))
-    → AreReady plan (is_skipped plan (replicate plan.unit_count Unvisited)) (fresh plan) (need_counts plan) free
-ready_first plan free each exact = record {
-  counted = length-list_below (length plan.units) (needs_in plan);
-  each = each;
-  exact = λ i within. exact i within ∙ rw (ap is_unstarted (fresh_at plan i), not_skipped plan i, get_or-list_below (length plan.units) i (needs_in plan) 0 within) refl;
-}
-
 -- the counts of needs and members are right before any event
 pub first_counts : (plan : PlanGraph) (t : Progress) → IsPlan plan → t.unmet.items ≡ need_counts plan → t.pending.items ≡ member_counts plan → All (λ count. 0 < count) t.pending.items → t.units ≡ replicate plan.unit_count Unvisited
     → length t.ready ≡ length plan.units → ((i : ℕ) → i < length plan.units → get_or t.ready i false ≡ (needs_in plan i == 0)) → t.running ≡ replicate (length plan.units) false
     → AreCounts plan (fresh plan) t
 first_counts plan t laws unmet pending some units each exact running = record {
-  each = length-replicate (length plan.units) Unstarted;
-  unmet = λ i within. ap (λ ns. get_or ns i 0) unmet ∙ get_or-list_below (length plan.units) i (needs_in plan) 0 within ∙ unmet_first plan i laws populated within;
-  members = ap length pending ∙ length-list_below plan.unit_count (members_in plan);
+  ready = record {
+    entries = record {
+      phased = length-replicate (length plan.units) Unstarted;
+      unmet = ap length unmet ∙ length-list_below (length plan.units) (needs_in plan);
+      pending = ap length pending ∙ length-list_below plan.unit_count (members_in plan);
+      units = ap length units ∙ length-replicate plan.unit_count Unvisited;
+      ready = each;
+    };
+    exact = λ i within. exact i within ∙ rw (units, unmet, ap is_unstarted (fresh_at plan i), not_skipped plan i, get_or-list_below (length plan.units) (needs_in plan) i 0 within) refl;
+  };
+  unmet = λ i within. ap (λ ns. get_or ns i 0) unmet ∙ get_or-list_below (length plan.units) (needs_in plan) i 0 within ∙ unmet_first plan i laws populated within;
   pending = λ u inside. member_count u inside ∙ sym (pending_first plan u);
   units = rw units (propagated_first plan);
-  ready = rw (units, unmet) (ready_first plan t.ready each exact);
   running = running ∙ none_running (length plan.units);
 }
   where
     member_count : (u : ℕ) → u < plan.unit_count → get_or t.pending.items u 0 ≡ members_in plan u
-    member_count u inside = ap (λ ns. get_or ns u 0) pending ∙ get_or-list_below plan.unit_count u (members_in plan) 0 inside
+    member_count u inside = ap (λ ns. get_or ns u 0) pending ∙ get_or-list_below plan.unit_count (members_in plan) u 0 inside
 
     populated : (u : ℕ) → u < plan.unit_count → 0 < members_in plan u
     populated u inside = subst (λ n. 0 < n) (member_count u inside) (All-get_or (λ n. 0 < n) t.pending.items u 0 (rw (ap length pending ∙ length-list_below plan.unit_count (members_in plan)) inside) some)

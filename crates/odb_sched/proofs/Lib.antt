@@ -26,7 +26,8 @@ pub mod FailLemmas
 pub mod SatisfyingLemmas
 pub mod UnmetLemmas
 pub mod SucceedLemmas
-pub mod StartingLemmas
+pub mod SameLemmas
+pub mod ReadyLemmas
 pub mod StopLemmas
 pub mod KeptLemmas
 pub mod OwnedLemmas

@@ -1,6 +1,6 @@
 -- The tests of a phase against each other.
 use Rattle.std.proofs.Common.{◌≡◌, ℕ, sym, refl, Bool, true, false, not, List, length, get_or, set, inl, inr, ◌⊎◌, get_or-set_other, get_or-set_same, replicate}
-use Rattle.std.proofs.lemmas.Bool.{cases_eq, cases_lt, true≢false}
+use Rattle.std.proofs.lemmas.Bool.{cases_eq, cases_lt, true≢false, not-true}
 use Rattle.std.proofs.lemmas.List.{get_or_past, set_past, get_or-replicate, length-replicate}
 use Rattle.odb_doc.specs.declared.recorded.outcome.Outcome.{Outcome}
 use Rattle.odb_sched.specs.declared.phase.Phase.{Phase}
@@ -27,16 +27,6 @@ has_succeeded-from (Reported outcome) a b = at (is_success outcome.status) b
     at true e = refl
     at false e = absurd (true≢false e)
 
-pub succeeded_idle : (phase : Phase) → has_succeeded phase ≡ true → is_running phase ≡ false
-succeeded_idle Unstarted e = refl
-succeeded_idle Running e = sym e
-succeeded_idle (Reported outcome) e = refl
-
-pub failed_idle : (phase : Phase) → has_failed phase ≡ true → is_running phase ≡ false
-failed_idle Unstarted e = refl
-failed_idle Running e = sym e
-failed_idle (Reported outcome) e = refl
-
 pub Unstarted-from : (phase : Phase) → is_unstarted phase ≡ true → phase ≡ Unstarted
 Unstarted-from Unstarted e = refl
 Unstarted-from Running e = absurd (true≢false (sym e))
@@ -58,6 +48,18 @@ pub Failed-from : (phase : Phase) → has_failed phase ≡ true → (outcome : O
 Failed-from Unstarted e = absurd (true≢false (sym e))
 Failed-from Running e = absurd (true≢false (sym e))
 Failed-from (Reported outcome) e = (outcome, refl, e)
+
+pub succeeded_idle : (phase : Phase) → has_succeeded phase ≡ true → is_running phase ≡ false
+succeeded_idle phase e = rw (Reported-from phase e).1 refl
+
+pub failed_idle : (phase : Phase) → has_failed phase ≡ true → is_running phase ≡ false
+failed_idle phase e = rw (Failed-from phase e).1 refl
+
+pub succeeded_not_failed : (phase : Phase) → has_succeeded phase ≡ true → has_failed phase ≡ false
+succeeded_not_failed phase e = let (outcome, is, good) = Reported-from phase e in rw (is, good) refl
+
+pub failed_not_succeeded : (phase : Phase) → has_failed phase ≡ true → has_succeeded phase ≡ false
+failed_not_succeeded phase e = let (outcome, is, bad) = Failed-from phase e in rw is (not-true _ bad)
 
 -- after a write each place has what was written, or what it had
 pub get_or-set_cases : (phases : List Phase) (i j : ℕ) (phase : Phase) → ((j ≡ i) × (get_or (set phases i phase) j Unstarted ≡ phase)) ⊎ (get_or (set phases i phase) j Unstarted ≡ get_or phases j Unstarted)

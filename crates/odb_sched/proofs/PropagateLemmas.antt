@@ -12,7 +12,7 @@ use Rattle.odb_sched.specs.run.Failing.{Fails, own, propagated, unit_needed}
 use Rattle.odb_sched.specs.run.Steps.{failed_in}
 use Rattle.odb_dense.specs.Marks.{is_marked, is_visited}
 use Rattle.odb_sched.specs.declared.counts.Progress.{Progress}
-use Rattle.odb_sched.specs.invariants.Counts.{is_skipped, ArePropagated}
+use Rattle.odb_sched.specs.invariants.Counts.{ArePropagated}
 use Rattle.odb_sched.specs.invariants.Propagation.{NeedsUnit, HaveMarked, ArePropagating}
 use Rattle.odb_sched.proofs.CountLemmas.{count_same, count_less}
 use Rattle.odb_sched.proofs.FailingLemmas.{Fails-from_fails, fails-from_Fails}
@@ -52,9 +52,6 @@ taken_other units u v now = elim (cases_eq v u) [
   | inl here ↦ inl here
   | inr elsewhere ↦ inr (sym (ap is_visited (get_or-set_other units u v Visited Unvisited elsewhere)) ∙ now)
 ]
-
-pub skipped_marked : (plan : PlanGraph) (before after : List Mark) (i : ℕ) → HaveMarked before after → is_skipped plan before i ≡ is_skipped plan after i
-skipped_marked plan before after i marks = sym (marks.same (unit_of plan i))
 
 -- how many units were not taken yet
 abbrev pub waiting_count : PlanGraph → List Mark → ℕ

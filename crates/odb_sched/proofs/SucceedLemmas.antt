@@ -1,35 +1,13 @@
 -- The counts after a request has succeeded, through the steps that bring them there.
-use Rattle.std.proofs.Math.Path.{fun_ext}
-use Rattle.std.proofs.Common.{◌≡◌, ℕ, suc, ◌<◌, ◌+◌, ◌-◌, ◌==◌, ◌∙◌, sym, ap, refl, subst, arith, true, false, List, length, get_or, set, inl, inr, count_by, get_or-set_same, get_or-set_other}
-use Rattle.std.proofs.lemmas.Bool.{cases_eq, true≢false}
+use Rattle.std.proofs.Common.{◌≡◌, ℕ, suc, ◌<◌, ◌+◌, ◌-◌, ◌==◌, ◌∙◌, subst, arith, true, List, length, get_or, set, inl, inr, count_by, get_or-set_same, get_or-set_other}
+use Rattle.std.proofs.lemmas.Bool.{cases_eq}
 use Rattle.odb_check.specs.PlanGraph.{PlanGraph, IsPlan, unit_of}
 use Rattle.odb_sched.specs.declared.phase.Phase.{Phase}
-use Rattle.odb_sched.specs.declared.phase.Phase.TheVariants.{Unstarted, Running, Reported}
-use Rattle.odb_dense.specs.declared.worklist.Mark.{Mark}
-use Rattle.odb_sched.specs.run.Failing.{fails}
-use Rattle.odb_sched.specs.run.State.{has_succeeded, has_failed}
-use Rattle.odb_sched.specs.invariants.Counts.{AreUnmet, ArePending, ArePropagated, unmet_in, satisfied_by_unit, pending_in}
+use Rattle.odb_sched.specs.declared.phase.Phase.TheVariants.{Unstarted, Running}
+use Rattle.odb_sched.specs.run.State.{has_succeeded}
+use Rattle.odb_sched.specs.invariants.Counts.{AreUnmet, ArePending, unmet_in, satisfied_by_unit, pending_in}
 use Rattle.odb_sched.specs.invariants.Graphs.{need_count}
 use Rattle.odb_sched.proofs.UnmetLemmas.{unmet_falls, pending_own, pending_other}
-
-success_failed : (phase : Phase) → has_succeeded phase ≡ true → has_failed phase ≡ false
-success_failed Unstarted e = absurd (true≢false (sym e))
-success_failed Running e = absurd (true≢false (sym e))
-success_failed (Reported outcome) e = rw e refl
-
--- the units that have failed while a request runs have failed after its success, and no others
-pub propagated_kept : (plan : PlanGraph) (phases : List Phase) (i : ℕ) (units : List Mark) → i < length phases → has_succeeded (get_or phases i Unstarted) ≡ true → ArePropagated plan (set phases i Running) units → ArePropagated plan phases units
-propagated_kept plan phases i units within done are = record {
-  each = are.each;
-  failed = λ u inside. are.failed u inside ∙ ap (λ bad. fails plan bad u) (fun_ext same);
-  marked = are.marked;
-}
-  where
-    same : (j : ℕ) → has_failed (get_or (set phases i Running) j Unstarted) ≡ has_failed (get_or phases j Unstarted)
-    same j = elim (cases_eq j i) [
-      | inl here ↦ rw (here, get_or-set_same phases i Running Unstarted within) (sym (success_failed (get_or phases i Unstarted) done))
-      | inr elsewhere ↦ ap has_failed (get_or-set_other phases i j Running Unstarted elsewhere)
-    ]
 
 -- the unit of the request has one pending member less, and each other unit as many as before
 pub pending_after : (plan : PlanGraph) (phases : List Phase) (i : ℕ) (before pending : List ℕ) → IsPlan plan → i < length plan.units → length phases ≡ length plan.units → has_succeeded (get_or phases i Unstarted) ≡ true

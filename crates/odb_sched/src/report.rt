@@ -20,14 +20,10 @@ use odb_doc::Outcome;
 /// Counts one need of a request as satisfied. The last one makes the request ready, unless it has
 /// started or its unit has failed.
 fn satisfy(graph: &Graph, phases: &[Phase], i: u32, progress: &mut Progress)
-    requires each { length phases.now ≡ length graph.now.plan_graph.units }
     requires request { i < length graph.now.plan_graph.units }
-    requires units { length progress.old.units ≡ graph.now.plan_graph.unit_count }
     requires some { 0 < slice_index_or progress.old.unmet.items i 0 }
-    requires ready { counts.AreReady graph.now.plan_graph (counts.is_skipped graph.now.plan_graph progress.old.units)
-        phases.now progress.old.unmet.items progress.old.ready }
-    ensures ready { counts.AreReady graph.now.plan_graph (counts.is_skipped graph.now.plan_graph progress.old.units)
-        phases.now progress.new.unmet.items progress.new.ready }
+    requires ready { counts.HasReady graph.now.plan_graph phases.now progress.old }
+    ensures ready { counts.HasReady graph.now.plan_graph phases.now progress.new }
     ensures unmet { progress.new.unmet.items
         ≡ slice_set progress.old.unmet.items i (slice_index_or progress.old.unmet.items i 0 - 1) }
     ensures rest { progress.new ≡ record progress.old { unmet = progress.new.unmet; ready = progress.new.ready } }
@@ -44,15 +40,11 @@ fn satisfy(graph: &Graph, phases: &[Phase], i: u32, progress: &mut Progress)
 
 /// Counts one need of the request of each entry of a list as satisfied.
 fn satisfy_each(graph: &Graph, phases: &[Phase], list: &[u32], progress: &mut Progress)
-    requires each { length phases.now ≡ length graph.now.plan_graph.units }
-    requires units { length progress.old.units ≡ graph.now.plan_graph.unit_count }
     requires within { All (λ i. i < length graph.now.plan_graph.units) list.now }
     requires enough { (i : ℕ) → i < length graph.now.plan_graph.units
         → count_by (λ j. j == i) list.now ≤ slice_index_or progress.old.unmet.items i 0 }
-    requires ready { counts.AreReady graph.now.plan_graph (counts.is_skipped graph.now.plan_graph progress.old.units)
-        phases.now progress.old.unmet.items progress.old.ready }
-    ensures ready { counts.AreReady graph.now.plan_graph (counts.is_skipped graph.now.plan_graph progress.old.units)
-        phases.now progress.new.unmet.items progress.new.ready }
+    requires ready { counts.HasReady graph.now.plan_graph phases.now progress.old }
+    ensures ready { counts.HasReady graph.now.plan_graph phases.now progress.new }
     ensures fallen { (i : ℕ) → i < length graph.now.plan_graph.units
         → slice_index_or progress.new.unmet.items i 0 + count_by (λ j. j == i) list.now
         ≡ slice_index_or progress.old.unmet.items i 0 }
@@ -65,19 +57,14 @@ fn satisfy_each(graph: &Graph, phases: &[Phase], list: &[u32], progress: &mut Pr
 
 /// Counts the needs of a unit as satisfied, if all its members have succeeded.
 fn satisfy_unit(graph: &Graph, phases: &[Phase], u: u32, progress: &mut Progress)
-    requires each { length phases.now ≡ length graph.now.plan_graph.units }
     requires unit { u < graph.now.plan_graph.unit_count }
-    requires units { length progress.old.units ≡ graph.now.plan_graph.unit_count }
-    requires members { length progress.old.pending.items ≡ graph.now.plan_graph.unit_count }
     requires pending { slice_index_or progress.old.pending.items u 0
         ≡ counts.pending_in graph.now.plan_graph phases.now u }
     requires enough { (i : ℕ) → i < length graph.now.plan_graph.units
         → counts.satisfied_by_unit graph.now.plan_graph phases.now u i
         ≤ slice_index_or progress.old.unmet.items i 0 }
-    requires ready { counts.AreReady graph.now.plan_graph (counts.is_skipped graph.now.plan_graph progress.old.units)
-        phases.now progress.old.unmet.items progress.old.ready }
-    ensures ready { counts.AreReady graph.now.plan_graph (counts.is_skipped graph.now.plan_graph progress.old.units)
-        phases.now progress.new.unmet.items progress.new.ready }
+    requires ready { counts.HasReady graph.now.plan_graph phases.now progress.old }
+    ensures ready { counts.HasReady graph.now.plan_graph phases.now progress.new }
     ensures fallen { (i : ℕ) → i < length graph.now.plan_graph.units
         → slice_index_or progress.new.unmet.items i 0
         + counts.satisfied_by_unit graph.now.plan_graph phases.now u i
@@ -123,9 +110,8 @@ fn skip_members(graph: &Graph, phases: &[Phase], u: u32, progress: &mut Progress
     requires visited { is_visited (slice_index_or progress.old.units u Unvisited) ≡ true }
     requires ready { counts.AreReady graph.now.plan_graph
         (λ i. counts.is_skipped graph.now.plan_graph progress.old.units i && not (plan_graphs.unit_of graph.now.plan_graph i == u))
-        phases.now progress.old.unmet.items progress.old.ready }
-    ensures ready { counts.AreReady graph.now.plan_graph (counts.is_skipped graph.now.plan_graph progress.old.units)
-        phases.now progress.new.unmet.items progress.new.ready }
+        phases.now progress.old }
+    ensures ready { counts.HasReady graph.now.plan_graph phases.now progress.new }
     ensures rest { progress.new ≡ record progress.old { ready = progress.new.ready } }
 {
     let members = graph.members(u);
@@ -175,13 +161,10 @@ fn mark_dependents(graph: &Graph, u: u32, progress: &mut Progress)
 
 /// Takes units from the worklist, and puts those that depend on them on it, until it is empty.
 fn propagate(graph: &Graph, phases: &[Phase], progress: &mut Progress)
-    requires each { length phases.now ≡ length graph.now.plan_graph.units }
     requires propagating { propagation.ArePropagating graph.now.plan_graph phases.now progress.old.units }
-    requires ready { counts.AreReady graph.now.plan_graph (counts.is_skipped graph.now.plan_graph progress.old.units)
-        phases.now progress.old.unmet.items progress.old.ready }
+    requires ready { counts.HasReady graph.now.plan_graph phases.now progress.old }
     ensures propagated { counts.ArePropagated graph.now.plan_graph phases.now progress.new.units }
-    ensures ready { counts.AreReady graph.now.plan_graph (counts.is_skipped graph.now.plan_graph progress.new.units)
-        phases.now progress.new.unmet.items progress.new.ready }
+    ensures ready { counts.HasReady graph.now.plan_graph phases.now progress.new }
     ensures rest { progress.new
         ≡ record progress.old { units = progress.new.units; ready = progress.new.ready } }
 {

@@ -36,11 +36,22 @@ ArePending plan phases pending = (u : ℕ) → u < plan.unit_count → slice_ind
 abbrev pub is_skipped : PlanGraph → List Mark → ℕ → Bool
 is_skipped plan units i = is_visited (slice_index_or units (unit_of plan i) Unvisited)
 
--- the set has the requests that are unstarted, are not skipped and have no unmet need
-pub record AreReady (plan : PlanGraph) (skipped : ℕ → Bool) (phases : List Phase) (unmet : List ℕ) (ready : List Bool) : Type 0 where
-  pub counted : length unmet ≡ length plan.units
-  pub each : length ready ≡ length plan.units
-  pub exact : (i : ℕ) → i < length plan.units → slice_index_or ready i false ≡ (is_unstarted (slice_index_or phases i Unstarted) && not (skipped i) && (slice_index_or unmet i 0 == 0))
+-- each list has an entry for each request or unit
+pub record HaveEntries (plan : PlanGraph) (phases : List Phase) (t : Progress) : Type 0 where
+  pub phased : length phases ≡ length plan.units
+  pub unmet : length t.unmet.items ≡ length plan.units
+  pub pending : length t.pending.items ≡ plan.unit_count
+  pub units : length t.units ≡ plan.unit_count
+  pub ready : length t.ready ≡ length plan.units
+
+-- the ready requests are those that are unstarted, are not skipped and have no unmet need
+pub record AreReady (plan : PlanGraph) (skipped : ℕ → Bool) (phases : List Phase) (t : Progress) : Type 0 where
+  pub entries : HaveEntries plan phases t
+  pub exact : (i : ℕ) → i < length plan.units → slice_index_or t.ready i false ≡ (is_unstarted (slice_index_or phases i Unstarted) && not (skipped i) && (slice_index_or t.unmet.items i 0 == 0))
+
+-- those of the units that were taken from the worklist are skipped
+abbrev pub HasReady : PlanGraph → List Phase → Progress → Type 0
+HasReady plan phases t = AreReady plan (is_skipped plan t.units) phases t
 
 -- the units that have failed were taken from the worklist, and no others were ever on it
 pub record ArePropagated (plan : PlanGraph) (phases : List Phase) (units : List Mark) : Type 0 where
@@ -50,12 +61,10 @@ pub record ArePropagated (plan : PlanGraph) (phases : List Phase) (units : List 
 
 -- the counts are those of the requests in these phases
 pub record AreCounts (plan : PlanGraph) (phases : List Phase) (t : Progress) : Type 0 where
-  pub each : length phases ≡ length plan.units
+  pub ready : HasReady plan phases t
   pub unmet : AreUnmet plan phases t.unmet.items
-  pub members : length t.pending.items ≡ plan.unit_count
   pub pending : ArePending plan phases t.pending.items
   pub units : ArePropagated plan phases t.units
-  pub ready : AreReady plan (is_skipped plan t.units) phases t.unmet.items t.ready
   pub running : t.running ≡ map is_running phases
 
 -- how many needs a request has

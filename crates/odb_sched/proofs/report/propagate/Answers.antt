@@ -3,10 +3,10 @@ use Rattle.std.proofs.Common.{◌≡◌, ◌⊎◌, ℕ, true, ◌∙◌, ap, su
 use Rattle.odb_sched.specs.declared.counts.Progress.{Progress}
 use Rattle.odb_dense.specs.declared.worklist.Mark.TheVariants.{Unvisited}
 use Rattle.odb_dense.specs.Marks.{is_marked}
-use Rattle.odb_sched.specs.invariants.Counts.{AreReady, ArePropagated, is_skipped}
+use Rattle.odb_sched.specs.invariants.Counts.{HasReady, ArePropagated}
 use Rattle.odb_sched.specs.invariants.Propagation.{HaveMarked, NeedsUnit}
-use Rattle.odb_sched.proofs.SkippedLemmas.{ready_same}
-use Rattle.odb_sched.proofs.PropagateLemmas.{all_propagated, propagating_on, fewer_wait, skipped_marked, others_kept}
+use Rattle.odb_sched.proofs.ReadyLemmas.{ready_marked}
+use Rattle.odb_sched.proofs.PropagateLemmas.{all_propagated, propagating_on, fewer_wait, others_kept}
 use Rattle.odb_sched.proofs.report.propagate.Goals as goal
 
 -- the marks before the step are those after the unit was taken
@@ -26,8 +26,8 @@ loop-u-preserved c =
           (subst (λ units. HaveMarked units c.mark_dependents.new.progress.units) taken marks)
           c.mark_dependents.ensures.marked
           (subst (λ units. (v : ℕ) → is_marked (get_or c.mark_dependents.new.progress.units v Unvisited) ≡ true → (is_marked (get_or units v Unvisited) ≡ true) ⊎ NeedsUnit c.args.graph.now.plan_graph v c.in-Some.u) (units_are ∙ taken) c.mark_dependents.ensures.only);
-      ready = subst (λ (t : Progress). AreReady c.args.graph.now.plan_graph (is_skipped c.args.graph.now.plan_graph c.mark_dependents.new.progress.units) c.args.phases.now t.unmet.items t.ready) (sym c.mark_dependents.ensures.rest)
-          (ready_same c.args.graph.now.plan_graph _ _ c.args.phases.now c.skip_members.new.progress.unmet.items c.skip_members.new.progress.ready (λ i below. skipped_marked c.args.graph.now.plan_graph _ _ i marks) c.skip_members.ensures.ready);
+      ready = subst (HasReady c.args.graph.now.plan_graph c.args.phases.now) (sym c.mark_dependents.ensures.rest)
+          (ready_marked c.args.graph.now.plan_graph c.args.phases.now c.skip_members.new.progress c.mark_dependents.new.progress.units c.mark_dependents.ensures.marks c.skip_members.ensures.ready);
       rest = others_kept c.args.progress.now c.mark_dependents.new.progress
           (ap (λ (t : Progress). t.unmet) c.mark_dependents.ensures.rest ∙ ap (λ (t : Progress). t.unmet) c.skip_members.ensures.rest ∙ ap (λ (t : Progress). t.unmet) c.loop-u.invariant.rest)
           (ap (λ (t : Progress). t.pending) c.mark_dependents.ensures.rest ∙ ap (λ (t : Progress). t.pending) c.skip_members.ensures.rest ∙ ap (λ (t : Progress). t.pending) c.loop-u.invariant.rest)

@@ -1,5 +1,5 @@
 use Rattle.std.proofs.Common.{◌≡◌}
-use Rattle.odb_sched.specs.invariants.Counts.{AreReady, is_skipped}
+use Rattle.odb_sched.specs.invariants.Counts.{HasReady}
 use Rattle.odb_sched.specs.invariants.Propagation.{ArePropagating}
 use Rattle.odb_sched.proofs.PropagateLemmas.{waiting_count}
 use Rattle.odb_sched.proofs.report.propagate.Given as goal
@@ -8,7 +8,7 @@ use Rattle.odb_sched.proofs.report.propagate.Given as goal
 abbrev pub invariant-loop-u : goal.invariant-loop-u
 invariant-loop-u l = record {
   propagating : ArePropagating l.graph.plan_graph l.phases l.progress.units;
-  ready : AreReady l.graph.plan_graph (is_skipped l.graph.plan_graph l.progress.units) l.phases l.progress.unmet.items l.progress.ready;
+  ready : HasReady l.graph.plan_graph l.phases l.progress;
   rest : l.progress ≡ record l.initial.progress { units = l.progress.units; ready = l.progress.ready };
 }
 

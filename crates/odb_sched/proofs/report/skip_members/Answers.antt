@@ -1,11 +1,12 @@
 -- Each member is skipped in its turn.
 use Rattle.std.proofs.Common.{refl}
-use Rattle.odb_sched.proofs.SkippedLemmas.{ready_same, skipped_first, skipped_more, member_here}
+use Rattle.odb_sched.proofs.ReadyLemmas.{ready_same}
+use Rattle.odb_sched.proofs.SkippedLemmas.{skipped_first, skipped_more, member_here}
 use Rattle.odb_sched.proofs.report.skip_members.Goals as goal
 
 pub loop-i-init : goal.loop-i-init
 loop-i-init c = record {
-  ready = ready_same c.args.graph.now.plan_graph _ _ c.args.phases.now c.args.progress.now.unmet.items c.args.progress.now.ready (λ i within. skipped_first c.args.graph.now.plan_graph c.args.progress.now.units c.args.u _ _ i c.members-members.ensures.span within) c.requires.ready;
+  ready = ready_same c.args.graph.now.plan_graph _ _ c.args.phases.now c.args.progress.now (λ i within. skipped_first c.args.graph.now.plan_graph c.args.progress.now.units c.args.u _ _ i c.members-members.ensures.span within) c.requires.ready;
   rest = refl;
 }
 

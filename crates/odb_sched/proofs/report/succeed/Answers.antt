@@ -1,13 +1,16 @@
 -- The steps bring the counts to what they are after a success.
-use Rattle.std.proofs.Common.{◌≡◌, ◌+◌, ◌-◌, ◌∙◌, suc, sym, ap, subst, arith, false, length, length-set, get_or, set}
+use Rattle.std.proofs.Common.{◌≡◌, ◌+◌, ◌-◌, ◌∙◌, suc, sym, ap, subst, arith, false, get_or, set}
 use Rattle.odb_check.specs.PlanGraph.{unit_of}
 use Rattle.odb_sched.specs.declared.counts.Progress.{Progress}
-use Rattle.odb_sched.specs.invariants.Counts.{ArePending, AreReady, ArePropagated, is_skipped, unmet_in, satisfied_by_unit, pending_in}
+use Rattle.odb_sched.specs.invariants.Counts.{ArePending, ArePropagated, unmet_in, satisfied_by_unit, pending_in}
 use Rattle.odb_sched.specs.invariants.Graphs.{need_count}
-use Rattle.odb_sched.proofs.PhaseLemmas.{succeeded_idle}
-use Rattle.odb_sched.proofs.StartingLemmas.{as_long, running_out}
+use Rattle.odb_sched.proofs.PhaseLemmas.{succeeded_idle, succeeded_not_failed}
+use Rattle.odb_sched.proofs.SameLemmas.{as_before, propagated_same, running_same}
+use Rattle.odb_sched.proofs.ReadyLemmas.{as_long}
 use Rattle.odb_sched.proofs.UnmetLemmas.{unmet_falls, pending_own, request_row}
-use Rattle.odb_sched.proofs.SucceedLemmas.{propagated_kept, pending_after, unmet_satisfied}
+use Rattle.odb_sched.proofs.SucceedLemmas.{pending_after, unmet_satisfied}
+use Rattle.odb_sched.specs.declared.phase.Phase.TheVariants.{Unstarted, Running}
+use Rattle.odb_sched.specs.run.State.{has_failed}
 use Rattle.odb_sched.proofs.report.succeed.Goals as goal
 
 -- the pending members of the request's unit before the step
@@ -32,7 +35,7 @@ satisfy_unit-requires-clause-pending c =
     let own = c.unit_of-unit.ensures.unit in
     let pending_now = c.count_success.ensures.pending ∙ ap (λ u. set c.args.progress.now.pending.items u (get_or c.args.progress.now.pending.items u 0 - 1)) own in
     rw (ap (λ (t : Progress). t.pending.items) c.satisfy_each.ensures.rest)
-    (pending_after c.args.graph.now.plan_graph c.args.phases.now c.args.i c.args.progress.now.pending.items c.count_success.new.progress.pending.items c.laws.ensures.order c.requires.request (as_long _ _ _ _ _ c.requires.counts) c.requires.succeeded c.requires.counts.members c.requires.counts.pending pending_now
+    (pending_after c.args.graph.now.plan_graph c.args.phases.now c.args.i c.args.progress.now.pending.items c.count_success.new.progress.pending.items c.laws.ensures.order c.requires.request (as_long _ _ _ _ _ c.requires.counts) c.requires.succeeded c.requires.counts.ready.entries.pending c.requires.counts.pending pending_now
     c.unit_of-unit.result c.unit_of-unit.ensures.counted)
 
 pub satisfy_unit-requires-clause-enough : goal.satisfy_unit-requires-clause-enough
@@ -53,19 +56,16 @@ returns c =
     let to_left = to_satisfied ∙ ap (λ (t : Progress). record t { unmet = c.satisfy_unit.new.progress.unmet; ready = c.satisfy_unit.new.progress.ready }) c.count_success.ensures.rest in
     let pending_same = ap (λ (t : Progress). t.pending.items) to_satisfied in
     let units_same = ap (λ (t : Progress). t.units) to_left in
-    let satisfied_units = ap (λ (t : Progress). t.units) c.satisfy_unit.ensures.rest in
     record {
-      each = as_long _ _ _ _ _ c.requires.counts;
+      ready = c.satisfy_unit.ensures.ready;
       unmet = unmet_satisfied c.args.graph.now.plan_graph c.args.phases.now c.args.i c.of_request.result.now c.args.progress.now.unmet.items c.satisfy_each.new.progress.unmet.items c.satisfy_unit.new.progress.unmet.items c.laws.ensures.order c.requires.request (as_long _ _ _ _ _ c.requires.counts) c.requires.succeeded
           (λ j inside. request_row c.args.graph.now.plan_graph c.args.i j c.args.graph.now.dependents c.of_request.result.now c.laws.ensures.dependents c.requires.request inside c.of_request.ensures.row)
           c.requires.counts.unmet
           (λ j inside. c.satisfy_each.ensures.fallen j inside ∙ ap (λ (t : Progress). get_or t.unmet.items j 0) c.count_success.ensures.rest)
           (λ j inside. subst (λ u. get_or c.satisfy_unit.new.progress.unmet.items j 0 + satisfied_by_unit c.args.graph.now.plan_graph c.args.phases.now u j ≡ get_or c.satisfy_each.new.progress.unmet.items j 0) own (c.satisfy_unit.ensures.fallen j inside));
-      members = ap length (pending_same ∙ pending_now) ∙ length-set _ _ _ ∙ c.requires.counts.members;
       pending = subst (λ ps. ArePending c.args.graph.now.plan_graph c.args.phases.now ps) (sym pending_same)
-          (pending_after c.args.graph.now.plan_graph c.args.phases.now c.args.i c.args.progress.now.pending.items c.count_success.new.progress.pending.items c.laws.ensures.order c.requires.request (as_long _ _ _ _ _ c.requires.counts) c.requires.succeeded c.requires.counts.members c.requires.counts.pending pending_now);
+          (pending_after c.args.graph.now.plan_graph c.args.phases.now c.args.i c.args.progress.now.pending.items c.count_success.new.progress.pending.items c.laws.ensures.order c.requires.request (as_long _ _ _ _ _ c.requires.counts) c.requires.succeeded c.requires.counts.ready.entries.pending c.requires.counts.pending pending_now);
       units = subst (ArePropagated c.args.graph.now.plan_graph c.args.phases.now) (sym units_same)
-          (propagated_kept c.args.graph.now.plan_graph c.args.phases.now c.args.i c.args.progress.now.units (rw (as_long _ _ _ _ _ c.requires.counts) c.requires.request) c.requires.succeeded c.requires.counts.units);
-      ready = subst (λ units. AreReady c.args.graph.now.plan_graph (is_skipped c.args.graph.now.plan_graph units) c.args.phases.now c.satisfy_unit.new.progress.unmet.items c.satisfy_unit.new.progress.ready) (sym satisfied_units) c.satisfy_unit.ensures.ready;
-      running = ap (λ (t : Progress). t.running) to_left ∙ c.remove.ensures ∙ ap (λ b. set b c.args.i false) c.requires.counts.running ∙ running_out c.args.phases.now c.args.i (succeeded_idle _ c.requires.succeeded);
+          (propagated_same c.args.graph.now.plan_graph (set c.args.phases.now c.args.i Running) c.args.phases.now c.args.progress.now.units (as_before has_failed c.args.phases.now c.args.i Running (sym (succeeded_not_failed (get_or c.args.phases.now c.args.i Unstarted) c.requires.succeeded))) c.requires.counts.units);
+      running = ap (λ (t : Progress). t.running) to_left ∙ c.remove.ensures ∙ ap (λ b. set b c.args.i false) c.requires.counts.running ∙ running_same c.args.phases.now c.args.i Running false (succeeded_idle _ c.requires.succeeded);
     }

@@ -22,7 +22,7 @@ take_report-requires-clause-counts c =
 pub returns-clause-counts : goal.returns-clause-counts
 returns-clause-counts c =
     let written = c.put.new.self.phases.items in
-    let within : c.args.i < length c.put.new.self.phases.items = rw (c.put.ensures.phases, length-set c.args.self.now.phases.items c.args.i (Reported c.args.outcome), c.requires.counts.counts.each) c.requires.request in
+    let within : c.args.i < length c.put.new.self.phases.items = rw (c.put.ensures.phases, length-set c.args.self.now.phases.items c.args.i (Reported c.args.outcome), c.requires.counts.counts.ready.entries.phased) c.requires.request in
     let back = written_back c.args.self.now.phases.items c.put.new.self.phases.items c.args.i Running (Reported c.args.outcome) c.put.ensures.phases (Running-from _ c.requires.running) in
     record {
       counts = subst (λ phases. AreCounts c.args.graph.now.plan_graph phases c.take_report.new.progress) c.deref.ensures.value c.take_report.ensures;

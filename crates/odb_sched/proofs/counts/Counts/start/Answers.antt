@@ -20,7 +20,7 @@ begin-requires-clause-counts c =
 
 pub returns-clause-counts : goal.returns-clause-counts
 returns-clause-counts c =
-    let within : c.args.i < length c.args.self.now.phases.items = rw c.requires.counts.counts.each c.requires.request in
+    let within : c.args.i < length c.args.self.now.phases.items = rw c.requires.counts.counts.ready.entries.phased c.requires.request in
     let back = written_back c.args.self.now.phases.items c.put.new.self.phases.items c.args.i Unstarted Running c.put.ensures.phases (Unstarted-from _ c.requires.unstarted) in
     let runs : is_running (get_or c.put.new.self.phases.items c.args.i Unstarted) ≡ true = ap is_running (written_at c.args.self.now.phases.items c.put.new.self.phases.items c.args.i Running within c.put.ensures.phases) in
     record {
