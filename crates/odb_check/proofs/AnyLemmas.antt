@@ -1,5 +1,5 @@
 -- What decides a fact; elements of lists, and what elements mean.
-use Rattle.std.proofs.Common.{◌≡◌, ◌⊎◌, ◌||◌, ℕ, zero, suc, Bool, false, List, [], ◌∷◌, ◌++◌, Option, Some, None, refl, sym, ap, ◌∙◌, subst, inl, inr, arith}
+use Rattle.std.proofs.Common.{◌≡◌, ◌⊎◌, ◌||◌, ℕ, Bool, false, List, [], ◌∷◌, ◌++◌, Option, Some, None, refl, sym, ap, ◌∙◌, subst, inl, inr, arith}
 use Rattle.std.specs.Borrow.{Bor}
 use Rattle.std.specs.Prelude.{Contains, bytes_eq, IsSomeAnd, is_some, option_copied}
 use Rattle.std.specs.Bool.{Decides}
@@ -10,6 +10,7 @@ use Rattle.std.proofs.lemmas.List.Folds.{list_any-append}
 use Rattle.std.proofs.lemmas.Bool.{cases_Bool, false≢true}
 use Rattle.std.proofs.lemmas.Bool.Decides.{Decides-by_or, Decides-like, not_from_Decides}
 use Rattle.std.proofs.lemmas.Slice.Eq.{bytes_eq-Decides}
+use Rattle.odb_doc.proofs.ElementLemmas.{Contains-head, Contains-tail, Contains-cases}
 
 pub Decides-none : {P : Type 0} → ¬ P → Decides false P
 Decides-none never = (λ e. absurd (false≢true e), λ p. absurd (never p))
@@ -21,19 +22,8 @@ pub copied_some : {X : Type 0} (found : Option (Bor X)) → is_some found ≡ is
 copied_some None = refl
 copied_some (Some x) = refl
 
-pub Contains-head : {X : Type 0} (x : X) (xs : List X) → Contains (x ∷ xs) x
-Contains-head x xs = (zero, omega arith, refl)
-
-pub Contains-tail : {X : Type 0} (x y : X) (xs : List X) → Contains xs y → Contains (x ∷ xs) y
-Contains-tail x y xs h = (suc h.0, omega (arith, h.1), h.2)
-
 pub Contains-none : {X : Type 0} (x : X) → Contains [] x → ⊥
 Contains-none x h = omega (arith, h.1)
-
--- an element is the first, or one of the others
-pub Contains-cases : {X : Type 0} (x y : X) (xs : List X) → Contains (x ∷ xs) y → (x ≡ y) ⊎ Contains xs y
-Contains-cases x y xs (zero, less, e) = inl e
-Contains-cases x y xs (suc k, less, e) = inr (k, omega arith, e)
 
 -- one more element, which passes or not
 pub any_more : {X : Type 0} (test : X → Bool) (xs : List X) (x : X) → list_any test (xs ++ x ∷ []) ≡ (list_any test xs || test x)

@@ -25,7 +25,7 @@ use Rattle.odb_check.specs.Positions.{id_at, group_at, names_at, reference_at, I
 use Rattle.odb_check.specs.PlanGraph.{unit_of, needs_of, plan_graph_of, IsEarlier, IsAlone, IsNeed, IsNeedAmong, IsPlan, IsPlanGraphOf, IsSpan, HasNamesAsNeeds}
 use Rattle.odb_check.specs.Tables.{IsStartOf}
 use Rattle.odb_check.specs.Units.{begins_unit, unit_at, unit_count, units_before}
-use Rattle.odb_check.proofs.AnyLemmas.{ElementMeaning, element_meaning, Contains-meaning, Contains-head, Contains-none, Contains-cases, text_listed, listed_cases}
+use Rattle.odb_check.proofs.AnyLemmas.{ElementMeaning, element_meaning, Contains-meaning, Contains-none, text_listed, listed_cases}
 use Rattle.odb_check.proofs.BelowLemmas.{length-list_below, get_or-list_below}
 use Rattle.odb_check.proofs.FirstLemmas.{count_few, count_more}
 use Rattle.odb_check.proofs.LevelLemmas.{HasNeedsBefore, has_levels}
@@ -33,6 +33,7 @@ use Rattle.odb_check.proofs.NameLemmas.{later_unit}
 use Rattle.odb_check.proofs.NeedLemmas.{IsMeant, is_meant, need_within, position_is, id_need, group_need}
 use Rattle.odb_check.proofs.PositionLemmas.{group_within, reference_within, position_first}
 use Rattle.odb_check.proofs.UnitLemmas.{IsUnitOf, unit_before, same_group, one_unit, has_units, in_group, in_unit, in_order, unit_at_begin, unit_at_start}
+use Rattle.odb_doc.proofs.ElementLemmas.{Contains-head, Contains-cases}
 
 pub good_ids : (rs : List Record) → HasGoodNames rs → HasValidIds rs
 good_ids rs good rule i broken = good rule i broken.1

@@ -1,7 +1,6 @@
 -- The canonical text, request by request and member by member.
-use Rattle.std.proofs.Common.{◌≡◌, ◌∙◌, ℕ, ◌+◌, ◌≤◌, List, ◌∷◌, ◌++◌, length, Option, Some, None, option_map, nat_lt, true, drop, refl, ap, codes, arith, append_assoc, lt-ltb, Result, Ok, Err, is_ok, if◌then◌else◌}
-use Rattle.std.proofs.lemmas.List.{drop_more, drop_all}
-use Rattle.std.proofs.lemmas.Option.{slice_get_within, get_or_from_slice_get}
+use Rattle.std.proofs.Common.{◌≡◌, ◌∙◌, ℕ, ◌+◌, ◌≤◌, List, ◌++◌, length, Option, Some, None, option_map, nat_lt, true, refl, ap, codes, arith, append_assoc, lt-ltb, Result, Ok, Err, is_ok, if◌then◌else◌}
+use Rattle.std.proofs.lemmas.List.{drop_all}
 use Rattle.std.specs.Prelude.{slice_get, OnOk}
 use Rattle.serde_json.specs.Data.{Data, string, object, put, no_members}
 use Rattle.serde_json.specs.Written.{compact_text, comma_if}
@@ -13,6 +12,7 @@ use Rattle.odb_doc.specs.canonical.Canonical.{with_some, names_value, headers_va
 use Rattle.odb_doc.specs.canonical.CanonicalParts.{end_part, requests_left}
 use Rattle.odb_doc.specs.Texts.{member_part}
 use Rattle.odb_doc.specs.batch.Records.{Record}
+use Rattle.odb_doc.proofs.ElementLemmas.{drop_at}
 
 -- three pieces that were appended one by one, the last one if it was taken
 pub pushed : {A E : Type 0} (r : Result A E) (old first second third mid new : List ℕ) → mid ≡ (old ++ first) ++ second → new ≡ (if is_ok r then mid ++ third else mid) → OnOk r (new ≡ old ++ (first ++ (second ++ third)))
@@ -66,9 +66,6 @@ canonical_text-front rs = refl
 pub requests_left-none : (rs : List Record) (i : ℕ) → length rs ≤ i → requests_left rs i ≡ codes "]}"
 unfolding requests_left
 requests_left-none rs i end = rw (drop_all i rs end) refl
-
-drop_at : (rs : List Record) (i : ℕ) (r : Record) → slice_get rs i ≡ Some r → drop i rs ≡ r ∷ drop (i + 1) rs
-drop_at rs i r is = drop_more rs i r (slice_get_within rs i r is) ∙ ap (λ s. s ∷ drop (i + 1) rs) (get_or_from_slice_get rs i r r is)
 
 -- the text of a request, and then the rest
 requests_left-more : (rs : List Record) (i : ℕ) (r : Record) → slice_get rs i ≡ Some r → requests_left rs i ≡ (comma_if (nat_lt 0 i) ++ compact_text (request_value r)) ++ requests_left rs (i + 1)

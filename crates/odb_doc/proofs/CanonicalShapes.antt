@@ -5,11 +5,12 @@ use Rattle.std.specs.Char.{to_ascii_lowercase}
 use Rattle.std.specs.List.{All, AllZip, list_any}
 use Rattle.std.specs.List.Sorted.{IsPermutation}
 use Rattle.std.specs.Str.{str_to_ascii_lowercase}
-use Rattle.std.proofs.lemmas.Bool.Decides.{nat_tests}
 use Rattle.std.proofs.lemmas.List.{length-map}
-use Rattle.std.proofs.lemmas.List.Elements.{All-head, All-rest, All-map}
+use Rattle.std.proofs.lemmas.List.Elements.{All-map}
 use Rattle.std.proofs.lemmas.List.Sorted.{IsPermutation-refl, All-permutation}
 use Rattle.std.proofs.lemmas.Slice.Zip.{AllZip-long}
+use Rattle.std.proofs.lemmas.Str.Ascii.{lowercase-lowercase}
+use Rattle.std.proofs.lemmas.List.Folds.{map_fixed}
 use Rattle.serde_json.specs.Data.{Data, null, boolean, number, string, array, object, put, no_members}
 use Rattle.serde_json.specs.Find.{get, as_str}
 use Rattle.serde_json.specs.View.{items_of}
@@ -105,18 +106,9 @@ own-headers : (headers : List Header) → listed_in (headers_value headers) ≡ 
 own-headers [] = refl
 own-headers (header ∷ headers) = text_members-own (header ∷ headers)
 
-lower-again : (byte : ℕ) → to_ascii_lowercase (to_ascii_lowercase byte) ≡ to_ascii_lowercase byte
-lower-again byte = grind (arith, nat_tests)
-
 lower-text : (text : List ℕ) → str_to_ascii_lowercase (str_to_ascii_lowercase text) ≡ str_to_ascii_lowercase text
 lower-text [] = refl
-lower-text (byte ∷ text) = rw (lower-again byte, lower-text text) refl
-
-map-same : {X : Type 0} (f : X → X) (xs : List X) → All (λ x. f x ≡ x) xs → map f xs ≡ xs
-map-same f [] all = refl
-map-same {X} f (x ∷ xs) all =
-    let same : X → Type 0 = λ y. f y ≡ y in
-    rw (All-head same x xs all, map-same f xs (All-rest same x xs (x ∷ xs) refl all)) refl
+lower-text (byte ∷ text) = rw (lowercase-lowercase byte, lower-text text) refl
 
 folded-again : (header : Header) → folded (folded header) ≡ folded header
 folded-again header = ap (λ name. (name, header.1)) (lower-text header.0)
@@ -126,7 +118,7 @@ folded-twice headers = All-map (λ h. folded h ≡ h) folded headers (λ k heade
 
 -- the names of the headers of a request are in lower case
 folded-headers : (e : Data) (headers : List Header) → HasHeaders e headers → map folded headers ≡ headers
-folded-headers e headers has = map-same folded headers (All-permutation (λ h. folded h ≡ h) (map folded has.listed) headers has.same (folded-twice has.listed))
+folded-headers e headers has = map_fixed folded headers (All-permutation (λ h. folded h ≡ h) (map folded has.listed) headers has.same (folded-twice has.listed))
 
 given-twice : (o : Option Data) → given (given o) ≡ given o
 given-twice None = refl

@@ -12,6 +12,7 @@ use Rattle.std.specs.String.{string_cmp}
 use Rattle.std.proofs.lemmas.Cmp.{nat_list_eq_equiv}
 use Rattle.std.proofs.lemmas.List.{map-append}
 use Rattle.std.proofs.lemmas.Map.Text.{is_eq-slice_cmp}
+use Rattle.std.proofs.Math.Bool.{or-false}
 use Rattle.serde_json.specs.Data.{Data, object}
 use Rattle.serde_json.specs.Find.{get_member}
 use Rattle.serde_json.specs.View.{view, members_view}
@@ -21,6 +22,7 @@ use Rattle.odb_doc.specs.Members.{names_of, is_unknown, members_of}
 use Rattle.odb_doc.specs.declared.member.Object.TheVariants as objects
 use Rattle.odb_doc.specs.declared.batch.members.Members.{Members}
 use Rattle.odb_doc.specs.batch.MembersFound.{AreMembersOf, PutsMember, put_at, data_of}
+use Rattle.odb_doc.proofs.WatchLemmas.{all_at}
 
 -- ---- a look-up among members, and one member more
 
@@ -35,10 +37,6 @@ get_member-first name e es =
     ∙ ap (λ b. cond b (Some (view e.1)) (get_member name (members_view es))) (is_eq-slice_cmp name (string_bytes e.0))
 
 -- ---- a later name is not among earlier ones
-
-all_at : {X : Type 0} (P : X → Type 0) (xs : List X) (x : X) (ys : List X) → AllByRecursion P (xs ++ x ∷ ys) → P x
-all_at P [] x ys all = all.0
-all_at P (y ∷ xs) x ys all = all_at P xs x ys all.1
 
 abbrev pub IsNew : List ℕ → List Entry → Type 0
 IsNew name es = AllByRecursion (λ e. bytes_eq name (string_bytes e.0) ≡ false) es
@@ -71,10 +69,6 @@ get_member-push name (x ∷ es) e new =
 any_step : (b c d e : Bool) → c ≡ (d || e) → (b || c) ≡ ((b || d) || e)
 any_step true c d e is = refl
 any_step false c d e is = is
-
-or-false : (b : Bool) → (b || false) ≡ b
-or-false true = refl
-or-false false = refl
 
 pub any-push : (test : List ℕ → Bool) (es : List Entry) (e : Entry) → list_any test (names_of (members_view (es ++ e ∷ []))) ≡ (list_any test (names_of (members_view es)) || test (string_bytes e.0))
 any-push test [] e = or-false (test (string_bytes e.0))

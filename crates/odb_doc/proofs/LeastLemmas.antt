@@ -5,11 +5,12 @@ use Rattle.std.proofs.lemmas.Bool.{cases_order}
 use Rattle.std.proofs.lemmas.List.{length-append, take-append-le, get_or_append_left}
 use Rattle.std.proofs.lemmas.Option.{slice_get-get_or, slice_get_past}
 use Rattle.std.proofs.lemmas.Slice.Zip.{all_zipped_more, AllZip-long}
-use Rattle.std.proofs.Math.Seq.{take-append_seam, get_or-append_seam}
+use Rattle.std.proofs.Math.Seq.{take-append_seam}
 use Rattle.odb_doc.specs.declared.broken.Broken.{Broken}
 use Rattle.odb_doc.specs.declared.broken.Broken.TheVariants as broken
 use Rattle.odb_doc.specs.BrokenRules.{OnRule, OnPlace, broken_at}
 use Rattle.odb_doc.specs.LeastRules.{IsLeast, BreaksAt, NoneBroken, IsFirst}
+use Rattle.odb_doc.proofs.ElementLemmas.{slice_get-seam}
 
 -- ---- positions of a list, and of a prefix of it
 
@@ -17,11 +18,6 @@ slice_get-front : {X : Type 0} (xs rest : List X) (d : X) (i : ℕ) → i < leng
 slice_get-front xs rest d i within =
     let longer : i < length (xs ++ rest) = omega (arith, length-append xs rest) in
     slice_get-get_or (xs ++ rest) i d longer ∙ ap Some (get_or_append_left xs rest d i within) ∙ sym (slice_get-get_or xs i d within)
-
-slice_get-seam : {X : Type 0} (xs : List X) (x : X) (rest : List X) → slice_get (xs ++ x ∷ rest) (length xs) ≡ Some x
-slice_get-seam xs x rest =
-    let within : length xs < length (xs ++ x ∷ rest) = omega (arith, length-append xs (x ∷ rest)) in
-    slice_get-get_or (xs ++ x ∷ rest) (length xs) x within ∙ ap Some (get_or-append_seam xs x rest x)
 
 module _ {R X : Type 0} (number : R → ℕ) (Breaks : R → List X → X → Type 0) where
   -- what is broken depends on the element and on those before it alone

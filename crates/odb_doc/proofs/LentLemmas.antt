@@ -28,6 +28,7 @@ use Rattle.odb_doc.specs.Headers.{Header, HoldsHeaders, IsInOrder, folded, heade
 use Rattle.odb_doc.specs.Members.{given}
 use Rattle.odb_doc.proofs.FoldedNames.{names_in-text_members_in}
 use Rattle.odb_doc.proofs.RuleLemmas.{before_twice, listed_not_bad}
+use Rattle.odb_doc.proofs.RepeatLemmas.{less_from}
 
 -- ---- names in order
 
@@ -36,11 +37,6 @@ no_header = (record { ref_ptr = (0, 0); now = [] }, record { ref_ptr = (0, 0); n
 
 by_name_total : IsTotalOrder by_name
 by_name_total = on_total (λ (x : Lent). str_to_ascii_lowercase x.0.now) nat_list_cmp_total
-
-less_from : (o : Ordering) → true ≡ is_lt o → o ≡ Less
-less_from Less is = refl
-less_from Equal is = cc
-less_from Greater is = cc
 
 below_names : (x : Lent) (xs : List Lent) → AllByRecursion (λ y. by_name x y ≡ Less) xs → AllByRecursion (λ name. slice_cmp nat_cmp (str_to_ascii_lowercase x.0.now) name ≡ Less) (keys_of (map lent_header xs))
 below_names x [] all = tt

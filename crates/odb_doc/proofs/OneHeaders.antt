@@ -1,5 +1,5 @@
 -- A request has one list of headers.
-use Rattle.std.proofs.Common.{◌≡◌, ◌∙◌, ◌⊎◌, inl, inr, ℕ, List, [], ◌∷◌, map, refl, ap, sym, subst, arith}
+use Rattle.std.proofs.Common.{◌≡◌, ◌∙◌, inl, inr, ℕ, List, [], ◌∷◌, map, refl, ap, sym, subst, arith}
 use Rattle.std.specs.declared.cmp.Ordering.TheVariants.{Less, Equal}
 use Rattle.std.specs.Cmp.Lexicographic.{slice_cmp}
 use Rattle.std.specs.List.{Contains}
@@ -8,22 +8,13 @@ use Rattle.std.specs.Map.{keys_of}
 use Rattle.std.specs.Ordering.{nat_cmp, ordering_reverse}
 use Rattle.std.proofs.lemmas.Cmp.{tied_itself, nat_list_cmp_total}
 use Rattle.std.proofs.lemmas.List.{length-map, get_or-map}
-use Rattle.std.proofs.lemmas.List.Elements.{All-contains, Contains-append_cases, Contains-append_right, Contains-push_cases}
+use Rattle.std.proofs.lemmas.List.Elements.{All-contains, Contains-append_right}
 use Rattle.std.proofs.lemmas.List.Sorted.{IsPermutation-sym, Contains-permutation}
 use Rattle.std.proofs.lemmas.Map.Keys.{sorted_tail}
 use Rattle.std.proofs.lemmas.Map.Views.{All-after_first}
 use Rattle.serde_json.specs.Data.{Data}
 use Rattle.odb_doc.specs.Headers.{Header, HasHeaders, folded}
-
-Contains-cons_cases : {X : Type 0} (x : X) (xs : List X) (q : X) → Contains (x ∷ xs) q → (x ≡ q) ⊎ Contains xs q
-Contains-cons_cases x xs q among =
-    elim (Contains-append_cases (x ∷ []) xs q among) [
-      | inl here ↦ elim (Contains-push_cases [] x q here) [ inl none ↦ absurd (omega (arith, none.1)) | inr is ↦ inl is ]
-      | inr there ↦ inr there
-    ]
-
-Contains-first : {X : Type 0} (x : X) (xs : List X) → Contains (x ∷ xs) x
-Contains-first x xs = (0, omega arith, refl)
+use Rattle.odb_doc.proofs.ElementLemmas.{Contains-head, Contains-cases}
 
 Contains-key : (headers : List Header) (h : Header) → Contains headers h → Contains (keys_of headers) h.0
 Contains-key headers h among = (among.0, rw (length-map headers (λ (g : Header). g.0)) among.1, get_or-map (λ (g : Header). g.0) headers among.0 h h.0 among.1 ∙ ap (λ (g : Header). g.0) among.2)
@@ -44,9 +35,9 @@ less_back name other less back =
 same_first : (x y : Header) (xs ys : List Header) → IsStrictlySortedBy (slice_cmp nat_cmp) (keys_of (x ∷ xs)) → IsStrictlySortedBy (slice_cmp nat_cmp) (keys_of (y ∷ ys))
     → Contains (y ∷ ys) x → Contains (x ∷ xs) y → x ≡ y
 same_first x y xs ys ordered ordered' x_among y_among =
-    elim (Contains-cons_cases y ys x x_among) [
+    elim (Contains-cases y x ys x_among) [
       | inl is ↦ sym is
-      | inr later ↦ elim (Contains-cons_cases x xs y y_among) [
+      | inr later ↦ elim (Contains-cases x y xs y_among) [
         | inl is ↦ is
         | inr later' ↦ absurd (less_back x.0 y.0 (above_first x xs y ordered later') (above_first y ys x ordered' later))
       ]
@@ -55,7 +46,7 @@ same_first x y xs ys ordered ordered' x_among y_among =
 -- what comes after the first of one list comes after the first of the other
 same_rest : (x y : Header) (xs ys : List Header) (h : Header) → x ≡ y → IsStrictlySortedBy (slice_cmp nat_cmp) (keys_of (x ∷ xs)) → Contains xs h → Contains (y ∷ ys) h → Contains ys h
 same_rest x y xs ys h is ordered later among =
-    elim (Contains-cons_cases y ys h among) [
+    elim (Contains-cases y h ys among) [
       | inl here ↦ absurd (less_itself x.0 (subst (λ (g : Header). slice_cmp nat_cmp x.0 g.0 ≡ Less) (sym (is ∙ here)) (above_first x xs h ordered later)))
       | inr there ↦ there
     ]
@@ -63,10 +54,10 @@ same_rest x y xs ys h is ordered later among =
 same_headers : (xs ys : List Header) → IsStrictlySortedBy (slice_cmp nat_cmp) (keys_of xs) → IsStrictlySortedBy (slice_cmp nat_cmp) (keys_of ys)
     → ((h : Header) → Contains xs h → Contains ys h) → ((h : Header) → Contains ys h → Contains xs h) → xs ≡ ys
 same_headers [] [] ordered ordered' there back = refl
-same_headers [] (y ∷ ys) ordered ordered' there back = absurd (omega (arith, (back y (Contains-first y ys)).1))
-same_headers (x ∷ xs) [] ordered ordered' there back = absurd (omega (arith, (there x (Contains-first x xs)).1))
+same_headers [] (y ∷ ys) ordered ordered' there back = absurd (omega (arith, (back y (Contains-head y ys)).1))
+same_headers (x ∷ xs) [] ordered ordered' there back = absurd (omega (arith, (there x (Contains-head x xs)).1))
 same_headers (x ∷ xs) (y ∷ ys) ordered ordered' there back =
-    let first = same_first x y xs ys ordered ordered' (there x (Contains-first x xs)) (back y (Contains-first y ys)) in
+    let first = same_first x y xs ys ordered ordered' (there x (Contains-head x xs)) (back y (Contains-head y ys)) in
     let rest = same_headers xs ys (sorted_tail (slice_cmp nat_cmp) x.0 (keys_of xs) ordered) (sorted_tail (slice_cmp nat_cmp) y.0 (keys_of ys) ordered')
     (λ h later. same_rest x y xs ys h first ordered later (there h (Contains-append_right (x ∷ []) xs h later)))
     (λ h later. same_rest y x ys xs h (sym first) ordered' later (back h (Contains-append_right (y ∷ []) ys h later))) in

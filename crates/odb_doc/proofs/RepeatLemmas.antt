@@ -37,7 +37,7 @@ by_text_total = record {
   congr = λ x y z. nat_list_cmp_total.congr x.now y.now z.now;
 }
 
-less_from : (o : Ordering) → true ≡ is_lt o → o ≡ Less
+pub less_from : (o : Ordering) → true ≡ is_lt o → o ≡ Less
 less_from Less is = refl
 less_from Equal is = cc
 less_from Greater is = cc

@@ -26,7 +26,7 @@ ids_on-drop names vs i v within is = at_drop_more (ids_on names) vs i v within �
 
 -- ---- an id among distinct ones
 
-all_at : {X : Type 0} (P : X → Type 0) (xs : List X) (x : X) (ys : List X) → AllByRecursion P (xs ++ x ∷ ys) → P x
+pub all_at : {X : Type 0} (P : X → Type 0) (xs : List X) (x : X) (ys : List X) → AllByRecursion P (xs ++ x ∷ ys) → P x
 all_at P [] x ys all = all.0
 all_at P (y ∷ xs) x ys all = all_at P xs x ys all.1
 

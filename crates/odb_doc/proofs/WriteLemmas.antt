@@ -64,6 +64,14 @@ AppendsPrefix-after old mid new text rest before after = (after.0, HasWritten-tr
 pub HasWritten-whole : (old new : Option (List ℕ)) (text : List ℕ) → Appends old new text → HasWritten old new text []
 HasWritten-whole old new text written = record { prefix = text; whole = sym (append-nil text); written = written }
 
+-- a whole text is a prefix of itself
+pub AppendsPrefix-whole : (old new : Option (List ℕ)) (text : List ℕ) → Appends old new text → AppendsPrefix old new text
+AppendsPrefix-whole old new text written = ([], HasWritten-whole old new text written)
+
+-- a text and then a prefix of another are a prefix of both
+pub AppendsPrefix-append : (old mid new : Option (List ℕ)) (text later : List ℕ) → Appends old mid text → AppendsPrefix mid new later → AppendsPrefix old new (text ++ later)
+AppendsPrefix-append old mid new text later written part = AppendsPrefix-after old mid new (text ++ later) later (HasWritten-part old mid text [] later (HasWritten-whole old mid text written)) part
+
 -- the rest is written whole
 pub Appends-rest : (old mid new : Option (List ℕ)) (text rest : List ℕ) → HasWritten old mid text rest → Appends mid new rest → Appends old new text
 Appends-rest old mid new text rest before written = rw before.whole (Appends-trans old mid new before.prefix rest before.written written)

@@ -1,7 +1,7 @@
 -- Two texts that the cascade allows for the same bytes are equal, if P allows one for each batch.
 use Rattle.std.proofs.lemmas.Bool.{false≢true}
 use Rattle.std.proofs.lemmas.Option.{same_Some}
-use Rattle.std.proofs.Common.{◌≡◌, ℕ, ◌≤◌, ◌<◌, ◌∙◌, List, Option, Some, None, IsSome, is_some, option_map, length, unwrap_or, inl, inr, refl, sym, subst, ap, arith}
+use Rattle.std.proofs.Common.{◌≡◌, ℕ, ◌≤◌, ◌<◌, ◌∙◌, List, Option, Some, None, IsSome, is_some, option_map, length, inl, inr, refl, sym, subst, ap, arith}
 use Rattle.serde_json.specs.Data.{Data}
 use Rattle.odb_doc.specs.declared.fault.Place.{Place}
 use Rattle.odb_doc.specs.declared.fault.Place.TheVariants.{Batch}
@@ -18,6 +18,7 @@ use Rattle.odb_check.specs.LeastNameFault.{HasGoodNames, RefusesNames}
 use Rattle.odb_engine.specs.declared.ending.Ended.{Ended}
 use Rattle.odb_engine.specs.Cascade.{IsOne, Writes, line_of, RefusesBytes, Accepts, AcceptsValue, Answers, AnswersValue, HasValue, IsLeastOfBatch, OfDocument, at_place}
 use Rattle.odb_doc.specs.Refusals.{Printed}
+use Rattle.odb_engine.proofs.MemoryLemmas.{one_value}
 
 -- the laws of the lower crates on their own relations
 pub record AreFunctional : Type 0 where
@@ -27,10 +28,6 @@ pub record AreFunctional : Type 0 where
   pub one_name : (requests : List Record) (fault other : CheckFault) → IsSome (check_row fault) → IsSome (check_row other) → RefusesNames fault requests → RefusesNames other requests
       → fault ≡ other
   pub no_name : (requests : List Record) (fault : CheckFault) → IsSome (check_row fault) → RefusesNames fault requests → ¬ HasGoodNames requests
-
--- bytes have one value
-pub one_value : (bytes : List ℕ) (d e : Data) → IsDocument bytes d → IsDocument bytes e → d ≡ e
-one_value bytes d e first second = ap (λ o. unwrap_or o d) (sym first.1.1 ∙ second.1.1)
 
 -- ---- bytes that are refused
 

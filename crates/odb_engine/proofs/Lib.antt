@@ -1,6 +1,7 @@
 mod ReadLemmas
 mod TraceLemmas
 mod EngineLemmas
+pub mod MemoryLemmas
 mod AnswerLemmas
 mod PhaseLemmas
 mod SendLemmas

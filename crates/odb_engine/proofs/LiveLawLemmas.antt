@@ -1,8 +1,9 @@
 -- That what is written of a live run is what a run by recorded events writes.
-use Rattle.std.proofs.Common.{◌≡◌, ◌∙◌, ℕ, zero, suc, ◌<◌, true, List, [], ◌∷◌, ◌++◌, All, Option, Some, None, IfSome, IsNone, IsSomeAnd, inl, inr, refl, sym, ap, subst, arith, append-nil}
+use Rattle.std.proofs.Common.{◌≡◌, ◌∙◌, ℕ, zero, suc, ◌<◌, true, List, [], ◌∷◌, ◌++◌, All, Option, Some, None, IfSome, IsNone, IsSomeAnd, inl, inr, refl, sym, ap, subst}
 use Rattle.std.specs.List.{AllZip}
 use Rattle.std.proofs.lemmas.Bool.{cases_Bool, both_ways}
 use Rattle.std.proofs.lemmas.List.Elements.{All-nil, All-cons}
+use Rattle.std.proofs.lemmas.Slice.Zip.{all_zipped_more}
 use Rattle.serde_json.specs.Data.{Data}
 use Rattle.serde_json.specs.Written.{has_float}
 use Rattle.odb_doc.specs.declared.fault.Place.TheVariants as places
@@ -19,25 +20,26 @@ use Rattle.odb_sched.specs.declared.event.Event.{Event}
 use Rattle.odb_sched.specs.declared.event.Event.TheVariants as event
 use Rattle.odb_sched.specs.declared.policy.Policy.{Policy}
 use Rattle.odb_sched.specs.run.Resolving.{IsResolved}
-use Rattle.odb_sched.specs.run.Runs.{IsRunFrom, after_all, event_position}
+use Rattle.odb_sched.specs.run.Runs.{IsRunFrom, event_position}
 use Rattle.odb_sched.specs.run.State.{State, after, first_state, size, with_requests, without_requests}
 use Rattle.odb_sched.specs.run.Steps.{is_finished, may_come}
 use Rattle.odb_reply.specs.NotWhole.{HasWholeBodies}
 use Rattle.odb_engine.specs.declared.ending.Ended.{Ended}
 use Rattle.odb_engine.specs.declared.ending.Ended.TheVariants.{Done}
 use Rattle.odb_doc.specs.Refusals.{Printed}
-use Rattle.odb_engine.specs.Cascade.{Accepts, Answers, HasValue}
-use Rattle.odb_engine.specs.Inputs.{IsDocumentOf}
+use Rattle.odb_engine.specs.Cascade.{Accepts, Answers}
 use Rattle.odb_engine.specs.Lines.{response_line}
 use Rattle.odb_engine.specs.Live.{IsAfter, IsLeastOfState, Opens, RecordsOneMore, Shows, ShowsState}
 use Rattle.odb_engine.specs.Live.IsLeastOfState.{OfBody, OfEnd as AtEnd}
 use Rattle.odb_engine.specs.Runs.{AreEventsIn, AreResolved, IsHistoryOf, IsLeastOfRun, Runs, RunsBatch, RunsEvents, RunsValue, end_of}
 use Rattle.odb_engine.specs.Runs.IsLeastOfRun.{OfIds, OfEvent, OfEnd}
-use Rattle.odb_engine.proofs.LawLemmas.{AreFunctional, answers_accepted, one_value, refused_no_value, same_batch}
+use Rattle.odb_engine.proofs.LawLemmas.{AreFunctional, answers_accepted, refused_no_value, same_batch}
 use Rattle.odb_engine.proofs.RunLawLemmas.{AreOneHistory, HaveOneCause, not-stopped, not-unknown, one-run, same-events}
-use Rattle.odb_engine.proofs.RunLemmas.{requests-kept, whole-bodies}
+use Rattle.odb_engine.proofs.RunLemmas.{whole-bodies}
 use Rattle.odb_engine.proofs.SecondLemmas.{one_document}
 use Rattle.odb_engine.proofs.SecondLemmas as second
+use Rattle.odb_sched.proofs.RunLemmas.{requests-after_all, joined, after_all-push}
+use Rattle.odb_engine.proofs.MemoryLemmas.{whole-document, one_value}
 
 -- ---- the bodies of a document of events hold whole numbers alone
 
@@ -99,12 +101,9 @@ module _ (causes : HaveOneCause) (policy : Policy) (batch : List Record) (good :
 
 -- ---- from bytes
 
-whole-document : (events : List ℕ) (P : Data → Type 0) → HasValue events P → IsDocumentOf events events
-whole-document events P is = record { rest = []; whole = sym (append-nil events); within = omega (arith, is.document.0); ends = λ less. refl }
-
 -- the state that knows its requests again
 with-requests : (batch : List Record) (policy : Policy) (es : List Event) → with_requests batch (without_requests (end_of policy batch es)) ≡ end_of policy batch es
-with-requests batch policy es = ap (λ rs. with_requests rs (end_of policy batch es)) (sym (requests-kept (first_state batch policy) es))
+with-requests batch policy es = ap (λ rs. with_requests rs (end_of policy batch es)) (sym (requests-after_all (first_state batch policy) es))
 
 module _ (law : AreFunctional) (causes : HaveOneCause) (history : AreOneHistory) (policy : Policy) where
   after-one : (batch : List Record) → HasGoodNames batch → (events : List ℕ) (run : State) → IsAfter policy batch events run → (a b : Ended) (s t : List ℕ) → ShowsState (with_requests batch run) a s
@@ -136,20 +135,6 @@ module _ (law : AreFunctional) (causes : HaveOneCause) (history : AreOneHistory)
 
 -- ---- one event more
 
-resolved-more : (batch : List Record) (ns : List EventValue) (es : List Event) (n : EventValue) (e : Event) → AreResolved batch ns es → IsResolved batch n e → AreResolved batch (ns ++ n ∷ []) (es ++ e ∷ [])
-resolved-more batch [] [] n e all is = (is, tt)
-resolved-more batch [] (f ∷ es) n e all is = absurd all
-resolved-more batch (m ∷ ns) [] n e all is = absurd all
-resolved-more batch (m ∷ ns) (f ∷ es) n e (one, all) is = (one, resolved-more batch ns es n e all is)
-
-run-more : (state : State) (es : List Event) (e : Event) → IsRunFrom state es → event_position e < size (after_all state es) → may_come (after_all state es) e ≡ true → IsRunFrom state (es ++ e ∷ [])
-run-more state [] e run within may = (within, may, tt)
-run-more state (f ∷ es) e (inside, came, run) within may = (inside, came, run-more (after state f) es e run within may)
-
-after-more : (state : State) (es : List Event) (e : Event) → after_all state (es ++ e ∷ []) ≡ after (after_all state es) e
-after-more state [] e = refl
-after-more state (f ∷ es) e = after-more (after state f) es e
-
 after-without : (state : State) (e : Event) → after (without_requests state) e ≡ without_requests (after state e)
 after-without state (event.Start i) = refl
 after-without state (event.Report i outcome) = refl
@@ -168,11 +153,11 @@ module _ (law : AreFunctional) (history : AreOneHistory) (policy : Policy) where
         named = is.named ++ next.last ∷ [];
         named_in = subst (λ xs. AreEventsIn more (xs ++ next.last ∷ [])) same next.with_it;
         events = is.events ++ e ∷ [];
-        resolved = resolved-more batch is.named is.events next.last e is.resolved next.is;
-        may_come = run-more (first_state batch policy) is.events e is.may_come
+        resolved = all_zipped_more (IsResolved batch) is.named is.events next.last e is.resolved next.is;
+        may_come = joined (first_state batch policy) is.events e is.may_come
             (subst (λ (x : State). event_position e < size x) is.state within)
             (sym (may-without last e) ∙ subst (λ (x : State). may_come x e ≡ true) is.state may);
-        state = ap (λ (x : State). after x e) is.state ∙ after-without last e ∙ ap without_requests (sym (after-more (first_state batch policy) is.events e));
+        state = ap (λ (x : State). after x e) is.state ∙ after-without last e ∙ ap without_requests (sym (after_all-push (first_state batch policy) is.events e));
       }
 
   pub live-next : (batch events more : List ℕ) (run : State) (e : Event) → Opens policy batch events run → Accepts batch (λ rs. RecordsOneMore rs events more e) → event_position e < size run → may_come run e ≡ true

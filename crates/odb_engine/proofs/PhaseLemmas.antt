@@ -1,5 +1,6 @@
 -- The two phases of an engine over two documents: the batch, and then the second document.
 use Rattle.std.proofs.Common.{◌≡◌, ◌⊎◌, ◌↔◌, Bool, false, List, ℕ, Option, Result, Ok, Err, IfOk, IfErr, OnOk, IsTrue, inl, inr, sym, subst, ap, ◌∙◌}
+use Rattle.std.proofs.lemmas.Bool.{both_ways}
 use Rattle.odb_doc.specs.Devices.{Reading, Writing}
 use Rattle.odb_engine.specs.declared.ending.Ended.{Ended}
 use Rattle.odb_engine.specs.declared.ending.EngineFault.{EngineFault}
@@ -38,15 +39,12 @@ pub read-by-halt : {T : Type 0} (sent : Result T Halt) (G : Type 0) → ((sent �
 read-by-halt (Ok x) G read = ((λ f. absurd f, λ g. differs x halts.Read (read.1 g)), tt)
 read-by-halt (Err halt) G read = (tt, (λ e. read.0 (ap Err e), λ g. ap halt_in (read.1 g)))
 
-not-both : (b : Bool) → IsTrue b → b ≡ false → ⊥
-not-both b is is_not = cc
-
 -- a failed input is the first if the first phase halted, and else the second
 pub read-of-two : {S T : Type 0} (sent : Result T Halt) (first : Bool) (old new : Reading S) → ((sent ≡ Err halts.Read) ↔ IsTrue first) → OnOk sent (first ≡ false) → old.failed ≡ false → IfErr sent (λ _. new ≡ old)
     → IfOk sent (λ _. IsTrue new.failed ↔ (IsTrue first ⊎ IsTrue new.failed)) × IfErr sent (λ halt. (halt ≡ halts.Read) ↔ (IsTrue first ⊎ IsTrue new.failed))
-read-of-two (Ok x) first old new read good works kept = ((λ s. inr s, λ either. elim either [ inl f ↦ absurd (not-both first f good) | inr s ↦ s ]), tt)
+read-of-two (Ok x) first old new read good works kept = ((λ s. inr s, λ either. elim either [ inl f ↦ absurd (both_ways first good f) | inr s ↦ s ]), tt)
 read-of-two (Err halt) first old new read good works kept =
-    (tt, (λ e. inl (read.0 (ap Err e)), λ either. elim either [ inl f ↦ ap halt_in (read.1 f) | inr s ↦ absurd (not-both new.failed s (ap (λ i. i.failed) kept ∙ works)) ]))
+    (tt, (λ e. inl (read.0 (ap Err e)), λ either. elim either [ inl f ↦ ap halt_in (read.1 f) | inr s ↦ absurd (both_ways new.failed (ap (λ i. i.failed) kept ∙ works) s) ]))
 
 good-read : {R T : Type 0} (remaining : R → Option (List ℕ)) (first read : Reading R) (bytes : List ℕ) (sent : Result T Halt) → OnOk sent (ReadsBatch remaining first read bytes) → OnOk sent (read.failed ≡ false)
 good-read remaining first read bytes (Ok x) (was, accepts) = was.works
@@ -71,7 +69,3 @@ pub Sent-weaker : {W : Type 0} (contents : W → Option (List ℕ)) (form : Form
     → Sent contents form P F old new sent → Sent contents form Q F old new sent
 Sent-weaker contents form P Q F old new (Ok result) to sent = Ends-weaker contents (InForm form P) (InForm form Q) F F old new result (InForm-weaker form P Q to) (λ f. f, λ f. f) sent
 Sent-weaker contents form P Q F old new (Err halt) to (same, refuses) = (same, Refuses-weaker P Q halt to refuses)
-
-pub OnOk-weaker : {T E : Type 0} (r : Result T E) (P Q : Type 0) → (P → Q) → OnOk r P → OnOk r Q
-OnOk-weaker (Ok x) P Q to so = to so
-OnOk-weaker (Err error) P Q to so = tt

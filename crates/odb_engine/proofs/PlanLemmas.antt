@@ -1,7 +1,6 @@
 -- A plan as JSON, request by request.
-use Rattle.std.proofs.Common.{◌≡◌, ◌∙◌, ℕ, ◌+◌, ◌≤◌, List, ◌∷◌, ◌++◌, length, drop, true, false, nat_lt, Option, Some, None, option_map, slice_get, refl, ap, codes, arith, append_assoc, lt-ltb}
-use Rattle.std.proofs.lemmas.List.{drop_more, drop_all}
-use Rattle.std.proofs.lemmas.Option.{slice_get_within, get_or_from_slice_get}
+use Rattle.std.proofs.Common.{◌≡◌, ◌∙◌, ℕ, ◌+◌, ◌≤◌, List, ◌++◌, length, true, false, nat_lt, Option, Some, None, option_map, slice_get, refl, ap, codes, arith, append_assoc, lt-ltb}
+use Rattle.std.proofs.lemmas.List.{drop_all}
 use Rattle.serde_json.specs.Data.{Data, string, number, unsigned, array, object, put, no_members}
 use Rattle.serde_json.specs.View.{items_of}
 use Rattle.serde_json.specs.Written.{compact_text, comma_if, items_text}
@@ -13,6 +12,7 @@ use Rattle.odb_check.specs.Needs.{needs_at}
 use Rattle.odb_engine.specs.Forms.{json_line}
 use Rattle.odb_engine.specs.Results.{need_values, plan_value, planned}
 use Rattle.odb_engine.specs.ResultParts.{group_part, id_part, planned_left}
+use Rattle.odb_doc.proofs.ElementLemmas.{drop_at}
 
 members_text_of : (group : Option (List ℕ)) (id : List ℕ) (level : ℕ) (needs : List Data)
     → compact_text (object (with_some (codes "group") (option_map string group) (put (codes "id") (string id) (put (codes "level") (number (unsigned level)) (put (codes "needs") (array (items_of needs)) no_members)))))
@@ -28,10 +28,6 @@ planned_left-first batch = simp append_assoc
 pub planned_left-none : (batch : List Record) (i : ℕ) → length batch ≤ i → planned_left batch i ≡ codes "]}\n"
 unfolding planned_left
 planned_left-none batch i past = rw (drop_all i batch past) refl
-
-drop_at : (batch : List Record) (i : ℕ) (request : Record) → slice_get batch i ≡ Some request → drop i batch ≡ request ∷ drop (i + 1) batch
-drop_at batch i request is =
-    drop_more batch i request (slice_get_within batch i request is) ∙ ap (λ r. r ∷ drop (i + 1) batch) (get_or_from_slice_get batch i request request is)
 
 more : (batch : List Record) (i : ℕ) (request : Record) → slice_get batch i ≡ Some request
     → planned_left batch i ≡ (comma_if (nat_lt 0 i) ++ compact_text (planned batch i request)) ++ planned_left batch (i + 1)

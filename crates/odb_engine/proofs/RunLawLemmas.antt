@@ -1,7 +1,7 @@
 -- What recorded events may write of a batch: one text.
-use Rattle.std.proofs.Common.{◌≡◌, ◌⊎◌, ◌∙◌, ℕ, zero, suc, ◌<◌, true, List, [], ◌∷◌, ◌++◌, length, slice_get, IsSomeAnd, Some, inl, inr, refl, sym, ap, subst}
+use Rattle.std.proofs.Common.{◌≡◌, ◌∙◌, ℕ, zero, suc, true, List, [], ◌∷◌, ◌++◌, length, slice_get, IsSomeAnd, Some, inl, inr, refl, sym, ap, subst}
 use Rattle.std.specs.List.{AllZip}
-use Rattle.std.proofs.lemmas.Bool.{cases_order, both_ways}
+use Rattle.std.proofs.lemmas.Bool.{both_ways}
 use Rattle.std.proofs.lemmas.Option.{same_Some}
 use Rattle.serde_json.specs.Data.{Data}
 use Rattle.odb_doc.specs.declared.fault.Place.TheVariants as places
@@ -10,9 +10,7 @@ use Rattle.odb_doc.specs.recorded.Events.{EventValue, AreEventsOf}
 use Rattle.odb_doc.specs.recorded.LeastEventFault.{IsEventsDocument, RefusesEvents}
 use Rattle.odb_doc.specs.recorded.Events as named
 use Rattle.odb_doc.specs.batch.Records.{Record}
-use Rattle.odb_check.specs.declared.fault.NameRule.TheVariants as rules
 use Rattle.odb_check.specs.LeastNameFault.{HasGoodNames}
-use Rattle.odb_check.specs.Positions.{id_at, IsIdBefore}
 use Rattle.odb_sched.specs.declared.event.Event.{Event}
 use Rattle.odb_sched.specs.declared.event.Event.TheVariants as event
 use Rattle.odb_sched.specs.declared.policy.Policy.{Policy}
@@ -33,29 +31,19 @@ use Rattle.odb_engine.specs.Runs.{AreResolved, IsLeastOfRun, IsResult, Runs, Run
 use Rattle.odb_engine.specs.Runs.IsLeastOfRun.{OfIds, OfEvent, OfEnd}
 use Rattle.odb_engine.proofs.LawLemmas.{document_one}
 use Rattle.odb_engine.proofs.SecondLemmas.{IsOneKind, reading_one, some_document_one}
+use Rattle.odb_sched.proofs.ResolveLemmas.{known-from}
+use Rattle.odb_sched.proofs.RecordedLemmas.{same_place}
 
 -- ---- events by positions
 
--- an identifier is that of one position
-one-position : (batch : List Record) → HasGoodNames batch → (i j : ℕ) (id : List ℕ) → id_at batch i ≡ Some id → id_at batch j ≡ Some id → i ≡ j
-one-position batch good i j id here there = at (cases_order i j)
-  where
-    twice : (k l : ℕ) → l < k → id_at batch k ≡ Some id → id_at batch l ≡ Some id → ⊥
-    twice k l less a b = good rules.IdTwice k (subst (λ found. IsSomeAnd found (λ name. IsIdBefore batch name k)) (sym a) (l, less, b))
-
-    at : (i ≡ j) ⊎ ((i < j) ⊎ (j < i)) → i ≡ j
-    at (inl same) = same
-    at (inr (inl less)) = absurd (twice j i less there here)
-    at (inr (inr less)) = absurd (twice i j less here there)
-
 one-event : (batch : List Record) → HasGoodNames batch → (n : EventValue) (e f : Event) → IsResolved batch n e → IsResolved batch n f → e ≡ f
-one-event batch good (named.Start id) (event.Start i) (event.Start j) a b = ap (λ k. event.Start k) (one-position batch good i j id a b)
+one-event batch good (named.Start id) (event.Start i) (event.Start j) a b = ap (λ k. event.Start k) (same_place batch id i j good a b)
 one-event batch good (named.Start id) (event.Start i) (event.Report j q) a b = absurd b
 one-event batch good (named.Start id) (event.Report i p) f a b = absurd a
 one-event batch good (named.Report id o) (event.Start i) f a b = absurd a
 one-event batch good (named.Report id o) (event.Report i p) (event.Start j) a b = absurd b
 one-event batch good (named.Report id o) (event.Report i p) (event.Report j q) (a, s) (b, t) =
-    ap (λ k. event.Report k p) (one-position batch good i j id a b) ∙ ap (λ x. event.Report j x) (s ∙ sym t)
+    ap (λ k. event.Report k p) (same_place batch id i j good a b) ∙ ap (λ x. event.Report j x) (s ∙ sym t)
 
 one-list : (batch : List Record) → HasGoodNames batch → (ns : List EventValue) (es fs : List Event) → AllZip (IsResolved batch) ns es → AllZip (IsResolved batch) ns fs → es ≡ fs
 one-list batch good [] [] [] a b = refl
@@ -68,17 +56,11 @@ one-list batch good (n ∷ ns) (e ∷ es) (f ∷ fs) (a, xs) (b, ys) =
 
 -- ---- events that name no request
 
-known-one : (batch : List Record) (n : EventValue) (e : Event) → IsResolved batch n e → IsKnown batch n
-known-one batch (named.Start id) (event.Start i) is = (i, is)
-known-one batch (named.Start id) (event.Report i o) is = absurd is
-known-one batch (named.Report id o) (event.Start i) is = absurd is
-known-one batch (named.Report id o) (event.Report i p) is = (i, is.0)
-
 pub not-unknown : (batch : List Record) (ns : List EventValue) (es : List Event) (at : ℕ) → AllZip (IsResolved batch) ns es → IsSomeAnd (slice_get ns at) (λ n. ¬ IsKnown batch n) → ⊥
 not-unknown batch [] es zero all un = un
 not-unknown batch [] es (suc at) all un = un
 not-unknown batch (n ∷ ns) [] at all un = absurd all
-not-unknown batch (n ∷ ns) (e ∷ es) zero all un = un (known-one batch n e all.0)
+not-unknown batch (n ∷ ns) (e ∷ es) zero all un = un (known-from batch n e all.0)
 not-unknown batch (n ∷ ns) (e ∷ es) (suc at) all un = not-unknown batch ns es at all.1 un
 
 -- the laws of odb_sched on refusals

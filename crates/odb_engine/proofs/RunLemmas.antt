@@ -1,5 +1,5 @@
 -- Runs by recorded events: what is reported was recorded.
-use Rattle.std.proofs.Common.{◌≡◌, ℕ, zero, suc, Bool, true, false, not, ◌&&◌, get_or, List, [], ◌∷◌, All, Option, Some, None, IfSome, if◌then◌else◌, sym, subst, refl}
+use Rattle.std.proofs.Common.{◌≡◌, ℕ, zero, suc, Bool, true, false, not, ◌&&◌, get_or, List, [], ◌∷◌, All, Option, Some, None, IfSome, if◌then◌else◌, sym, subst}
 use Rattle.std.specs.List.{AllZip}
 use Rattle.std.proofs.lemmas.List.Elements.{All-nil, All-cons, All-head, All-tail, All-set, All-replicate}
 use Rattle.odb_doc.specs.declared.recorded.outcome.Outcome.{Outcome}
@@ -113,12 +113,6 @@ pub readable-answers : (policy : Policy) (batch : List Record) (recorded : List 
 readable-answers policy batch recorded events is sound can i outcome within answered =
     subst (λ (found : Option Outcome). IfSome found IsReadable) answered
     (on-answers IsReadable policy batch recorded events is (λ k d less. readable-named (get_or recorded k d) (sound k d less) (can k d less)) i)
-
--- events do not change the requests
-pub requests-kept : (state : State) (events : List Event) → (after_all state events).requests ≡ state.requests
-requests-kept state [] = refl
-requests-kept state (event.Start i ∷ events) = requests-kept _ events
-requests-kept state (event.Report i outcome ∷ events) = requests-kept _ events
 
 -- an event that names no request
 pub unknown-event : (policy : Policy) (batch : List Record) (recorded : List EventValue) (cause : ResolveFault) → RefusesNamed cause batch recorded

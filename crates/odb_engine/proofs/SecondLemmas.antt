@@ -7,7 +7,7 @@ use Rattle.serde_json.specs.Data.{Data}
 use Rattle.odb_doc.specs.Refusals.{Printed}
 use Rattle.odb_engine.specs.Cascade.{Writes, HasFault, HasValue, Reports, line_of, IsOne}
 use Rattle.odb_engine.specs.Inputs.{IsDocumentOf, SomeDocument}
-use Rattle.odb_engine.proofs.LawLemmas.{one_value}
+use Rattle.odb_engine.proofs.MemoryLemmas.{one_value}
 
 -- ---- one document of a reader
 

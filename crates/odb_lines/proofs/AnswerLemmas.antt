@@ -1,11 +1,12 @@
 -- The answers to the lines so far, and how they end.
-use Rattle.std.proofs.Common.{◌≡◌, ◌≢◌, ◌↔◌, ◌⊎◌, inl, inr, ℕ, Bool, true, false, List, [], ◌∷◌, ◌++◌, All, length, take, Option, Result, Ok, Err, IsTrue, refl, sym, ap, subst, ◌∙◌, append_assoc, append-nil, le_refl}
+use Rattle.std.proofs.Common.{◌≡◌, ◌≢◌, ◌↔◌, ℕ, Bool, true, false, List, [], ◌∷◌, ◌++◌, All, length, take, Option, Result, Ok, Err, IsTrue, refl, sym, ap, subst, ◌∙◌, append_assoc, append-nil, le_refl}
 use Rattle.std.proofs.lemmas.List.{take_all, take_at}
 use Rattle.std.proofs.lemmas.Result.{IfOk-at_ok}
 use Rattle.std.proofs.lemmas.List.Elements.{All-nil, All-append, All-cons}
 use Rattle.std.specs.Io.KnownBytes.{Consumes, Appends, IsAtEnd, Keeps}
 use Rattle.std.proofs.KnownBytes.{Consumes-nil, Consumes-trans, Consumes-kept, Consumes-whole, Appends-nil, Appends-trans, Appends-kept}
-use Rattle.odb_doc.specs.Devices.{Writing, AppendsPrefix}
+use Rattle.std.proofs.lemmas.Bool.{both_ways}
+use Rattle.odb_doc.specs.Devices.{Writing}
 use Rattle.odb_check.specs.Texts.{newline}
 use Rattle.odb_engine.specs.declared.ending.Ended.{Ended}
 use Rattle.odb_engine.specs.declared.ending.Ended.TheVariants.{Done, Refused}
@@ -21,6 +22,7 @@ use Rattle.odb_lines.specs.Steps.{IsOpen, cut, EndsAnswer, Advances}
 use Rattle.odb_lines.specs.Steps.Advances.{Holds, Lacks, Answers}
 use Rattle.odb_lines.proofs.ByteLemmas.{cut-append, cut-nil, IsDocumentOf-cut}
 use Rattle.odb_lines.proofs.LineLemmas.{joined, with_end, last_line, joined-more, lines-joined, ended-joined, take-joined, last_line-some}
+use Rattle.odb_doc.proofs.WriteLemmas.{AppendsPrefix-append, AppendsPrefix-whole}
 
 pub both-done : (ended : Ended) → both ended Done ≡ ended
 both-done Done = refl
@@ -39,21 +41,6 @@ answered-more P line answer last (Line one first texts lines ended others here m
     let all = Line one first (texts ++ answer) (lines ++ line ∷ []) ended (both others last) here (answered-more P line answer last more so) in
     subst (λ e. AnswersEach P (one ∷ (lines ++ line ∷ [])) e ((first ++ texts) ++ answer)) (sym (both-assoc ended others last))
     (subst (AnswersEach P (one ∷ (lines ++ line ∷ [])) (both ended (both others last))) (sym (append_assoc first texts answer)) all)
-
--- a text and a prefix of a further one
-pub prefix-after : (a b c : Option (List ℕ)) (text more : List ℕ) → Appends a b text → AppendsPrefix b c more → AppendsPrefix a c (text ++ more)
-prefix-after a b c text more first (rest, part) = (
-  rest,
-  record {
-    prefix = text ++ part.prefix;
-    whole = ap (λ l. text ++ l) part.whole ∙ sym (append_assoc text part.prefix rest);
-    written = Appends-trans a b c text part.prefix first part.written;
-  },
-)
-
--- a whole text is a prefix of itself
-pub prefix-whole : (a b : Option (List ℕ)) (text : List ℕ) → Appends a b text → AppendsPrefix a b text
-prefix-whole a b text all = ([], record { prefix = text; whole = sym (append-nil text); written = all })
 
 -- What was read and answered so far: whole lines, and the beginning of the next one, of which this is held.
 pub record IsAnswered (Q : List ℕ → Writes) (from now old new : Option (List ℕ)) (held : List ℕ) (ended : Ended) : Type 0 where
@@ -149,10 +136,6 @@ write≢memory r a b = cc
 pub ok≢err : {T : Type 0} (r : Result T EngineFault) (x : T) (e : EngineFault) → r ≡ Ok x → r ≡ Err e → ⊥
 ok≢err r x e a b = cc
 
--- an output that works has not failed
-pub works : (b : Bool) → b ≡ false → IsTrue b → ⊥
-works b a t = cc
-
 pub not_failed : (b : Bool) → (IsTrue b → ⊥) → b ≡ false
 not_failed true never = absurd (never refl)
 not_failed false never = refl
@@ -238,7 +221,7 @@ module _ {R W : Type 0} (remaining : R → Option (List ℕ)) (contents : W → 
   ends-look mid after out new held ended r faults.Write so same still read write none was =
       let is = IsAnswered-kept Q _ _ _ _ _ _ held ended so same still in
       ends-write after new (joined is.lines ++ is.begun) (length is.lines) is.given
-      (record { ended = ended; text = is.text; so = answered-before after new held is.begun ended is is.open'; written = prefix-whole _ _ is.text is.written })
+      (record { ended = ended; text = is.text; so = answered-before after new held is.begun ended is is.open'; written = AppendsPrefix-whole _ _ is.text is.written })
       (λ t. read≢write r (read.1 t) was) (write.0 was)
   ends-look mid after out new held ended r faults.OutOfMemory so same still read write none was = absurd (none was)
 
@@ -268,7 +251,7 @@ module _ {R W : Type 0} (remaining : R → Option (List ℕ)) (contents : W → 
         ended = both ended part.ended;
         text = is.text ++ part.text;
         so = subst (λ l. AnswersEach (OfAnyLine Q) l (both ended part.ended) (is.text ++ part.text)) (sym whole) (answered-more (OfAnyLine Q) line part.text part.ended is.so (OfAnyLine-cut Q line part.text part.ended part.so));
-        written = prefix-after _ _ _ is.text part.text is.written part.written;
+        written = AppendsPrefix-append _ _ _ is.text part.text is.written part.written;
       }
 
   -- the line is read, and nothing is written of it
@@ -298,7 +281,7 @@ module _ {R W : Type 0} (remaining : R → Option (List ℕ)) (contents : W → 
       subst (λ f. EndsAs after new (Err f)) memory
       (ends-memory after new (joined here.lines ++ here.begun) (length here.lines) here.given
       (ended, record { text = here.text; so = answered-before after out (cut (held ++ piece)) here.begun ended here here.open'; written = subst (λ (o : Writing W). Appends (contents old.writer) (contents o.writer) here.text) (sym same) here.written })
-      fine (works new.failed (ap (λ (o : Writing W). o.failed) same ∙ sound)))
+      fine (both_ways new.failed (ap (λ (o : Writing W). o.failed) same ∙ sound)))
   ends-advance mid after out new held kept ended r e so fine sound (Answers piece open' taken ends emptied) was =
       let line = so.begun ++ piece in
       let lines = so.lines ++ line ∷ [] in

@@ -1,9 +1,9 @@
 -- What the response to a finished run lists, and that it fits the batch.
 use Rattle.std.proofs.Common.{◌≡◌, ◌∙◌, ◌+◌, ◌<◌, ℕ, zero, suc, true, List, [], ◌∷◌, length, Option, Some, None, option_map, option_and_then, slice_get, refl, ap, sym, subst, arith, ◌≤◌, nat_le, nat_lt, leb-true, ltb-true, Contains, IfSome, IsSome, All}
 use Rattle.std.proofs.lemmas.List.Elements.{All-nil, All-cons}
-use Rattle.serde_json.specs.Find.{as_str}
 use Rattle.std.specs.List.{AllZip}
 use Rattle.std.proofs.lemmas.Bool.{true≢false, and_parts}
+use Rattle.serde_json.specs.Find.{as_str}
 use Rattle.serde_json.specs.Data.{Data, string, unsigned}
 use Rattle.odb_doc.specs.declared.recorded.outcome.Outcome.{Outcome}
 use Rattle.odb_doc.specs.batch.Records.{Record}
@@ -20,7 +20,7 @@ use Rattle.odb_doc.specs.Statuses.{is_success, is_status}
 use Rattle.odb_reply.specs.Fits.{id_in, Responds, Succeeds, IsSatisfied, Fits, ListsFit}
 use Rattle.odb_reply.specs.ResponseDocuments.{Entry, IsResponse, IsResponseDocument, IsStatus, ReadsAs}
 use Rattle.odb_reply.specs.Responses.{response, responses_from, response_value}
-use Rattle.odb_reply.proofs.IdLemmas.{id_within}
+use Rattle.odb_check.proofs.PositionLemmas.{id_within}
 use Rattle.odb_reply.specs.Places.{IsOnce}
 use Rattle.odb_reply.proofs.OneLemmas.{entry_for, says_entry, responses_in-value}
 use Rattle.odb_reply.proofs.SliceLemmas.{map_some}

@@ -16,7 +16,7 @@ use Rattle.odb_reply.specs.Fits.{id_in, IsOnlyOne, IsSatisfied, Fits}
 use Rattle.odb_reply.specs.LeastMatchFault.{phase, HasNoMisfit, RefusesMatch}
 use Rattle.odb_reply.specs.MatchFaults.{Breaks, HasFailed, match_row, number}
 use Rattle.odb_reply.specs.Places.{HasAllPlaces, IsFirstOfLast, NoneIn}
-use Rattle.odb_reply.proofs.IdLemmas.{id_within}
+use Rattle.odb_check.proofs.PositionLemmas.{id_within}
 use Rattle.odb_reply.proofs.PlaceLemmas.{some_phase}
 use Rattle.odb_reply.proofs.SliceLemmas.{some_and}
 

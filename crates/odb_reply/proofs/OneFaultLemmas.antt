@@ -1,8 +1,9 @@
 -- A response document has one first fault and one list of responses at most, and a match one first fault or one table.
-use Rattle.std.proofs.Common.{arith, length, ◌<◌, ◌≡◌, ◌∙◌, ℕ, List, [], ◌∷◌, Option, Some, None, IsSome, option_map, slice_get, IsSomeAnd, inl, inr, refl, ap, sym, subst, All, suc, get_or, rules}
+use Rattle.std.proofs.Common.{arith, length, ◌<◌, ◌≡◌, ◌∙◌, ℕ, List, Option, Some, None, IsSome, option_map, slice_get, IsSomeAnd, inl, inr, refl, ap, sym, subst, All, get_or, rules}
 use Rattle.std.specs.List.{AllZip}
 use Rattle.std.proofs.lemmas.Bool.{cases_order, false≢true}
 use Rattle.std.proofs.lemmas.Option.{get_or_from_slice_get, slice_get_within, slice_get-get_or, same_Some}
+use Rattle.std.proofs.lemmas.Grind.{same_number_lists}
 use Rattle.serde_json.specs.Data.{Data, string}
 use Rattle.odb_doc.proofs.OneLeast as one
 use Rattle.odb_doc.specs.batch.Records.{Record}
@@ -97,20 +98,14 @@ one_number rs es i k l status other fits one two =
     let entry : one.entry ≡ two.entry = same_Some one.entry two.entry (sym one.given ∙ ap (slice_get es) place ∙ two.given) in
     (place, sym one.status_is ∙ ap (λ (e : Entry). e.status) entry ∙ two.status_is)
 
-same_lists : (xs ys : List ℕ) → length xs ≡ length ys → ((i : ℕ) → i < length xs → get_or xs i 0 ≡ get_or ys i 0) → xs ≡ ys
-same_lists [] [] long same = refl
-same_lists [] (y ∷ ys) long same = absurd (omega arith)
-same_lists (x ∷ xs) [] long same = absurd (omega arith)
-same_lists (x ∷ xs) (y ∷ ys) long same = ap (λ z. z ∷ xs) (same 0 (omega arith)) ∙ ap (λ zs. y ∷ zs) (same_lists xs ys (omega arith) (λ i within. same (suc i) (omega arith)))
-
 row_of : (rs : List Record) (es : List Entry) (places statuses : List ℕ) (i : ℕ) → IsTableOf rs es places statuses → i < length rs → IsRow rs es i (get_or places i 0) (get_or statuses i 0)
 row_of rs es places statuses i table within =
     table.each i (get_or places i 0) (get_or statuses i 0) (slice_get-get_or places i 0 (omega (arith, table.places_count))) (slice_get-get_or statuses i 0 (omega (arith, table.statuses_count)))
 
 pub one_table : (rs : List Record) (es : List Entry) (places others statuses different : List ℕ) → Fits rs es → IsTableOf rs es places statuses → IsTableOf rs es others different → (places ≡ others) × (statuses ≡ different)
 one_table rs es places others statuses different fits one two = (
-  same_lists places others (one.places_count ∙ sym two.places_count) (λ i within. (row i (omega (arith, one.places_count))).0),
-  same_lists statuses different (one.statuses_count ∙ sym two.statuses_count) (λ i within. (row i (omega (arith, one.statuses_count))).1),
+  same_number_lists places others (one.places_count ∙ sym two.places_count) (λ i within. (row i (omega (arith, one.places_count))).0),
+  same_number_lists statuses different (one.statuses_count ∙ sym two.statuses_count) (λ i within. (row i (omega (arith, one.statuses_count))).1),
 )
   where
     row : (i : ℕ) → i < length rs → (get_or places i 0 ≡ get_or others i 0) × (get_or statuses i 0 ≡ get_or different i 0)

@@ -1,7 +1,6 @@
 -- The text of the responses, response by response.
-use Rattle.std.proofs.Common.{sym, ◌≡◌, ◌∙◌, ℕ, ◌+◌, ◌≤◌, List, ◌∷◌, ◌++◌, length, Some, option_map, nat_lt, true, drop, refl, ap, codes, arith, append_assoc, lt-ltb}
-use Rattle.std.proofs.lemmas.List.{drop_more, drop_all}
-use Rattle.std.proofs.lemmas.Option.{slice_get_within, get_or_from_slice_get}
+use Rattle.std.proofs.Common.{sym, ◌≡◌, ◌∙◌, ℕ, ◌+◌, ◌≤◌, List, ◌++◌, length, Some, option_map, nat_lt, true, refl, ap, codes, arith, append_assoc, lt-ltb}
+use Rattle.std.proofs.lemmas.List.{drop_all}
 use Rattle.std.specs.Prelude.{slice_get}
 use Rattle.serde_json.specs.Written.{compact_text, comma_if}
 use Rattle.serde_json.proofs.OnLiterals.{serde_json_on_literals}
@@ -14,6 +13,7 @@ use Rattle.odb_doc.specs.canonical.Canonical.{headers_value}
 use Rattle.odb_reply.specs.Responses.{response, response_text, answer_body, answer_headers}
 use Rattle.odb_reply.specs.Parts.{rest_text, end_part}
 use Rattle.odb_reply.proofs.PartLemmas.{response-parts}
+use Rattle.odb_doc.proofs.ElementLemmas.{drop_at}
 
 -- the whole text is its start, and then the responses
 pub response_text-prefix : (state : State) → response_text state ≡ codes "{\"responses\":[" ++ rest_text state 0
@@ -32,10 +32,6 @@ rest_text-none state i end = rw (drop_all i state.requests end) refl
 -- with the end, the buffer is the whole rest
 pub rest_text-last : (state : State) (i : ℕ) (buffer ended : List ℕ) → length state.requests ≤ i → ended ≡ buffer ++ codes "]}" → buffer ++ rest_text state i ≡ ended
 rest_text-last state i buffer ended end is = ap (λ text. buffer ++ text) (rest_text-none state i end) ∙ sym is
-
-drop_at : (requests : List Record) (i : ℕ) (request : Record) → slice_get requests i ≡ Some request → drop i requests ≡ request ∷ drop (i + 1) requests
-drop_at requests i request is =
-    drop_more requests i request (slice_get_within requests i request is) ∙ ap (λ r. r ∷ drop (i + 1) requests) (get_or_from_slice_get requests i request request is)
 
 -- the response to a request, and then the rest
 pub rest_text-more : (state : State) (i : ℕ) (request : Record) → slice_get state.requests i ≡ Some request

@@ -14,9 +14,10 @@ use Rattle.odb_reply.specs.Fits.{id_in}
 use Rattle.odb_reply.specs.LeastMatchFault.{phase, RefusesMatch}
 use Rattle.odb_reply.specs.MatchFaults.{Breaks, number}
 use Rattle.odb_reply.specs.Places.{Places, AreNoted, AreListed, IsListed, IsOnce, HasAllPlaces, HasRows, NoneIn}
-use Rattle.odb_reply.proofs.IdLemmas.{id_within}
+use Rattle.odb_check.proofs.PositionLemmas.{id_within}
 use Rattle.odb_reply.proofs.PlaceLemmas.{none_of_responses, some_phase}
-use Rattle.odb_reply.proofs.SliceLemmas.{slice_get-some, slice_get-push, map_some, some_and}
+use Rattle.odb_reply.proofs.SliceLemmas.{slice_get-push, map_some, some_and}
+use Rattle.odb_sched.proofs.ListLemmas.{slice_get-some}
 
 pub AreListed-none : (es : List Entry) (found : Places) → AreListed es found 0 [] []
 AreListed-none es found = record {

@@ -1,8 +1,8 @@
 -- What the table and the units decide of one request: its group, and whether its success rests on a failure.
 use Rattle.std.proofs.Common.{◌≡◌, ◌∙◌, ◌<◌, ◌≤◌, ℕ, Bool, true, false, not, List, length, get_or, Some, slice_get, refl, ap, sym, arith, Contains}
 use Rattle.std.specs.List.{list_any}
-use Rattle.std.proofs.lemmas.Bool.{true≢false, both_ways}
-use Rattle.std.proofs.lemmas.List.Folds.{Any-from_list_any, list_any_at}
+use Rattle.std.proofs.lemmas.Bool.{both_ways, not-true, not-false}
+use Rattle.std.proofs.lemmas.List.Folds.{list_any_at}
 use Rattle.std.proofs.lemmas.Option.{slice_get_within, slice_get-get_or, same_Some}
 use Rattle.odb_doc.specs.batch.Records.{Record}
 use Rattle.odb_check.specs.declared.need.Need.{Need}
@@ -19,9 +19,10 @@ use Rattle.odb_reply.specs.Fits.{Responds, IsRow}
 use Rattle.odb_reply.specs.LeastMatchFault.{phase}
 use Rattle.odb_reply.specs.MatchFaults.{Breaks, number, Fails, HasFailed}
 use Rattle.odb_reply.specs.Places.{HasRows, AreUnits, is_satisfied, NoneIn, IsFirstIn}
-use Rattle.odb_reply.proofs.IdLemmas.{id_within}
-use Rattle.odb_reply.proofs.SliceLemmas.{slice_get-some}
+use Rattle.odb_check.proofs.PositionLemmas.{id_within}
+use Rattle.odb_sched.proofs.ListLemmas.{slice_get-some}
 use Rattle.odb_reply.proofs.UnitLemmas.{need_within}
+use Rattle.odb_sched.proofs.BelowLemmas.{list_any-some}
 
 -- ---- rows
 
@@ -72,10 +73,6 @@ satisfied_from rs es places statuses units (Group u) rows known within satisfied
     let passes = known.succeeded u failing.0 (slice_get-get_or units u false inside ∙ ap Some satisfied) (id_within rs failing.0 failed.0.id failed.1.id) failing.1 in
     fails_not rs es places statuses failing.0 rows passes failed
 
--- some element passes if `list_any` is true
-any_some : {X : Type 0} (test : X → Bool) (xs : List X) → list_any test xs ≡ true → (x : X) × Contains xs x × (test x ≡ true)
-any_some test xs some = let (k, x, within, at, passes) = Any-from_list_any test xs some in (x, (k, within, at), passes)
-
 -- no element passes if `list_any` is false
 any_none : {X : Type 0} (test : X → Bool) (xs : List X) (x : X) → list_any test xs ≡ false → Contains xs x → test x ≡ false
 any_none test xs x none (k, within, at) = at_answer (test x) refl
@@ -83,14 +80,6 @@ any_none test xs x none (k, within, at) = at_answer (test x) refl
     at_answer : (b : Bool) → test x ≡ b → test x ≡ false
     at_answer true passes = absurd (both_ways _ none (list_any_at test xs k x within (ap test at ∙ passes)))
     at_answer false fails = fails
-
-not_false : (b : Bool) → not b ≡ true → b ≡ false
-not_false true is = absurd (true≢false (sym is))
-not_false false is = refl
-
-not_true : (b : Bool) → not b ≡ false → b ≡ true
-not_true true is = refl
-not_true false is = absurd (true≢false is)
 
 -- ---- the two rules
 
@@ -140,7 +129,7 @@ pub first_unsound : (rs : List Record) (es : List Entry) (places statuses : List
 first_unsound rs es places statuses units plan i rows known same laws within group passes some =
     let place = slice_get-some places i (omega (arith, rows.table.places_count)) in
     let row = row_at rs es places statuses i place.0 rows place.1 in
-    let failing = any_some (λ need. not (is_satisfied statuses units need)) (needs_at rs i) some in
+    let failing = list_any-some (λ need. not (is_satisfied statuses units need)) (needs_at rs i) some in
     record {
       broken = (
         refl,
@@ -150,7 +139,7 @@ first_unsound rs es places statuses units plan i rows known same laws within gro
           success = ap is_success row.status_is ∙ passes;
           need = failing.0;
           needed = failing.1;
-          fails = failed_from rs es places statuses units failing.0 rows known (need_within rs plan i failing.0 same laws within failing.1) (not_false (is_satisfied statuses units failing.0) failing.2);
+          fails = failed_from rs es places statuses units failing.0 rows known (need_within rs plan i failing.0 same laws within failing.1) (not-true (is_satisfied statuses units failing.0) failing.2);
         },
       );
       least = λ other less broken. below_75 rs es i group other less broken.0 broken.1;
@@ -166,4 +155,4 @@ pub not_failed : (rs : List Record) (es : List Entry) (places statuses : List �
     → i < length rs → list_any (λ need. not (is_satisfied statuses units need)) (needs_at rs i) ≡ false → ¬ Breaks rs es UnsoundSuccess i
 not_failed rs es places statuses units plan i rows known same laws within none broken =
     let satisfied = any_none (λ need. not (is_satisfied statuses units need)) (needs_at rs i) broken.need none broken.needed in
-    satisfied_from rs es places statuses units broken.need rows known (need_within rs plan i broken.need same laws within broken.needed) (not_true (is_satisfied statuses units broken.need) satisfied) broken.fails
+    satisfied_from rs es places statuses units broken.need rows known (need_within rs plan i broken.need same laws within broken.needed) (not-false (is_satisfied statuses units broken.need) satisfied) broken.fails

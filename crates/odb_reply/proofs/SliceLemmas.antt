@@ -1,14 +1,7 @@
 -- The elements of lists by their positions.
-use Rattle.std.proofs.Common.{◌≡◌, ◌≢◌, ◌∙◌, ◌⊎◌, ◌<◌, ℕ, zero, suc, List, [], ◌∷◌, ◌++◌, length, set, take, drop, append-nil, replicate, is_some, get_or, true, false, Option, Some, None, option_map, slice_get, IsSomeAnd, inl, inr, refl, ap, sym, arith}
+use Rattle.std.proofs.Common.{◌≡◌, ◌≢◌, ◌∙◌, ◌⊎◌, ℕ, zero, suc, List, [], ◌∷◌, ◌++◌, length, set, replicate, is_some, get_or, true, false, Option, Some, None, option_map, slice_get, IsSomeAnd, inl, inr, refl, ap, sym, arith, ◌<◌}
 use Rattle.std.proofs.lemmas.Option.{slice_get-get_or}
-use Rattle.std.proofs.lemmas.List.{drop_all, take_all}
 use Rattle.std.proofs.lemmas.Bool.{true≢false}
-
--- the element at a position within
-pub slice_get-some : {X : Type 0} (xs : List X) (i : ℕ) → i < length xs → (x : X) × (slice_get xs i ≡ Some x)
-slice_get-some [] i within = absurd (omega arith)
-slice_get-some (x ∷ xs) zero within = (x, refl)
-slice_get-some (x ∷ xs) (suc i) within = slice_get-some xs i (omega arith)
 
 -- what a function returns at an element comes from an element
 pub map_some : {X Y : Type 0} (f : X → Y) (o : Option X) (y : Y) → option_map f o ≡ Some y → (x : X) × (o ≡ Some x) × (f x ≡ y)
@@ -61,9 +54,3 @@ free {X = X} xs i within none = at_found (get_or xs i None) refl
     at_found : (o : Option X) → get_or xs i None ≡ o → slice_get xs i ≡ Some None
     at_found None is = slice_get-get_or xs i None within ∙ ap Some is
     at_found (Some x) some = absurd (true≢false (sym (ap is_some some) ∙ none))
-
--- a slice is written over its own list
-pub written_over : {X : Type 0} (old new : List X) (n : ℕ) → length new ≡ length old → n ≡ length old → take n (new ++ drop (length new) old) ≡ new
-written_over old new n same whole =
-    let none : drop (length new) old ≡ [] = drop_all (length new) old (omega arith) in
-    rw (none, append-nil new) (take_all n new (omega arith))

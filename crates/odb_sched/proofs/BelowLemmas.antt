@@ -1,10 +1,10 @@
 -- Tests of the numbers below a number, and of the elements of a list, against 'there is one' and 'for each'.
-use Rattle.std.proofs.Common.{◌≡◌, ℕ, zero, suc, ◌<◌, ◌≤◌, ◌*◌, ◌∙◌, ap, sym, refl, arith, Bool, true, false, ◌&&◌, not, cond, List, [], ◌∷◌, length, get_or, inl, inr, Contains, Some, is_none, count_by, All, Decides, find, if◌then◌else◌}
+use Rattle.std.proofs.Common.{◌≡◌, ℕ, zero, suc, ◌<◌, ◌∙◌, ap, sym, refl, arith, Bool, true, false, ◌&&◌, not, cond, List, [], ◌∷◌, get_or, inl, inr, Contains, Some, is_none, All, Decides, find, if◌then◌else◌}
 use Rattle.std.specs.List.{list_any, list_all}
 use Rattle.std.proofs.lemmas.Bool.{cases_Bool, true≢false}
 use Rattle.std.proofs.lemmas.Bool.Decides.{Decides-below_or, Decides-below_and}
 use Rattle.std.proofs.lemmas.List.Folds.{list_any_at, Any-from_list_any}
-use Rattle.std.proofs.lemmas.List.Sums.{list_all-from_AllPass, AllPass-from_list_all, sum_by-le}
+use Rattle.std.proofs.lemmas.List.Sums.{list_all-from_AllPass, AllPass-from_list_all}
 use Rattle.std.proofs.lemmas.List.Elements.{All-contains, Contains-get_or}
 use Rattle.odb_check.specs.Firsts.{any_below, all_below, passing_below}
 
@@ -45,11 +45,6 @@ list_all-from test xs each = list_all-from_AllPass test xs (λ k d within. each 
 
 pub list_all-each : {X : Type 0} (test : X → Bool) (xs : List X) (x : X) → list_all test xs ≡ true → Contains xs x → test x ≡ true
 list_all-each test xs x e has = All-contains (λ y. test y ≡ true) xs x (AllPass-from_list_all test xs e) has
-
--- none passes, so none is counted
-pub count_by-none : {X : Type 0} (test : X → Bool) (xs : List X) → All (λ x. test x ≡ false) xs → count_by test xs ≡ 0
-count_by-none test xs none =
-    let most : count_by test xs ≤ length xs * 0 = sum_by-le (λ x. cond (test x) 1 0) 0 xs (λ k d within. let e = none k d within in rw e (omega arith)) in omega arith
 
 -- there is no first that does not pass exactly when all pass
 pub find-all : {X : Type 0} (test : X → Bool) (xs : List X) → is_none (find (λ x. not (test x)) xs) ≡ list_all test xs

@@ -38,23 +38,21 @@ use Rattle.odb_sched.specs.run.Laws.{StartsAfterDependencies}
 use Rattle.odb_doc.specs.batch.Records.{Record}
 use Rattle.odb_sched.proofs.ChoiceLemmas.{positions-listed, listed-in}
 use Rattle.odb_sched.proofs.PlanLemmas.{length-plan_graph}
-use Rattle.odb_sched.proofs.PhaseLemmas.{get_or-set_cases, get_or-replicate_Unstarted}
+use Rattle.odb_sched.proofs.PhaseLemmas.{get_or-replicate_Unstarted}
 use Rattle.odb_sched.proofs.RunLemmas.{reached_after_all, reached_initial, joined, after_all-push, plan_graph-after, plan_graph-after_all, policy-after_all, requests-after_all}
-use Rattle.odb_sched.proofs.EventLemmas.{left, move_start, move_report}
+use Rattle.odb_sched.proofs.EventLemmas.{left, move_start, move_report, reported_by}
+
+listed-step : (state : State) (ready running : List ℕ) (s : Step) → ListsOnce (size state) (may_start state) ready → ListsOnce (size state) (λ i. is_running (phase_at state i)) running
+    → IsAmong ready running s → (position_in s < size state) × MayTake state s
+listed-step state ready running (step.Start i) starts runs among = listed-in (size state) (may_start state) ready i starts among
+listed-step state ready running (step.Report i) starts runs among = listed-in (size state) (λ j. is_running (phase_at state j)) running i runs among
 
 -- what is picked from the two lists may come next
-pub next-from : (allows : Allowance) (state : State) (ready running : List ℕ) (step : Step)
+pub next-from : (allows : Allowance) (state : State) (ready running : List ℕ) (s : Step)
     → ListsOnce (size state) (may_start state) ready → ListsOnce (size state) (λ i. is_running (phase_at state i)) running
-    → IsAmong ready running step → allows (positions_of ready) (positions_of running) step → IsNext allows state step
-next-from allows state ready running (step.Start i) starts runs among allowed =
-    let (within, may) = listed-in (size state) (may_start state) ready i starts among in
-    record {
-      within = within;
-      may = may;
-      allowed = rw (← positions-listed (size state) (may_start state) ready starts, ← positions-listed (size state) (λ j. is_running (phase_at state j)) running runs) allowed;
-    }
-next-from allows state ready running (step.Report i) starts runs among allowed =
-    let (within, may) = listed-in (size state) (λ j. is_running (phase_at state j)) running i runs among in
+    → IsAmong ready running s → allows (positions_of ready) (positions_of running) s → IsNext allows state s
+next-from allows state ready running s starts runs among allowed =
+    let (within, may) = listed-step state ready running s starts runs among in
     record {
       within = within;
       may = may;
@@ -311,19 +309,6 @@ steps-within state [] run k d within = absurd (omega arith)
 steps-within state (e ∷ es) run zero d within = subst (λ i. i < size state) (sym (position-step e)) run.0
 steps-within state (e ∷ es) run (suc k) d within =
     subst (λ plan_graph. position_in (get_or (map step_of es) k d) < length plan_graph.units) (plan_graph-after state e) (steps-within (after state e) es run.2 k d (omega arith))
-
--- what is reported after an event was reported before it, or by it
-reported_by : (state : State) (event : Event) (i : ℕ) (outcome : Outcome) → phase_at (after state event) i ≡ Reported outcome → (phase_at state i ≡ Reported outcome) ⊎ (event ≡ Report i outcome)
-reported_by state (Start j) i outcome e = elim (get_or-set_cases state.phases j i Running) [
-  | inl written ↦ absurd (true≢false (sym (ap is_reported e) ∙ ap is_reported written.1))
-  | inr kept ↦ inl (sym kept ∙ e)
-]
-reported_by state (Report j other) i outcome e = elim (get_or-set_cases state.phases j i (Reported other)) [
-  | inl written ↦
-      let same : other ≡ outcome = ap (λ phase. unwrap_or (outcome_of phase) outcome) (sym written.1 ∙ e) in
-      inr (ap (λ k. Report k other) (sym written.0) ∙ ap (Report i) same)
-  | inr kept ↦ inl (sym kept ∙ e)
-]
 
 -- what is reported after a course was reported before it, or is offered
 offered_after : (allows : Allowance) (offers : Offer) (state : State) (events : List Event) (i : ℕ) (outcome : Outcome) → AreChosen allows offers state events

@@ -1,5 +1,5 @@
 -- The phase of a request after a run, by the events of the run.
-use Rattle.std.proofs.Common.{subst, ◌≡◌, ◌≢◌, ℕ, ◌<◌, ◌≤◌, ◌+◌, ◌==◌, ◌∙◌, sym, refl, ap, arith, Bool, true, false, cond, ◌||◌, eq-eqb, List, [], ◌∷◌, length, inl, inr, ◌⊎◌, Option, None, count_by, get_or-set_same, get_or-set_other}
+use Rattle.std.proofs.Common.{subst, ◌≡◌, ◌≢◌, ℕ, ◌<◌, ◌≤◌, ◌+◌, ◌==◌, ◌∙◌, sym, refl, ap, arith, Bool, true, false, cond, ◌||◌, eq-eqb, List, [], ◌∷◌, length, inl, inr, ◌⊎◌, Option, None, count_by, get_or-set_same, get_or-set_other, unwrap_or}
 use Rattle.std.specs.List.{list_any}
 use Rattle.std.proofs.lemmas.Bool.{cases_eq, true≢false, and_parts, ne_eqb}
 use Rattle.std.proofs.lemmas.List.Elements.{Contains-append_left, Contains-append_right}
@@ -12,26 +12,35 @@ use Rattle.odb_sched.specs.declared.phase.Phase.TheVariants.{Unstarted, Running,
 use Rattle.odb_sched.specs.declared.event.Event.{Event}
 use Rattle.odb_sched.specs.declared.event.Event.TheVariants.{Start, Report}
 use Rattle.odb_doc.specs.Statuses.{is_success, is_status}
-use Rattle.odb_sched.specs.run.State.{is_running, has_succeeded, State, size, phase_at, plan_graph, initial, after}
+use Rattle.odb_sched.specs.run.State.{is_running, has_succeeded, State, size, phase_at, plan_graph, initial, after, is_reported}
 use Rattle.odb_sched.specs.run.Steps.{may_come}
 use Rattle.odb_sched.specs.run.Runs.{event_position, after_all, IsRunFrom, starts, report_of, or_later, first_report, phase_by, phase_of, IsRun, state_after}
 use Rattle.odb_sched.specs.run.Laws.{HasSuccess, HasFewEvents}
 use Rattle.odb_sched.specs.invariants.Kept.{IsReached}
-use Rattle.odb_sched.proofs.PhaseLemmas.{get_or-set_cases, get_or-replicate_Unstarted, Unstarted-from, Running-from}
+use Rattle.odb_sched.proofs.PhaseLemmas.{get_or-set_cases, get_or-replicate_Unstarted, Unstarted-from, Running-from, Reported-from}
 use Rattle.odb_sched.proofs.StartLemmas.{may_start-parts}
 use Rattle.odb_sched.proofs.ReachedLemmas.{reached_after}
+use Rattle.odb_sched.specs.run.Answers.{outcome_of}
+
+-- what is reported after an event was reported before it, or by it
+pub reported_by : (state : State) (event : Event) (i : ℕ) (outcome : Outcome) → phase_at (after state event) i ≡ Reported outcome → (phase_at state i ≡ Reported outcome) ⊎ (event ≡ Report i outcome)
+reported_by state (Start j) i outcome e = elim (get_or-set_cases state.phases j i Running) [
+  | inl written ↦ absurd (true≢false (sym (ap is_reported e) ∙ ap is_reported written.1))
+  | inr kept ↦ inl (sym kept ∙ e)
+]
+reported_by state (Report j other) i outcome e = elim (get_or-set_cases state.phases j i (Reported other)) [
+  | inl written ↦
+      let same : other ≡ outcome = ap (λ phase. unwrap_or (outcome_of phase) outcome) (sym written.1 ∙ e) in
+      inr (ap (λ k. Report k other) (sym written.0) ∙ ap (Report i) same)
+  | inr kept ↦ inl (sym kept ∙ e)
+]
 
 -- what has succeeded after an event had before it, or is reported so by it
 success_by : (state : State) (event : Event) (r : ℕ) → has_succeeded (phase_at (after state event) r) ≡ true
     → (has_succeeded (phase_at state r) ≡ true) ⊎ ((outcome : Outcome) × (event ≡ Report r outcome) × (is_success outcome.status ≡ true))
-success_by state (Start i) r e = elim (get_or-set_cases state.phases i r Running) [
-  | inl written ↦ absurd (true≢false (sym e ∙ ap has_succeeded written.1))
-  | inr kept ↦ inl (ap has_succeeded (sym kept) ∙ e)
-]
-success_by state (Report i outcome) r e = elim (get_or-set_cases state.phases i r (Reported outcome)) [
-  | inl written ↦ inr (outcome, ap (λ k. Report k outcome) (sym written.0), ap has_succeeded (sym written.1) ∙ e)
-  | inr kept ↦ inl (ap has_succeeded (sym kept) ∙ e)
-]
+success_by state event r e =
+    let (outcome, is, good) = Reported-from (phase_at (after state event) r) e in
+    elim (reported_by state event r outcome is) [ inl before ↦ inl (rw before good) | inr now ↦ inr (outcome, now, good) ]
 
 -- what has succeeded after events had before them, or is reported so among them
 pub success_among : (state : State) (events : List Event) (r : ℕ) → has_succeeded (phase_at (after_all state events) r) ≡ true → (has_succeeded (phase_at state r) ≡ true) ⊎ HasSuccess events r

@@ -15,7 +15,7 @@ use Rattle.odb_check.specs.Walks.{AreNeedsOf}
 use Rattle.odb_check.proofs.OffsetLemmas.{part_of}
 use Rattle.odb_sched.specs.declared.graph.Graph.TheInside.{Inside}
 use Rattle.odb_sched.specs.invariants.Graphs.{AreAlike, AreOffsets, AreParts, AreSpans, IsGraph, part_at, plan_graph_kept, AreDependents}
-use Rattle.odb_sched.proofs.PlanLemmas.{length-list_below, get_or-list_below}
+use Rattle.odb_check.proofs.BelowLemmas.{length-list_below, get_or-list_below}
 
 -- where the units so far begin and end
 pub record AreSpansBelow (plan : PlanGraph) (n : ℕ) (members : List (ℕ × ℕ)) : Type 0 where
@@ -58,7 +58,7 @@ kept_is g plan laws units count parts =
     same_lists _ _ (length-list_below (length g.units.items) (part_at g.needs.list.items g.needs.offsets.items) ∙ each ∙ sym laws.as_long) (λ k d below.
     let within : k < length g.units.items = subst (λ n. k < n) (length-list_below (length g.units.items) (part_at g.needs.list.items g.needs.offsets.items)) below in
     let inside : k < length plan.units = omega arith in
-    get_or-list_below (length g.units.items) k (part_at g.needs.list.items g.needs.offsets.items) d within ∙ parts.parts k inside ∙ get_or_default plan.needs k [] d (omega (arith, laws.as_long, inside))) in
+    get_or-list_below (length g.units.items) (part_at g.needs.list.items g.needs.offsets.items) k d within ∙ parts.parts k inside ∙ get_or_default plan.needs k [] d (omega (arith, laws.as_long, inside))) in
     ap (λ us. plan_graph_from us (length g.members.items) (plan_graph_kept g).needs) units ∙ ap (λ n. plan_graph_from plan.units n (plan_graph_kept g).needs) count ∙ ap (λ ns. plan_graph_from plan.units plan.unit_count ns) needs
 
 pub graph_is : (g : Inside) (plan : PlanGraph) → IsPlan plan → g.units.items ≡ plan.units → length g.members.items ≡ plan.unit_count → AreParts plan g.needs.list.items g.needs.offsets.items → AreSpans plan g.members.items → AreDependents plan g.dependents → IsGraph g
@@ -86,7 +86,7 @@ part_read list read offsets n i from to are within begins ends same =
     let first : from ≡ slice_index offsets i = (get_or_read offsets i from (omega (arith, are.each, within)) begins 0) in
     let last : to ≡ slice_index offsets (i + 1) = (get_or_read offsets (i + 1) to (omega (arith, are.each, within)) ends 0) in
     ap (λ xs. take (to - from) (drop from xs)) same ∙ ap (λ k. take (to - k) (drop k list)) first ∙ ap (λ k. take (k - slice_index offsets i) (drop (slice_index offsets i) list)) last
-    ∙ sym (get_or-list_below n i (part_at list offsets) [] within)
+    ∙ sym (get_or-list_below n (part_at list offsets) i [] within)
 
 -- the comparison of two needs tells whether they are one
 same_needs : (need other : Need) → (eq-value.it need other ≡ true → need ≡ other) × (need ≡ other → eq-value.it need other ≡ true)

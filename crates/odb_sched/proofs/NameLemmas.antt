@@ -12,13 +12,14 @@ use Rattle.odb_sched.specs.run.State.{has_succeeded, State, phase_at, plan_graph
 use Rattle.odb_sched.specs.run.Steps.{is_satisfied, all_satisfied}
 use Rattle.odb_sched.specs.run.Runs.{IsRun, state_after}
 use Rattle.odb_sched.specs.run.Laws.{HasSuccess, HaveSucceeded, StartsAfterDependencies}
-use Rattle.odb_sched.proofs.PlanLemmas.{length-plan_graph, group_at-within}
+use Rattle.odb_sched.proofs.PlanLemmas.{length-plan_graph}
 use Rattle.odb_sched.proofs.BelowLemmas.{list_all-each}
 use Rattle.odb_sched.proofs.PhaseLemmas.{get_or-replicate_Unstarted}
 use Rattle.odb_sched.proofs.SatisfiedLemmas.{member_succeeded}
 use Rattle.odb_sched.proofs.StartLemmas.{may_start-parts}
 use Rattle.odb_sched.proofs.RunLemmas.{plan_graph-after_all, cut}
 use Rattle.odb_sched.proofs.EventLemmas.{success_among}
+use Rattle.odb_check.proofs.PositionLemmas.{group_within}
 
 -- what has succeeded after a run is reported so in it
 success_in : (source : Plan) (policy : Policy) (events : List Event) (r : ℕ) → has_succeeded (phase_at (state_after source policy events) r) ≡ true → HasSuccess events r
@@ -34,7 +35,7 @@ named-succeeded source state i named same satisfied =
       ids = λ name r has at. one r (named.names_id i name r has at);
       groups = λ name j has at. member_succeeded state.plan_graph state.phases (unit_of state.plan_graph j) j
           (list_all-each (is_satisfied state) (needs_of state.plan_graph i) (Group (unit_of state.plan_graph j)) satisfied (rw same (named.names_group i name j has at)))
-          (rw (same, length-plan_graph source) (group_at-within (plan_records source) j name at)) refl;
+          (rw (same, length-plan_graph source) (group_within (plan_records source) j name at)) refl;
       references = λ name r refers at. one r (named.refers i name r refers at);
     }
   where

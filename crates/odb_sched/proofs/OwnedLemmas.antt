@@ -1,6 +1,6 @@
 -- What holds of a state holds of it with other requests, since no event asks for them.
-use Rattle.std.proofs.Common.{◌≡◌, ℕ, refl, subst, sym, List, Result, Ok, Err, Option, Some, None, IsOk}
-use Rattle.std.specs.Prelude.{IfErr, IfOk, IfSome, IsErrAnd, OnOk, OnErr}
+use Rattle.std.proofs.Common.{◌≡◌, ℕ, refl, subst, sym, List, Result, Ok, Err, IsOk}
+use Rattle.std.specs.Prelude.{IfErr, IsErrAnd, OnOk, OnErr}
 use Rattle.std.proofs.Math.Path.{fun_ext}
 use Rattle.odb_doc.specs.LeastRules.{IsLeast}
 use Rattle.odb_doc.specs.batch.Records.{Record}
@@ -40,19 +40,6 @@ may_take requests state (step.Report i) may = may
 pub next_with : (allows : Allowance) (requests : List Record) (state : State) (next : Step) → IsNext allows state next → IsNext allows (with_requests requests state) next
 next_with allows requests state next is = record { within = is.within; may = may_take requests state next is.may; allowed = is.allowed }
 
--- a result, with what follows from what it says
-pub on_ok : {T E A B : Type 0} (result : Result T E) → (A → B) → OnOk result A → OnOk result B
-on_ok (Ok value) follows is = follows is
-on_ok (Err cause) follows is = is
-
-pub on_err : {T E A B : Type 0} (result : Result T E) → (A → B) → OnErr result A → OnErr result B
-on_err (Ok value) follows is = is
-on_err (Err cause) follows is = follows is
-
-pub if_err : {T E : Type 0} {P Q : E → Type 0} (result : Result T E) → ((cause : E) → P cause → Q cause) → IfErr result P → IfErr result Q
-if_err (Ok value) follows is = is
-if_err (Err cause) follows is = follows cause is
-
 -- whatever the result, what is so in both cases is so
 pub either_way : {T E A B C : Type 0} (result : Result T E) → OnOk result A → OnErr result B → (A → C) → (B → C) → C
 either_way (Ok value) ok err if_ok if_err = if_ok ok
@@ -62,14 +49,6 @@ either_way (Err cause) ok err if_ok if_err = if_err err
 pub ok_so : {T E A : Type 0} (result : Result T E) → (IsOk result → A) → OnOk result A
 ok_so (Ok value) follows = follows refl
 ok_so (Err cause) follows = tt
-
-pub if_some : {T : Type 0} {P Q : T → Type 0} (result : Option T) → ((found : T) → P found → Q found) → IfSome result P → IfSome result Q
-if_some None follows is = is
-if_some (Some found) follows is = follows found is
-
-pub if_ok : {T E : Type 0} {P Q : T → Type 0} (result : Result T E) → ((value : T) → P value → Q value) → IfOk result P → IfOk result Q
-if_ok (Ok value) follows is = follows value is
-if_ok (Err cause) follows is = is
 
 -- the error of a `?` that keeps its type
 pub same_error : {T E : Type 0} (result : Result T E) (P : E → Type 0) (cause : E) → IsErrAnd result (λ e. e ≡ cause) → P cause → IfErr result P

@@ -1,8 +1,9 @@
 -- The prefix of a list of named events that is resolved.
-use Rattle.std.proofs.Common.{◌≡◌, ℕ, suc, ◌<◌, ◌∙◌, sym, refl, ap, subst, arith, List, [], ◌∷◌, ◌++◌, length, All, Some, slice_get, append_assoc, append-nil}
+use Rattle.std.proofs.Common.{◌≡◌, ℕ, ◌<◌, ◌∙◌, sym, refl, subst, arith, List, [], ◌∷◌, ◌++◌, length, All, append_assoc, append-nil}
 use Rattle.std.specs.List.{AllZip}
 use Rattle.std.proofs.lemmas.List.Elements.{All-push}
 use Rattle.std.proofs.Math.Seq.{take-append_seam}
+use Rattle.std.proofs.lemmas.Slice.Zip.{all_zipped_more, AllZip-long}
 use Rattle.odb_doc.specs.batch.Records.{Record}
 use Rattle.odb_doc.specs.recorded.Events.{EventValue}
 use Rattle.odb_doc.specs.recorded.Events as named
@@ -10,6 +11,7 @@ use Rattle.odb_sched.specs.declared.event.Event.{Event}
 use Rattle.odb_sched.specs.declared.event.Event.TheVariants as at
 use Rattle.odb_sched.specs.run.Resolving.{IsKnown, IsResolved, IsFirstUnknown}
 use Rattle.odb_sched.specs.run.Runs.{event_position}
+use Rattle.odb_doc.proofs.ElementLemmas.{slice_get-seam}
 
 -- the events before the rest are these by their positions
 pub record HasResolved (rs : List Record) (events rest : List EventValue) (found : List Event) : Type 0 where
@@ -23,27 +25,11 @@ pub resolved_none : (rs : List Record) (events : List EventValue) → HasResolve
 resolved_none rs events = record { before = []; whole = refl; known = λ k event less. absurd (omega arith); resolved = tt; within = λ k event less. absurd (omega arith) }
 
 -- an event with a position names a request of the batch
-known-from : (rs : List Record) (event : EventValue) (found : Event) → IsResolved rs event found → IsKnown rs event
+pub known-from : (rs : List Record) (event : EventValue) (found : Event) → IsResolved rs event found → IsKnown rs event
 known-from rs (named.Start id) (at.Start i) is = (i, is)
 known-from rs (named.Start id) (at.Report i outcome) is = absurd is
 known-from rs (named.Report id outcome) (at.Start i) is = absurd is
 known-from rs (named.Report id outcome) (at.Report i reported) is = (i, is.0)
-
-AllZip-push : {A B : Type 0} (R : A → B → Type 0) (xs : List A) (ys : List B) (x : A) (y : B) → AllZip R xs ys → R x y → AllZip R (xs ++ x ∷ []) (ys ++ y ∷ [])
-AllZip-push R [] [] x y all here = (here, tt)
-AllZip-push R [] (z ∷ ys) x y all here = absurd all
-AllZip-push R (z ∷ xs) [] x y all here = absurd all
-AllZip-push R (z ∷ xs) (w ∷ ys) x y all here = (all.0, AllZip-push R xs ys x y all.1 here)
-
-length-zip : {A B : Type 0} (R : A → B → Type 0) (xs : List A) (ys : List B) → AllZip R xs ys → length xs ≡ length ys
-length-zip R [] [] all = refl
-length-zip R [] (y ∷ ys) all = absurd all
-length-zip R (x ∷ xs) [] all = absurd all
-length-zip R (x ∷ xs) (y ∷ ys) all = ap suc (length-zip R xs ys all.1)
-
-slice_get-seam : {X : Type 0} (xs : List X) (x : X) (rest : List X) → slice_get (xs ++ x ∷ rest) (length xs) ≡ Some x
-slice_get-seam [] x rest = refl
-slice_get-seam (y ∷ xs) x rest = slice_get-seam xs x rest
 
 pub resolved_more : (rs : List Record) (events : List EventValue) (event : EventValue) (later : List EventValue) (found : List Event) (next : Event) → HasResolved rs events (event ∷ later) found
     → IsResolved rs event next → event_position next < length rs → HasResolved rs events later (found ++ next ∷ [])
@@ -51,7 +37,7 @@ resolved_more rs events event later found next so_far is within = record {
   before = so_far.before ++ event ∷ [];
   whole = so_far.whole ∙ sym (append_assoc so_far.before (event ∷ []) later);
   known = All-push (IsKnown rs) so_far.before event so_far.known (known-from rs event next is);
-  resolved = AllZip-push (IsResolved rs) so_far.before found event next so_far.resolved is;
+  resolved = all_zipped_more (IsResolved rs) so_far.before found event next so_far.resolved is;
   within = All-push (λ event. event_position event < length rs) found next so_far.within within;
 }
 
@@ -66,7 +52,7 @@ resolved_all rs events found so_far =
 pub unknown_next : (rs : List Record) (events : List EventValue) (event : EventValue) (later : List EventValue) (found : List Event) (place : ℕ) → HasResolved rs events (event ∷ later) found
     → place ≡ length found → ¬ IsKnown rs event → IsFirstUnknown rs events place
 unknown_next rs events event later found place so_far is unknown =
-    let here : place ≡ length so_far.before = is ∙ sym (length-zip (IsResolved rs) so_far.before found so_far.resolved) in
+    let here : place ≡ length so_far.before = is ∙ AllZip-long (IsResolved rs) so_far.before found so_far.resolved in
     rw (here, so_far.whole) (record {
       unknown = rw (slice_get-seam so_far.before event later) unknown;
       before = rw (take-append_seam so_far.before (event ∷ later)) so_far.known;

@@ -1,6 +1,6 @@
 -- The answer to a request, and why all orders of events give one result.
-use Rattle.std.proofs.Common.{◌≡◌, ℕ, ◌<◌, ◌∙◌, sym, refl, subst, arith, List, [], Option, Bool, true, false, not, ◌&&◌, ◌||◌, inl, inr, Some, None, Contains, if◌then◌else◌}
-use Rattle.std.proofs.lemmas.Bool.{both_ways, true≢false, and_parts, and_from, or_cases, false_from_ne_true, not-true, not_from_false}
+use Rattle.std.proofs.Common.{◌≡◌, ℕ, ◌<◌, ◌∙◌, sym, refl, subst, arith, List, [], Option, Bool, true, false, not, ◌&&◌, inl, inr, Some, None, Contains, if◌then◌else◌}
+use Rattle.std.proofs.lemmas.Bool.{both_ways, and_parts, and_from, or_cases, false_from_ne_true, not-true, not_from_false}
 use Rattle.serde_json.specs.Data.{Data}
 use Rattle.odb_doc.specs.declared.recorded.outcome.Outcome.{Outcome}
 use Rattle.odb_doc.specs.Headers.{Header}
@@ -10,18 +10,18 @@ use Rattle.odb_check.specs.PlanGraph.{unit_of, needs_of}
 use Rattle.odb_sched.specs.declared.policy.Mode.TheVariants.{Continue}
 use Rattle.odb_sched.specs.declared.phase.Phase.{Phase}
 use Rattle.odb_sched.specs.declared.phase.Phase.TheVariants.{Unstarted, Running, Reported}
-use Rattle.odb_check.specs.Firsts.{any_below, all_below}
 use Rattle.odb_doc.specs.Statuses.{is_success}
-use Rattle.odb_sched.specs.run.State.{is_unstarted, is_running, is_reported, has_succeeded, has_failed, State, size, phase_at}
+use Rattle.odb_sched.specs.run.State.{is_unstarted, is_reported, has_succeeded, has_failed, State, size, phase_at}
 use Rattle.odb_sched.specs.run.Failing.{Fails, own, propagated, unit_needed, succeeds}
 use Rattle.odb_sched.specs.run.Steps.{is_stopped, is_satisfied, unit_succeeded, unit_failed, is_finished}
 use Rattle.odb_sched.specs.run.Answers.{answer_of, answer, is_answered_2xx}
 use Rattle.odb_sched.specs.run.Laws.{statuses_of, AgreesInStatus, HasResultByStatuses, Agrees, HasOneResult, AgreesWithTable, IsAllOrNone, RestsOnSuccesses}
 use Rattle.odb_sched.specs.invariants.Kept.{IsReached}
-use Rattle.odb_sched.proofs.BelowLemmas.{all_below-Decides, list_all-each}
+use Rattle.odb_sched.proofs.BelowLemmas.{list_all-each}
 use Rattle.odb_sched.proofs.FailingLemmas.{Fails-from_fails, fails-from_Fails, Fails-as}
 use Rattle.odb_sched.proofs.PhaseLemmas.{Reported-from, Failed-from, has_succeeded-from}
 use Rattle.odb_sched.proofs.SatisfiedLemmas.{member_succeeded, succeeded_in-from}
+use Rattle.odb_sched.proofs.StuckLemmas.{finished_parts}
 
 -- the table has no success for the request
 abbrev is_bad_in : (ℕ → Outcome) → ℕ → Bool
@@ -49,9 +49,7 @@ all_or_none state i j within inside same e = answered-from state j inside (rw (�
 
 -- what has succeeded has started
 begun : (phase : Phase) → has_succeeded phase ≡ true → is_unstarted phase ≡ false
-begun Unstarted e = absurd (true≢false (sym e))
-begun Running e = refl
-begun (Reported outcome) e = refl
+begun phase e = rw (Reported-from phase e).1 refl
 
 -- the needs of a member of a unit that has succeeded were satisfied
 satisfied_of : (state : State) (i : ℕ) (need : Need) → IsReached state → i < size state → unit_succeeded state (unit_of state.plan_graph i) ≡ true → Contains (needs_of state.plan_graph i) need → is_satisfied state need ≡ true
@@ -115,15 +113,13 @@ failed_sound state table u agrees failed = Fails-as state.plan_graph (λ i. has_
 
 -- in a finished run that is not stopped each request is over
 each_over : (state : State) (i : ℕ) → is_finished state ≡ true → is_stopped state ≡ false → i < size state → unit_failed state (unit_of state.plan_graph i) ≡ false → is_reported (phase_at state i) ≡ true
-each_over state i finished unstopped within sound =
-    let parts = and_parts (not (any_below (size state) (λ j. is_running (phase_at state j)))) (is_stopped state || all_below (size state) (λ j. is_reported (phase_at state j) || unit_failed state (unit_of state.plan_graph j))) finished in
-    elim (or_cases (is_stopped state) (all_below (size state) (λ j. is_reported (phase_at state j) || unit_failed state (unit_of state.plan_graph j))) parts.1) [
-      | inl stopped ↦ absurd (both_ways _ unstopped stopped)
-      | inr over ↦ elim (or_cases (is_reported (phase_at state i)) (unit_failed state (unit_of state.plan_graph i)) ((all_below-Decides (size state) (λ j. is_reported (phase_at state j) || unit_failed state (unit_of state.plan_graph j))).0 over i within)) [
-        | inl reported ↦ reported
-        | inr failed ↦ absurd (both_ways _ sound failed)
-      ]
-    ]
+each_over state i finished unstopped within sound = elim (finished_parts state finished).1 [
+  | inl stopped ↦ absurd (both_ways _ unstopped stopped)
+  | inr over ↦ elim (or_cases (is_reported (phase_at state i)) (unit_failed state (unit_of state.plan_graph i)) (over i within)) [
+    | inl reported ↦ reported
+    | inr failed ↦ absurd (both_ways _ sound failed)
+  ]
+]
 
 -- a unit that succeeds under the table has succeeded in a finished run that is not stopped
 unit_succeeded-from : (state : State) (table : ℕ → Outcome) (u : ℕ) → IsReached state → is_finished state ≡ true → is_stopped state ≡ false → Agrees state table → succeeds state.plan_graph (statuses_of table) u ≡ true → unit_succeeded state u ≡ true

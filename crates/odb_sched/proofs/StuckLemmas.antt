@@ -1,5 +1,5 @@
 -- A run that is not finished has a request that runs or one that may start.
-use Rattle.std.proofs.Common.{◌≡◌, ℕ, ◌<◌, ◌≤◌, ◌∙◌, ap, arith, Bool, true, false, not, ◌||◌, length, inl, inr, Contains}
+use Rattle.std.proofs.Common.{◌≡◌, ℕ, ◌<◌, ◌≤◌, ◌∙◌, ap, arith, Bool, true, false, not, ◌||◌, length, inl, inr, Contains, ◌⊎◌}
 use Rattle.std.proofs.lemmas.Bool.{cases_Bool, cases_eq, cases_lt, both_ways, and_cases, and_parts, or_parts, or_cases, false_from_ne_true, not-true, not_from_false}
 use Rattle.std.proofs.lemmas.List.{get_or_default}
 use Rattle.odb_check.specs.declared.need.Need.{Need}
@@ -12,14 +12,15 @@ use Rattle.odb_sched.specs.run.Failing.{own, propagated, unit_needed}
 use Rattle.odb_sched.specs.run.Steps.{is_stopped, is_satisfied, unit_failed, may_start, running_count, is_finished}
 use Rattle.odb_sched.specs.run.Laws.{IsNeverStuck}
 use Rattle.odb_sched.specs.invariants.Kept.{IsReached}
-use Rattle.odb_sched.proofs.BelowLemmas.{any_below-Decides, all_below-Decides, IsFirstFalse, first_false, list_all-from, count_by-none}
+use Rattle.odb_sched.proofs.BelowLemmas.{any_below-Decides, all_below-Decides, IsFirstFalse, first_false, list_all-from}
 use Rattle.odb_sched.proofs.FailingLemmas.{Fails-from_fails, fails-from_Fails}
 use Rattle.odb_sched.proofs.PhaseLemmas.{is_unstarted-from, is_unstarted-reported, has_succeeded-from}
 use Rattle.odb_sched.proofs.SatisfiedLemmas.{succeeded_in-from}
 use Rattle.odb_sched.proofs.StartLemmas.{may_start-from, may_start-parts}
+use Rattle.odb_dense.proofs.CountLemmas.{count_none}
 
 -- the request is reported or of a failed unit
-abbrev is_over : State → ℕ → Bool
+abbrev pub is_over : State → ℕ → Bool
 is_over state i = is_reported (phase_at state i) || unit_failed state (unit_of state.plan_graph i)
 
 -- a request that is over and whose unit has not failed has succeeded
@@ -54,7 +55,7 @@ satisfied_at_first state i (Group u) laws within sound before has =
 
 -- none runs, so the count of running requests is 0
 none_counted : (state : State) → length state.phases ≡ size state → any_below (size state) (λ i. is_running (phase_at state i)) ≡ false → running_count state ≡ 0
-none_counted state each none = count_by-none is_running state.phases (λ k d within.
+none_counted state each none = count_none is_running state.phases (λ k d within.
     false_from_ne_true _ (λ runs. both_ways _ none ((any_below-Decides (size state) (λ i. is_running (phase_at state i))).1 (k, omega arith, ap is_running (get_or_default state.phases k Unstarted d within) ∙ runs))))
 
 -- none runs and the run is not finished, so the first request that is not over may start
@@ -89,21 +90,25 @@ never_stuck state reached unfinished = elim (cases_Bool (any_below (size state) 
       (i, first.below, inr (first_may_start state reached none parts.0 i first))
 ]
 
--- in a finished run none runs
-pub none_runs : (state : State) (i : ℕ) → is_finished state ≡ true → i < size state → is_running (phase_at state i) ≡ false
-none_runs state i finished within =
-    let parts = and_parts (not (any_below (size state) (λ j. is_running (phase_at state j)))) (is_stopped state || all_below (size state) (is_over state)) finished in
-    false_from_ne_true _ (λ runs. both_ways _ (not-true _ parts.0) ((any_below-Decides (size state) (λ j. is_running (phase_at state j))).1 (i, within, runs)))
+-- in a finished run none runs, and it is stopped or each request is over
+pub finished_parts : (state : State) → is_finished state ≡ true
+    → ((i : ℕ) → i < size state → is_running (phase_at state i) ≡ false) × ((is_stopped state ≡ true) ⊎ ((i : ℕ) → i < size state → is_over state i ≡ true))
+finished_parts state finished =
+    let parts = and_parts (not (any_below (size state) (λ j. is_running (phase_at state j)))) (is_stopped state || all_below (size state) (is_over state)) finished in (
+      (λ i within. false_from_ne_true _ (λ runs. both_ways _ (not-true _ parts.0) ((any_below-Decides (size state) (λ j. is_running (phase_at state j))).1 (i, within, runs)))),
+      elim (or_cases (is_stopped state) (all_below (size state) (is_over state)) parts.1) [ inl stopped ↦ inl stopped | inr over ↦ inr ((all_below-Decides (size state) (is_over state)).0 over) ],
+    )
 
--- in a finished run none may start
+pub none_runs : (state : State) (i : ℕ) → is_finished state ≡ true → i < size state → is_running (phase_at state i) ≡ false
+none_runs state i finished within = (finished_parts state finished).0 i within
+
+-- and none may start
 pub none_starts : (state : State) (i : ℕ) → is_finished state ≡ true → i < size state → may_start state i ≡ false
-none_starts state i finished within =
-    let parts = and_parts (not (any_below (size state) (λ j. is_running (phase_at state j)))) (is_stopped state || all_below (size state) (is_over state)) finished in
-    false_from_ne_true _ (λ starts.
+none_starts state i finished within = false_from_ne_true _ (λ starts.
     let start = may_start-parts state i starts in
-    elim (or_cases (is_stopped state) (all_below (size state) (is_over state)) parts.1) [
+    elim (finished_parts state finished).1 [
       | inl stopped ↦ both_ways _ start.unstopped stopped
-      | inr over ↦ elim (or_cases (is_reported (phase_at state i)) (unit_failed state (unit_of state.plan_graph i)) ((all_below-Decides (size state) (is_over state)).0 over i within)) [
+      | inr over ↦ elim (or_cases (is_reported (phase_at state i)) (unit_failed state (unit_of state.plan_graph i)) (over i within)) [
         | inl reported ↦ both_ways _ (is_unstarted-reported (phase_at state i) start.fresh) reported
         | inr failed ↦ both_ways _ start.sound failed
       ]

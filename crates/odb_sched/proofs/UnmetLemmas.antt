@@ -13,10 +13,10 @@ use Rattle.odb_sched.specs.run.State.{has_succeeded}
 use Rattle.odb_sched.specs.run.Steps.{succeeded_in, satisfied_in}
 use Rattle.odb_sched.specs.invariants.Graphs.{AreDependents, key_of, need_count}
 use Rattle.odb_sched.specs.invariants.Counts.{unmet_in, satisfied_by_unit, pending_in}
-use Rattle.odb_sched.proofs.BelowLemmas.{count_by-none}
 use Rattle.odb_sched.proofs.CountLemmas.{count_same, count_less}
 use Rattle.odb_sched.proofs.SatisfiedLemmas.{member_succeeded}
 use Rattle.odb_sched.proofs.SpanLemmas.{known_needs}
+use Rattle.odb_dense.proofs.CountLemmas.{count_none}
 
 -- none is counted exactly when all pass the contrary test
 pub none_counted : (n : ℕ) (test contrary : ℕ → Bool) → ((i : ℕ) → contrary i ≡ not (test i)) → (count_below n test == 0) ≡ all_below n contrary
@@ -48,7 +48,7 @@ three whole first second third (x ∷ xs) each =
 -- what is counted only if something holds
 counted_if : {X : Type 0} (holds : Bool) (test : X → Bool) (xs : List X) → count_by (λ x. holds && test x) xs ≡ (if holds then count_by test xs else 0)
 counted_if true test xs = refl
-counted_if false test xs = count_by-none (λ x. false) xs (λ k d within. refl)
+counted_if false test xs = count_none (λ x. false) xs (λ k d within. refl)
 
 -- who has succeeded when a request runs: all others as afterwards
 pub others_succeeded : (phases : List Phase) (i j : ℕ) → j ≢ i → has_succeeded (get_or (set phases i Running) j Unstarted) ≡ has_succeeded (get_or phases j Unstarted)

@@ -9,6 +9,7 @@ use Rattle.odb_doc.specs.Documents.{IsDocument}
 use Rattle.odb_engine.specs.Cascade.{Writes, HasValue, IsOne}
 use Rattle.odb_engine.specs.Inputs.{IsDocumentOf, SomeDocument}
 use Rattle.odb_tests.specs.Readings.{IsReading, IsSame}
+use Rattle.odb_engine.proofs.MemoryLemmas.{one_value}
 
 -- ---- one text
 
@@ -38,21 +39,6 @@ pub done_written : {X : Type 0} (ended : X → Ended) (text : X → List ℕ) (l
 done_written ended text left W Q so None _ = tt
 done_written ended text left W Q so (Some x) (bytes, gives, is) = λ done. (bytes, gives, so bytes (text x) (subst (λ e. W bytes e (text x)) done is))
 
--- the document that a reader over these bytes gives is one of the bytes
-pub document_of : (bytes : Bor (List ℕ)) (input : Reading (Bor (List ℕ))) (document : List ℕ) → input ≡ record { reader = bytes; failed = false; reads = 0 } → IsDocumentOf input.reader.now document → IsDocumentOf bytes.now document
-document_of bytes input document is of = subst (λ (r : Reading (Bor (List ℕ))). IsDocumentOf r.reader.now document) is of
-
--- what was written to an empty vector is what it holds
-pub text_in : (P : List ℕ → Type 0) (empty text : Vec ℕ Global) (old new : Writing (Vec ℕ Global)) → empty.items ≡ [] → old ≡ record { writer = empty; failed = false } → text ≡ new.writer
-    → WritesText (Some old.writer.items) (Some new.writer.items) P → P text.items
-text_in P empty text old new none is taken w =
-    let begun : old.writer.items ≡ [] = ap (λ (o : Writing (Vec ℕ Global)). o.writer.items) is ∙ none in
-    subst P (sym (ap (λ (v : Vec ℕ Global). v.items) taken ∙ (w.written ∙ ap (λ (xs : List ℕ). xs ++ w.text) begun))) w.so
-
--- the bytes of a document are all that a reader over them gives
-pub whole_document : (bytes : List ℕ) (P : Data → Type 0) → HasValue bytes P → IsDocumentOf bytes bytes
-whole_document bytes P is = record { rest = []; whole = sym (append-nil bytes); within = omega (arith, is.document.0); ends = λ less. refl }
-
 -- ---- one reading
 
 module _ {X F Y D : Type 0} (shown : X → Y) (Good : D → Type 0) (ReadsAs : D → Y → Type 0) (Num : F → Type 0) (Refuses : F → D → Type 0) where
@@ -70,10 +56,6 @@ module _ {X F Y D : Type 0} (shown : X → Y) (Good : D → Type 0) (ReadsAs : D
   one_reading same one none d (Some (Err f)) (Some (Ok y)) p q = absurd (none d f p.1.0 p.1.1 q.0.0)
   one_reading same one none d (Some (Err f)) (Some (Err g)) p q = record { values = tt; faults = one d f g p.1.0 q.1.0 p.1.1 q.1.1; alike = λ no. no }
 
--- bytes have one value
-one_value : (bytes : List ℕ) (d e : Data) → IsDocument bytes d → IsDocument bytes e → d ≡ e
-one_value bytes d e first second = ap (λ o. unwrap_or o d) (sym first.1.1 ∙ second.1.1)
-
 module _ {X F Y : Type 0} (shown : X → Y) (Good : Data → Type 0) (ReadsAs : Data → Y → Type 0) (Num : F → Type 0) (Refuses : F → Data → Type 0) where
   -- how a call reads the bytes of a document
   abbrev ReadsBytes : List ℕ → Result X F → Type 0
@@ -86,11 +68,6 @@ module _ {X F Y : Type 0} (shown : X → Y) (Good : Data → Type 0) (ReadsAs : 
   one_reading_of_bytes same one none bytes (Some a) None _ _ = tt
   one_reading_of_bytes same one none bytes (Some a) (Some b) p q =
       one_reading shown Good ReadsAs Num Refuses same one none q.value (Some a) (Some b) (subst (λ d. Reads shown Good ReadsAs Num Refuses d a) (one_value bytes p.value q.value p.document q.document) p.holds) q.holds
-
--- what holds of each such thing holds of what a call finds
-pub of_found : {X : Type 0} (P Q : X → Type 0) → ((x : X) → P x → Q x) → (a : Option X) → IfSome a P → IfSome a Q
-of_found P Q so None _ = tt
-of_found P Q so (Some x) p = so x p
 
 -- two calls that find such a thing, of which there is one
 pub one_found : {X Y : Type 0} (shown : X → Y) (P : Y → Type 0) → ((x y : Y) → P x → P y → x ≡ y) → (a b : Option X) → IfSome a (λ x. P (shown x)) → IfSome b (λ x. P (shown x))

@@ -1,13 +1,14 @@
 -- The cascade of a command over two documents, from the bytes of the batch.
 use Rattle.std.proofs.Common.{IsTrue, OnOk, refl}
+use Rattle.std.proofs.lemmas.Result.{on_ok_weaker}
 use Rattle.serde_json.specs.View.{view}
 use Rattle.odb_doc.specs.declared.fault.Place.TheVariants.{Batch}
-use Rattle.odb_engine.specs.Cascade.{AcceptsValue, Answers, AnswersValue, OfDocument}
+use Rattle.odb_engine.specs.Cascade.{Answers, AnswersValue, OfDocument}
 use Rattle.odb_engine.specs.Commands.{BySecond}
 use Rattle.odb_engine.specs.Inputs.{ReadsBatch}
 use Rattle.odb_engine.specs.Halts.{Sent}
 use Rattle.odb_engine.proofs.EngineLemmas.{exit-error, halt-document, of-value}
-use Rattle.odb_engine.proofs.PhaseLemmas.{OnOk-weaker, Sent-weaker}
+use Rattle.odb_engine.proofs.PhaseLemmas.{Sent-weaker}
 use Rattle.odb_engine.proofs.pair.perform_read.Goals as goal
 
 pub returns-in_err-value_of-clause-sent : goal.returns-in_err-value_of-clause-sent
@@ -34,6 +35,6 @@ returns-clause-sent g c =
       (
         Sent-weaker g.W.Write.contents (g.C.PairCommand.form command) (AnswersValue writes value) (Answers writes bytes) (IsTrue c.perform_in.new.second.failed) c.args.output.now c.perform_in.new.output c.perform_in.result
             (of-value Batch (AnswersValue writes) bytes value is) c.perform_in.ensures.sent,
-        OnOk-weaker c.perform_in.result (AcceptsValue value (λ _. Unit {0})) (ReadsBatch g.R.Read.remaining c.args.batch.now c.value_of.new.input bytes) (λ accepts. (was, record { value = value; document = is; holds = accepts })) c.perform_in.ensures.accepts,
+        on_ok_weaker c.perform_in.result (λ accepts. (was, record { value = value; document = is; holds = accepts })) c.perform_in.ensures.accepts,
       ),
     )

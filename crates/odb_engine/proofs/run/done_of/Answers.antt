@@ -16,7 +16,8 @@ use Rattle.odb_engine.specs.Lines.{response_line}
 use Rattle.odb_engine.specs.Runs.{IsLeastOfRun, end_of}
 use Rattle.odb_engine.specs.Runs.IsLeastOfRun.{OfEnd}
 use Rattle.odb_engine.proofs.EngineLemmas.{at-exit, halted-by}
-use Rattle.odb_engine.proofs.RunLemmas.{requests-kept, unknown-event, barred-event, readable-answers, whole-bodies}
+use Rattle.odb_engine.proofs.RunLemmas.{unknown-event, barred-event, readable-answers, whole-bodies}
+use Rattle.odb_sched.proofs.RunLemmas.{requests-after_all}
 use Rattle.odb_engine.proofs.run.done_of.Goals as goal
 
 pub returns-in_err-resolved-clause-least : goal.returns-in_err-resolved-clause-least
@@ -60,7 +61,7 @@ returns-clause-result c =
       finished = ap (λ (s : State). is_finished s) (sym c.in_ok-scheduler.ensures.state) ∙ sym c.if-not-is_finished.ensures.value;
       result = ap response_line same;
       dependencies_first = c.in_ok-scheduler.ensures.dependencies_first;
-      one_per_id = subst (λ rs. HasOnePerId rs (response_value (end_of policy batch events))) (requests-kept first events)
+      one_per_id = subst (λ rs. HasOnePerId rs (response_value (end_of policy batch events))) (requests-after_all first events)
           (subst (λ (s : State). HasOnePerId s.requests (response_value s)) same c.every_response.ensures.one_per_id);
       read_again = λ recordable.
           let readable = readable-answers policy batch (entries c.args.events) events c.in_ok-resolved.ensures.events c.len-count.ensures.well_formed recordable in
@@ -69,7 +70,7 @@ returns-clause-result c =
             value = response_value (end_of policy batch events);
             reads = subst (λ (s : State). AnswersBy IsReadable s → read (response_line s) ≡ Some (response_value s)) same c.every_response.ensures.line readable;
             document = subst (λ (s : State). IsResponseDocument (response_value s)) same c.every_response.ensures.document;
-            fits = subst (λ rs. ListsFit rs (response_value (end_of policy batch events))) (requests-kept first events) fits;
+            fits = subst (λ rs. ListsFit rs (response_value (end_of policy batch events))) (requests-after_all first events) fits;
           };
     }
 

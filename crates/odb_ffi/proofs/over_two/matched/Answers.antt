@@ -3,7 +3,7 @@ use Rattle.odb_doc.specs.Devices.{Reading}
 use Rattle.odb_engine.specs.Commands.{BySecond}
 use Rattle.odb_engine.specs.Matches.{MatchesIn}
 use Rattle.odb_ffi.specs.Returns.{AnswersIn}
-use Rattle.odb_ffi.proofs.FormLemmas.{document-of, text-in}
+use Rattle.odb_engine.proofs.MemoryLemmas.{document-of, text-in}
 use Rattle.odb_ffi.proofs.over_two.matched.Goals as goal
 
 pub returns-in-Ok : goal.returns-in-Ok

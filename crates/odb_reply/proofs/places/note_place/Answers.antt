@@ -1,6 +1,6 @@
 use Rattle.std.proofs.Common.{◌<◌, length, sym, refl, arith}
 use Rattle.odb_check.specs.Plans.{plan_records}
-use Rattle.odb_reply.proofs.IdLemmas.{id_within}
+use Rattle.odb_check.proofs.PositionLemmas.{id_within}
 use Rattle.odb_reply.proofs.SliceLemmas.{taken, free}
 use Rattle.odb_reply.proofs.places.note_place.Goals as goal
 

@@ -5,7 +5,7 @@ use Rattle.odb_reply.specs.Places.{Places, AreNoted, IsNoted, IsMisplaced}
 use Rattle.odb_reply.specs.ResponseDocuments.{Entry, entries}
 use Rattle.odb_reply.proofs.IdLemmas.{one_position}
 use Rattle.odb_reply.proofs.PlaceLemmas.{AreNoted-none, AreNoted-more, RefusesMatch-misplaced, length-noted}
-use Rattle.odb_reply.proofs.SliceLemmas.{written_over}
+use Rattle.odb_sched.proofs.ListLemmas.{written_over}
 use Rattle.odb_reply.proofs.places.places_of.Goals as goal
 
 pub loop-at-init : goal.loop-at-init

@@ -6,7 +6,7 @@ use Rattle.odb_check.specs.Units as units
 use Rattle.odb_doc.specs.recorded.EventLists.{entries}
 use Rattle.odb_doc.specs.recorded.Events.{event_value}
 use Rattle.odb_sched.specs.run.Resolving.{named_id}
-use Rattle.odb_sched.proofs.RecordedLemmas.{position-is, position-none, position-within}
+use Rattle.odb_check.proofs.PositionLemmas.{position_first, position_none}
 use Rattle.odb_sched.proofs.ResolveLemmas.{resolved_none, resolved_more, resolved_all, resolved_as, unknown_next}
 use Rattle.odb_sched.proofs.event.resolve.Goals as goal
 
@@ -23,13 +23,13 @@ pub loop-event-preserved : goal.loop-event-preserved
 loop-event-preserved c =
     let batch = plan_records c.args.plan.now in
     let found : units.position_of batch (named_id (event_value c.in-Some.event)) ≡ Some c.in-Some-position_of.i = ap (units.position_of batch) (sym c.id_of.ensures) ∙ sym c.position_of.ensures ∙ c.in-Some-position_of.is in
+    let first = position_first batch (named_id (event_value c.in-Some.event)) c.in-Some-position_of.i found in
     let so_far = resolved_as batch (entries c.args.events) _ _ c.loop-event.found.items (ap (map event_value) c.in-Some.ensures.steps.0) c.loop-event.invariant.resolved in
     record {
       left = let fewer = c.in-Some.ensures.steps.1 in let short = ap length c.in-Some.ensures.steps.0 in let was = c.loop-event.invariant.left in omega arith;
       resolved = rw c.in_ok-push-in-Some-position_of.ensures.items
           (resolved_more batch (entries c.args.events) (event_value c.in-Some.event) (map event_value (into_iter_items c.next.new.self)) c.loop-event.found.items c.at_position.result so_far
-          (c.at_position.ensures.same batch (position-is batch (named_id (event_value c.in-Some.event)) c.in-Some-position_of.i found))
-          (rw c.at_position.ensures.place (position-within batch (named_id (event_value c.in-Some.event)) c.in-Some-position_of.i found)));
+          (c.at_position.ensures.same batch first.1.here) (rw c.at_position.ensures.place first.0));
     }
 
 pub returns-in-None-position_of-clause-least : goal.returns-in-None-position_of-clause-least
@@ -39,7 +39,7 @@ returns-in-None-position_of-clause-least c =
     let so_far = resolved_as batch (entries c.args.events) _ _ c.loop-event.found.items (ap (map event_value) c.in-Some.ensures.steps.0) c.loop-event.invariant.resolved in
     let place : c.len-in-None-position_of.result ≡ length c.loop-event.found.items = search rules in
     unknown_next batch (entries c.args.events) (event_value c.in-Some.event) (map event_value (into_iter_items c.next.new.self)) c.loop-event.found.items c.len-in-None-position_of.result so_far place
-    (position-none batch (named_id (event_value c.in-Some.event)) missing)
+    (λ is. position_none batch (named_id (event_value c.in-Some.event)) missing is.0 is.1)
 
 pub returns-clause-known : goal.returns-clause-known
 returns-clause-known c =

@@ -6,7 +6,8 @@ use Rattle.odb_doc.specs.recorded.Outcomes.{recorded}
 use Rattle.odb_check.specs.Plans.{plan_records}
 use Rattle.odb_check.specs.Units.{position_of}
 use Rattle.odb_sched.specs.run.Recordings.{noted_at}
-use Rattle.odb_sched.proofs.RecordedLemmas.{noted-first, noted-more, noted-all, length-noted, length-noted_at, written_over}
+use Rattle.odb_sched.proofs.RecordedLemmas.{noted-first, noted-more, noted-all, length-noted, length-noted_at}
+use Rattle.odb_sched.proofs.ListLemmas.{written_over}
 use Rattle.odb_sched.proofs.service.by_position.Goals as goal
 
 pub loop-id-init : goal.loop-id-init

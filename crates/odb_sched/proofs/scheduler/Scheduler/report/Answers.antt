@@ -1,8 +1,9 @@
 -- What the run says of its state holds with the requests of the plan.
 use Rattle.std.proofs.Common.{◌∙◌, ap}
+use Rattle.std.proofs.lemmas.Result.{on_ok_weaker, on_err_weaker, IfErr-weaker}
 use Rattle.odb_check.specs.Plans.{plan_records}
 use Rattle.odb_sched.specs.run.State.{State, with_requests}
-use Rattle.odb_sched.proofs.OwnedLemmas.{either_way, if_err, on_err, on_ok, report_cause_with}
+use Rattle.odb_sched.proofs.OwnedLemmas.{either_way, report_cause_with}
 use Rattle.odb_sched.proofs.scheduler.Scheduler.report.Goals as goal
 
 pub invariant_of-self : goal.invariant_of-self
@@ -10,15 +11,15 @@ invariant_of-self c = either_way c.report.result c.report.ensures.ok c.report.en
 
 pub returns-clause-ok : goal.returns-clause-ok
 returns-clause-ok c = rw (← c.self.view_is)
-    (on_ok c.report.result (ap (with_requests (plan_records c.self.inside.plan.now))) c.report.ensures.ok)
+    (on_ok_weaker c.report.result (ap (with_requests (plan_records c.self.inside.plan.now))) c.report.ensures.ok)
 
 pub returns-clause-allowed : goal.returns-clause-allowed
 returns-clause-allowed c = rw (← c.self.view_is) c.report.ensures.allowed
 
 pub returns-clause-cause : goal.returns-clause-cause
 returns-clause-cause c = rw (← c.self.view_is)
-    (if_err c.report.result (λ e. report_cause_with (plan_records c.self.inside.plan.now) c.self.inside.run c.args.i c.args.outcome e.0) c.report.ensures.cause)
+    (IfErr-weaker c.report.result _ _ (λ e. report_cause_with (plan_records c.self.inside.plan.now) c.self.inside.run c.args.i c.args.outcome e.0) c.report.ensures.cause)
 
 pub returns-clause-err : goal.returns-clause-err
 returns-clause-err c = rw (← c.self.view_is)
-    (on_err c.report.result (ap (with_requests (plan_records c.self.inside.plan.now))) c.report.ensures.err)
+    (on_err_weaker c.report.result (ap (with_requests (plan_records c.self.inside.plan.now))) c.report.ensures.err)

@@ -2,7 +2,7 @@ use Rattle.std.proofs.Common.{Some, string_bytes, subst, sym}
 use Rattle.odb_engine.specs.declared.ending.Ended.TheVariants.{Done}
 use Rattle.odb_engine.specs.Cascade.{Answers}
 use Rattle.odb_engine.specs.Runs.{Runs}
-use Rattle.odb_tests.proofs.LawLemmas.{whole_document}
+use Rattle.odb_engine.proofs.MemoryLemmas.{whole-document}
 use Rattle.odb_tests.proofs.laws.engines.live_and_recorded.Goals as goal
 
 pub returns : goal.returns
@@ -12,7 +12,7 @@ returns c =
     let written = c.in_ok-written.written in
     let (run, opens, shown) = c.in_ok-text.ensures in
     let (bytes, gives, writes) = c.in_ok-written.ensures in
-    let same = c.one_document.ensures batch bytes batch gives (whole_document batch _ opens) in
+    let same = c.one_document.ensures batch bytes batch gives (whole-document batch _ opens) in
     let one = c.one_live_run.ensures.text c.args.policy batch events (string_bytes c.in_ok-text.text) written.1.items run Done written.0 opens shown
     (subst (λ b. Answers (Runs c.args.policy (Some events)) b written.0 written.1.items) same writes) in
     (sym one.0, one.1)

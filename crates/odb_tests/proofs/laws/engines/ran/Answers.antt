@@ -2,7 +2,7 @@ use Rattle.std.proofs.Common.{ℕ, List, Some, Bor, subst}
 use Rattle.odb_doc.specs.Devices.{Reading}
 use Rattle.odb_engine.specs.Cascade.{Answers}
 use Rattle.odb_engine.specs.Runs.{Runs}
-use Rattle.odb_tests.proofs.LawLemmas.{document_of, text_in}
+use Rattle.odb_engine.proofs.MemoryLemmas.{document-of, text-in}
 use Rattle.odb_tests.proofs.laws.engines.ran.Goals as goal
 
 pub returns-in-Ok : goal.returns-in-Ok
@@ -10,7 +10,7 @@ returns-in-Ok c =
     let e = c.in-Ok.ensures.ends in
     let Is : Reading (Bor (List ℕ)) → List ℕ → Type 0 = λ r. Answers (Runs c.args.policy (Some r.reader.now)) e.0 c.in-Ok.ended in (
       e.0,
-      document_of c.args.batch c.new-2.result e.0 c.new-2.ensures e.1,
+      document-of c.args.batch c.new-2.result e.0 c.new-2.ensures e.1,
       subst (λ (r : Reading (Bor (List ℕ))). Is r c.into_inner.result.items) c.new-3.ensures
-          (text_in (Is c.new-3.result) c.new.result c.into_inner.result c.new-output.result c.run_batch.new.output c.new.ensures.items c.new-output.ensures c.into_inner.ensures e.2.0.ended),
+          (text-in (Is c.new-3.result) c.new.result c.into_inner.result c.new-output.result c.run_batch.new.output c.new.ensures.items c.new-output.ensures c.into_inner.ensures e.2.0.ended),
     )
