@@ -107,10 +107,6 @@ queued_less marks queue head tail u kept some read =
         let next : k ≢ head = λ e. other (sym same ∙ (ap (λ m. get_or queue m 0) e ∙ sym is)) in
         (k, omega arith, below, same)
 
--- if the head is at the tail, no number is marked as queued
-pub none_queued : (marks : List Mark) (queue : List ℕ) (head tail : ℕ) → AreQueued marks queue head tail → head ≡ tail → (u : ℕ) → get_or marks u Unvisited ≢ Queued
-none_queued marks queue head tail kept done u at = let (k, from, below, is) = kept.placed u at in absurd (omega arith)
-
 -- what is taken, as the contract says it
 pub takes_first : (marks : List Mark) (queue : List ℕ) (head tail u : ℕ) → AreQueued marks queue head tail → head < tail → u ≡ get_or queue head u → Takes marks (Some u) (set marks u Visited)
 takes_first marks queue head tail u kept some read =

@@ -19,13 +19,6 @@ use Rattle.odb_reply.proofs.PlaceLemmas.{none_of_responses, some_phase}
 use Rattle.odb_reply.proofs.SliceLemmas.{slice_get-push, map_some, some_and}
 use Rattle.odb_sched.proofs.ListLemmas.{slice_get-some}
 
-pub AreListed-none : (es : List Entry) (found : Places) → AreListed es found 0 [] []
-AreListed-none es found = record {
-  places_count = refl;
-  statuses_count = refl;
-  each = λ i k status is given. absurd (cc (is));
-}
-
 -- one place more
 pub AreListed-more : (es : List Entry) (found : Places) (n k : ℕ) (places statuses : List ℕ) (e : Entry) → AreListed es found n places statuses → slice_get found n ≡ Some (Some k) → slice_get es k ≡ Some e
     → AreListed es found (n + 1) (places ++ k ∷ []) (statuses ++ e.status ∷ [])

@@ -1,6 +1,5 @@
 -- The members of a unit that was taken from the worklist are skipped one by one: they are not ready then.
 use Rattle.std.proofs.Common.{◌≡◌, ◌≢◌, ℕ, ◌<◌, ◌≤◌, ◌+◌, ap, refl, arith, Bool, true, false, ◌&&◌, not, eqb, eq-eqb, ne_eqb, List, length, get_or, set, inl, inr}
-use Rattle.std.proofs.Math.Bool.{and-true}
 use Rattle.std.proofs.lemmas.Bool.{cases_eq, cases_lt, le-leb, lt-leb, and_right, not_from_true}
 use Rattle.odb_check.specs.PlanGraph.{PlanGraph, unit_of, IsSpan}
 use Rattle.odb_dense.specs.declared.worklist.Mark.{Mark}
@@ -17,15 +16,6 @@ pub skipped_first : (plan : PlanGraph) (units : List Mark) (u from to i : ℕ) �
 skipped_first plan units u from to i span within = elim (cases_eq (unit_of plan i) u) [
   | inl here ↦ let inside = (span.exact i within).0 here in rw (eq-eqb (unit_of plan i) u here, le-leb from i inside.0) refl
   | inr elsewhere ↦ rw (ne_eqb (unit_of plan i) u elsewhere) refl
-]
-
-pub skipped_last : (plan : PlanGraph) (units : List Mark) (u from to end i : ℕ) → IsSpan plan u from to → to ≤ end → i < length plan.units → is_skipped_until plan units u end i ≡ is_skipped plan units i
-skipped_last plan units u from to end i span done within = elim (cases_eq (unit_of plan i) u) [
-  | inl here ↦
-      let inside = (span.exact i within).0 here in
-      let before : i < to = inside.1 in
-      rw (eq-eqb (unit_of plan i) u here, lt-leb end i (omega arith)) (and-true (is_skipped plan units i))
-  | inr elsewhere ↦ rw (ne_eqb (unit_of plan i) u elsewhere) (and-true (is_skipped plan units i))
 ]
 
 -- a member is skipped in its turn, and no other request is
