@@ -66,8 +66,8 @@ impl<'b> Table<'b> {
 
     /// Puts the number at the text, unless the text has one. Returns whether the text is new.
     ///
-    /// A text with a number gets it back after the insertion, which takes one look-up less if most
-    /// texts are new.
+    /// It inserts first and puts an earlier number back: one look-up for a new text, where asking
+    /// first would take two.
     #[tactic(auto, using(std::proofs::lemmas::Map::Text::text_keys))]
     pub(crate) fn note(
         &mut self,

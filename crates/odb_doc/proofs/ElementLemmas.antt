@@ -1,4 +1,4 @@
--- The elements of lists by their positions, and those of an array as a vector of values holds them.
+-- The elements of lists, and of an array that a vector of values holds.
 use Rattle.std.proofs.Common.{◌≡◌, Option, None, Some, IfSome, option_map, List, [], ◌∷◌, map, ℕ, Vec, refl, ap, sym, ◌∙◌, ◌+◌, ◌++◌, ◌<◌, drop, slice_get, length, arith, zero, suc, ◌⊎◌, inl, inr}
 use Rattle.std.specs.declared.alloc.Global.{Global}
 use Rattle.std.proofs.lemmas.List.{drop_more, length-append}
@@ -34,11 +34,11 @@ pub Contains-cases : {X : Type 0} (x y : X) (xs : List X) → Contains (x ∷ xs
 Contains-cases x y xs (zero, less, e) = inl e
 Contains-cases x y xs (suc k, less, e) = inr (k, omega arith, e)
 
--- what lies behind an element, with it in front
+-- a list from a position on is the element there and what comes after it
 pub drop_at : {X : Type 0} (xs : List X) (i : ℕ) (x : X) → slice_get xs i ≡ Some x → drop i xs ≡ x ∷ drop (i + 1) xs
 drop_at xs i x is = drop_more xs i x (slice_get_within xs i x is) ∙ ap (λ y. y ∷ drop (i + 1) xs) (get_or_from_slice_get xs i x x is)
 
--- the element behind the first ones
+-- the element after a prefix
 pub slice_get-seam : {X : Type 0} (xs : List X) (x : X) (rest : List X) → slice_get (xs ++ x ∷ rest) (length xs) ≡ Some x
 slice_get-seam xs x rest =
     let within : length xs < length (xs ++ x ∷ rest) = omega (arith, length-append xs (x ∷ rest)) in

@@ -1,4 +1,4 @@
--- Lists by their positions, and those that a walk over positions makes.
+-- Elements of a list by position, and lists that a walk over positions makes.
 use Rattle.std.proofs.Common.{Option, Some, None, is_none, find, not, ◌≡◌, ℕ, zero, suc, ◌<◌, ◌≤◌, ◌∙◌, sym, refl, subst, arith, Bool, true, false, ◌&&◌, if◌then◌else◌, lt-ltb, le-ltb, List, [], ◌∷◌, length, get_or, take, inl, inr, slice_get, ap, ◌++◌, drop}
 use Rattle.std.specs.List.{list_all}
 use Rattle.std.proofs.lemmas.Bool.{cases_lt, and_parts, true≢false}
@@ -38,12 +38,12 @@ none_from (Some x) e = absurd (true≢false (sym e))
 pub find_nothing : {X : Type 0} (test : X → Bool) (xs : List X) (k : ℕ) → length xs ≤ k → list_all test (take k xs) ≡ true → None ≡ find (λ x. not (test x)) xs
 find_nothing test xs k done before = none_from _ (find-all test xs ∙ subst (λ ys. list_all test ys ≡ true) (take_all k xs done) before)
 
--- an element that is within
+-- each position of a list has an element
 pub slice_get-some : {X : Type 0} (xs : List X) (k : ℕ) → k < length xs → (x : X) × (slice_get xs k ≡ Some x)
 slice_get-some [] k within = absurd (omega arith)
 slice_get-some (x ∷ xs) zero within = (x, refl)
 slice_get-some (x ∷ xs) (suc k) within = slice_get-some xs k (omega arith)
 
--- a list that is written over in whole
+-- a list that is overwritten as a whole
 pub written_over : {X : Type 0} (old new : List X) (n : ℕ) → length new ≡ length old → n ≡ length old → take n (new ++ drop (length new) old) ≡ new
 written_over old new n same all = ap (λ k. take k (new ++ drop (length new) old)) (all ∙ sym same) ∙ take-append_seam new (drop (length new) old)

@@ -1,4 +1,4 @@
--- Which requests are ready, after other phases, with other skipped requests or with more units marked.
+-- Which requests are ready once phases, skipped requests or marks have changed.
 use Rattle.std.proofs.Common.{◌≡◌, ◌≢◌, ℕ, ◌<◌, ◌==◌, ◌∙◌, sym, ap, refl, Bool, false, not, ◌&&◌, List, length, length-set, get_or, set, inl, inr, get_or-set_same, get_or-set_other}
 use Rattle.std.proofs.lemmas.Bool.{cases_eq}
 use Rattle.odb_check.specs.PlanGraph.{PlanGraph, unit_of}
@@ -21,7 +21,7 @@ ready_same plan skipped other phases t same are = record {
   exact = λ i within. are.exact i within ∙ ap (λ b. is_unstarted (get_or phases i Unstarted) && not b && (get_or t.unmet.items i 0 == 0)) (same i within);
 }
 
--- marks skip no request
+-- marking units skips no request
 pub ready_marked : (plan : PlanGraph) (phases : List Phase) (t : Progress) (units : List Mark) → HaveMarked t.units units → HasReady plan phases t → HasReady plan phases (record t { units = units })
 ready_marked plan phases t units marks are = record {
   entries = record { phased = are.entries.phased; unmet = are.entries.unmet; pending = are.entries.pending; units = marks.each ∙ are.entries.units; ready = are.entries.ready };

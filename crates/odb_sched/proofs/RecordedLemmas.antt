@@ -14,7 +14,7 @@ use Rattle.odb_sched.specs.run.Recordings.{outcome_for, recorded_for, noted_at}
 use Rattle.odb_check.proofs.PositionLemmas.{position_first, position_none}
 use Rattle.odb_sched.proofs.ListLemmas.{slice_get-some}
 
--- lists of one length with the same elements, read with a default
+-- lists of one length with the same elements are the same
 same_at : {X : Type 0} (e : X) (xs ys : List X) → length xs ≡ length ys → ((k : ℕ) → k < length xs → get_or xs k e ≡ get_or ys k e) → xs ≡ ys
 same_at e xs ys each same = same_lists xs ys each (λ k d within. get_or_default xs k d e within ∙ same k within ∙ get_or_default ys k e d (omega arith))
 

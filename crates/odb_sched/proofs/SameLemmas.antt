@@ -1,4 +1,4 @@
--- What a run counts is the same in phases that pass the same tests.
+-- Phases that pass the same tests are counted alike.
 use Rattle.std.proofs.Math.Path.{fun_ext}
 use Rattle.std.proofs.Common.{◌≡◌, ℕ, ◌==◌, ◌∙◌, sym, ap, Bool, not, ◌&&◌, ◌||◌, List, length, get_or, set, map, [], ◌∷◌, zero, suc, refl, inl, inr, count_by}
 use Rattle.odb_check.specs.declared.need.Need.{Need}
@@ -15,7 +15,7 @@ use Rattle.odb_sched.specs.invariants.Counts.{ArePropagated, unmet_in, pending_i
 use Rattle.odb_sched.proofs.CountLemmas.{count_same}
 use Rattle.odb_sched.proofs.PhaseLemmas.{get_or-set_cases}
 
--- a test that has the same answer for the phase that is written and for the one before has the answers that it had
+-- a new phase changes no answer of a test that answers alike for it and for the phase before
 pub as_before : (test : Phase → Bool) (phases : List Phase) (i : ℕ) (new : Phase) → test new ≡ test (get_or phases i Unstarted) → (j : ℕ) → test (get_or (set phases i new) j Unstarted) ≡ test (get_or phases j Unstarted)
 as_before test phases i new same j = elim (get_or-set_cases phases i j new) [
   | inl written ↦ ap test written.1 ∙ same ∙ ap (λ k. test (get_or phases k Unstarted)) (sym written.0)

@@ -49,7 +49,7 @@ pub record AreReady (plan : PlanGraph) (skipped : ℕ → Bool) (phases : List P
   pub entries : HaveEntries plan phases t
   pub exact : (i : ℕ) → i < length plan.units → slice_index_or t.ready i false ≡ (is_unstarted (slice_index_or phases i Unstarted) && not (skipped i) && (slice_index_or t.unmet.items i 0 == 0))
 
--- those of the units that were taken from the worklist are skipped
+-- the ready requests, where those of the units that were taken from the worklist are skipped
 abbrev pub HasReady : PlanGraph → List Phase → Progress → Type 0
 HasReady plan phases t = AreReady plan (is_skipped plan t.units) phases t
 
