@@ -37,7 +37,7 @@ pub struct Run<'a> {
 }
 
 /// A shell that completions are for.
-#[derive(Clone, Copy, Debug, PartialEq, Eq)]
+#[derive(Clone, Copy)]
 pub enum Shell {
     Bash,
     Zsh,
@@ -288,6 +288,3 @@ impl<'a> Task<'a> {
         task_of(&matches).ok_or(BadArguments::Width)
     }
 }
-
-#[cfg(test)]
-mod tests;

@@ -4,7 +4,7 @@ use odb_engine::{Ended, EngineFault};
 use std::rt::Runtime;
 
 /// The exit status of the program.
-#[derive(Clone, Copy, Debug, PartialEq, Eq)]
+#[derive(Clone, Copy)]
 pub enum Status {
     Done = 0,
     Refused = 1,
@@ -36,27 +36,5 @@ pub fn finish<R: Runtime>(rt: &R, ended: Result<Ended, EngineFault>) -> Status {
     match cause {
         None => status,
         Some(cause) => failed(rt, cause, status),
-    }
-}
-
-#[cfg(test)]
-mod tests {
-    use super::{Ended, EngineFault, status_of};
-
-    /// Ends of engines, with the exit status and what is printed on standard error.
-    const STATUSES: [(Result<Ended, EngineFault>, u8, Option<&str>); 5] = [
-        (Ok(Ended::Done), 0, None),
-        (Ok(Ended::Refused), 1, None),
-        (Err(EngineFault::Read), 3, Some("read")),
-        (Err(EngineFault::Write), 3, Some("write")),
-        (Err(EngineFault::OutOfMemory), 4, Some("memory")),
-    ];
-
-    #[test]
-    fn each_end_has_its_status(rt: HostRuntime) {
-        for (ended, number, cause) in &STATUSES {
-            let (status, printed) = status_of(*ended);
-            assert_eq!(rt; (status as u8, printed), (*number, *cause));
-        }
     }
 }

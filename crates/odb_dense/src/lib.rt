@@ -9,8 +9,6 @@ mod bits;
 mod min_max_set;
 mod rows;
 mod sparse_set;
-#[cfg(test)]
-mod tests;
 mod worklist;
 
 pub use min_max_set::MinMaxSet;

@@ -19,23 +19,3 @@ pub fn is_request_id(text: &str) -> bool
 {
     !text.is_empty() && text.as_bytes().iter().all(|byte| is_unreserved(*byte))
 }
-
-#[cfg(test)]
-mod tests {
-    use super::*;
-
-    const GOOD: &[&str] = &["0", "r1", "a-b.c_d~e", "~", "AZaz09", "."];
-
-    const BAD: &[&str] = &[
-        "", " ", "a b", "a/b", "a:b", "$1", "a@b", "[", "`", "{", "\u{e9}", "a\n",
-    ];
-
-    #[test]
-    fn accepts_identifiers_alone(rt: HostRuntime) {
-        for (texts, want) in [(GOOD, true), (BAD, false)] {
-            for text in texts {
-                assert!(rt; is_request_id(text) == want, "{text}");
-            }
-        }
-    }
-}

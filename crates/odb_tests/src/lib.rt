@@ -8,6 +8,8 @@
 #[cfg(test)]
 mod checks;
 #[cfg(test)]
+mod dense;
+#[cfg(test)]
 mod documents;
 #[cfg(test)]
 mod engines;
@@ -17,6 +19,8 @@ mod laws;
 mod lines;
 #[cfg(test)]
 mod messages;
+#[cfg(test)]
+mod names;
 #[cfg(test)]
 mod replies;
 #[cfg(test)]
