@@ -4,10 +4,11 @@ ghost use Rattle.odb_engine.specs.Inputs.{IsFresh};
 
 use crate::command_line::{Replay, Run};
 use crate::ending::{Status, failed, finish};
+use odb_check::Seed;
 use odb_doc::{Input, Output};
 use odb_engine::{
-    Form, Options, Setup, canon_batch_as, check_batch_as, draw_batch_with, match_batch_as,
-    plan_batch_as, replay_batch_as, run_batch_as,
+    Disposal, Form, Setup, canon_batch_with, check_batch_with, draw_batch_with, match_batch_with,
+    plan_batch_with, replay_batch_with, run_batch_with,
 };
 use std::rt::Runtime;
 use std::{fs, io};
@@ -15,8 +16,8 @@ use std::{fs, io};
 /// What the commands take of where the program runs.
 #[derive(Clone, Copy, Drop)]
 pub struct Environment {
-    /// What each engine is passed beside its documents and options.
-    pub setup: Setup,
+    /// The seed of the tables of names.
+    pub seed: Seed,
     /// Whether standard error is a terminal: then the reason is also printed if a file cannot be opened,
     /// and the progress of a log is shown.
     pub stderr_is_terminal: bool,
@@ -25,11 +26,13 @@ pub struct Environment {
 }
 
 impl Environment {
-    /// Returns what an engine takes that writes in this form.
-    fn options(self, form: Form) -> Options {
-        Options {
+    /// Returns the setup of an engine that writes in this form. The process is about to exit, so what was
+    /// read is not worth dropping.
+    pub fn setup(self, form: Form) -> Setup {
+        Setup {
             form,
-            setup: self.setup,
+            seed: self.seed,
+            disposal: Disposal::Leak,
         }
     }
 }
@@ -69,16 +72,11 @@ pub fn check<R: Runtime + AllocGlobal>(
     form: Form,
 ) -> Status {
     let mut output = Output::new(io::writer(rt));
-    let options = environment.options(form);
+    let setup = environment.setup(form);
     let ended = match file {
-        None => check_batch_as(
-            rt.alloc(),
-            &mut Input::new(rt.reader()),
-            &mut output,
-            options,
-        ),
+        None => check_batch_with(rt.alloc(), &mut Input::new(rt.reader()), &mut output, setup),
         Some(path) => match open(rt, environment, path) {
-            Ok(mut input) => check_batch_as(rt.alloc(), &mut input, &mut output, options),
+            Ok(mut input) => check_batch_with(rt.alloc(), &mut input, &mut output, setup),
             Err(status) => return status,
         },
     };
@@ -96,12 +94,7 @@ pub fn plan<R: Runtime + AllocGlobal>(
     match open(rt, environment, path) {
         Ok(mut input) => finish(
             rt,
-            plan_batch_as(
-                rt.alloc(),
-                &mut input,
-                &mut output,
-                environment.options(form),
-            ),
+            plan_batch_with(rt.alloc(), &mut input, &mut output, environment.setup(form)),
         ),
         Err(status) => status,
     }
@@ -113,7 +106,12 @@ pub fn draw<R: Runtime + AllocGlobal>(rt: &R, environment: Environment, path: &s
     match open(rt, environment, path) {
         Ok(mut input) => finish(
             rt,
-            draw_batch_with(rt.alloc(), &mut input, &mut output, environment.setup),
+            draw_batch_with(
+                rt.alloc(),
+                &mut input,
+                &mut output,
+                environment.setup(Form::Lines),
+            ),
         ),
         Err(status) => status,
     }
@@ -130,12 +128,7 @@ pub fn canon<R: Runtime + AllocGlobal>(
     match open(rt, environment, path) {
         Ok(mut input) => finish(
             rt,
-            canon_batch_as(
-                rt.alloc(),
-                &mut input,
-                &mut output,
-                environment.options(form),
-            ),
+            canon_batch_with(rt.alloc(), &mut input, &mut output, environment.setup(form)),
         ),
         Err(status) => status,
     }
@@ -158,12 +151,12 @@ pub fn match_responses<R: Runtime + AllocGlobal>(
         Err(status) => return status,
     };
     let mut output = Output::new(io::writer(rt));
-    let ended = match_batch_as(
+    let ended = match_batch_with(
         rt.alloc(),
         &mut batch,
         &mut responses,
         &mut output,
-        environment.options(form),
+        environment.setup(form),
     );
     finish(rt, ended)
 }
@@ -183,7 +176,7 @@ pub fn replay<R: Runtime + AllocGlobal>(
         Err(status) => return status,
     };
     let mut order = replay.order;
-    let ended = replay_batch_as(
+    let ended = replay_batch_with(
         rt.alloc(),
         &mut batch,
         &mut outcomes,
@@ -191,7 +184,7 @@ pub fn replay<R: Runtime + AllocGlobal>(
         replay.policy,
         &mut order,
         replay.traced,
-        environment.options(replay.form),
+        environment.setup(replay.form),
     );
     finish(rt, ended)
 }
@@ -211,13 +204,13 @@ pub fn run_events<R: Runtime + AllocGlobal>(
         Err(status) => return status,
     };
     let mut output = Output::new(io::writer(rt));
-    let ended = run_batch_as(
+    let ended = run_batch_with(
         rt.alloc(),
         &mut batch,
         &mut events,
         &mut output,
         run.policy,
-        environment.options(run.form),
+        environment.setup(run.form),
     );
     finish(rt, ended)
 }

@@ -6,7 +6,7 @@ use crate::ending::{Status, failed, finish};
 use crate::engines::{Environment, not_opened};
 use crate::progress::Watched;
 use odb_doc::Output;
-use odb_engine::{Disposal, Ended, EngineFault, Form, LineTask, Options, Setup};
+use odb_engine::{Disposal, Ended, EngineFault, Form, LineTask, Setup};
 use odb_lines::{EachLine, LineCommand, LineInput, answer_lines};
 use std::alloc::Global;
 use std::io::{BufWriter, Read, Write};
@@ -32,12 +32,9 @@ impl Log<'_> {
     fn command(&self, environment: Environment) -> EachLine {
         EachLine {
             task: self.task,
-            options: Options {
-                form: self.form,
-                setup: Setup {
-                    seed: environment.setup.seed,
-                    disposal: Disposal::Drop,
-                },
+            setup: Setup {
+                disposal: Disposal::Drop,
+                ..environment.setup(self.form)
             },
         }
     }

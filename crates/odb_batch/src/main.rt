@@ -23,7 +23,6 @@ use ending::{Status, failed};
 use engines::{Environment, canon, check, draw, match_responses, plan, replay, run_events};
 use log::answer_log;
 use odb_check::Seed;
-use odb_engine::{Disposal, Setup};
 use std::io::IsTerminal;
 use std::process::ExitCode;
 use std::random::RandomSource;
@@ -101,11 +100,7 @@ fn run<R: Runtime + AllocGlobal>(rt: &R, environment: Environment, args: &[Strin
 
 fn environment_of(rt: &HostRuntime) -> Environment {
     Environment {
-        setup: Setup {
-            seed: seed(rt),
-            // The process is about to exit: what was read is not worth dropping.
-            disposal: Disposal::Leak,
-        },
+        seed: seed(rt),
         stderr_is_terminal: rt.stderr().is_terminal(),
         stdout_is_terminal: rt.stdout().is_terminal(),
     }

@@ -101,8 +101,8 @@ impl<'r, R: Runtime> Watched<'r, R> {
 }
 
 impl<'r, R: Runtime> LineCommand for Watched<'r, R> {
-    ghost writes = { λ self line. InForm self.command.options.form
-        (tasks.OfLine self.command.task self.command.options.form line) };
+    ghost writes = { λ self line. InForm self.command.setup.form
+        (tasks.OfLine self.command.task self.command.setup.form line) };
 
     fn answer<W: Write>(
         &self,

@@ -11,9 +11,8 @@ ghost use Rattle.odb_engine.specs.Commands as commands;
 
 use crate::command::{Command, answer};
 use crate::ending::{Ended, EngineFault};
-use crate::form::Form;
 use crate::halt::Halt;
-use crate::setup::{Options, Setup};
+use crate::setup::Setup;
 use odb_check::Plan;
 use odb_doc::{Batch, Input, Output};
 use std::alloc::Global;
@@ -72,40 +71,10 @@ pub fn canon_batch_with<R: Read, W: Write>(
     requires input { IsFresh input.old }
     requires output { output.old.failed ≡ false }
     ensures ends { SomeDocument (R.remaining input.old.reader) (λ bytes. Ends W.contents
-        (Answers commands.Canonical bytes) (IsTrue input.new.failed)
+        (InForm setup.form (Answers commands.Canonical bytes)) (IsTrue input.new.failed)
         output.old output.new result) }
     ensures memory { result ≡ Err EngineFault.OutOfMemory → output.new ≡ output.old }
     ensures reads { ReadsFew R.remaining input.old input.new }
 {
-    canon_batch_as(
-        alloc,
-        input,
-        output,
-        Options {
-            form: Form::Lines,
-            setup,
-        },
-    )
-}
-
-/// Does what [`canon_batch`] does, in a form and with a setup of the caller's.
-///
-/// # Errors
-///
-/// Those of [`crate::check_batch`].
-pub fn canon_batch_as<R: Read, W: Write>(
-    alloc: Global,
-    input: &mut Input<R>,
-    output: &mut Output<W>,
-    options: Options,
-) -> Result<Ended, EngineFault>
-    requires input { IsFresh input.old }
-    requires output { output.old.failed ≡ false }
-    ensures ends { SomeDocument (R.remaining input.old.reader) (λ bytes. Ends W.contents
-        (InForm options.form (Answers commands.Canonical bytes)) (IsTrue input.new.failed)
-        output.old output.new result) }
-    ensures memory { result ≡ Err EngineFault.OutOfMemory → output.new ≡ output.old }
-    ensures reads { ReadsFew R.remaining input.old input.new }
-{
-    answer(alloc, input, output, &Canonical, options)
+    answer(alloc, input, output, &Canonical, setup)
 }

@@ -13,7 +13,7 @@ use crate::form::Form;
 use crate::halt::Halt;
 use crate::json::counts_json;
 use crate::lines::accepted_line;
-use crate::setup::{Options, Setup};
+use crate::setup::Setup;
 use odb_check::Plan;
 use odb_doc::{Batch, Input, Output};
 use std::alloc::Global;
@@ -40,7 +40,7 @@ impl Command for Counts {
 /// Checks the batch in a document: writes the line of its counts, or of its least fault.
 ///
 /// The input must be new, and the output must not have failed. Names are looked up without a seed, and
-/// the document is dropped at the end; [`check_batch_with`] takes a [`Setup`] for both.
+/// the document is dropped at the end; [`check_batch_with`] takes a [`Setup`] for both, and for the form.
 ///
 /// Takes O(n log n) time and O(n) memory for a document of n bytes.
 ///
@@ -79,46 +79,10 @@ pub fn check_batch_with<R: Read, W: Write>(
     requires input { IsFresh input.old }
     requires output { output.old.failed ≡ false }
     ensures ends { SomeDocument (R.remaining input.old.reader) (λ bytes. Ends W.contents
-        (Answers commands.Counts bytes) (IsTrue input.new.failed)
+        (InForm setup.form (Answers (commands.CountsIn setup.form) bytes)) (IsTrue input.new.failed)
         output.old output.new result) }
     ensures memory { result ≡ Err EngineFault.OutOfMemory → output.new ≡ output.old }
     ensures reads { ReadsFew R.remaining input.old input.new }
 {
-    check_batch_as(
-        alloc,
-        input,
-        output,
-        Options {
-            form: Form::Lines,
-            setup,
-        },
-    )
-}
-
-/// Does what [`check_batch`] does, in a form and with a setup of the caller's.
-///
-/// # Errors
-///
-/// Those of [`check_batch`].
-pub fn check_batch_as<R: Read, W: Write>(
-    alloc: Global,
-    input: &mut Input<R>,
-    output: &mut Output<W>,
-    options: Options,
-) -> Result<Ended, EngineFault>
-    requires input { IsFresh input.old }
-    requires output { output.old.failed ≡ false }
-    ensures ends { SomeDocument (R.remaining input.old.reader) (λ bytes. Ends W.contents
-        (InForm options.form (Answers (commands.CountsIn options.form) bytes)) (IsTrue input.new.failed)
-        output.old output.new result) }
-    ensures memory { result ≡ Err EngineFault.OutOfMemory → output.new ≡ output.old }
-    ensures reads { ReadsFew R.remaining input.old input.new }
-{
-    answer(
-        alloc,
-        input,
-        output,
-        &Counts { form: options.form },
-        options,
-    )
+    answer(alloc, input, output, &Counts { form: setup.form }, setup)
 }

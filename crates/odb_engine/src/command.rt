@@ -17,7 +17,7 @@ use crate::disposal::DropOrLeak;
 use crate::ending::{Ended, EngineFault, end};
 use crate::halt::Halt;
 use crate::input::value_of;
-use crate::setup::{Options, Setup};
+use crate::setup::Setup;
 use odb_check::{Plan, check_with};
 use odb_doc::{Batch, Input, Output, Place};
 use serde_json::Value;
@@ -108,16 +108,16 @@ pub fn answer<R: Read, W: Write, C: Command>(
     input: &mut Input<R>,
     output: &mut Output<W>,
     command: &C,
-    options: Options,
+    setup: Setup,
 ) -> Result<Ended, EngineFault>
     requires input { IsFresh input.old }
     requires output { output.old.failed ≡ false }
     ensures ends { SomeDocument (R.remaining input.old.reader) (λ bytes. Ends W.contents
-        (InForm options.form (Answers (C.writes command.now) bytes)) (IsTrue input.new.failed)
+        (InForm setup.form (Answers (C.writes command.now) bytes)) (IsTrue input.new.failed)
         output.old output.new result) }
     ensures memory { result ≡ Err EngineFault.OutOfMemory → output.new ≡ output.old }
     ensures reads { ReadsFew R.remaining input.old input.new }
 {
-    let found = text_of(alloc, input, command, options.setup);
-    end(alloc, options.form, found, output)
+    let found = text_of(alloc, input, command, setup);
+    end(alloc, setup.form, found, output)
 }

@@ -4,14 +4,14 @@ ghost use Rattle.std.specs.Prelude.{◌≡◌, false, Err, IsTrue};
 ghost use Rattle.odb_engine.specs.Inputs.{IsFresh, ReadsFew, SomeDocument};
 ghost use Rattle.odb_engine.specs.Cascade.{Answers};
 ghost use Rattle.odb_engine.specs.Engines.{Ends};
+ghost use Rattle.odb_engine.specs.Forms.{InForm};
 ghost use Rattle.odb_engine.specs.Drawings as drawings;
 
 use crate::command::{Command, answer};
 use crate::drawing::drawing_text;
 use crate::ending::{Ended, EngineFault};
-use crate::form::Form;
 use crate::halt::Halt;
-use crate::setup::{Options, Setup};
+use crate::setup::Setup;
 use odb_check::Plan;
 use odb_doc::{Batch, Input, Output};
 use std::alloc::Global;
@@ -70,14 +70,10 @@ pub fn draw_batch_with<R: Read, W: Write>(
     requires input { IsFresh input.old }
     requires output { output.old.failed ≡ false }
     ensures ends { SomeDocument (R.remaining input.old.reader) (λ bytes. Ends W.contents
-        (Answers drawings.Drawings bytes) (IsTrue input.new.failed)
+        (InForm setup.form (Answers drawings.Drawings bytes)) (IsTrue input.new.failed)
         output.old output.new result) }
     ensures memory { result ≡ Err EngineFault.OutOfMemory → output.new ≡ output.old }
     ensures reads { ReadsFew R.remaining input.old input.new }
 {
-    let options = Options {
-        form: Form::Lines,
-        setup,
-    };
-    answer(alloc, input, output, &Drawings, options)
+    answer(alloc, input, output, &Drawings, setup)
 }

@@ -25,7 +25,7 @@ use crate::pair::PairCommand;
 use crate::plan::Plans;
 use crate::replay::Replay;
 use crate::run::Run;
-use crate::setup::{Options, Setup};
+use crate::setup::Setup;
 use odb_doc::{Batch, Output, Place, Refusal};
 use odb_sched::{Chooser, First, Last, Order, Policy, Wide};
 use serde_json::Value;
@@ -78,13 +78,13 @@ fn answer<C: Command>(
     alloc: Global,
     line: &[u8],
     command: &C,
-    options: Options,
+    setup: Setup,
 ) -> Result<Answer, AllocError>
-    ensures { IfOk result (λ answer. InForm options.form
+    ensures { IfOk result (λ answer. InForm setup.form
         (Answers (C.writes command.now) line.now) answer.ended answer.text.items) }
 {
-    let found = text_of(alloc, line, command, options.setup);
-    Answer::of(alloc, options.form, found)
+    let found = text_of(alloc, line, command, setup);
+    Answer::of(alloc, setup.form, found)
 }
 
 /// Takes an array of two values apart; `None` if the value is no such array.
@@ -117,7 +117,7 @@ fn perform_on<W: Write, C: PairCommand>(
         output.old output.new result }
     ensures read { result ≢ Err halts.Read }
 {
-    let setup = command.options().setup;
+    let setup = command.setup();
     let read = DropOrLeak {
         value: Batch::read(alloc, batch)?,
         disposal: setup.disposal,
@@ -143,7 +143,7 @@ fn perform<W: Write, C: PairCommand>(
     };
     let batch = DropOrLeak {
         value: first,
-        disposal: command.options().setup.disposal,
+        disposal: command.setup().disposal,
     };
     perform_on(alloc, &batch.value, second, output, command)
 }
@@ -158,7 +158,7 @@ fn answer_pair<C: PairCommand>(
     ensures { IfOk result (λ answer. InForm (C.form command.old)
         (OfPair (C.writes command.old) line.now) answer.ended answer.text.items) }
 {
-    let form = command.options().form;
+    let form = command.setup().form;
     let mut output = Output::new(Vec::new(alloc));
     let sent = perform(alloc, line, &mut output, command);
     match conclude(alloc, form, sent, &mut output) {
@@ -174,7 +174,7 @@ fn answer_pair<C: PairCommand>(
 #[derive(Clone, Copy)]
 struct Unordered {
     policy: Policy,
-    options: Options,
+    setup: Setup,
 }
 
 /// Replays the batch in a line by the recorded outcomes in it, in the order of a chooser.
@@ -184,7 +184,7 @@ fn replay_by(
     chooser: &mut dyn Chooser,
     replay: Unordered,
 ) -> Result<Answer, AllocError>
-    ensures { IfOk result (λ answer. InForm replay.options.form
+    ensures { IfOk result (λ answer. InForm replay.setup.form
         (OfPair (ReplaysValue (allows chooser.old) replay.policy false) line.now)
         answer.ended answer.text.items) }
 {
@@ -192,7 +192,7 @@ fn replay_by(
         policy: replay.policy,
         chooser,
         traced: false,
-        options: replay.options,
+        setup: replay.setup,
     };
     answer_pair(alloc, line, &mut ordered)
 }
@@ -204,7 +204,7 @@ fn replay_in(
     order: Order,
     replay: Unordered,
 ) -> Result<Answer, AllocError>
-    ensures { IfOk result (λ answer. InForm replay.options.form
+    ensures { IfOk result (λ answer. InForm replay.setup.form
         (OfPair (ReplaysValue (AllowsOrder order) replay.policy false) line.now)
         answer.ended answer.text.items) }
 {
@@ -216,7 +216,7 @@ fn replay_in(
 }
 
 /// Does a task on a line: returns what its command writes of the documents in it, or the line of the
-/// least fault, in the form of the options.
+/// least fault, in the form of the setup.
 ///
 /// The line holds one document, or for a command over two documents an array of both; a line that is not
 /// an array of two elements is refused as F07. `line` may be any bytes; they are not copied. Takes the
@@ -229,20 +229,20 @@ pub fn answer_line(
     alloc: Global,
     line: &[u8],
     task: LineTask,
-    options: Options,
+    setup: Setup,
 ) -> Result<Answer, AllocError>
-    ensures { IfOk result (λ answer. InForm options.form (OfLine task options.form line.now)
+    ensures { IfOk result (λ answer. InForm setup.form (OfLine task setup.form line.now)
         answer.ended answer.text.items) }
 {
-    let form = options.form;
+    let form = setup.form;
     match task {
-        LineTask::Check => answer(alloc, line, &Counts { form }, options),
-        LineTask::Plan => answer(alloc, line, &Plans { form }, options),
-        LineTask::Canon => answer(alloc, line, &Canonical, options),
-        LineTask::Match => answer_pair(alloc, line, &mut Match { options }),
+        LineTask::Check => answer(alloc, line, &Counts { form }, setup),
+        LineTask::Plan => answer(alloc, line, &Plans { form }, setup),
+        LineTask::Canon => answer(alloc, line, &Canonical, setup),
+        LineTask::Match => answer_pair(alloc, line, &mut Match { setup }),
         LineTask::Replay { policy, order } => {
-            replay_in(alloc, line, order, Unordered { policy, options })
+            replay_in(alloc, line, order, Unordered { policy, setup })
         }
-        LineTask::Run { policy } => answer_pair(alloc, line, &mut Run { policy, options }),
+        LineTask::Run { policy } => answer_pair(alloc, line, &mut Run { policy, setup }),
     }
 }

@@ -79,7 +79,7 @@ pub fn open_run(
     let read = Batch::read(alloc, &value)?;
     let setup = Setup {
         seed,
-        disposal: Disposal::Drop,
+        ..Setup::plain()
     };
     let plan = plan_of(alloc, &read, setup)?;
     let run = run_after(alloc, &plan.value, events, policy)?;
@@ -156,7 +156,7 @@ pub fn text_of_run(
     let read = Batch::read(alloc, &value)?;
     let setup = Setup {
         seed,
-        disposal: Disposal::Drop,
+        ..Setup::plain()
     };
     let plan = plan_of(alloc, &read, setup)?;
     line_on(alloc, &plan.value, kept)

@@ -23,7 +23,7 @@ use crate::json::match_json;
 use crate::lines::fit_line;
 use crate::output::print;
 use crate::pair::{PairCommand, answer_pair};
-use crate::setup::{Options, Setup};
+use crate::setup::Setup;
 use odb_check::Plan;
 use odb_doc::{Input, Output, Place};
 use odb_reply::{Responses, Table, match_responses};
@@ -70,35 +70,35 @@ fn match_text(
 }
 
 /// Returns what is printed of the responses in a value.
-fn matched(alloc: Global, plan: &Plan<'_>, value: &Value, options: Options) -> Result<String, Halt>
-    ensures found { Found (MatchesValue options.form (plan_records plan.now) (view value.now)) result }
+fn matched(alloc: Global, plan: &Plan<'_>, value: &Value, setup: Setup) -> Result<String, Halt>
+    ensures found { Found (MatchesValue setup.form (plan_records plan.now) (view value.now)) result }
     ensures read { result ≢ Err halts.Read }
 {
     let responses = DropOrLeak {
         value: Responses::read(alloc, value)?,
-        disposal: options.setup.disposal,
+        disposal: setup.disposal,
     };
     let table = match_responses(alloc, plan, &responses.value)?;
-    Ok(match_text(alloc, plan, &table, options.form)?)
+    Ok(match_text(alloc, plan, &table, setup.form)?)
 }
 
 /// Prints the status of each request.
 #[derive(Drop)]
 pub(crate) struct Match {
-    pub(crate) options: Options,
+    pub(crate) setup: Setup,
 }
 
 impl PairCommand for Match {
-    ghost writes = { λ self. MatchesValue self.options.form };
+    ghost writes = { λ self. MatchesValue self.setup.form };
 
     ghost streams = { λ _. ⊥ };
 
-    ghost form = { λ self. self.options.form };
+    ghost form = { λ self. self.setup.form };
 
     ghost place = { λ _. places.Responses };
 
-    fn options(&self) -> Options {
-        self.options
+    fn setup(&self) -> Setup {
+        self.setup
     }
 
     fn place(&self) -> Place {
@@ -112,12 +112,12 @@ impl PairCommand for Match {
         second: Value,
         output: &mut Output<W>,
     ) -> Sent {
-        let options = self.options;
+        let setup = self.setup;
         let value = DropOrLeak {
             value: second,
-            disposal: options.setup.disposal,
+            disposal: setup.disposal,
         };
-        let text = matched(alloc, plan, &value.value, options)?;
+        let text = matched(alloc, plan, &value.value, setup)?;
         Ok(print(output, &text))
     }
 }
@@ -171,48 +171,13 @@ pub fn match_batch_with<R: Read, S: Read, W: Write>(
     requires responses { IsFresh responses.old }
     requires output { output.old.failed ≡ false }
     ensures ends { SomeDocument (R.remaining batch.old.reader) (λ bytes. Ends W.contents
-        (Answers (BySecond (S.remaining responses.old.reader) Matches) bytes)
+        (InForm setup.form
+        (Answers (BySecond (S.remaining responses.old.reader) (MatchesIn setup.form)) bytes))
         (IsTrue batch.new.failed ⊎ IsTrue responses.new.failed) output.old output.new result
         × AskedFor R.remaining batch.old batch.new bytes responses.old responses.new) }
     ensures memory { result ≡ Err EngineFault.OutOfMemory → output.new ≡ output.old }
     ensures batch { ReadsFew R.remaining batch.old batch.new }
     ensures responses { ReadsFew S.remaining responses.old responses.new }
 {
-    match_batch_as(
-        alloc,
-        batch,
-        responses,
-        output,
-        Options {
-            form: Form::Lines,
-            setup,
-        },
-    )
-}
-
-/// Does what [`match_batch`] does, in a form and with a setup of the caller's.
-///
-/// # Errors
-///
-/// Those of [`match_batch`].
-pub fn match_batch_as<R: Read, S: Read, W: Write>(
-    alloc: Global,
-    batch: &mut Input<R>,
-    responses: &mut Input<S>,
-    output: &mut Output<W>,
-    options: Options,
-) -> Result<Ended, EngineFault>
-    requires batch { IsFresh batch.old }
-    requires responses { IsFresh responses.old }
-    requires output { output.old.failed ≡ false }
-    ensures ends { SomeDocument (R.remaining batch.old.reader) (λ bytes. Ends W.contents
-        (InForm options.form
-        (Answers (BySecond (S.remaining responses.old.reader) (MatchesIn options.form)) bytes))
-        (IsTrue batch.new.failed ⊎ IsTrue responses.new.failed) output.old output.new result
-        × AskedFor R.remaining batch.old batch.new bytes responses.old responses.new) }
-    ensures memory { result ≡ Err EngineFault.OutOfMemory → output.new ≡ output.old }
-    ensures batch { ReadsFew R.remaining batch.old batch.new }
-    ensures responses { ReadsFew S.remaining responses.old responses.new }
-{
-    answer_pair(alloc, batch, responses, output, &mut Match { options })
+    answer_pair(alloc, batch, responses, output, &mut Match { setup })
 }

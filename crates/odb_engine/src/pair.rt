@@ -16,7 +16,7 @@ use crate::command::plan_of;
 use crate::disposal::DropOrLeak;
 use crate::ending::{Ended, EngineFault, Sent, conclude};
 use crate::input::value_of;
-use crate::setup::Options;
+use crate::setup::Setup;
 use odb_check::Plan;
 use odb_doc::{Batch, Input, Output, Place};
 use serde_json::Value;
@@ -52,8 +52,8 @@ pub trait PairCommand {
     /// The place of the second document in a fault.
     ghost place: { Self → Place };
 
-    /// Returns the options of its engine.
-    fn options(&self) -> Options
+    /// Returns the setup of its engine.
+    fn setup(&self) -> Setup
         ensures { result.form ≡ form self.now };
 
     /// Returns the place of the second document in a fault.
@@ -117,14 +117,14 @@ fn perform_in<S: Read, W: Write, C: PairCommand>(
     ensures read { result ≢ Err halts.Read }
     ensures second { ReadsFew S.remaining second.old second.new }
 {
-    let Options { form, setup } = command.options();
+    let setup = command.setup();
     let read = DropOrLeak {
         value: Batch::read(alloc, batch)?,
         disposal: setup.disposal,
     };
     let plan = plan_of(alloc, &read.value, setup)?;
     let sent = perform_on(alloc, &plan.value, second, output, command);
-    Ok(conclude(alloc, form, sent, output))
+    Ok(conclude(alloc, setup.form, sent, output))
 }
 
 /// Performs a command on the batch in a document, as [`perform_in`] does on the batch in a value.
@@ -152,7 +152,7 @@ fn perform_read<R: Read, S: Read, W: Write, C: PairCommand>(
 {
     let value = DropOrLeak {
         value: value_of(alloc, batch, Place::Batch)?,
-        disposal: command.options().setup.disposal,
+        disposal: command.setup().disposal,
     };
     perform_in(alloc, &value.value, second, output, command)
 }
@@ -179,7 +179,7 @@ pub fn answer_pair<R: Read, S: Read, W: Write, C: PairCommand>(
     ensures batch { ReadsFew R.remaining batch.old batch.new }
     ensures second { ReadsFew S.remaining second.old second.new }
 {
-    let form = command.options().form;
+    let form = command.setup().form;
     let sent = perform_read(alloc, batch, second, output, command);
     conclude(alloc, form, sent, output)
 }

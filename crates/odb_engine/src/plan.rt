@@ -12,7 +12,7 @@ use crate::ending::{Ended, EngineFault};
 use crate::form::Form;
 use crate::halt::Halt;
 use crate::plan_json::plan_json;
-use crate::setup::{Options, Setup};
+use crate::setup::Setup;
 use odb_check::Plan;
 use odb_doc::{Batch, Input, Output};
 use std::alloc::Global;
@@ -73,40 +73,10 @@ pub fn plan_batch_with<R: Read, W: Write>(
     requires input { IsFresh input.old }
     requires output { output.old.failed ≡ false }
     ensures ends { SomeDocument (R.remaining input.old.reader) (λ bytes. Ends W.contents
-        (Answers commands.Plans bytes) (IsTrue input.new.failed)
+        (InForm setup.form (Answers (commands.PlansIn setup.form) bytes)) (IsTrue input.new.failed)
         output.old output.new result) }
     ensures memory { result ≡ Err EngineFault.OutOfMemory → output.new ≡ output.old }
     ensures reads { ReadsFew R.remaining input.old input.new }
 {
-    plan_batch_as(
-        alloc,
-        input,
-        output,
-        Options {
-            form: Form::Lines,
-            setup,
-        },
-    )
-}
-
-/// Does what [`plan_batch`] does, in a form and with a setup of the caller's.
-///
-/// # Errors
-///
-/// Those of [`crate::check_batch`].
-pub fn plan_batch_as<R: Read, W: Write>(
-    alloc: Global,
-    input: &mut Input<R>,
-    output: &mut Output<W>,
-    options: Options,
-) -> Result<Ended, EngineFault>
-    requires input { IsFresh input.old }
-    requires output { output.old.failed ≡ false }
-    ensures ends { SomeDocument (R.remaining input.old.reader) (λ bytes. Ends W.contents
-        (InForm options.form (Answers (commands.PlansIn options.form) bytes)) (IsTrue input.new.failed)
-        output.old output.new result) }
-    ensures memory { result ≡ Err EngineFault.OutOfMemory → output.new ≡ output.old }
-    ensures reads { ReadsFew R.remaining input.old input.new }
-{
-    answer(alloc, input, output, &Plans { form: options.form }, options)
+    answer(alloc, input, output, &Plans { form: setup.form }, setup)
 }

@@ -19,11 +19,10 @@ ghost use Rattle.odb_engine.specs.Halts.{Refuses, Halted};
 
 use crate::disposal::{Disposal, DropOrLeak};
 use crate::ending::{Ended, EngineFault, Sent};
-use crate::form::Form;
 use crate::halt::Halt;
 use crate::output::send;
 use crate::pair::{PairCommand, answer_pair};
-use crate::setup::{Options, Setup};
+use crate::setup::Setup;
 use crate::trace::trace_part;
 use odb_check::Plan;
 use odb_doc::{Input, Outcomes, Output, Place};
@@ -54,7 +53,7 @@ pub(crate) struct Replay<C> {
     pub(crate) policy: Policy,
     pub(crate) chooser: C,
     pub(crate) traced: bool,
-    pub(crate) options: Options,
+    pub(crate) setup: Setup,
 }
 
 /// Executes a plan by recorded outcomes.
@@ -80,7 +79,7 @@ fn run_of<'a: 'p, 'p>(
     let _count = outcomes.len();
     let mut service = DropOrLeak {
         value: Recorded::new(alloc, plan, outcomes)?,
-        disposal: replay.options.setup.disposal,
+        disposal: replay.setup.disposal,
     };
     let chooser = &mut *replay.chooser;
     let trace = execute(alloc, plan, replay.policy, chooser, &mut service.value)?;
@@ -94,12 +93,12 @@ impl<'c> PairCommand for Replay<&'c mut dyn Chooser> {
 
     ghost streams = { λ _. Unit {0} };
 
-    ghost form = { λ self. self.options.form };
+    ghost form = { λ self. self.setup.form };
 
     ghost place = { λ _. places.Outcomes };
 
-    fn options(&self) -> Options {
-        self.options
+    fn setup(&self) -> Setup {
+        self.setup
     }
 
     fn place(&self) -> Place {
@@ -113,7 +112,7 @@ impl<'c> PairCommand for Replay<&'c mut dyn Chooser> {
         second: Value,
         output: &mut Output<W>,
     ) -> Sent {
-        let (disposal, traced) = (self.options.setup.disposal, self.traced);
+        let (disposal, traced) = (self.setup.disposal, self.traced);
         let outcomes = outcomes_of(alloc, second, disposal)?;
         let trace = DropOrLeak {
             value: run_of(alloc, plan, outcomes, self)?,
@@ -193,48 +192,7 @@ pub fn replay_batch_with<R: Read, S: Read, W: Write>(
     requires outcomes { IsFresh outcomes.old }
     requires output { output.old.failed ≡ false }
     ensures ends { SomeDocument (R.remaining batch.old.reader) (λ bytes. Ends W.contents
-        (Answers (replays.Replays (allows chooser.old) policy traced
-        (S.remaining outcomes.old.reader)) bytes)
-        (IsTrue batch.new.failed ⊎ IsTrue outcomes.new.failed) output.old output.new result
-        × AskedFor R.remaining batch.old batch.new bytes outcomes.old outcomes.new) }
-    ensures batch { ReadsFew R.remaining batch.old batch.new }
-    ensures outcomes { ReadsFew S.remaining outcomes.old outcomes.new }
-{
-    replay_batch_as(
-        alloc,
-        batch,
-        outcomes,
-        output,
-        policy,
-        chooser,
-        traced,
-        Options {
-            form: Form::Lines,
-            setup,
-        },
-    )
-}
-
-/// Does what [`replay_batch`] does, with faults in a form and with a setup of the caller's.
-///
-/// # Errors
-///
-/// Those of [`replay_batch`].
-pub fn replay_batch_as<R: Read, S: Read, W: Write>(
-    alloc: Global,
-    batch: &mut Input<R>,
-    outcomes: &mut Input<S>,
-    output: &mut Output<W>,
-    policy: Policy,
-    chooser: &mut dyn Chooser,
-    traced: bool,
-    options: Options,
-) -> Result<Ended, EngineFault>
-    requires batch { IsFresh batch.old }
-    requires outcomes { IsFresh outcomes.old }
-    requires output { output.old.failed ≡ false }
-    ensures ends { SomeDocument (R.remaining batch.old.reader) (λ bytes. Ends W.contents
-        (InForm options.form (Answers (replays.Replays (allows chooser.old) policy traced
+        (InForm setup.form (Answers (replays.Replays (allows chooser.old) policy traced
         (S.remaining outcomes.old.reader)) bytes))
         (IsTrue batch.new.failed ⊎ IsTrue outcomes.new.failed) output.old output.new result
         × AskedFor R.remaining batch.old batch.new bytes outcomes.old outcomes.new) }
@@ -245,7 +203,7 @@ pub fn replay_batch_as<R: Read, S: Read, W: Write>(
         policy,
         chooser,
         traced,
-        options,
+        setup,
     };
     answer_pair(alloc, batch, outcomes, output, &mut replay)
 }

@@ -18,11 +18,10 @@ ghost use Rattle.odb_engine.specs.Halts.{Halted};
 
 use crate::disposal::{Disposal, DropOrLeak};
 use crate::ending::{Ended, EngineFault, Sent};
-use crate::form::Form;
 use crate::halt::Halt;
 use crate::output::send;
 use crate::pair::{PairCommand, answer_pair};
-use crate::setup::{Options, Setup};
+use crate::setup::Setup;
 use odb_check::Plan;
 use odb_doc::{Events, Input, Output, Place, Refusal};
 use odb_reply::laws::every_response;
@@ -87,7 +86,7 @@ fn done_of<'a: 'p, 'p>(
 #[derive(Drop)]
 pub(crate) struct Run {
     pub(crate) policy: Policy,
-    pub(crate) options: Options,
+    pub(crate) setup: Setup,
 }
 
 impl PairCommand for Run {
@@ -95,12 +94,12 @@ impl PairCommand for Run {
 
     ghost streams = { λ _. Unit {0} };
 
-    ghost form = { λ self. self.options.form };
+    ghost form = { λ self. self.setup.form };
 
     ghost place = { λ _. places.Events };
 
-    fn options(&self) -> Options {
-        self.options
+    fn setup(&self) -> Setup {
+        self.setup
     }
 
     fn place(&self) -> Place {
@@ -114,7 +113,7 @@ impl PairCommand for Run {
         second: Value,
         output: &mut Output<W>,
     ) -> Sent {
-        let disposal = self.options.setup.disposal;
+        let disposal = self.setup.disposal;
         let events = events_of(alloc, second, disposal)?;
         let done = DropOrLeak {
             value: done_of(alloc, plan, events, self.policy, disposal)?,
@@ -180,48 +179,12 @@ pub fn run_batch_with<R: Read, S: Read, W: Write>(
     requires events { IsFresh events.old }
     requires output { output.old.failed ≡ false }
     ensures ends { SomeDocument (R.remaining batch.old.reader) (λ bytes. Ends W.contents
-        (Answers (runs.Runs policy (S.remaining events.old.reader)) bytes)
+        (InForm setup.form (Answers (runs.Runs policy (S.remaining events.old.reader)) bytes))
         (IsTrue batch.new.failed ⊎ IsTrue events.new.failed) output.old output.new result
         × AskedFor R.remaining batch.old batch.new bytes events.old events.new) }
     ensures batch { ReadsFew R.remaining batch.old batch.new }
     ensures events { ReadsFew S.remaining events.old events.new }
 {
-    run_batch_as(
-        alloc,
-        batch,
-        events,
-        output,
-        policy,
-        Options {
-            form: Form::Lines,
-            setup,
-        },
-    )
-}
-
-/// Does what [`run_batch`] does, with faults in a form and with a setup of the caller's.
-///
-/// # Errors
-///
-/// Those of [`run_batch`].
-pub fn run_batch_as<R: Read, S: Read, W: Write>(
-    alloc: Global,
-    batch: &mut Input<R>,
-    events: &mut Input<S>,
-    output: &mut Output<W>,
-    policy: Policy,
-    options: Options,
-) -> Result<Ended, EngineFault>
-    requires batch { IsFresh batch.old }
-    requires events { IsFresh events.old }
-    requires output { output.old.failed ≡ false }
-    ensures ends { SomeDocument (R.remaining batch.old.reader) (λ bytes. Ends W.contents
-        (InForm options.form (Answers (runs.Runs policy (S.remaining events.old.reader)) bytes))
-        (IsTrue batch.new.failed ⊎ IsTrue events.new.failed) output.old output.new result
-        × AskedFor R.remaining batch.old batch.new bytes events.old events.new) }
-    ensures batch { ReadsFew R.remaining batch.old batch.new }
-    ensures events { ReadsFew S.remaining events.old events.new }
-{
-    let mut run = Run { policy, options };
+    let mut run = Run { policy, setup };
     answer_pair(alloc, batch, events, output, &mut run)
 }

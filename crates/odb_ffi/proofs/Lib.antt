@@ -1,5 +1,4 @@
 mod ReturnLemmas
-mod FormLemmas
 mod AddressLemmas
 mod OutcomeLemmas
 mod AnswerLemmas

@@ -13,7 +13,7 @@ ghost use Rattle.odb_ffi.specs.Options as options;
 ghost use Rattle.odb_ffi.specs.Returns.{Returns, ReturnsBy, WritesOf};
 
 use crate::answer::{give, wrong_option};
-use crate::options::{options_of, policy_of, replay_options_of, setup_of};
+use crate::options::{policy_of, replay_options_of};
 use crate::over_one::answered;
 use crate::over_two::{Documents, matched, ran, replayed};
 use odb_engine::{Form, LineTask};
@@ -47,7 +47,7 @@ pub extern "C" fn odb_check(
         result text_length.new text.old text.new }
 {
     give(
-        answered(alloc, batch, LineTask::Check, options_of(Form::Lines, seed)),
+        answered(alloc, batch, LineTask::Check, Form::Lines, seed),
         text,
         text_length,
     )
@@ -67,7 +67,7 @@ pub extern "C" fn odb_plan(
         result text_length.new text.old text.new }
 {
     give(
-        answered(alloc, batch, LineTask::Plan, options_of(Form::Lines, seed)),
+        answered(alloc, batch, LineTask::Plan, Form::Lines, seed),
         text,
         text_length,
     )
@@ -87,7 +87,7 @@ pub extern "C" fn odb_canon(
         result text_length.new text.old text.new }
 {
     give(
-        answered(alloc, batch, LineTask::Canon, options_of(Form::Lines, seed)),
+        answered(alloc, batch, LineTask::Canon, Form::Lines, seed),
         text,
         text_length,
     )
@@ -113,7 +113,7 @@ pub extern "C" fn odb_match(
         second: responses,
     };
     give(
-        matched(alloc, documents, Form::Lines, setup_of(seed)),
+        matched(alloc, documents, Form::Lines, seed),
         text,
         text_length,
     )
@@ -145,7 +145,7 @@ pub extern "C" fn odb_run(
     };
     match policy_of(mode, width) {
         Some(policy) => give(
-            ran(alloc, documents, policy, Form::Lines, setup_of(seed)),
+            ran(alloc, documents, policy, Form::Lines, seed),
             text,
             text_length,
         ),
@@ -182,7 +182,7 @@ pub extern "C" fn odb_replay(
     };
     match replay_options_of(mode, width, order, trace) {
         Some(replay) => give(
-            replayed(alloc, documents, replay, Form::Lines, setup_of(seed)),
+            replayed(alloc, documents, replay, Form::Lines, seed),
             text,
             text_length,
         ),

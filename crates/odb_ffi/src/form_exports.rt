@@ -14,7 +14,7 @@ ghost use Rattle.odb_ffi.specs.Options as options;
 ghost use Rattle.odb_ffi.specs.Returns.{AnswersIn, ReturnsBy, WritesOf};
 
 use crate::answer::{give, wrong_option};
-use crate::options::{form_of, options_of, policy_of, replay_options_of, setup_of};
+use crate::options::{form_of, policy_of, replay_options_of};
 use crate::over_one::answered;
 use crate::over_two::{Documents, matched, ran, replayed};
 use odb_engine::LineTask;
@@ -36,7 +36,7 @@ pub extern "C" fn odb_check_as(
 {
     match form_of(form) {
         Some(form) => give(
-            answered(alloc, batch, LineTask::Check, options_of(form, seed)),
+            answered(alloc, batch, LineTask::Check, form, seed),
             text,
             text_length,
         ),
@@ -60,7 +60,7 @@ pub extern "C" fn odb_plan_as(
 {
     match form_of(form) {
         Some(form) => give(
-            answered(alloc, batch, LineTask::Plan, options_of(form, seed)),
+            answered(alloc, batch, LineTask::Plan, form, seed),
             text,
             text_length,
         ),
@@ -85,7 +85,7 @@ pub extern "C" fn odb_canon_as(
 {
     match form_of(form) {
         Some(form) => give(
-            answered(alloc, batch, LineTask::Canon, options_of(form, seed)),
+            answered(alloc, batch, LineTask::Canon, form, seed),
             text,
             text_length,
         ),
@@ -115,11 +115,7 @@ pub extern "C" fn odb_match_as(
         second: responses,
     };
     match form_of(form) {
-        Some(form) => give(
-            matched(alloc, documents, form, setup_of(seed)),
-            text,
-            text_length,
-        ),
+        Some(form) => give(matched(alloc, documents, form, seed), text, text_length),
         None => wrong_option(text_length),
     }
 }
@@ -150,11 +146,7 @@ pub extern "C" fn odb_run_as(
         second: events,
     };
     match policy_of(mode, width) {
-        Some(policy) => give(
-            ran(alloc, documents, policy, form, setup_of(seed)),
-            text,
-            text_length,
-        ),
+        Some(policy) => give(ran(alloc, documents, policy, form, seed), text, text_length),
         None => wrong_option(text_length),
     }
 }
@@ -191,7 +183,7 @@ pub extern "C" fn odb_replay_as(
     };
     match replay_options_of(mode, width, order, trace) {
         Some(replay) => give(
-            replayed(alloc, documents, replay, form, setup_of(seed)),
+            replayed(alloc, documents, replay, form, seed),
             text,
             text_length,
         ),

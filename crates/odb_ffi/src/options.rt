@@ -1,11 +1,10 @@
 //! Options as numbers.
 
 ghost use Rattle.std.specs.Prelude.{◌≡◌, ◌≢◌, Some, None, IfSome};
-ghost use Rattle.odb_engine.specs.declared.disposal.Disposal.TheVariants.{Drop};
 ghost use Rattle.odb_ffi.specs.Options as options;
 
 use odb_check::Seed;
-use odb_engine::{Disposal, Form, Options, Setup};
+use odb_engine::Form;
 use odb_sched::{MAX_WIDTH, Mode, Order, Policy};
 
 /// The options of a replay.
@@ -25,31 +24,6 @@ pub fn seed_of(seed: u64) -> Seed
         Seed::none()
     } else {
         Seed::new(seed)
-    }
-}
-
-/// Returns the setup of an engine that keeps nothing. 0 is no seed.
-pub fn setup_of(seed: u64) -> Setup
-    ensures disposal { result.disposal ≡ Drop }
-    ensures none { seed ≡ 0 → result.seed.number ≡ None }
-    ensures some { seed ≢ 0 → result.seed.number ≡ Some seed }
-{
-    Setup {
-        seed: seed_of(seed),
-        disposal: Disposal::Drop,
-    }
-}
-
-/// Returns what an engine takes that writes in a form and keeps nothing. 0 is no seed.
-pub fn options_of(form: Form, seed: u64) -> Options
-    ensures form { result.form ≡ form }
-    ensures disposal { result.setup.disposal ≡ Drop }
-    ensures none { seed ≡ 0 → result.setup.seed.number ≡ None }
-    ensures some { seed ≢ 0 → result.setup.seed.number ≡ Some seed }
-{
-    Options {
-        form,
-        setup: setup_of(seed),
     }
 }
 

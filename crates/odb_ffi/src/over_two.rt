@@ -9,9 +9,9 @@ ghost use Rattle.odb_engine.specs.Replays.{Replays};
 ghost use Rattle.odb_engine.specs.Runs.{Runs};
 ghost use Rattle.odb_ffi.specs.Returns.{AnswersIn, WritesOf};
 
-use crate::options::ReplayOptions;
+use crate::options::{ReplayOptions, seed_of};
 use odb_doc::{Input, Output};
-use odb_engine::{Answer, Form, Options, Setup, match_batch_as, replay_batch_as, run_batch_as};
+use odb_engine::{Answer, Form, Setup, match_batch_with, replay_batch_with, run_batch_with};
 use odb_sched::{Chooser, First, Last, Order, Policy, Wide};
 use std::alloc::Global;
 
@@ -23,18 +23,22 @@ pub struct Documents<'d> {
 }
 
 /// Matches the responses of a service against a batch.
-pub fn matched(alloc: Global, documents: Documents<'_>, form: Form, setup: Setup) -> Option<Answer>
+pub fn matched(alloc: Global, documents: Documents<'_>, form: Form, seed: u64) -> Option<Answer>
     ensures { IfSome result (λ answer. WritesOf documents.entry.batch.now
         (AnswersIn form (BySecond (Some documents.entry.second.now) (MatchesIn form)))
         answer.ended answer.text.items) }
 {
     let mut output = Output::new(Vec::new(alloc));
-    match match_batch_as(
+    match match_batch_with(
         alloc,
         &mut Input::new(documents.batch),
         &mut Input::new(documents.second),
         &mut output,
-        Options { form, setup },
+        Setup {
+            form,
+            seed: seed_of(seed),
+            ..Setup::plain()
+        },
     ) {
         Ok(ended) => Some(Answer {
             ended,
@@ -50,19 +54,23 @@ pub fn ran(
     documents: Documents<'_>,
     policy: Policy,
     form: Form,
-    setup: Setup,
+    seed: u64,
 ) -> Option<Answer>
     ensures { IfSome result (λ answer. WritesOf documents.entry.batch.now
         (AnswersIn form (Runs policy (Some documents.entry.second.now))) answer.ended answer.text.items) }
 {
     let mut output = Output::new(Vec::new(alloc));
-    match run_batch_as(
+    match run_batch_with(
         alloc,
         &mut Input::new(documents.batch),
         &mut Input::new(documents.second),
         &mut output,
         policy,
-        Options { form, setup },
+        Setup {
+            form,
+            seed: seed_of(seed),
+            ..Setup::plain()
+        },
     ) {
         Ok(ended) => Some(Answer {
             ended,
@@ -78,14 +86,14 @@ fn replayed_by(
     documents: Documents<'_>,
     replay: ReplayOptions,
     chooser: &mut dyn Chooser,
-    options: Options,
+    setup: Setup,
 ) -> Option<Answer>
     ensures { IfSome result (λ answer. WritesOf documents.entry.batch.now
-        (AnswersIn options.form (Replays (allows chooser.old) replay.policy replay.traced
+        (AnswersIn setup.form (Replays (allows chooser.old) replay.policy replay.traced
         (Some documents.entry.second.now))) answer.ended answer.text.items) }
 {
     let mut output = Output::new(Vec::new(alloc));
-    match replay_batch_as(
+    match replay_batch_with(
         alloc,
         &mut Input::new(documents.batch),
         &mut Input::new(documents.second),
@@ -93,7 +101,7 @@ fn replayed_by(
         replay.policy,
         chooser,
         replay.traced,
-        options,
+        setup,
     ) {
         Ok(ended) => Some(Answer {
             ended,
@@ -109,16 +117,20 @@ pub fn replayed(
     documents: Documents<'_>,
     replay: ReplayOptions,
     form: Form,
-    setup: Setup,
+    seed: u64,
 ) -> Option<Answer>
     ensures { IfSome result (λ answer. WritesOf documents.entry.batch.now
         (AnswersIn form (Replays (AllowsOrder replay.order) replay.policy replay.traced
         (Some documents.entry.second.now))) answer.ended answer.text.items) }
 {
-    let options = Options { form, setup };
+    let setup = Setup {
+        form,
+        seed: seed_of(seed),
+        ..Setup::plain()
+    };
     match replay.order {
-        Order::First => replayed_by(alloc, documents, replay, &mut First, options),
-        Order::Last => replayed_by(alloc, documents, replay, &mut Last, options),
-        Order::Wide => replayed_by(alloc, documents, replay, &mut Wide, options),
+        Order::First => replayed_by(alloc, documents, replay, &mut First, setup),
+        Order::Last => replayed_by(alloc, documents, replay, &mut Last, setup),
+        Order::Wide => replayed_by(alloc, documents, replay, &mut Wide, setup),
     }
 }

@@ -2,16 +2,16 @@
 
 use crate::command::LineCommand;
 use odb_doc::Output;
-use odb_engine::{Ended, EngineFault, LineTask, Options, answer_line};
+use odb_engine::{Ended, EngineFault, LineTask, Setup, answer_line};
 use std::alloc::Global;
 use std::io::Write;
 
-/// A task that is done on each line, with its options. What it writes of a line is held in memory until
+/// A task that is done on each line. What it writes of a line is held in memory until
 /// it is whole.
 #[derive(Clone, Copy)]
 pub struct EachLine {
     pub task: LineTask,
-    pub options: Options,
+    pub setup: Setup,
 }
 
 impl LineCommand for EachLine {
@@ -19,7 +19,7 @@ impl LineCommand for EachLine {
     ghost use Rattle.odb_engine.specs.LineTasks.{OfLine};
 
     ghost writes = { λ self line.
-        InForm self.options.form (OfLine self.task self.options.form line) };
+        InForm self.setup.form (OfLine self.task self.setup.form line) };
 
     fn answer<W: Write>(
         &self,
@@ -27,7 +27,7 @@ impl LineCommand for EachLine {
         line: &[u8],
         output: &mut Output<W>,
     ) -> Result<Ended, EngineFault> {
-        let answer = answer_line(alloc, line, self.task, self.options)?;
+        let answer = answer_line(alloc, line, self.task, self.setup)?;
         output.put_all(&answer.text)?;
         Ok(answer.ended)
     }

@@ -143,7 +143,11 @@ fn called<R: Read, S: Read, W: Write>(
         Disposal::Drop => called_plainly(alloc, command, batch, second, output),
         Disposal::Leak => {
             let seed = Seed::new(7);
-            let setup = Setup { seed, disposal };
+            let setup = Setup {
+                seed,
+                disposal,
+                ..Setup::plain()
+            };
             called_with(alloc, (command, setup), batch, second, output)
         }
     }

@@ -7,7 +7,7 @@ ghost use Rattle.odb_tests.specs.Lengths.{WritesLength};
 
 use crate::engines::devices::{Narrow, Pace, Slow};
 use odb_doc::Output;
-use odb_engine::{Ended, EngineFault, Form, LineTask, Options, Setup};
+use odb_engine::{Ended, EngineFault, Form, LineTask, Setup};
 use odb_lines::laws::one_text;
 use odb_lines::{EachLine, LineCommand, LineInput, answer_lines};
 use std::alloc::{AllocError, Global};
@@ -136,11 +136,13 @@ const LOG: &str = r#"{"requests":[{"id":"1","method":"get","url":"A"}]}
 
 /// What is written of these lines by a task in a form, and how that ends.
 fn done(alloc: Global, task: LineTask, form: Form) -> Result<Answers, AllocError> {
-    let setup = Setup::plain();
-    let options = Options { form, setup };
+    let setup = Setup {
+        form,
+        ..Setup::plain()
+    };
     let mut input = LineInput::new(alloc, LOG.as_bytes())?;
     let mut output = Output::new(Vec::new(alloc));
-    let command = EachLine { task, options };
+    let command = EachLine { task, setup };
     let ended = answer_lines(alloc, &mut input, &mut output, &command, false);
     Ok((ended, output.into_inner()))
 }

@@ -24,8 +24,8 @@ use odb_engine::laws::{
     one_document, one_line, one_live_run, one_replay, one_run, one_text, read_again,
 };
 use odb_engine::{
-    Answer, Ended, Form, LineTask, Options, Setup, answer_line, canon_batch, check_batch,
-    draw_batch, match_batch, open_run, plan_batch, replay_batch, run_batch, text_of_run,
+    Answer, Ended, Form, LineTask, Setup, answer_line, canon_batch, check_batch, draw_batch,
+    match_batch, open_run, plan_batch, replay_batch, run_batch, text_of_run,
 };
 use odb_sched::{Last, Mode, Policy};
 use std::alloc::Global;
@@ -270,11 +270,11 @@ fn live_and_recorded(
 fn line_answered(alloc: Global, line: &[u8], task: LineTask) -> Option<Written>
     ensures { IfSome result (λ it. OfLine task Lines line.now it.0 it.1.items) }
 {
-    let options = Options {
+    let setup = Setup {
         form: Form::Lines,
-        setup: Setup::plain(),
+        ..Setup::plain()
     };
-    match answer_line(alloc, line, task, options) {
+    match answer_line(alloc, line, task, setup) {
         Ok(Answer { ended, text }) => Some((ended, text)),
         Err(_) => None,
     }

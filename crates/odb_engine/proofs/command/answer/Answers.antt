@@ -9,6 +9,6 @@ returns-clause-ends g c =
     let (bytes, gives, found) = c.text_of-found.ensures.found in (
       bytes,
       gives,
-      Ends-found g.W.Write.contents c.args.options.form (Answers writes bytes) (IsTrue c.text_of-found.new.input.failed) c.args.output.now c.end.new.output c.text_of-found.result c.end.result found
+      Ends-found g.W.Write.contents c.args.setup.form (Answers writes bytes) (IsTrue c.text_of-found.new.input.failed) c.args.output.now c.end.new.output c.text_of-found.result c.end.result found
           c.text_of-found.ensures.read c.end.ensures.ends,
     )

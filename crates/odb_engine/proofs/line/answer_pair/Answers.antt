@@ -18,7 +18,7 @@ returns-in-Ok g c =
     let sent = c.perform-sent.result in
     let (by_ok, by_halt) = read-by-halt sent ⊥ (c.perform-sent.ensures.read, λ none. absurd none) in
     let halted = subst
-    (λ form. IfErr sent (λ halt. Ends held (text_found form (Err halt)) (halt ≡ halts.Read) c.perform-sent.new.output c.conclude.new.output c.conclude.result)) c.options-form.ensures c.conclude.ensures.halted in
+    (λ form. IfErr sent (λ halt. Ends held (text_found form (Err halt)) (halt ≡ halts.Read) c.perform-sent.new.output c.conclude.new.output c.conclude.result)) c.setup-form.ensures c.conclude.ensures.halted in
     let ends = Ends-concluded held form P ⊥ ⊥ c.new-output.result c.perform-sent.new.output c.conclude.new.output sent c.conclude.result c.perform-sent.ensures.sent c.conclude.ensures.ended halted by_ok by_halt in
     text-held (InForm form P) c.new.result c.into_inner.result c.new-output.result c.conclude.new.output c.conclude.result c.in-Ok.ended c.new.ensures.items c.new-output.ensures c.into_inner.ensures c.in-Ok.is ends.ended
 

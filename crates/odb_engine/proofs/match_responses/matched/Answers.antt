@@ -11,11 +11,11 @@ pub returns-in_err-read-clause-found : goal.returns-in_err-read-clause-found
 returns-in_err-read-clause-found c =
     let batch = plan_records c.args.plan.now in
     let value = view c.args.value.now in
-    at-exit (Found (MatchesValue c.args.options.form batch value)) _ _ c.from_residual.ensures.1 (halt-responses c.args.options.form batch value _ c.in_err-read.ensures.least)
+    at-exit (Found (MatchesValue c.args.setup.form batch value)) _ _ c.from_residual.ensures.1 (halt-responses c.args.setup.form batch value _ c.in_err-read.ensures.least)
 
 pub returns-in_err-table-clause-found : goal.returns-in_err-table-clause-found
 returns-in_err-table-clause-found c =
     let batch = plan_records c.args.plan.now in
     let value = view c.args.value.now in
-    at-exit (Found (MatchesValue c.args.options.form batch value)) _ _ c.from_residual-in_err-table.ensures.1
-    (halt-match c.args.options.form batch value (entries c.in_ok-read.field-0) _ (c.in_ok-read.ensures.good, c.in_ok-read.ensures.responses) c.in_err-table.ensures.least)
+    at-exit (Found (MatchesValue c.args.setup.form batch value)) _ _ c.from_residual-in_err-table.ensures.1
+    (halt-match c.args.setup.form batch value (entries c.in_ok-read.field-0) _ (c.in_ok-read.ensures.good, c.in_ok-read.ensures.responses) c.in_err-table.ensures.least)

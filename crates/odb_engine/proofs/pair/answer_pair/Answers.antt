@@ -13,7 +13,7 @@ returns-clause-ends g c =
     let (bytes, gives, (sent, reads)) = c.perform_read-sent.ensures.sent in
     let halted = subst
     (λ form. IfErr c.perform_read-sent.result (λ halt. Ends g.W.Write.contents (text_found form (Err halt)) (halt ≡ halts.Read) c.perform_read-sent.new.output c.conclude.new.output c.conclude.result))
-    c.options-form.ensures c.conclude.ensures.halted in (
+    c.setup-form.ensures c.conclude.ensures.halted in (
       bytes,
       gives,
       Ends-of-two g.R.Read.remaining g.W.Write.contents (g.C.PairCommand.form c.args.command.now) (Answers writes bytes) c.args.batch.now c.perform_read-sent.new.batch bytes c.args.second.now c.perform_read-sent.new.second c.args.output.now c.perform_read-sent.new.output c.conclude.new.output c.perform_read-sent.result c.conclude.result

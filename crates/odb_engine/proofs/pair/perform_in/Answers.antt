@@ -46,7 +46,7 @@ returns-clause-sent g c =
     let (by_ok, by_halt) = read-by-halt phase failed c.perform_on-sent.ensures.read in
     let by_plan = prints planned document in
     let halted = subst
-    (λ form. IfErr phase (λ halt. Ends contents (text_found form (Err halt)) (halt ≡ halts.Read) c.perform_on-sent.new.output c.conclude.new.output c.conclude.result)) c.options-form.ensures c.conclude.ensures.halted in
+    (λ form. IfErr phase (λ halt. Ends contents (text_found form (Err halt)) (halt ≡ halts.Read) c.perform_on-sent.new.output c.conclude.new.output c.conclude.result)) c.setup-setup.ensures c.conclude.ensures.halted in
     let concluded = Ends-concluded contents form by_plan ⊥ failed c.args.output.now c.perform_on-sent.new.output c.conclude.new.output phase c.conclude.result sent c.conclude.ensures.ended halted by_ok by_halt in
     Ends-weaker contents (InForm form by_plan) (InForm form (AnswersValue writes value)) failed failed c.args.output.now c.conclude.new.output c.conclude.result
     (InForm-weaker form by_plan (AnswersValue writes value) (λ ended text so.

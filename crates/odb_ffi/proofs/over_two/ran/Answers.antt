@@ -13,5 +13,5 @@ returns-in-Ok c =
       e.0,
       document-of c.args.documents.batch c.new-2.result e.0 c.new-2.ensures e.1,
       subst (λ (r : Reading (Bor (List ℕ))). Is r c.into_inner.result.items) c.new-3.ensures
-          (text-in (Is c.new-3.result) c.new.result c.into_inner.result c.new-output.result c.run_batch_as.new.output c.new.ensures.items c.new-output.ensures c.into_inner.ensures e.2.0.ended),
+          (text-in (Is c.new-3.result) c.new.result c.into_inner.result c.new-output.result c.run_batch_with.new.output c.new.ensures.items c.new-output.ensures c.into_inner.ensures e.2.0.ended),
     )

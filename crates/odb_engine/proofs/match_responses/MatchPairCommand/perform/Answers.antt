@@ -10,7 +10,7 @@ use Rattle.odb_engine.proofs.match_responses.MatchPairCommand.perform.Goals as g
 
 pub returns-clause-sent : goal.returns-clause-sent
 returns-clause-sent g c =
-    let form = c.args.self.now.options.form in
+    let form = c.args.self.now.setup.form in
     let writes = MatchesValue form (plan_records c.args.plan.now) (view c.args.second) in
     let text = c.deref.result.now in
     let done = subst (writes Done) (sym c.deref.ensures) c.in_ok-text.ensures.found in

@@ -18,7 +18,7 @@ returns-in_err-outcomes-clause-sent g c =
     let allows = (goal.Chooser-dyn g replay.chooser.now).allows replay.chooser.now.1 in
     let writes = ReplaysValue allows replay.policy replay.traced (plan_records c.args.plan.now) value in
     let halt = c.in_err-outcomes.field-0.0 in
-    exit-error (Sent g.W.Write.contents replay.options.form writes ⊥ c.args.output.now c.args.output.now) halt _ c.from_residual.ensures.1
+    exit-error (Sent g.W.Write.contents replay.setup.form writes ⊥ c.args.output.now c.args.output.now) halt _ c.from_residual.ensures.1
     (refl, Halted-weaker (IsFaultOfOutcomes value) (λ refusal. writes Refused (line_of refusal)) (λ refusal is. inl (reports (IsFaultOfOutcomes value) refusal is)) halt c.in_err-outcomes.ensures.least)
 
 pub returns-in_err-run_of-clause-sent : goal.returns-in_err-run_of-clause-sent
@@ -29,7 +29,7 @@ returns-in_err-run_of-clause-sent g c =
     let recorded = entries c.in_ok-outcomes.outcomes in
     let writes = ReplaysValue allows replay.policy replay.traced batch (view c.args.second) in
     let halt = c.in_err-run_of.field-0.0 in
-    exit-error (Sent g.W.Write.contents replay.options.form writes ⊥ c.args.output.now c.args.output.now) halt _ c.from_residual-in_err-run_of.ensures.1
+    exit-error (Sent g.W.Write.contents replay.setup.form writes ⊥ c.args.output.now c.args.output.now) halt _ c.from_residual-in_err-run_of.ensures.1
     (refl, Refuses-weaker (LacksOutcome allows replay.policy batch recorded) writes halt (λ ended text lacks. inr (recorded, c.in_ok-outcomes.ensures.outcomes, inr lacks)) c.in_err-run_of.ensures.lacks)
 
 pub returns-in_err-start-clause-sent : goal.returns-in_err-start-clause-sent
@@ -37,7 +37,7 @@ returns-in_err-start-clause-sent g c =
     let replay = c.args.self.now in
     let allows = (goal.Chooser-dyn g replay.chooser.now).allows replay.chooser.now.1 in
     let writes = ReplaysValue allows replay.policy replay.traced (plan_records c.args.plan.now) (view c.args.second) in
-    at-exit (Sent g.W.Write.contents replay.options.form writes ⊥ c.args.output.now c.args.output.now) _ _ c.from_residual-in_err-start.ensures.1
+    at-exit (Sent g.W.Write.contents replay.setup.form writes ⊥ c.args.output.now c.args.output.now) _ _ c.from_residual-in_err-start.ensures.1
     (λ halt by. (refl, halted-by (λ refusal. writes Refused (line_of refusal)) _ (λ refusal row. absurd (cc (row))) halt by))
 
 pub returns-clause-sent : goal.returns-clause-sent
@@ -48,6 +48,6 @@ returns-clause-sent g c =
     let writes = ReplaysValue allows replay.policy replay.traced batch (view c.args.second) in
     let trace = c.in_ok-run_of.field-0 in
     let line = result_text replay.traced trace.done trace.steps.items in
-    Ends-weaker g.W.Write.contents (Prints (c.deref.result.now ++ response_line trace.done)) (InForm replay.options.form writes) ⊥ ⊥ c.args.output.now c.send.new.output c.send.result
-    (rw (c.deref.ensures, c.in_ok-start.ensures) (printed (InForm replay.options.form writes) line (done_in replay.options.form writes line (inr (entries c.in_ok-outcomes.outcomes, c.in_ok-outcomes.ensures.outcomes, inl (c.in_ok-run_of.ensures.result replay.traced))))))
+    Ends-weaker g.W.Write.contents (Prints (c.deref.result.now ++ response_line trace.done)) (InForm replay.setup.form writes) ⊥ ⊥ c.args.output.now c.send.new.output c.send.result
+    (rw (c.deref.ensures, c.in_ok-start.ensures) (printed (InForm replay.setup.form writes) line (done_in replay.setup.form writes line (inr (entries c.in_ok-outcomes.outcomes, c.in_ok-outcomes.ensures.outcomes, inl (c.in_ok-run_of.ensures.result replay.traced))))))
     (λ f. f, λ f. f) c.send.ensures

@@ -17,7 +17,7 @@ returns-in_err-events-clause-sent g c =
     let value = view c.args.second in
     let writes = RunsValue run.policy (plan_records c.args.plan.now) value in
     let halt = c.in_err-events.field-0.0 in
-    exit-error (Sent g.W.Write.contents run.options.form writes ⊥ c.args.output.now c.args.output.now) halt _ c.from_residual.ensures.1
+    exit-error (Sent g.W.Write.contents run.setup.form writes ⊥ c.args.output.now c.args.output.now) halt _ c.from_residual.ensures.1
     (refl, Halted-weaker (IsFaultOfEvents value) (λ refusal. writes Refused (line_of refusal)) (λ refusal is. inl (reports (IsFaultOfEvents value) refusal is)) halt c.in_err-events.ensures.least)
 
 pub returns-in_err-done_of-clause-sent : goal.returns-in_err-done_of-clause-sent
@@ -28,7 +28,7 @@ returns-in_err-done_of-clause-sent g c =
     let writes = RunsValue run.policy batch (view c.args.second) in
     let least = IsLeastOfRun run.policy batch named in
     let halt = c.in_err-done_of.field-0.0 in
-    exit-error (Sent g.W.Write.contents run.options.form writes ⊥ c.args.output.now c.args.output.now) halt _ c.from_residual-in_err-done_of.ensures.1
+    exit-error (Sent g.W.Write.contents run.setup.form writes ⊥ c.args.output.now c.args.output.now) halt _ c.from_residual-in_err-done_of.ensures.1
     (refl, Halted-weaker least (λ refusal. writes Refused (line_of refusal)) (λ refusal is. inr (named, c.in_ok-events.ensures.events, inl (reports least refusal is))) halt c.in_err-done_of.ensures.least)
 
 pub returns-clause-sent : goal.returns-clause-sent
@@ -36,5 +36,5 @@ returns-clause-sent g c =
     let run = c.args.self.now in
     let writes = RunsValue run.policy (plan_records c.args.plan.now) (view c.args.second) in
     let line = response_line c.in_ok-done_of.field-0 in
-    Ends-weaker g.W.Write.contents (Prints line) (InForm run.options.form writes) ⊥ ⊥ c.args.output.now c.send.new.output c.send.result
-    (printed (InForm run.options.form writes) line (done_in run.options.form writes line (inr (entries c.in_ok-events.events, c.in_ok-events.ensures.events, inr c.in_ok-done_of.ensures.result)))) (λ f. f, λ f. f) c.send.ensures
+    Ends-weaker g.W.Write.contents (Prints line) (InForm run.setup.form writes) ⊥ ⊥ c.args.output.now c.send.new.output c.send.result
+    (printed (InForm run.setup.form writes) line (done_in run.setup.form writes line (inr (entries c.in_ok-events.events, c.in_ok-events.ensures.events, inr c.in_ok-done_of.ensures.result)))) (λ f. f, λ f. f) c.send.ensures
