@@ -1,11 +1,8 @@
 -- What a law says of two calls: two texts of one document, and two readings of one thing.
-use Rattle.std.proofs.Common.{◌≡◌, ◌∙◌, ℕ, List, [], ◌++◌, Bor, Global, Option, Some, None, Result, Ok, Err, IfSome, Vec, false, unwrap_or, refl, sym, ap, subst, append-nil, arith}
-use Rattle.odb_doc.specs.Devices.{Reading, Writing}
-use Rattle.odb_engine.specs.Engines.{WritesText}
+use Rattle.std.proofs.Common.{◌≡◌, ℕ, List, Option, Some, None, Result, Ok, Err, IfSome, subst}
 use Rattle.odb_engine.specs.declared.ending.Ended.{Ended}
 use Rattle.odb_engine.specs.declared.ending.Ended.TheVariants.{Done}
 use Rattle.serde_json.specs.Data.{Data}
-use Rattle.odb_doc.specs.Documents.{IsDocument}
 use Rattle.odb_engine.specs.Cascade.{Writes, HasValue, IsOne}
 use Rattle.odb_engine.specs.Inputs.{IsDocumentOf, SomeDocument}
 use Rattle.odb_tests.specs.Readings.{IsReading, IsSame}
