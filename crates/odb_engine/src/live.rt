@@ -1,10 +1,11 @@
 //! Live runs for programs in other languages: a run is opened and answered from the bytes of its documents.
 
-ghost use Rattle.std.specs.Prelude.{◌≡◌, ◌++◌, ◌∷◌, [], true, IfOk, IfErr, string_bytes};
+ghost use Rattle.std.specs.Prelude.{◌≡◌, ◌≢◌, ◌++◌, ◌∷◌, [], true, Err, IfOk, IfErr, string_bytes};
 ghost use Rattle.odb_check.specs.Plans.{plan_records};
 ghost use Rattle.odb_check.specs.Texts.{newline};
 ghost use Rattle.odb_sched.specs.run.State.{with_requests, without_requests};
 ghost use Rattle.odb_sched.specs.run.Steps.{is_finished};
+ghost use Rattle.odb_engine.specs.declared.halt.Halt.TheVariants as halts;
 ghost use Rattle.odb_engine.specs.Cascade.{Accepts, Answers};
 ghost use Rattle.odb_engine.specs.Halts.{Found, Halted};
 ghost use Rattle.odb_engine.specs.Ids.{AreIdsIn};
@@ -44,6 +45,7 @@ fn run_after(
     ensures run { IfOk result (live.IsAfter policy (plan_records plan.now) events.now) }
     ensures least { IfErr result
         (Halted (live.IsLeastAfter policy (plan_records plan.now) events.now)) }
+    ensures read { result ≢ Err halts.Read }
 {
     let value = value_in(alloc, events, Place::Events)?;
     let named = Events::read(alloc, value)?;
@@ -74,6 +76,7 @@ pub fn open_run(
     ensures run { IfOk result (λ opened. live.Opens policy batch.now events.now opened.run) }
     ensures ids { IfOk result (λ opened. AreIdsIn batch.now opened.ids) }
     ensures least { IfErr result (Halted (live.IsLeastOfOpening policy batch.now events.now)) }
+    ensures read { result ≢ Err halts.Read }
 {
     let value = value_in(alloc, batch, Place::Batch)?;
     let read = Batch::read(alloc, &value)?;
@@ -91,6 +94,7 @@ pub fn open_run(
 fn line_of(alloc: Global, done: &Done<'_>) -> Result<String, Halt>
     ensures text { IfOk result (λ text. string_bytes text ≡ response_line done.now) }
     ensures least { IfErr result (Halted (live.IsLeastOfState done.now)) }
+    ensures read { result ≢ Err halts.Read }
 {
     done.laws();
     let mut text = response_text(alloc, done)?;
@@ -102,6 +106,7 @@ fn line_of(alloc: Global, done: &Done<'_>) -> Result<String, Halt>
 fn shown<'p>(alloc: Global, scheduler: Scheduler<'p>) -> (Scheduler<'p>, Result<String, Halt>)
     ensures same { result.0 ≡ scheduler.entry }
     ensures found { Found (live.ShowsState scheduler.entry) result.1 }
+    ensures read { result.1 ≢ Err halts.Read }
 {
     if !scheduler.is_finished() {
         return (scheduler, Err(UNFINISHED));
@@ -116,6 +121,7 @@ fn shown<'p>(alloc: Global, scheduler: Scheduler<'p>) -> (Scheduler<'p>, Result<
 fn line_on(alloc: Global, plan: &Plan<'_>, kept: &mut OwnedRun) -> Result<String, Halt>
     ensures same { without_requests kept.new ≡ without_requests kept.old }
     ensures found { Found (live.ShowsState (with_requests (plan_records plan.now) kept.old)) result }
+    ensures read { result ≢ Err halts.Read }
 {
     let spare = OwnedRun::new(alloc, plan, Policy::free(Mode::Continue))?;
     match Scheduler::of(plan, replace(kept, spare)) {
@@ -151,6 +157,7 @@ pub fn text_of_run(
 ) -> Result<String, Halt>
     ensures same { without_requests kept.new ≡ without_requests kept.old }
     ensures found { Found (Answers (live.Shows kept.old) batch.now) result }
+    ensures read { result ≢ Err halts.Read }
 {
     let value = value_in(alloc, batch, Place::Batch)?;
     let read = Batch::read(alloc, &value)?;
