@@ -3,8 +3,8 @@
 //! An engine reads its documents, writes its result or the line of the least fault, and returns how
 //! it ended: [`check_batch`], [`plan_batch`] and [`canon_batch`] over one document, [`match_batch`],
 //! [`replay_batch`] and [`run_batch`] over two. Each has a second call, as [`check_batch_with`], that
-//! takes a [`Setup`] too and has the same clauses, and a third, as [`check_batch_as`], that takes a
-//! [`Form`] with it: lines of words, as the others write, or JSON. A contract states what the writer has received,
+//! takes a [`Setup`] too: the [`Form`] of what is written, lines of words or JSON, the seed of the tables
+//! of names, and whether what was read is dropped. A contract states what the writer has received,
 //! whatever the readers and the writer do: the whole text, or after a fault nothing or a prefix of
 //! it. [`laws`] states that a text is determined. Opening files, buffering small writes and turning
 //! an end into an exit status are left to the caller.

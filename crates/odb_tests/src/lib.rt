@@ -8,8 +8,6 @@
 #[cfg(test)]
 mod checks;
 #[cfg(test)]
-mod dense;
-#[cfg(test)]
 mod documents;
 #[cfg(test)]
 mod engines;
