@@ -27,17 +27,6 @@ impl Model for SparseSet {
     ghost invariant = { IsPlaced };
 }
 
-/// Returns the places of the numbers below a bound in the empty set: none has one.
-fn no_places(alloc: Global, bound: u32) -> Result<Vec<Option<u32>>, AllocError>
-    ensures { IfOk result (λ places. places.items ≡ replicate bound None) }
-{
-    let mut places = Vec::with_capacity(alloc, bound as usize)?;
-    for _ in 0..bound {
-        places.push(None)?;
-    }
-    Ok(places)
-}
-
 impl SparseSet {
     /// Returns the empty set of numbers below a bound.
     ///
@@ -49,7 +38,7 @@ impl SparseSet {
     {
         Ok(SparseSet {
             items: vec![in alloc; 0_u32; bound as usize]?,
-            places: no_places(alloc, bound)?,
+            places: vec![in alloc; None; bound as usize]?,
             count: 0,
         })
     }

@@ -41,17 +41,6 @@ impl Model for Worklist {
     ghost invariant = { IsQueued };
 }
 
-/// Returns the marks of the numbers below a bound, of which none was on the list yet.
-fn all_unvisited(alloc: Global, bound: u32) -> Result<Vec<Mark>, AllocError>
-    ensures { IfOk result (λ marks. marks.items ≡ replicate bound Unvisited) }
-{
-    let mut marks = Vec::with_capacity(alloc, bound as usize)?;
-    for _ in 0..bound {
-        marks.push(Mark::Unvisited)?;
-    }
-    Ok(marks)
-}
-
 impl Worklist {
     /// Returns an empty list, on which no number below `bound` was yet.
     ///
@@ -62,7 +51,7 @@ impl Worklist {
         ensures { IfOk result (λ w. w ≡ replicate bound Unvisited) }
     {
         Ok(Worklist {
-            marks: all_unvisited(alloc, bound)?,
+            marks: vec![in alloc; Mark::Unvisited; bound as usize]?,
             queue: vec![in alloc; 0_u32; bound as usize]?,
             head: 0,
             tail: 0,
