@@ -1,6 +1,6 @@
 //! What a command writes, in memory.
 
-ghost use Rattle.std.specs.Prelude.{IfOk};
+ghost use Rattle.std.specs.Prelude.{◌≡◌, ◌≤◌, ◌++◌, ◌↔◌, true, false, length, drop, IfOk, IsTrue};
 ghost use Rattle.odb_engine.specs.Halts.{text_found};
 
 use crate::ending::{Ended, fault_text};
@@ -35,5 +35,21 @@ impl Answer {
             ended,
             text: text.into_bytes(),
         })
+    }
+
+    /// Copies the text to the start of a buffer, if it fits, and returns whether it does. The rest of the
+    /// buffer is as it was; all of it is, if the text is longer.
+    pub fn copy_to(&self, buffer: &mut [u8]) -> bool
+        ensures fits { IsTrue result ↔ (length self.now.text.items ≤ length buffer.old) }
+        ensures copied { result ≡ true
+            → buffer.new ≡ self.now.text.items ++ drop (length self.now.text.items) buffer.old }
+        ensures same { result ≡ false → buffer.new ≡ buffer.old }
+    {
+        let length = self.text.len();
+        if length > buffer.len() {
+            return false;
+        }
+        buffer[..length].copy_from_slice(&self.text);
+        true
     }
 }

@@ -1,6 +1,6 @@
 //! How the answer of a command reaches the buffer of the caller.
 
-ghost use Rattle.std.specs.Prelude.{◌≡◌, ◌≤◌, ◌++◌, None, length, drop, IfSome};
+ghost use Rattle.std.specs.Prelude.{◌≡◌, None, IfSome};
 ghost use Rattle.odb_engine.specs.declared.form.Form.TheVariants as forms;
 ghost use Rattle.odb_engine.specs.Halts.{text_found};
 ghost use Rattle.odb_ffi.specs.Returns.{Is, IsOutOfMemory, IsWrongOption, Returns};
@@ -16,14 +16,6 @@ pub fn answer_of(alloc: Global, found: Result<String, Halt>) -> Option<Answer>
     Answer::of(alloc, Form::Lines, found).ok()
 }
 
-/// Copies bytes to the start of a buffer.
-fn copy_to(buffer: &mut [u8], bytes: &[u8])
-    requires { length bytes.now ≤ length buffer.old }
-    ensures { buffer.new ≡ bytes.now ++ drop (length bytes.now) buffer.old }
-{
-    buffer[..bytes.len()].copy_from_slice(bytes);
-}
-
 /// Copies the text of an answer to the buffer if it fits, sets its length, and returns the status;
 /// that of out of memory if there is no answer.
 pub fn give(answer: Option<Answer>, buffer: &mut [u8], text_length: &mut usize) -> u32
@@ -35,11 +27,11 @@ pub fn give(answer: Option<Answer>, buffer: &mut [u8], text_length: &mut usize) 
     match answer {
         Some(answer) => {
             *text_length = answer.text.len();
-            if answer.text.len() > buffer.len() {
-                return SMALL_BUFFER;
+            if answer.copy_to(buffer) {
+                of_end(answer.ended)
+            } else {
+                SMALL_BUFFER
             }
-            copy_to(buffer, &answer.text);
-            of_end(answer.ended)
         }
         None => OUT_OF_MEMORY,
     }
