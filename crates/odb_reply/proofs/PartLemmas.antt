@@ -1,5 +1,5 @@
 -- The text of a response is that of its parts.
-use Rattle.std.proofs.Common.{◌≡◌, ℕ, List, ◌++◌, Option, Some, None, option_map, Bool, decimal, refl, ap, codes, append_assoc}
+use Rattle.std.proofs.Common.{◌≡◌, ℕ, List, ◌++◌, Option, Some, None, option_map, Bool, decimal, refl, ap, codes, append_assoc, Result, Ok, Err, OnOk}
 use Rattle.serde_json.specs.Data.{Data, unsigned, number, string, object, put, no_members}
 use Rattle.serde_json.specs.Written.{compact_text, comma_if}
 use Rattle.serde_json.proofs.OnLiterals.{serde_json_on_literals}
@@ -30,3 +30,10 @@ pub response-parts : (later : Bool) (request : Record) (answer : Option Outcome)
     ≡ comma_if later ++ (codes "{" ++ (member_part (codes "\"atomicityGroup\":") (option_map string request.group) ++ (member_part (codes "\"body\":") (answer_body answer) ++ (member_part (codes "\"headers\":") (headers_value (answer_headers answer)) ++ end_part request.id (status_of answer)))))
 response-parts later request answer =
     ap (λ text. comma_if later ++ text) (members_text_of request.group (answer_body answer) (headers_value (answer_headers answer)) request.id (status_of answer))
+
+-- what five steps have appended, if the last of them succeeds, and then the rest
+pub five_parts : {E : Type 0} (result : Result (Unit {0}) E) (start first second third fourth last a b c d e f rest next : List ℕ)
+    → first ≡ start ++ (a ++ b) → second ≡ first ++ c → third ≡ second ++ d → fourth ≡ third ++ e → OnOk result (last ≡ fourth ++ f)
+    → rest ≡ (a ++ (b ++ (c ++ (d ++ (e ++ f))))) ++ next → OnOk result (start ++ rest ≡ last ++ next)
+five_parts (Ok done) start first second third fourth last a b c d e f rest next one two three four five all = rw (all, five, four, three, two, one) (simp append_assoc)
+five_parts (Err fault) start first second third fourth last a b c d e f rest next one two three four five all = tt

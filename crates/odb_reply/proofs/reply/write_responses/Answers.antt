@@ -9,6 +9,12 @@ use Rattle.odb_reply.proofs.reply.write_responses.Goals as goal
 pub returns-in-Some-clause-err : goal.returns-in-Some-clause-err
 returns-in-Some-clause-err g c = AppendsPrefix-none (g.W.Write.contents c.args.output.now.writer) (response_text c.args.done.now)
 
+pub returns-in-Some-clause-write : goal.returns-in-Some-clause-write
+returns-in-Some-clause-write g c = (λ e. absurd (cc (e)), λ failed. absurd (cc (failed, c.requires)))
+
+pub returns-in-Some-clause-unwritten : goal.returns-in-Some-clause-unwritten
+returns-in-Some-clause-unwritten g c = λ at same. refl
+
 pub returns-in_err-buffer-clause-err : goal.returns-in_err-buffer-clause-err
 returns-in_err-buffer-clause-err g c =
     let part = AppendsPrefix-none (g.W.Write.contents c.args.output.now.writer) (response_text c.args.done.now) in

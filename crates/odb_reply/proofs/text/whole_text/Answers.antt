@@ -1,4 +1,4 @@
-use Rattle.std.proofs.Common.{◌∙◌, ◌≤◌, ◌++◌, sym, ap, length}
+use Rattle.std.proofs.Common.{◌∙◌, ◌≤◌, ◌++◌, sym, ap, length, rules}
 use Rattle.odb_reply.specs.Parts.{rest_text}
 use Rattle.odb_reply.proofs.RestLemmas.{response_text-prefix, rest_text-none}
 use Rattle.odb_reply.proofs.text.whole_text.Goals as goal
@@ -7,6 +7,9 @@ pub loop-i-init : goal.loop-i-init
 loop-i-init c =
     let begun = rw c.in_ok-text.ensures.bytes at c.in_ok-push_str.ensures.bytes in
     ap (λ text. text ++ rest_text c.args.done.now 0) begun ∙ sym (response_text-prefix c.args.done.now)
+
+pub loop-i-preserved : goal.loop-i-preserved
+loop-i-preserved c = search rules
 
 pub returns : goal.returns
 returns c =
