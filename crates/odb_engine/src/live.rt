@@ -8,7 +8,7 @@ ghost use Rattle.odb_sched.specs.run.Steps.{is_finished};
 ghost use Rattle.odb_engine.specs.declared.halt.Halt.TheVariants as halts;
 ghost use Rattle.odb_engine.specs.Cascade.{Accepts, Answers};
 ghost use Rattle.odb_engine.specs.Halts.{Found, Halted};
-ghost use Rattle.odb_engine.specs.Ids.{AreIdsIn};
+ghost use Rattle.odb_engine.specs.Ids.{AreIdsIn, AreIdsOf};
 ghost use Rattle.odb_engine.specs.Lines.{response_line};
 ghost use Rattle.odb_engine.specs.Live as live;
 
@@ -54,6 +54,19 @@ fn run_after(
     Ok(scheduler.into_owned())
 }
 
+/// Returns the run of a plan after the recorded events in a document, and where its requests are.
+fn open_on(alloc: Global, plan: &Plan<'_>, events: &[u8], policy: Policy) -> Result<Opened, Halt>
+    ensures run { IfOk result (λ opened. live.IsAfter policy (plan_records plan.now) events.now opened.run) }
+    ensures ids { IfOk result (λ opened. AreIdsOf (plan_records plan.now) opened.ids) }
+    ensures least { IfErr result
+        (Halted (live.IsLeastAfter policy (plan_records plan.now) events.now)) }
+    ensures read { result ≢ Err halts.Read }
+{
+    let run = run_after(alloc, plan, events, policy)?;
+    let ids = Ids::of(alloc, plan)?;
+    Ok(Opened { run, ids })
+}
+
 /// Returns the run of the batch in a document after the recorded events in another, which may be none:
 /// `{"events":[]}`; and where its requests are. It borrows nothing of the documents.
 ///
@@ -85,9 +98,7 @@ pub fn open_run(
         ..Setup::plain()
     };
     let plan = plan_of(alloc, &read, setup)?;
-    let run = run_after(alloc, &plan.value, events, policy)?;
-    let ids = Ids::of(alloc, &plan.value)?;
-    Ok(Opened { run, ids })
+    open_on(alloc, &plan.value, events, policy)
 }
 
 /// Returns the line of the response of a finished run.

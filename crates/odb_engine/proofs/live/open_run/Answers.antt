@@ -1,12 +1,13 @@
 -- A run that is opened.
 use Rattle.std.proofs.Common.{IfErr, inl, inr}
+use Rattle.std.proofs.lemmas.Result.{IfErr-weaker, IfOk-weaker}
 use Rattle.odb_doc.specs.declared.fault.Place.TheVariants.{Batch}
 use Rattle.odb_doc.specs.batch.Batches.{records}
 use Rattle.odb_check.specs.Plans.{plan_records}
 use Rattle.odb_engine.specs.Cascade.{RefusesBytes}
 use Rattle.odb_engine.specs.Halts.{Halted, RefusesNamesOf}
-use Rattle.odb_engine.specs.Ids.{AreIdsOf}
-use Rattle.odb_engine.specs.Live.{IsAfter, IsLeastAfter, IsLeastOfOpening}
+use Rattle.odb_engine.specs.Ids.{AreIdsIn, AreIdsOf}
+use Rattle.odb_engine.specs.Live.{IsAfter, IsLeastAfter, IsLeastOfOpening, Opens}
 use Rattle.odb_engine.proofs.EngineLemmas.{at-exit, exit-error, halted-by, Halted-weaker}
 use Rattle.odb_engine.proofs.LiveLemmas.{accepted, least-shape, least-names}
 use Rattle.odb_engine.proofs.live.open_run.Goals as goal
@@ -31,22 +32,28 @@ returns-in_err-plan-clause-least c =
     exit-error (λ r. IfErr r (Halted least)) _ _ c.from_residual-in_err-plan.ensures.1
     (Halted-weaker (RefusesNamesOf batch) least (λ refusal refuses. inl (least-names c.args.batch.now _ batch c.in_ok-value.ensures.value c.in_ok-read.ensures.good c.in_ok-read.ensures.records refusal refuses)) _ c.in_err-plan.ensures.least)
 
-pub returns-in_err-run-clause-least : goal.returns-in_err-run-clause-least
-returns-in_err-run-clause-least c =
-    let planned = plan_records c.in_ok-plan.plan.value in
+pub returns-clause-least : goal.returns-clause-least
+returns-clause-least c =
     let bytes = c.args.batch.now in
-    let least = IsLeastOfOpening c.args.policy bytes c.args.events.now in
-    let after = IsLeastAfter c.args.policy planned c.args.events.now in
-    exit-error (λ r. IfErr r (Halted least)) _ _ c.from_residual-in_err-run.ensures.1
-    (Halted-weaker after least (λ refusal is. inr (accepted bytes _ _ planned (λ batch. IsLeastAfter c.args.policy batch c.args.events.now refusal)
-    c.in_ok-value.ensures.value c.in_ok-read.ensures.good c.in_ok-read.ensures.records c.in_ok-plan.ensures.good c.in_ok-plan.ensures.plan is)) _ c.in_err-run.ensures.least)
+    let events = c.args.events.now in
+    let planned = plan_records c.in_ok-plan.plan.value in
+    let after = IsLeastAfter c.args.policy planned events in
+    let least = IsLeastOfOpening c.args.policy bytes events in
+    IfErr-weaker c.open_on.result (Halted after) (Halted least)
+    (Halted-weaker after least (λ refusal is. inr (accepted bytes _ _ planned (λ batch. IsLeastAfter c.args.policy batch events refusal)
+    c.in_ok-value.ensures.value c.in_ok-read.ensures.good c.in_ok-read.ensures.records c.in_ok-plan.ensures.good c.in_ok-plan.ensures.plan is))) c.open_on.ensures.least
 
 pub returns-clause-run : goal.returns-clause-run
 returns-clause-run c =
-    accepted c.args.batch.now _ _ _ (λ batch. IsAfter c.args.policy batch c.args.events.now c.in_ok-run.run')
-    c.in_ok-value.ensures.value c.in_ok-read.ensures.good c.in_ok-read.ensures.records c.in_ok-plan.ensures.good c.in_ok-plan.ensures.plan c.in_ok-run.ensures.run
+    let events = c.args.events.now in
+    let planned = plan_records c.in_ok-plan.plan.value in
+    IfOk-weaker c.open_on.result (λ opened. IsAfter c.args.policy planned events opened.run) (λ opened. Opens c.args.policy c.args.batch.now events opened.run)
+    (λ opened. accepted c.args.batch.now _ _ planned (λ batch. IsAfter c.args.policy batch events opened.run)
+    c.in_ok-value.ensures.value c.in_ok-read.ensures.good c.in_ok-read.ensures.records c.in_ok-plan.ensures.good c.in_ok-plan.ensures.plan) c.open_on.ensures.run
 
 pub returns-clause-ids : goal.returns-clause-ids
 returns-clause-ids c =
-    accepted c.args.batch.now _ _ _ (λ batch. AreIdsOf batch c.in_ok-ids.ids)
-    c.in_ok-value.ensures.value c.in_ok-read.ensures.good c.in_ok-read.ensures.records c.in_ok-plan.ensures.good c.in_ok-plan.ensures.plan c.in_ok-ids.ensures
+    let planned = plan_records c.in_ok-plan.plan.value in
+    IfOk-weaker c.open_on.result (λ opened. AreIdsOf planned opened.ids) (λ opened. AreIdsIn c.args.batch.now opened.ids)
+    (λ opened. accepted c.args.batch.now _ _ planned (λ batch. AreIdsOf batch opened.ids)
+    c.in_ok-value.ensures.value c.in_ok-read.ensures.good c.in_ok-read.ensures.records c.in_ok-plan.ensures.good c.in_ok-plan.ensures.plan) c.open_on.ensures.ids
