@@ -1,5 +1,5 @@
 -- A run by recorded events.
-use Rattle.std.proofs.Common.{◌≡◌, ◌∙◌, Some, subst, refl, sym, ap, IfErr}
+use Rattle.std.proofs.Common.{◌≡◌, ◌∙◌, Some, subst, refl, sym, ap, IfErr, rules}
 use Rattle.serde_json.specs.Read.{read}
 use Rattle.odb_doc.specs.recorded.EventLists.{entries}
 use Rattle.odb_check.specs.Plans.{plan_records}
@@ -82,3 +82,6 @@ returns-clause-whole c =
     let same : c.close-done.result ≡ end_of policy batch events = c.close-done.ensures.state ∙ c.in_ok-scheduler.ensures.state in
     subst (λ (s : State). HasWholeBodies s) (sym same)
     (whole-bodies policy batch (entries c.args.events) events c.in_ok-resolved.ensures.events c.len-count.ensures.well_formed)
+
+pub returns-clause-least : goal.returns-clause-least
+returns-clause-least c = search rules

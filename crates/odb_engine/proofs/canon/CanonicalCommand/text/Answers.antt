@@ -1,4 +1,4 @@
-use Rattle.std.proofs.Common.{Err, ap, subst}
+use Rattle.std.proofs.Common.{Err, ap, subst, rules}
 use Rattle.odb_doc.specs.batch.Batches.{records}
 use Rattle.odb_engine.specs.Commands.{Canonical}
 use Rattle.odb_engine.specs.Halts.{Found}
@@ -12,3 +12,6 @@ returns-in_err-text-clause-found c =
     let here = subst (λ requests. Found (Canonical requests) c.from_residual.result) c.requires
     (at-exit (Found (Canonical batch)) _ _ c.from_residual.ensures.1 (halt-text batch c.in_err-text.field-0.0 (λ at is. (c.in_err-text.ensures.not_whole at).0 (ap Err is)))) in
     here
+
+pub returns-clause-found : goal.returns-clause-found
+returns-clause-found c = search rules
