@@ -127,25 +127,32 @@ fn shown<'p>(alloc: Global, scheduler: Scheduler<'p>) -> (Scheduler<'p>, Result<
     (done.into_scheduler(), line)
 }
 
-/// Returns the line of the response of a run of a plan. If the run is not of the plan, there is no
-/// memory for it.
+/// Returns the line of the response of a run of a plan, and the run again. If the run is not of the plan,
+/// there is no memory for it.
+fn shown_on(alloc: Global, plan: &Plan<'_>, run: OwnedRun) -> (OwnedRun, Result<String, Halt>)
+    ensures same { without_requests result.0 ≡ without_requests run }
+    ensures found { Found (live.ShowsState (with_requests (plan_records plan.now) run)) result.1 }
+    ensures read { result.1 ≢ Err halts.Read }
+{
+    match Scheduler::of(plan, run) {
+        Ok(scheduler) => {
+            let (scheduler, line) = shown(alloc, scheduler);
+            (scheduler.into_owned(), line)
+        }
+        Err(back) => (back, Err(Halt::OutOfMemory)),
+    }
+}
+
+/// Does what [`shown_on`] does with a run that is kept.
 fn line_on(alloc: Global, plan: &Plan<'_>, kept: &mut OwnedRun) -> Result<String, Halt>
     ensures same { without_requests kept.new ≡ without_requests kept.old }
     ensures found { Found (live.ShowsState (with_requests (plan_records plan.now) kept.old)) result }
     ensures read { result ≢ Err halts.Read }
 {
     let spare = OwnedRun::new(alloc, plan, Policy::free(Mode::Continue))?;
-    match Scheduler::of(plan, replace(kept, spare)) {
-        Ok(scheduler) => {
-            let (scheduler, line) = shown(alloc, scheduler);
-            *kept = scheduler.into_owned();
-            line
-        }
-        Err(back) => {
-            *kept = back;
-            Err(Halt::OutOfMemory)
-        }
-    }
+    let (run, line) = shown_on(alloc, plan, replace(kept, spare));
+    *kept = run;
+    line
 }
 
 /// Returns what [`crate::run_batch`] writes of a batch and a run of it that was opened by
