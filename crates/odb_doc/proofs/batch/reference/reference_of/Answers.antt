@@ -1,4 +1,4 @@
-use Rattle.std.proofs.Common.{◌∙◌, ap, string_bytes}
+use Rattle.std.proofs.Common.{◌∙◌, ap, string_bytes, rules}
 use Rattle.odb_names.specs.Fronts.{form, reference, bad}
 use Rattle.odb_doc.proofs.ReferenceLemmas.{plain_not_bad, plain_not_reference, reference_not_bad}
 use Rattle.odb_doc.proofs.batch.reference.reference_of.Goals as goal
@@ -14,3 +14,6 @@ returns-in-Plain-clause-refers c = λ id stands.
 pub returns-in-Reference-clause-unbroken : goal.returns-in-Reference-clause-unbroken
 returns-in-Reference-clause-unbroken c = λ stands.
     reference_not_bad (string_bytes c.in-Reference.id) (c.in_ok-front.ensures.only bad stands ∙ ap form c.in-Reference.is)
+
+pub returns-in-Reference-clause-refers : goal.returns-in-Reference-clause-refers
+returns-in-Reference-clause-refers c = search rules
