@@ -30,36 +30,20 @@ module _ (state : State) (i : ℕ) where
   abbrev unmet : Option Need
   unmet = find (λ need. not (is_satisfied state need)) (needs_of state.plan_graph i)
 
-  -- none of the causes before a number bars the start
-  none_before : (n : ℕ) → n ≤ 5 → (1 < n → is_unstarted (phase_at state i) ≡ true) → (2 < n → is_stopped state ≡ false) → (3 < n → unit_failed state (unit_of state.plan_graph i) ≡ false) → (4 < n → unmet ≡ None)
-      → (other : StartRefusal) → start_number other < n → ¬ BarsStart other state i
-  none_before n most fresh going sound met start.AlreadyStarted less bars = both_ways _ bars (fresh less)
-  none_before n most fresh going sound met start.Stopped less bars = both_ways _ (going less) bars
-  none_before n most fresh going sound met start.UnitFailed less bars = both_ways _ (sound less) bars
-  none_before n most fresh going sound met (start.Waiting need) less bars = true≢false (sym (ap is_some (sym (met less) ∙ bars)))
-  none_before n most fresh going sound met start.WidthReached less bars = absurd (omega arith)
+  module _ (fresh : is_unstarted (phase_at state i) ≡ true) (going : is_stopped state ≡ false) (sound : unit_failed state (unit_of state.plan_graph i) ≡ false) (met : unmet ≡ None) where
+    -- none of the causes before the width bars the start
+    none_before : (other : StartRefusal) → start_number other < 5 → ¬ BarsStart other state i
+    none_before start.AlreadyStarted less bars = both_ways _ bars fresh
+    none_before start.Stopped less bars = both_ways _ going bars
+    none_before start.UnitFailed less bars = both_ways _ sound bars
+    none_before (start.Waiting need) less bars = true≢false (sym (ap is_some (sym met ∙ bars)))
+    none_before start.WidthReached less bars = absurd (omega arith)
 
-  pub first_started : is_unstarted (phase_at state i) ≡ false → IsStartCause state i start.AlreadyStarted
-  first_started bars = record { broken = bars; least = none_before 1 (omega arith) (λ l. absurd (omega arith)) (λ l. absurd (omega arith)) (λ l. absurd (omega arith)) (λ l. absurd (omega arith)) }
+    pub first_full : state.policy.width ≤ running_count state → IsStartCause state i start.WidthReached
+    first_full bars = record { broken = bars; least = none_before }
 
-  module _ (fresh : is_unstarted (phase_at state i) ≡ true) where
-    pub first_stopped : is_stopped state ≡ true → IsStartCause state i start.Stopped
-    first_stopped bars = record { broken = bars; least = none_before 2 (omega arith) (λ l. fresh) (λ l. absurd (omega arith)) (λ l. absurd (omega arith)) (λ l. absurd (omega arith)) }
-
-    module _ (going : is_stopped state ≡ false) where
-      pub first_failed : unit_failed state (unit_of state.plan_graph i) ≡ true → IsStartCause state i start.UnitFailed
-      first_failed bars = record { broken = bars; least = none_before 3 (omega arith) (λ l. fresh) (λ l. going) (λ l. absurd (omega arith)) (λ l. absurd (omega arith)) }
-
-      module _ (sound : unit_failed state (unit_of state.plan_graph i) ≡ false) where
-        pub first_waiting : (need : Need) → unmet ≡ Some need → IsStartCause state i (start.Waiting need)
-        first_waiting need bars = record { broken = bars; least = none_before 4 (omega arith) (λ l. fresh) (λ l. going) (λ l. sound) (λ l. absurd (omega arith)) }
-
-        module _ (met : unmet ≡ None) where
-          pub first_full : state.policy.width ≤ running_count state → IsStartCause state i start.WidthReached
-          first_full bars = record { broken = bars; least = none_before 5 (omega arith) (λ l. fresh) (λ l. going) (λ l. sound) (λ l. met) }
-
-          pub none_bars : running_count state < state.policy.width → may_start state i ≡ true
-          none_bars room = may_start-from state i (record { fresh = fresh; unstopped = going; sound = sound; satisfied = sym (find-all (is_satisfied state) (needs_of state.plan_graph i)) ∙ ap is_none met; room = room })
+    pub none_bars : running_count state < state.policy.width → may_start state i ≡ true
+    none_bars room = may_start-from state i (record { fresh = fresh; unstopped = going; sound = sound; satisfied = sym (find-all (is_satisfied state) (needs_of state.plan_graph i)) ∙ ap is_none met; room = room })
 
   same_start : (cause other : StartRefusal) → BarsStart cause state i → BarsStart other state i → start_number cause ≡ start_number other → cause ≡ other
   same_start start.AlreadyStarted start.AlreadyStarted a b same = refl
@@ -105,20 +89,6 @@ module _ (state : State) (i : ℕ) where
 -- ---- reports
 
 module _ (state : State) (i : ℕ) (outcome : Outcome) where
-  pub first_idle : is_running (phase_at state i) ≡ false → IsReportCause state i outcome report.NotRunning
-  first_idle bars = record { broken = bars; least = none }
-    where
-      none : (other : ReportRefusal) → report_number other < 1 → ¬ BarsReport other state i outcome
-      none report.NotRunning less also = absurd (omega arith)
-      none report.BadStatus less also = absurd (omega arith)
-
-  pub first_bad : is_running (phase_at state i) ≡ true → is_status outcome.status ≡ false → IsReportCause state i outcome report.BadStatus
-  first_bad runs bars = record { broken = bars; least = none }
-    where
-      none : (other : ReportRefusal) → report_number other < 2 → ¬ BarsReport other state i outcome
-      none report.NotRunning less also = both_ways _ also runs
-      none report.BadStatus less also = absurd (omega arith)
-
   same_report : (cause other : ReportRefusal) → report_number cause ≡ report_number other → cause ≡ other
   same_report report.NotRunning report.NotRunning same = refl
   same_report report.BadStatus report.BadStatus same = refl

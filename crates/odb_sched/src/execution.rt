@@ -247,9 +247,8 @@ fn prepared<'a: 'p, 'p>(
     ensures unlisted { IfOk result (λ run. run.1.items ≡ []) }
     ensures room { IfOk result (λ run. 2 * length (plan_records plan.now) ≤ vec_capacity run.1) }
 {
-    let scheduler = Scheduler::new(alloc, plan, policy)?;
     let steps = Vec::with_capacity(alloc, 2 * plan.len() as usize)?;
-    Ok((scheduler, steps))
+    Ok((Scheduler::new(alloc, plan, policy)?, steps))
 }
 
 /// Runs a plan to its end. The chooser picks each step, and the service returns the outcome of a

@@ -2,7 +2,7 @@
 use Rattle.std.proofs.Common.{◌≡◌, ◌∙◌, inr, ap, sym, subst}
 use Rattle.odb_sched.specs.run.State.{State, initial}
 use Rattle.odb_check.specs.Plans.{plan_records}
-use Rattle.odb_sched.specs.run.Calls.{IsCutShort, IsExecution, Behind}
+use Rattle.odb_sched.specs.run.Calls.{IsBrokenOff, IsExecution, Behind}
 use Rattle.odb_sched.specs.declared.policy.Policy.{Policy}
 use Rattle.odb_sched.proofs.CourseLemmas.{finished-within, finished-requests, finished-offered}
 use Rattle.odb_sched.proofs.OwnedLemmas.{same_error}
@@ -51,8 +51,7 @@ returns-in_err-take_all-clause-unasked g c = λ named.
 pub returns-in_err-take_all-clause-broken_off : goal.returns-in_err-take_all-clause-broken_off
 returns-in_err-take_all-clause-broken_off g c =
     let same : c.in_ok-scheduler.scheduler.policy ≡ c.args.policy = ap (λ (s : State). s.policy) c.in_ok-scheduler.ensures.first in
-    let cut = subst (λ policy. IsCutShort ((goal.Chooser-dyn g c.args.chooser.now).allows c.args.chooser.now.1) (g.S.Service.offers c.args.service.now) g.S.Service.performs
+    let Is = λ (policy : Policy). IsBrokenOff ((goal.Chooser-dyn g c.args.chooser.now).allows c.args.chooser.now.1) (g.S.Service.offers c.args.service.now) g.S.Service.performs
     (Behind (λ z. (goal.Chooser-dyn g z).chooses z.1)) (λ z. (goal.Chooser-dyn g z).names z.1) (plan_records c.args.plan.now)
-    (initial c.args.plan.now policy) c.args.service.now c.take_all.new.service c.args.chooser.now (c.args.chooser.now.0, c.take_all.new.chooser)
-    c.in_err-take_all.field-0.0) same c.in_err-take_all.ensures.cut_short in
-    same_error c.from_residual-in_err-take_all.result _ c.in_err-take_all.field-0.0 c.from_residual-in_err-take_all.ensures.1 (inr cut)
+    (initial c.args.plan.now policy) c.args.service.now c.take_all.new.service c.args.chooser.now (c.args.chooser.now.0, c.take_all.new.chooser) in
+    same_error c.from_residual-in_err-take_all.result (Is c.args.policy) c.in_err-take_all.field-0.0 c.from_residual-in_err-take_all.ensures.1 (subst (λ policy. Is policy c.in_err-take_all.field-0.0) same (inr c.in_err-take_all.ensures.cut_short))
