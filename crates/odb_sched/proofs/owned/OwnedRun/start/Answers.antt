@@ -1,5 +1,5 @@
 -- A start that is not refused may come, and the counts follow.
-use Rattle.std.proofs.Common.{◌≡◌, sym, subst, true, length, refl, ◌<◌, ◌≤◌, arith, IfSome}
+use Rattle.std.proofs.Common.{rules, ◌≡◌, sym, subst, true, length, refl, ◌<◌, ◌≤◌, arith, IfSome}
 use Rattle.std.proofs.lemmas.Bool.{both_ways, false≢true}
 use Rattle.odb_sched.specs.run.State.{size}
 use Rattle.odb_sched.specs.run.Steps.{may_start, IsStartCause}
@@ -34,3 +34,6 @@ returns-in-Some-clause-free c wide is =
 
 pub returns-in-Some-clause-cause : goal.returns-in-Some-clause-cause
 returns-in-Some-clause-cause c = subst (λ found. IfSome found (IsStartCause c.args.self.now c.args.i)) c.in-Some.is c.start_refusal.ensures.cause
+
+pub returns-in-Some-clause-err : goal.returns-in-Some-clause-err
+returns-in-Some-clause-err c = search rules
