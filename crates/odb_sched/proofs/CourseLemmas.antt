@@ -1,5 +1,5 @@
 -- An execution from step to step.
-use Rattle.std.proofs.Common.{◌≡◌, ℕ, ◌<◌, ◌≤◌, ◌+◌, ◌*◌, ◌∙◌, ap, sym, refl, subst, arith, Bool, true, false, List, [], ◌∷◌, ◌++◌, length, map, replicate, slice_set, inl, inr, ◌⊎◌, zero, suc, get_or, All, Option, Some, is_some, unwrap_or, Result, Ok, Err, IfErr}
+use Rattle.std.proofs.Common.{◌≡◌, ℕ, ◌<◌, ◌≤◌, ◌+◌, ◌*◌, ◌∙◌, ap, sym, refl, subst, arith, true, false, List, [], ◌∷◌, ◌++◌, length, map, replicate, slice_set, inl, inr, ◌⊎◌, zero, suc, get_or, All, Option, Some, Result, Ok, Err, IfErr}
 use Rattle.std.specs.Result.{IsErrAnd}
 use Rattle.std.proofs.lemmas.Result.{err_from_is_err_and}
 use Rattle.std.proofs.lemmas.Bool.{both_ways, and_parts, cases_eq, true≢false}
@@ -123,13 +123,8 @@ position-step (Start i) = refl
 position-step (Report i outcome) = refl
 
 running_open : (phase : Phase) → is_running phase ≡ true → is_reported phase ≡ false
-running_open Unstarted e = absurd (true≢false (sym e))
 running_open Running e = refl
-running_open (Reported outcome) e = absurd (true≢false (sym e))
-
-abbrev is_report : Step → Bool
-is_report (step.Start i) = false
-is_report (step.Report i) = true
+running_open phase e = cc
 
 -- a request that is not reported after a step was not reported before it, and was not the one reported
 pub still_open : (state : State) (event : Event) (i : ℕ) → IsReached state → event_position event < size state → may_come state event ≡ true → is_reported (phase_at (after state event) i) ≡ false
@@ -139,7 +134,7 @@ still_open state (Start j) i reached within may fresh = let move = move_start st
     | inl here ↦ rw (here, move.before_is) refl
     | inr elsewhere ↦ ap is_reported (sym (move.others i elsewhere)) ∙ fresh
   ],
-  λ same. true≢false (sym (ap is_report same)),
+  λ same. (cc),
 )
 still_open state (Report j outcome) i reached within may fresh = let move = move_report state j outcome reached within may in
     elim (cases_eq i j) [
@@ -300,6 +295,11 @@ module _ (source : Plan) (policy : Policy) where
     pub reached-so_far : IsPlan (plan_graph source) → IsReached state
     reached-so_far laws = subst IsReached (sym far.state_is) (reached_after_all (initial source policy) far.events (reached_initial source policy laws) far.course.run)
 
+    -- a step that was taken leaves one event fewer
+    pub fewer-taken : {S : Type 0} (performs : Performing S) (requests : List Record) (before new : State) (old later : S) (s : Step) → IsPlan (plan_graph source) → before ≡ state → IsNext allows_now state s
+        → IsTakenBy performs requests offers_now before new old later s → events_left new + 1 ≡ events_left state
+    fewer-taken performs requests before new old later s laws here next by = fewer-left allows_now offers_now state new s (reached-so_far laws) next (subst (λ x. IsTaken offers_now x new s) here by.taken)
+
     pub same-policy : state.policy ≡ policy
     same-policy = ap (λ s. s.policy) far.state_is ∙ policy-after_all (initial source policy) far.events
 
@@ -323,9 +323,8 @@ offered_after allows offers state (event ∷ es) i outcome chosen e = elim (offe
 ]
 
 Reported-is : (phase : Phase) (outcome : Outcome) → outcome_of phase ≡ Some outcome → phase ≡ Reported outcome
-Reported-is Unstarted outcome e = absurd (true≢false (sym (ap is_some e)))
-Reported-is Running outcome e = absurd (true≢false (sym (ap is_some e)))
-Reported-is (Reported other) outcome e = ap (λ found. Reported (unwrap_or found outcome)) e
+Reported-is (Reported other) outcome e = cc
+Reported-is phase outcome e = cc
 
 module _ (source : Plan) (policy : Policy) (allows : Allowance) (offers : Offer) (steps : List Step) (last : State) (course : IsFinishedBy allows offers (initial source policy) steps last) where
   pub finished-within : All (λ s. position_in s < size last) steps

@@ -1,5 +1,5 @@
 -- A list of events that is no run has one refusal, and named events have one first that names no request.
-use Rattle.std.proofs.Common.{◌≡◌, ◌⊎◌, ◌∙◌, ℕ, zero, suc, ◌<◌, false, List, [], ◌∷◌, ◌++◌, take, length, slice_get, All, IsSomeAnd, inl, inr, refl, sym, ap, subst, arith}
+use Rattle.std.proofs.Common.{◌≡◌, ◌⊎◌, ◌∙◌, ℕ, zero, suc, ◌<◌, false, List, [], ◌∷◌, ◌++◌, take, length, slice_get, All, IsSomeAnd, inl, inr, refl, sym, ap, subst, arith, rules}
 use Rattle.std.proofs.lemmas.Bool.{cases_order, both_ways}
 use Rattle.std.proofs.lemmas.List.Elements.{All-head, All-tail}
 use Rattle.odb_doc.specs.batch.Records.{Record}
@@ -19,39 +19,25 @@ use Rattle.odb_sched.proofs.CauseLemmas.{one_start, one_report}
 
 -- ---- events that may not come
 
-abbrev first_or : Event → List Event → Event
-first_or d [] = d
-first_or d (e ∷ es) = e
-
-abbrev rest_of : List Event → List Event
-rest_of [] = []
-rest_of (e ∷ es) = es
-
 -- the events before one that may not come, and that event
 same_stop : (state : State) (xs ys : List Event) (e f : Event) (later others : List Event) → xs ++ e ∷ later ≡ ys ++ f ∷ others → IsRunFrom state xs → IsRunFrom state ys
     → may_come (after_all state xs) e ≡ false → may_come (after_all state ys) f ≡ false → (xs ≡ ys) × (e ≡ f)
-same_stop state [] [] e f later others same run walk barred closed = (refl, ap (first_or e) same)
+same_stop state [] [] e f later others same run walk barred closed = (refl, (cc))
 same_stop state [] (y ∷ ys) e f later others same run walk barred closed =
-    absurd (both_ways _ barred (ap (λ x. may_come state x) (ap (first_or e) same) ∙ walk.1))
+    let head : e ≡ y = cc in absurd (both_ways _ barred (ap (λ z. may_come state z) head ∙ walk.1))
 same_stop state (x ∷ xs) [] e f later others same run walk barred closed =
-    absurd (both_ways _ closed (ap (λ y. may_come state y) (sym (ap (first_or f) same)) ∙ run.1))
+    let head : f ≡ x = cc in absurd (both_ways _ closed (ap (λ z. may_come state z) head ∙ run.1))
 same_stop state (x ∷ xs) (y ∷ ys) e f later others same run walk barred closed =
-    let head = ap (first_or x) same in
-    let (front, last) = same_stop (after state x) xs ys e f later others (ap rest_of same) run.2 (subst (λ z. IsRunFrom (after state z) ys) (sym head) walk.2)
+    let head : x ≡ y = cc in
+    let tail : xs ++ e ∷ later ≡ ys ++ f ∷ others = cc in
+    let (front, last) = same_stop (after state x) xs ys e f later others tail run.2 (subst (λ z. IsRunFrom (after state z) ys) (sym head) walk.2)
     barred (subst (λ z. may_come (after_all (after state z) ys) f ≡ false) (sym head) closed) in
     (ap (λ z. z ∷ xs) head ∙ ap (λ zs. y ∷ zs) front, last)
 
 one_event : (state : State) (at : ℕ) (e : Event) (a b : RunRefusal) → RefusesEvent state at e a → RefusesEvent state at e b → a ≡ b
 one_event state at (event.Start i) (refusal.Start p c) (refusal.Start q d) x y = ap (λ k. refusal.Start k c) (x.0 ∙ sym y.0) ∙ ap (refusal.Start q) (one_start state i c d x.1 y.1)
-one_event state at (event.Start i) (refusal.Start p c) (refusal.Report q d) x y = absurd y
-one_event state at (event.Start i) (refusal.Start p c) refusal.OutOfMemory x y = absurd y
-one_event state at (event.Start i) (refusal.Report p c) b x y = absurd x
-one_event state at (event.Start i) refusal.OutOfMemory b x y = absurd x
-one_event state at (event.Report i o) (refusal.Start p c) b x y = absurd x
-one_event state at (event.Report i o) refusal.OutOfMemory b x y = absurd x
-one_event state at (event.Report i o) (refusal.Report p c) (refusal.Start q d) x y = absurd y
-one_event state at (event.Report i o) (refusal.Report p c) refusal.OutOfMemory x y = absurd y
 one_event state at (event.Report i o) (refusal.Report p c) (refusal.Report q d) x y = ap (λ k. refusal.Report k c) (x.0 ∙ sym y.0) ∙ ap (refusal.Report q) (one_report state i o c d x.1 y.1)
+one_event state at e a b x y = absurd (search rules)
 
 one_stop : (state : State) (events : List Event) (a b : RunRefusal) → StopsAt state events a → StopsAt state events b → a ≡ b
 one_stop state events a b x y =

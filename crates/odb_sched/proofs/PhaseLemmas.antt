@@ -10,13 +10,11 @@ use Rattle.odb_sched.specs.run.State.{is_unstarted, is_running, is_reported, has
 
 pub is_unstarted-from : (phase : Phase) → is_reported phase ≡ false → is_running phase ≡ false → is_unstarted phase ≡ true
 is_unstarted-from Unstarted a b = refl
-is_unstarted-from Running a b = absurd (true≢false b)
-is_unstarted-from (Reported outcome) a b = absurd (true≢false a)
+is_unstarted-from phase a b = cc
 
 pub is_unstarted-reported : (phase : Phase) → is_unstarted phase ≡ true → is_reported phase ≡ false
 is_unstarted-reported Unstarted e = refl
-is_unstarted-reported Running e = refl
-is_unstarted-reported (Reported outcome) e = absurd (true≢false (sym e))
+is_unstarted-reported phase e = cc
 
 pub has_succeeded-from : (phase : Phase) → is_reported phase ≡ true → has_failed phase ≡ false → has_succeeded phase ≡ true
 has_succeeded-from Unstarted a b = absurd (true≢false (sym a))
@@ -29,25 +27,21 @@ has_succeeded-from (Reported outcome) a b = at (is_success outcome.status) b
 
 pub Unstarted-from : (phase : Phase) → is_unstarted phase ≡ true → phase ≡ Unstarted
 Unstarted-from Unstarted e = refl
-Unstarted-from Running e = absurd (true≢false (sym e))
-Unstarted-from (Reported outcome) e = absurd (true≢false (sym e))
+Unstarted-from phase e = cc
 
 pub Running-from : (phase : Phase) → is_running phase ≡ true → phase ≡ Running
-Running-from Unstarted e = absurd (true≢false (sym e))
 Running-from Running e = refl
-Running-from (Reported outcome) e = absurd (true≢false (sym e))
+Running-from phase e = cc
 
 -- what has succeeded is an outcome with a success
 pub Reported-from : (phase : Phase) → has_succeeded phase ≡ true → (outcome : Outcome) × (phase ≡ Reported outcome) × (is_success outcome.status ≡ true)
-Reported-from Unstarted e = absurd (true≢false (sym e))
-Reported-from Running e = absurd (true≢false (sym e))
 Reported-from (Reported outcome) e = (outcome, refl, e)
+Reported-from phase e = absurd (cc)
 
 -- what has failed is an outcome without success
 pub Failed-from : (phase : Phase) → has_failed phase ≡ true → (outcome : Outcome) × (phase ≡ Reported outcome) × (not (is_success outcome.status) ≡ true)
-Failed-from Unstarted e = absurd (true≢false (sym e))
-Failed-from Running e = absurd (true≢false (sym e))
 Failed-from (Reported outcome) e = (outcome, refl, e)
+Failed-from phase e = absurd (cc)
 
 pub succeeded_idle : (phase : Phase) → has_succeeded phase ≡ true → is_running phase ≡ false
 succeeded_idle phase e = rw (Reported-from phase e).1 refl

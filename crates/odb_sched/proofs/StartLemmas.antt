@@ -1,10 +1,10 @@
 -- The conditions of a start.
-use Rattle.std.proofs.Common.{◌≡◌, ℕ, ◌<◌, ◌≤◌, ◌+◌, ap, sym, cond, count_by, get_or, set, List, length, refl, true, false, not, ◌&&◌, lt-ltb, ltb-true, arith, nat_lt}
+use Rattle.std.proofs.Common.{◌≡◌, ℕ, ◌<◌, ◌≤◌, ◌+◌, ap, cond, count_by, get_or, set, List, length, refl, true, false, not, ◌&&◌, lt-ltb, ltb-true, arith, nat_lt}
 use Rattle.std.proofs.lemmas.List.Sums.{count_by-le-length, sum_by-set}
 use Rattle.std.proofs.lemmas.List.{length-set}
 use Rattle.odb_sched.specs.declared.phase.Phase.{Phase}
-use Rattle.odb_sched.specs.declared.phase.Phase.TheVariants.{Unstarted, Running, Reported}
-use Rattle.std.proofs.lemmas.Bool.{true≢false, and_from, and_parts, not-true, not_from_false}
+use Rattle.odb_sched.specs.declared.phase.Phase.TheVariants.{Unstarted, Running}
+use Rattle.std.proofs.lemmas.Bool.{and_from, and_parts, not-true, not_from_false}
 use Rattle.odb_check.specs.PlanGraph.{unit_of}
 use Rattle.odb_sched.specs.run.State.{is_unstarted, is_running, State, phase_at}
 use Rattle.odb_sched.specs.run.Steps.{is_stopped, unit_failed, all_satisfied, running_count, may_start}
@@ -30,8 +30,7 @@ may_start-parts state i may =
 
 pub Unstarted-not_running : (phase : Phase) → is_unstarted phase ≡ true → is_running phase ≡ false
 Unstarted-not_running Unstarted e = refl
-Unstarted-not_running Running e = absurd (true≢false (sym e))
-Unstarted-not_running (Reported outcome) e = absurd (true≢false (sym e))
+Unstarted-not_running phase e = cc
 
 abbrev weight : Phase → ℕ
 weight phase = cond (is_running phase) 1 0

@@ -1,17 +1,15 @@
 -- Whether a run is stopped, after an event and before the first.
-use Rattle.std.proofs.Common.{◌≡◌, ℕ, zero, suc, ◌<◌, ◌∙◌, sym, ap, refl, arith, Bool, true, false, ◌&&◌, ◌||◌, List, [], ◌∷◌, length, get_or, set, replicate}
+use Rattle.std.proofs.Common.{◌≡◌, ℕ, zero, suc, ◌<◌, ◌∙◌, ap, refl, arith, Bool, true, false, ◌&&◌, ◌||◌, List, [], ◌∷◌, length, get_or, set, replicate}
 use Rattle.std.specs.List.{list_any}
-use Rattle.std.proofs.lemmas.Bool.{true≢false}
 use Rattle.odb_sched.specs.declared.policy.Mode.{Mode}
 use Rattle.odb_sched.specs.declared.phase.Phase.{Phase}
-use Rattle.odb_sched.specs.declared.phase.Phase.TheVariants.{Unstarted, Running, Reported}
+use Rattle.odb_sched.specs.declared.phase.Phase.TheVariants.{Unstarted, Running}
 use Rattle.odb_sched.specs.run.State.{is_running, has_erred}
 use Rattle.odb_sched.specs.run.Steps.{stops, stopped_in}
 
 running_not_erred : (phase : Phase) → is_running phase ≡ true → has_erred phase ≡ false
-running_not_erred Unstarted e = refl
 running_not_erred Running e = refl
-running_not_erred (Reported outcome) e = absurd (true≢false (sym e))
+running_not_erred phase e = cc
 
 erred_by_start : (phases : List Phase) (i : ℕ) → is_running (get_or phases i Unstarted) ≡ true → list_any has_erred (set phases i Unstarted) ≡ list_any has_erred phases
 erred_by_start [] i runs = refl

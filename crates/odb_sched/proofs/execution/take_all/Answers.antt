@@ -7,7 +7,7 @@ use Rattle.odb_check.specs.Plans.{plan_records}
 use Rattle.odb_sched.specs.run.Steps.{is_finished}
 use Rattle.odb_sched.specs.invariants.Advances.{IsTakenBy}
 use Rattle.odb_sched.proofs.RunLemmas.{reached_initial}
-use Rattle.odb_sched.proofs.CourseLemmas.{events_left, so_far-first, room-first, one_more, fewer-left, caused-first, asks-push, cut_short_at, few-steps, next-within, reached-so_far, same-policy}
+use Rattle.odb_sched.proofs.CourseLemmas.{events_left, so_far-first, room-first, one_more, fewer-taken, caused-first, asks-push, cut_short_at, few-steps, next-within, same-policy}
 use Rattle.odb_sched.specs.run.Calls.{Behind}
 use Rattle.odb_sched.specs.run.Runs.{after_all}
 use Rattle.odb_sched.proofs.PickLemmas.{picks-push, picked-event, no_step}
@@ -44,30 +44,16 @@ returns-in_err-take-clause-fault g c =
 
 pub unwrap-requires : goal.unwrap-requires
 unwrap-requires g c =
-    let plan = c.args.plan.now in
-    let allows = (goal.Chooser-dyn g c.args.chooser.now).allows c.args.chooser.now.1 in
-    let allows_now = (goal.Chooser-dyn g c.loop-step.chooser.now).allows c.loop-step.chooser.now.1 in
-    let offers = g.S.Service.offers c.args.service.now in
-    let offers_now = g.S.Service.offers c.loop-step.service in
-    let reached = reached-so_far plan c.args.scheduler.now.policy allows allows_now offers offers_now c.loop-step.scheduler c.loop-step.steps.items c.loop-step.invariant.far c.every_plan.ensures.order in
-    let taken_by = subst (λ state. IsTakenBy g.S.Service.performs (plan_records plan) offers_now state c.take.new.scheduler c.loop-step.service c.take.new.service c.in-Some.step) c.next_step.ensures.same c.in_ok-take.ensures.taken in
-    let taken = taken_by.taken in
-    let fewer : events_left c.take.new.scheduler + 1 ≡ events_left c.loop-step.scheduler = fewer-left allows_now offers_now c.loop-step.scheduler c.take.new.scheduler c.in-Some.step reached c.in-Some.ensures.next taken in
+    let fewer : events_left c.take.new.scheduler + 1 ≡ events_left c.loop-step.scheduler =
+    fewer-taken c.args.plan.now c.args.scheduler.now.policy _ _ _ _ _ _ c.loop-step.invariant.far _ _ _ _ _ _ _ c.every_plan.ensures.order c.next_step.ensures.same c.in-Some.ensures.next c.in_ok-take.ensures.taken in
     let room : length c.loop-step.steps.items + events_left c.loop-step.scheduler ≤ vec_capacity c.loop-step.steps = c.loop-step.invariant.room in
     let len : vec_len c.loop-step.steps ≡ length c.loop-step.steps.items = c.loop-step.steps.ok.0 in
     c.push.ensures.succeeds (omega arith)
 
 pub loop-step-smaller : goal.loop-step-smaller
 loop-step-smaller g c =
-    let plan = c.args.plan.now in
-    let allows = (goal.Chooser-dyn g c.args.chooser.now).allows c.args.chooser.now.1 in
-    let allows_now = (goal.Chooser-dyn g c.loop-step.chooser.now).allows c.loop-step.chooser.now.1 in
-    let offers = g.S.Service.offers c.args.service.now in
-    let offers_now = g.S.Service.offers c.loop-step.service in
-    let reached = reached-so_far plan c.args.scheduler.now.policy allows allows_now offers offers_now c.loop-step.scheduler c.loop-step.steps.items c.loop-step.invariant.far c.every_plan.ensures.order in
-    let taken_by = subst (λ state. IsTakenBy g.S.Service.performs (plan_records plan) offers_now state c.take.new.scheduler c.loop-step.service c.take.new.service c.in-Some.step) c.next_step.ensures.same c.in_ok-take.ensures.taken in
-    let taken = taken_by.taken in
-    let fewer : events_left c.take.new.scheduler + 1 ≡ events_left c.loop-step.scheduler = fewer-left allows_now offers_now c.loop-step.scheduler c.take.new.scheduler c.in-Some.step reached c.in-Some.ensures.next taken in
+    let fewer : events_left c.take.new.scheduler + 1 ≡ events_left c.loop-step.scheduler =
+    fewer-taken c.args.plan.now c.args.scheduler.now.policy _ _ _ _ _ _ c.loop-step.invariant.far _ _ _ _ _ _ _ c.every_plan.ensures.order c.next_step.ensures.same c.in-Some.ensures.next c.in_ok-take.ensures.taken in
     omega arith
 
 pub loop-step-preserved : goal.loop-step-preserved
@@ -78,10 +64,10 @@ loop-step-preserved g c =
     let allows_now = (goal.Chooser-dyn g c.loop-step.chooser.now).allows c.loop-step.chooser.now.1 in
     let offers = g.S.Service.offers c.args.service.now in
     let offers_now = g.S.Service.offers c.loop-step.service in
-    let reached = reached-so_far plan c.args.scheduler.now.policy allows allows_now offers offers_now c.loop-step.scheduler c.loop-step.steps.items c.loop-step.invariant.far c.every_plan.ensures.order in
     let taken_by = subst (λ state. IsTakenBy g.S.Service.performs (plan_records plan) offers_now state c.take.new.scheduler c.loop-step.service c.take.new.service c.in-Some.step) c.next_step.ensures.same c.in_ok-take.ensures.taken in
     let taken = taken_by.taken in
-    let fewer : events_left c.take.new.scheduler + 1 ≡ events_left c.loop-step.scheduler = fewer-left allows_now offers_now c.loop-step.scheduler c.take.new.scheduler c.in-Some.step reached c.in-Some.ensures.next taken in
+    let fewer : events_left c.take.new.scheduler + 1 ≡ events_left c.loop-step.scheduler =
+    fewer-taken c.args.plan.now c.args.scheduler.now.policy _ _ _ _ _ _ c.loop-step.invariant.far _ _ _ _ _ _ _ c.every_plan.ensures.order c.next_step.ensures.same c.in-Some.ensures.next c.in_ok-take.ensures.taken in
     let room : length c.loop-step.steps.items + events_left c.loop-step.scheduler ≤ vec_capacity c.loop-step.steps = c.loop-step.invariant.room in
     let allows_later = (goal.Chooser-dyn g (c.loop-step.chooser.now.0, c.next_step.new.chooser)).allows c.next_step.new.chooser in
     let offers_later = g.S.Service.offers c.take.new.service in
