@@ -21,9 +21,8 @@ use Rattle.odb_sched.proofs.PhaseLemmas.{failed_not_succeeded, get_or-set_cases}
 
 -- a unit that is put on the worklist
 not_visited : (s : Mark) → is_marked s ≡ false → is_visited s ≡ false
-not_visited Unvisited e = refl
-not_visited Queued e = refl
 not_visited Visited e = e
+not_visited s e = refl
 
 put_written : (units : List Mark) (u : ℕ) → u < length units → is_marked (get_or units u Unvisited) ≡ false → HaveMarked units (set units u Queued)
 put_written units u within fresh = record {

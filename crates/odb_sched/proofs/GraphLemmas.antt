@@ -7,7 +7,7 @@ use Rattle.odb_doc.specs.batch.Records.{Record}
 use lib.Pointwise.{pointwise, pointwise_decides}
 use Rattle.odb_check.specs.contracts.need.NeedPartialEq.TheImpl.{eq-value}
 use Rattle.odb_check.specs.declared.need.Need.{Need}
-use Rattle.odb_check.specs.declared.need.Need.TheVariants.{One, Group}
+use Rattle.odb_check.specs.declared.need.Need.TheVariants.{One}
 use Rattle.odb_check.specs.Firsts.{joined_below, list_below}
 use Rattle.odb_check.specs.Needs.{needs_at}
 use Rattle.odb_check.specs.PlanGraph.{PlanGraph, IsPlan, IsPlanGraphOf, IsSpan, unit_of, needs_of}
@@ -91,9 +91,7 @@ part_read list read offsets n i from to are within begins ends same =
 -- the comparison of two needs tells whether they are one
 same_needs : (need other : Need) → (eq-value.it need other ≡ true → need ≡ other) × (need ≡ other → eq-value.it need other ≡ true)
 same_needs (One r) (One s) = (search rules, search rules)
-same_needs (One r) (Group v) = (search rules, search rules)
-same_needs (Group u) (One s) = (search rules, search rules)
-same_needs (Group u) (Group v) = (search rules, search rules)
+same_needs need other = (search rules, search rules)
 
 -- the units of a request are one, so it is alike in two plans if its needs are
 pub alike_by_needs : (plan other : PlanGraph) (i : ℕ) (needs others : List Need) (same : Bool) → same ≡ pointwise eq-value.it needs others → unit_of plan i ≡ unit_of other i → needs ≡ needs_of plan i → others ≡ needs_of other i → (same ≡ true) ↔ AreAlike plan other i

@@ -46,9 +46,8 @@ one_stop state events a b x y =
     (subst (λ e. RefusesEvent (after_all state y.before) (length y.before) e a) last (subst (λ (xs : List Event). RefusesEvent (after_all state xs) (length xs) x.event a) front x.refused)) y.refused
 
 stops : (state : State) (events : List Event) (cause : RunRefusal) → refusals.IsNumberedRefusal cause → Refuses state events cause → StopsAt state events cause
-stops state events (refusal.Start at cause) numbered x = x
-stops state events (refusal.Report at cause) numbered x = x
 stops state events refusal.OutOfMemory numbered x = absurd (numbered refl)
+stops state events cause numbered x = x
 
 pub one_refusal : (state : State) (events : List Event) (cause other : RunRefusal) → refusals.IsNumberedRefusal cause → refusals.IsNumberedRefusal other → Refuses state events cause → Refuses state events other → cause ≡ other
 one_refusal state events cause other numbered also x y = one_stop state events cause other (stops state events cause numbered x) (stops state events other also y)

@@ -18,10 +18,7 @@ use Rattle.odb_sched.specs.run.State.{State, with_requests}
 
 bars_start : (requests : List Record) (state : State) (i : ℕ) (cause : StartRefusal) → BarsStart cause state i ≡ BarsStart cause (with_requests requests state) i
 bars_start requests state i start.AlreadyStarted = refl
-bars_start requests state i start.Stopped = refl
-bars_start requests state i start.UnitFailed = refl
-bars_start requests state i (start.Waiting need) = refl
-bars_start requests state i start.WidthReached = refl
+bars_start requests state i cause = refl
 
 pub start_cause_with : (requests : List Record) (state : State) (i : ℕ) (cause : StartRefusal) → IsStartCause state i cause → IsStartCause (with_requests requests state) i cause
 start_cause_with requests state i cause is = subst (λ (bars : StartRefusal → Type 0). IsLeast start_number bars cause) (fun_ext (bars_start requests state i)) is

@@ -27,9 +27,8 @@ resolved_none rs events = record { before = []; whole = refl; known = λ k event
 -- an event with a position names a request of the batch
 pub known-from : (rs : List Record) (event : EventValue) (found : Event) → IsResolved rs event found → IsKnown rs event
 known-from rs (named.Start id) (at.Start i) is = (i, is)
-known-from rs (named.Start id) (at.Report i outcome) is = absurd is
-known-from rs (named.Report id outcome) (at.Start i) is = absurd is
 known-from rs (named.Report id outcome) (at.Report i reported) is = (i, is.0)
+known-from rs event found is = absurd is
 
 pub resolved_more : (rs : List Record) (events : List EventValue) (event : EventValue) (later : List EventValue) (found : List Event) (next : Event) → HasResolved rs events (event ∷ later) found
     → IsResolved rs event next → event_position next < length rs → HasResolved rs events later (found ++ next ∷ [])

@@ -143,14 +143,12 @@ one_result state reached finished mode table agrees i within = (
 -- ---- a table of outcomes with given statuses
 
 headers_by : Phase → List Header
-headers_by Unstarted = []
-headers_by Running = []
 headers_by (Reported outcome) = outcome.headers
+headers_by phase = []
 
 body_by : Phase → Option Data
-body_by Unstarted = None
-body_by Running = None
 body_by (Reported outcome) = outcome.body
+body_by phase = None
 
 -- the statuses, with the headers and bodies that were reported
 abbrev table_with : State → (ℕ → ℕ) → ℕ → Outcome

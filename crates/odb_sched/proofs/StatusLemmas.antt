@@ -3,7 +3,7 @@ use Rattle.std.proofs.Common.{◌≡◌, ℕ, ◌∙◌, ap, sym, subst, refl, B
 use Rattle.std.proofs.lemmas.Bool.{true≢false}
 use Rattle.odb_doc.specs.declared.recorded.outcome.Outcome.{Outcome}
 use Rattle.odb_sched.specs.declared.phase.Phase.{Phase}
-use Rattle.odb_sched.specs.declared.phase.Phase.TheVariants.{Unstarted, Running, Reported}
+use Rattle.odb_sched.specs.declared.phase.Phase.TheVariants.{Reported}
 use Rattle.odb_doc.specs.Statuses.{is_success, is_status}
 use Rattle.odb_sched.specs.run.Answers.{outcome_of, answer_of, answer, status_of, HasStatuses}
 use Rattle.odb_sched.specs.run.State.{State, phase_at}
@@ -31,9 +31,8 @@ one_of true outcome sound = refl
 one_of false outcome sound = sound
 
 status-answer_of : (phase : Phase) (succeeded : Bool) → HasStatus phase → is_status (status_of (answer_of phase succeeded)) ≡ true
-status-answer_of Unstarted succeeded has = refl
-status-answer_of Running succeeded has = refl
 status-answer_of (Reported outcome) succeeded has = one_of (is_success outcome.status && not succeeded) outcome (has outcome refl)
+status-answer_of phase succeeded has = refl
 
 -- what a request is answered has a status from 200 to 599
 pub status-answer : (state : State) (i : ℕ) → HasStatuses state → is_status (status_of (answer state i)) ≡ true
