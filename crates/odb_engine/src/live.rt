@@ -127,8 +127,8 @@ fn shown<'p>(alloc: Global, scheduler: Scheduler<'p>) -> (Scheduler<'p>, Result<
     (done.into_scheduler(), line)
 }
 
-/// Returns the line of the response of a run of a plan, and the run again. If the run is not of the plan,
-/// there is no memory for it.
+/// Returns the line of the response of a run of a plan, and the run, which is as it was. A run of another
+/// plan is reported as out of memory.
 fn shown_on(alloc: Global, plan: &Plan<'_>, run: OwnedRun) -> (OwnedRun, Result<String, Halt>)
     ensures same { without_requests result.0 ≡ without_requests run }
     ensures found { Found (live.ShowsState (with_requests (plan_records plan.now) run)) result.1 }
@@ -143,7 +143,7 @@ fn shown_on(alloc: Global, plan: &Plan<'_>, run: OwnedRun) -> (OwnedRun, Result<
     }
 }
 
-/// Does what [`shown_on`] does with a run that is kept.
+/// Returns the line of the response of a run of a plan, as [`shown_on`] does, and leaves the run in its place.
 fn line_on(alloc: Global, plan: &Plan<'_>, kept: &mut OwnedRun) -> Result<String, Halt>
     ensures same { without_requests kept.new ≡ without_requests kept.old }
     ensures found { Found (live.ShowsState (with_requests (plan_records plan.now) kept.old)) result }
