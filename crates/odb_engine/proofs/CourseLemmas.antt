@@ -8,12 +8,12 @@ use Rattle.odb_doc.specs.recorded.LeastOutcomeFault.{IsOutcomesDocument, Refuses
 use Rattle.odb_doc.specs.recorded.OutcomeFaults as outcome_faults
 use Rattle.odb_doc.specs.recorded.Outcomes.{Recorded, AreOutcomesOf}
 use Rattle.odb_doc.specs.batch.Records.{Record}
-use Rattle.odb_sched.specs.declared.execution.ExecFault.TheVariants as fault
-use Rattle.odb_sched.specs.declared.chooser.Order.{Order}
+use Rattle.odb_exec.specs.declared.execution.ExecFault.TheVariants as fault
+use Rattle.odb_sched.specs.declared.order.Order.{Order}
 use Rattle.odb_sched.specs.declared.policy.Policy.{Policy}
-use Rattle.odb_sched.specs.run.Refusals.{exec_row}
+use Rattle.odb_exec.specs.Faults.{exec_row}
 use Rattle.odb_sched.specs.run.Choosing.{AllowsOrder}
-use Rattle.odb_sched.specs.run.Recordings.{Faults, HasOneCourse, HasOneFault, FaultsOrFinishes, recorded_for}
+use Rattle.odb_exec.specs.Recordings.{Faults, HasOneCourse, HasOneFault, FaultsOrFinishes, recorded_for}
 use Rattle.odb_sched.specs.run.State.{State, first_state}
 use Rattle.odb_engine.specs.declared.ending.Ended.{Ended}
 use Rattle.odb_engine.specs.Cascade.{line_of, IsOne}

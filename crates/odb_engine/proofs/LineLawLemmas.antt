@@ -5,7 +5,7 @@ use Rattle.odb_doc.specs.declared.fault.Place.TheVariants.{Batch}
 use Rattle.odb_doc.specs.declared.recorded.outcome.Outcome.{Outcome}
 use Rattle.odb_doc.specs.batch.Records.{Record}
 use Rattle.odb_check.specs.LeastNameFault.{HasGoodNames}
-use Rattle.odb_sched.specs.declared.chooser.Order.{Order}
+use Rattle.odb_sched.specs.declared.order.Order.{Order}
 use Rattle.odb_sched.specs.run.Choosing.{AllowsOrder}
 use Rattle.odb_sched.specs.run.State.{State}
 use Rattle.odb_engine.specs.declared.form.Form.{Form}

@@ -7,7 +7,7 @@ use Rattle.odb_doc.specs.canonical.HeldValues.{IsHeld}
 use Rattle.odb_doc.specs.recorded.OutcomeValues.{IsRecordable}
 use Rattle.odb_doc.specs.recorded.Outcomes.{Recorded, AreOutcomesOf}
 use Rattle.odb_doc.specs.batch.Records.{Record}
-use Rattle.odb_sched.specs.declared.chooser.Order.{Order}
+use Rattle.odb_sched.specs.declared.order.Order.{Order}
 use Rattle.odb_sched.specs.declared.policy.Policy.{Policy}
 use Rattle.odb_sched.specs.run.Choosing.{AllowsOrder}
 use Rattle.odb_engine.specs.declared.ending.Ended.TheVariants.{Done}

@@ -11,16 +11,17 @@ use Rattle.odb_check.specs.PlanGraph.{unit_of}
 use Rattle.odb_sched.specs.declared.phase.Phase.{Phase}
 use Rattle.odb_sched.specs.declared.phase.Phase.TheVariants.{Unstarted, Running, Reported}
 use Rattle.odb_sched.specs.declared.policy.Policy.{Policy}
-use Rattle.odb_sched.specs.declared.service.ServiceFault.{ServiceFault}
-use Rattle.odb_sched.specs.declared.service.ServiceFault.TheVariants as service
-use Rattle.odb_sched.specs.declared.execution.ExecFault.{ExecFault}
-use Rattle.odb_sched.specs.declared.execution.ExecFault.TheVariants as fault
+use Rattle.odb_exec.specs.declared.service.ServiceFault.{ServiceFault}
+use Rattle.odb_exec.specs.declared.service.ServiceFault.TheVariants as service
+use Rattle.odb_exec.specs.declared.execution.ExecFault.{ExecFault}
+use Rattle.odb_exec.specs.declared.execution.ExecFault.TheVariants as fault
 use Rattle.odb_sched.specs.run.Answers.{answer, answer_of, outcome_of, reported}
-use Rattle.odb_sched.specs.run.Courses.{Allowance, IsReportEnabled, IsCausedBy}
-use Rattle.odb_sched.specs.run.Refusals.{exec_row}
+use Rattle.odb_sched.specs.run.Choosing.{Allowance}
+use Rattle.odb_exec.specs.Courses.{IsReportEnabled, IsCausedBy}
+use Rattle.odb_exec.specs.Faults.{exec_row}
 use Rattle.odb_doc.specs.Refusals.{Printed}
 use Rattle.std.proofs.lemmas.Option.{same_Some}
-use Rattle.odb_sched.specs.run.Recordings.{outcome_for, recorded_for, offered, OffersRecorded}
+use Rattle.odb_exec.specs.Recordings.{outcome_for, recorded_for, offered, OffersRecorded}
 use Rattle.odb_sched.specs.run.State.{State, phase_at, first_state}
 use Rattle.odb_doc.specs.Statuses.{is_status, is_success}
 use Rattle.odb_sched.specs.run.Steps.{unit_succeeded}

@@ -32,7 +32,7 @@ use Rattle.odb_engine.specs.Runs.IsLeastOfRun.{OfIds, OfEvent, OfEnd}
 use Rattle.odb_engine.proofs.LawLemmas.{document_one}
 use Rattle.odb_engine.proofs.SecondLemmas.{IsOneKind, reading_one, some_document_one}
 use Rattle.odb_sched.proofs.ResolveLemmas.{known-from}
-use Rattle.odb_sched.proofs.RecordedLemmas.{same_place}
+use Rattle.odb_exec.proofs.RecordedLemmas.{same_place}
 
 -- ---- events by positions
 

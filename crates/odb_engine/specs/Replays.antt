@@ -8,11 +8,12 @@ use Rattle.odb_doc.specs.recorded.OutcomeValues.{IsRecordable}
 use Rattle.odb_doc.specs.recorded.Outcomes.{Recorded, AreOutcomesOf}
 use Rattle.odb_doc.specs.batch.Records.{Record}
 use Rattle.odb_sched.specs.declared.policy.Policy.{Policy}
-use Rattle.odb_sched.specs.declared.service.ServiceFault.TheVariants.{NoOutcome}
+use Rattle.odb_exec.specs.declared.service.ServiceFault.TheVariants.{NoOutcome}
 use Rattle.odb_sched.specs.declared.event.Step.{Step}
 use Rattle.odb_sched.specs.run.State.{State, first_state}
-use Rattle.odb_sched.specs.run.Courses.{Allowance, Offer, IsReportEnabled, IsFinishedBy}
-use Rattle.odb_sched.specs.run.Recordings.{recorded_for, OffersRecorded}
+use Rattle.odb_sched.specs.run.Choosing.{Allowance}
+use Rattle.odb_exec.specs.Courses.{Offer, IsReportEnabled, IsFinishedBy}
+use Rattle.odb_exec.specs.Recordings.{recorded_for, OffersRecorded}
 use Rattle.odb_reply.specs.Responses.{response_value}
 use Rattle.odb_reply.specs.OnePerId.{HasOnePerId}
 use Rattle.odb_sched.specs.run.Laws.{StartsAfterDependencies}

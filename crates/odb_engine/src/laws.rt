@@ -6,7 +6,7 @@
 
 ghost use Rattle.std.specs.Prelude.{◌≡◌, ◌<◌, ℕ, Bool, true, false, List, Some};
 ghost use Rattle.odb_sched.specs.run.Choosing.{AllowsOrder};
-ghost use Rattle.odb_sched.specs.declared.chooser.Order.{Order};
+ghost use Rattle.odb_sched.specs.declared.order.Order.{Order};
 ghost use Rattle.odb_sched.specs.declared.event.Event.{Event};
 ghost use Rattle.odb_sched.specs.declared.policy.Policy.{Policy};
 ghost use Rattle.odb_sched.specs.run.Runs.{event_position};
@@ -64,7 +64,7 @@ pub fn one_replay()
     odb_doc::laws::one_fault();
     odb_check::laws::one_fault();
     odb_doc::laws::one_record();
-    odb_sched::laws::every_order();
+    odb_exec::laws::every_order();
 }
 
 /// Two texts that a run by recorded events may write for the same bytes of a batch document and of an
@@ -138,7 +138,7 @@ pub fn one_line()
     odb_reply::laws::one_document();
     odb_reply::laws::one_match();
     odb_doc::laws::one_record();
-    odb_sched::laws::every_order();
+    odb_exec::laws::every_order();
     odb_doc::laws::one_history();
     odb_sched::laws::every_cause();
 }

@@ -4,11 +4,12 @@ ghost use Rattle.std.specs.Prelude.{◌≡◌, ◌<◌, All, IfOk, string_bytes}
 ghost use Rattle.odb_sched.specs.run.Answers.{reported, status_of};
 ghost use Rattle.std.specs.List.{flat_map};
 ghost use Rattle.odb_sched.specs.run.State.{size};
-ghost use Rattle.odb_sched.specs.run.Courses.{position_in};
+ghost use Rattle.odb_sched.specs.run.Choosing.{position_in};
 ghost use Rattle.odb_engine.specs.Replays as replays;
 ghost use Rattle.odb_engine.specs.Traces as traces;
 
-use odb_sched::{Done, Step, Trace};
+use odb_exec::Trace;
+use odb_sched::{Done, Step};
 use std::alloc::{AllocError, Global};
 
 /// Returns the status that a request reported, or 424 if it did not report.

@@ -1,7 +1,7 @@
 -- The options of a call from C, by their numbers.
 use Rattle.std.specs.Prelude.{◌≡◌, ◌<◌, ◌≤◌, ◌⊎◌, ℕ, Bool, true, false}
-use Rattle.odb_sched.specs.declared.chooser.Order.{Order}
-use Rattle.odb_sched.specs.declared.chooser.Order.TheVariants.{First, Last, Wide}
+use Rattle.odb_sched.specs.declared.order.Order.{Order}
+use Rattle.odb_sched.specs.declared.order.Order.TheVariants.{First, Last, Wide}
 use Rattle.odb_sched.specs.declared.policy.Mode.{Mode}
 use Rattle.odb_sched.specs.declared.policy.Mode.TheVariants.{Continue, Stop}
 use Rattle.odb_sched.specs.declared.policy.Policy.{Policy}

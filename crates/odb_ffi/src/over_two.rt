@@ -12,7 +12,8 @@ ghost use Rattle.odb_ffi.specs.Returns.{AnswersIn, WritesOf};
 use crate::options::{ReplayOptions, seed_of};
 use odb_doc::{Input, Output};
 use odb_engine::{Answer, Form, Setup, match_batch_with, replay_batch_with, run_batch_with};
-use odb_sched::{Chooser, First, Last, Order, Policy, Wide};
+use odb_exec::{Chooser, First, Last, Wide};
+use odb_sched::{Order, Policy};
 use std::alloc::Global;
 
 /// A batch document, and the second document of a command.

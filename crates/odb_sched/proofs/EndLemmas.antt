@@ -3,15 +3,15 @@ use Rattle.std.proofs.Common.{◌≡◌, ℕ, ◌<◌, ◌∙◌, sym, ap, refl,
 use Rattle.std.specs.FinSet.{contains, contains-from_list_nat}
 use Rattle.std.proofs.lemmas.List.{length-map}
 use Rattle.std.proofs.lemmas.Bool.{cases_lt, and_parts, and_from, both_ways, false_from_ne_true}
-use Rattle.odb_sched.specs.declared.chooser.End.{End}
-use Rattle.odb_sched.specs.declared.chooser.End.TheVariants.{Least, Greatest}
+use Rattle.odb_sched.specs.declared.order.End.{End}
+use Rattle.odb_sched.specs.declared.order.End.TheVariants.{Least, Greatest}
 use Rattle.odb_check.specs.Firsts.{passing_below}
-use Rattle.odb_sched.specs.run.Choosing.{positions_of, IsNone, IsNearer, IsEndOf, IsAt}
+use Rattle.odb_sched.specs.run.Choosing.{positions_of, IsNone, ready_set, running_set}
+use Rattle.odb_sched.specs.invariants.Ends.{IsNearer, IsEndOf, IsAt}
 use Rattle.odb_sched.specs.declared.counts.Counts.{Counts}
 use Rattle.odb_sched.specs.run.State.{is_running, State, size, phase_at}
 use Rattle.odb_sched.specs.run.Steps.{may_start, is_finished}
 use Rattle.odb_sched.specs.invariants.Kept.{IsReached, IsCounted}
-use Rattle.odb_sched.specs.run.Courses.{ready_set, running_set}
 use Rattle.odb_sched.proofs.KeptLemmas.{finished_idle}
 use Rattle.odb_sched.proofs.CountedLemmas.{starts_is, runs_is}
 use Rattle.odb_sched.proofs.ChoiceLemmas.{contains-passing}

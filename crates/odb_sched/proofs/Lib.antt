@@ -35,9 +35,4 @@ pub mod CountedLemmas
 pub mod EndLemmas
 pub mod TakenLemmas
 pub mod ChoiceLemmas
-pub mod CourseLemmas
-pub mod PickLemmas
-pub mod CallLemmas
-pub mod RecordedLemmas
-pub mod OrderLemmas
 pub mod ResolveLemmas

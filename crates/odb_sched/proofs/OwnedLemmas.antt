@@ -1,6 +1,6 @@
 -- What holds of a state holds of it with other requests, since no event asks for them.
-use Rattle.std.proofs.Common.{◌≡◌, ℕ, refl, subst, sym, List, Result, Ok, Err, IsOk}
-use Rattle.std.specs.Prelude.{IfErr, IsErrAnd, OnOk, OnErr}
+use Rattle.std.proofs.Common.{◌≡◌, ℕ, refl, subst, List, Result, Ok, Err, IsOk}
+use Rattle.std.specs.Prelude.{OnOk, OnErr}
 use Rattle.std.proofs.Math.Path.{fun_ext}
 use Rattle.odb_doc.specs.LeastRules.{IsLeast}
 use Rattle.odb_doc.specs.batch.Records.{Record}
@@ -11,9 +11,8 @@ use Rattle.odb_sched.specs.declared.refusal.ReportRefusal.{ReportRefusal}
 use Rattle.odb_sched.specs.declared.refusal.ReportRefusal.TheVariants as report
 use Rattle.odb_sched.specs.declared.event.Step.{Step}
 use Rattle.odb_sched.specs.declared.event.Step.TheVariants as step
-use Rattle.odb_sched.specs.invariants.Advances.{IsNext, MayTake}
+use Rattle.odb_sched.specs.run.Choosing.{IsNext, MayTake, Allowance}
 use Rattle.odb_sched.specs.run.Steps.{BarsStart, IsStartCause, start_number, BarsReport, IsReportCause, report_number}
-use Rattle.odb_sched.specs.run.Courses.{Allowance}
 use Rattle.odb_sched.specs.run.State.{State, with_requests}
 
 bars_start : (requests : List Record) (state : State) (i : ℕ) (cause : StartRefusal) → BarsStart cause state i ≡ BarsStart cause (with_requests requests state) i
@@ -46,8 +45,3 @@ either_way (Err cause) ok err if_ok if_err = if_err err
 pub ok_so : {T E A : Type 0} (result : Result T E) → (IsOk result → A) → OnOk result A
 ok_so (Ok value) follows = follows refl
 ok_so (Err cause) follows = tt
-
--- the error of a `?` that keeps its type
-pub same_error : {T E : Type 0} (result : Result T E) (P : E → Type 0) (cause : E) → IsErrAnd result (λ e. e ≡ cause) → P cause → IfErr result P
-same_error (Ok value) P cause is holds = absurd is
-same_error (Err e) P cause is holds = subst P (sym is) holds

@@ -3,4 +3,4 @@ pub mod Graphs
 pub mod Counts
 pub mod Propagation
 pub mod Kept
-pub mod Advances
+pub mod Ends

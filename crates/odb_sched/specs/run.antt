@@ -6,8 +6,5 @@ pub mod Runs
 pub mod Answers
 pub mod Laws
 pub mod Choosing
-pub mod Courses
-pub mod Calls
-pub mod Recordings
 pub mod Resolving
 pub mod Refusals

@@ -6,14 +6,14 @@ ghost use Rattle.odb_dense.specs.declared.worklist.Mark.TheVariants.{Unvisited};
 ghost use Rattle.odb_dense.specs.Lists.{ListsOnce};
 ghost use Rattle.odb_dense.specs.Marks.{is_visited};
 ghost use Rattle.odb_sched.specs.declared.phase.Phase.TheVariants.{Unstarted, Running};
-ghost use Rattle.odb_sched.specs.run.Choosing.{IsEndOf};
+ghost use Rattle.odb_sched.specs.invariants.Ends.{IsEndOf};
 ghost use Rattle.odb_sched.specs.invariants.Counts as counts;
 ghost use Rattle.odb_sched.specs.run.State as state;
 ghost use Rattle.odb_check.specs.PlanGraph.{IsNeed};
 ghost use Rattle.odb_sched.specs.invariants.Kept.{state_of, first_of};
 ghost use Rattle.odb_sched.specs.run.Steps.{satisfied_in};
 
-use crate::chooser::End;
+use crate::order::End;
 use crate::graph::Graph;
 use crate::phase::Phase;
 use crate::policy::Policy;

@@ -77,7 +77,7 @@ impl<'p> Done<'p> {
         self.run
     }
 
-    /// Returns the plan that was run.
+    /// Returns a plan of the requests that were run, with the units and needs of the plan that was run.
     pub fn plan(&self) -> &'p Plan<'p>
         ensures plan { plan_records result.now ≡ self.now.requests }
         ensures plan_graph { state.plan_graph result.now ≡ self.now.plan_graph }

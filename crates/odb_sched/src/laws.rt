@@ -4,13 +4,12 @@
 //! The laws are clauses of functions that change nothing. They are stated of lists of events, by the
 //! relations that the clauses of the scheduler use.
 
-ghost use Rattle.std.specs.Prelude.{◌≡◌, ℕ, ◌<◌, ◌≤◌, ◌++◌, ◌↔◌, Bool, true, List, map, length, Option, IsTrue};
+ghost use Rattle.std.specs.Prelude.{◌≡◌, ℕ, ◌<◌, ◌≤◌, ◌↔◌, Bool, true, List, length, IsTrue};
 ghost use Rattle.odb_doc.specs.declared.recorded.outcome.Outcome.{Outcome};
 ghost use Rattle.odb_check.specs.Plans.{plan_records};
 ghost use Rattle.odb_sched.specs.declared.policy.Mode.TheVariants.{Continue};
 ghost use Rattle.odb_sched.specs.declared.policy.Policy.{Policy};
 ghost use Rattle.odb_sched.specs.declared.event.Event.{Event};
-ghost use Rattle.odb_sched.specs.declared.chooser.Order.{Order};
 ghost use Rattle.odb_sched.specs.declared.refusal.StartRefusal.{StartRefusal};
 ghost use Rattle.odb_sched.specs.declared.refusal.StartRefusal.TheVariants.{WidthReached};
 ghost use Rattle.odb_sched.specs.declared.refusal.ReportRefusal.{ReportRefusal};
@@ -25,12 +24,8 @@ ghost use Rattle.odb_sched.specs.run.Steps.{may_start, may_report, is_finished, 
 ghost use Rattle.odb_sched.specs.run.Runs.{IsRun, state_after, phase_of, Refuses};
 ghost use Rattle.odb_sched.specs.run.Laws.{HaveSucceeded, StartsAfterDependencies, IsNeverStuck, HasFewEvents, HasOneResult, HasResultByStatuses, AgreesWithTable, IsAllOrNone, RestsOnSuccesses, SucceedsByMembers};
 ghost use Rattle.odb_doc.specs.batch.Records.{Record};
-ghost use Rattle.odb_sched.specs.run.Courses.{step_of};
-ghost use Rattle.odb_sched.specs.run.Calls.{AsksAll, Call, calls_of, reported_by, Writes};
 ghost use Rattle.odb_sched.specs.run.Answers.{HasStatuses};
-ghost use Rattle.odb_sched.specs.run.Recordings.{HasOneCourse, HasOneFault, FaultsOrFinishes};
 
-use crate::service::Service;
 use odb_check::Plan;
 use odb_check::laws::every_plan;
 
@@ -86,20 +81,6 @@ pub fn every_cause()
         → fault ≡ other }
 {}
 
-/// What a service's own log has of an execution. If each answered call adds one entry, the log has one
-/// new entry for each report, in the order of the reports, and each call is for the request that is
-/// reported. So a service is asked once for each report, and for nothing else.
-pub fn every_call<S: Service, X>()
-    ensures logged { (log : S → List X) (entry : Call → X)
-        → Writes S.performs log entry
-        → (requests : List Record) (events : List Event) (old new : S)
-        → AsksAll S.performs requests events old new
-        → log new ≡ log old ++ map entry (calls_of requests events) }
-    ensures positions { (requests : List Record) (events : List Event) (old new : S)
-        → AsksAll S.performs requests events old new
-        → map (λ call. call.0) (calls_of requests events) ≡ reported_by (map step_of events) }
-{}
-
 /// In the mode `Continue`, the successes of a finished run are those of each table of outcomes that its
 /// reports agree with, and which requests they answer depends on the statuses alone. Under each policy
 /// the answers of a group are all successes or none is, a success depends on successes alone, and each
@@ -144,16 +125,3 @@ pub fn definitions_agree(plan: &Plan<'_>)
 {
     every_plan(plan);
 }
-
-/// In an order, as that of `First`, `Last` or `Wide`, and with recorded outcomes, an execution has one
-/// course from each state, so from the first of a plan and a policy: any two that finish have the same
-/// steps and the same answers, any two that do not have the same fault, and none has a fault where
-/// another finishes.
-pub fn every_order()
-    ensures one_course { (order : Order) (outcomes : List (Option Outcome)) (first : State)
-        → HasOneCourse order outcomes first }
-    ensures one_fault { (order : Order) (outcomes : List (Option Outcome)) (first : State)
-        → HasOneFault order outcomes first }
-    ensures fault_or_end { (order : Order) (outcomes : List (Option Outcome)) (first : State)
-        → FaultsOrFinishes order outcomes first }
-{}

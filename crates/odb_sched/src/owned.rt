@@ -6,16 +6,15 @@ ghost use Rattle.odb_check.specs.PlanGraph.{unit_of};
 ghost use Rattle.odb_dense.specs.Lists.{ListsOnce};
 ghost use Rattle.odb_sched.specs.declared.phase.Phase.TheVariants.{Unstarted};
 ghost use Rattle.odb_sched.specs.declared.refusal.StartRefusal.TheVariants.{WidthReached};
-ghost use Rattle.odb_sched.specs.invariants.Advances.{IsNext};
+ghost use Rattle.odb_sched.specs.run.Choosing.{IsNext, IsNone, AllowsOrder, ReportsFirst, StartsFirst, ready_set, running_set};
 ghost use Rattle.odb_sched.specs.run.Steps.{IsStartCause, IsReportCause};
-ghost use Rattle.odb_sched.specs.run.Choosing.{IsNone, AllowsOrder, IsAt, ReportsFirst, StartsFirst};
+ghost use Rattle.odb_sched.specs.invariants.Ends.{IsAt};
 ghost use Rattle.odb_sched.specs.run.Answers as answers;
-ghost use Rattle.odb_sched.specs.run.Courses as courses;
 ghost use Rattle.odb_sched.specs.run.State as state;
 ghost use Rattle.odb_sched.specs.invariants.Kept.{first_of, IsReached};
 ghost use Rattle.odb_sched.specs.run.Steps as steps;
 
-use crate::chooser::{End, Order};
+use crate::order::{End, Order};
 use crate::counts::Counts;
 use crate::event::Step;
 use crate::graph::Graph;
@@ -211,11 +210,11 @@ impl OwnedRun {
     /// Returns the least or the greatest ready position, or `None` if there is none.
     fn ready_at(&mut self, end: End) -> Option<u32>
         ensures same { self.new ≡ self.old }
-        ensures none { result ≡ None → IsNone (courses.ready_set self.old) }
-        ensures finished { result ≡ None → IsNone (courses.running_set self.old)
+        ensures none { result ≡ None → IsNone (ready_set self.old) }
+        ensures finished { result ≡ None → IsNone (running_set self.old)
             → steps.is_finished self.old ≡ true }
         ensures some { IfSome result (λ i. (i < state.size self.old)
-            × (steps.may_start self.old i ≡ true) × IsAt end (courses.ready_set self.old) i) }
+            × (steps.may_start self.old i ≡ true) × IsAt end (ready_set self.old) i) }
     {
         self.counts.ready_at(self.policy, end)
     }
@@ -223,12 +222,12 @@ impl OwnedRun {
     /// Returns the least or the greatest running position, or `None` if there is none.
     fn running_at(&mut self, end: End) -> Option<u32>
         ensures same { self.new ≡ self.old }
-        ensures none { result ≡ None → IsNone (courses.running_set self.old) }
-        ensures finished { result ≡ None → IsNone (courses.ready_set self.old)
+        ensures none { result ≡ None → IsNone (running_set self.old) }
+        ensures finished { result ≡ None → IsNone (ready_set self.old)
             → steps.is_finished self.old ≡ true }
         ensures some { IfSome result (λ i. (i < state.size self.old)
             × (state.is_running (state.phase_at self.old i) ≡ true)
-            × IsAt end (courses.running_set self.old) i) }
+            × IsAt end (running_set self.old) i) }
     {
         self.counts.running_at(end)
     }
@@ -238,7 +237,7 @@ impl OwnedRun {
     fn report_or_start(&mut self, end: End) -> Option<Step>
         ensures same { self.new ≡ self.old }
         ensures finished { result ≡ None → steps.is_finished self.old ≡ true }
-        ensures next { IfSome result (IsNext (ReportsFirst end) self.old) }
+        ensures next { IfSome result (IsNext (ReportsFirst (IsAt end)) self.old) }
     {
         if let Some(i) = self.running_at(end) {
             return Some(Step::Report(i));
@@ -254,7 +253,7 @@ impl OwnedRun {
     fn start_or_report(&mut self, end: End) -> Option<Step>
         ensures same { self.new ≡ self.old }
         ensures finished { result ≡ None → steps.is_finished self.old ≡ true }
-        ensures next { IfSome result (IsNext (StartsFirst end) self.old) }
+        ensures next { IfSome result (IsNext (StartsFirst (IsAt end)) self.old) }
     {
         if let Some(i) = self.ready_at(end) {
             return Some(Step::Start(i));

@@ -3,7 +3,7 @@
 ghost use Rattle.std.specs.Prelude.{◌≡◌};
 
 use odb_doc::Outcome;
-use odb_doc::status::is_success;
+use odb_doc::status::{is_error, is_success};
 
 /// What has happened to a request in a run.
 #[derive(Debug, Drop)]
@@ -59,7 +59,7 @@ impl Phase {
         ensures { result ≡ state.has_erred self.now }
     {
         match self {
-            Phase::Reported(outcome) => (400..600).contains(&outcome.status),
+            Phase::Reported(outcome) => is_error(outcome.status),
             _ => false,
         }
     }

@@ -10,12 +10,11 @@ ghost use Rattle.odb_sched.specs.run.Answers as answers;
 ghost use Rattle.odb_sched.specs.run.State as state;
 ghost use Rattle.odb_sched.specs.run.Steps as steps;
 ghost use Rattle.odb_sched.specs.run.Steps.{IsStartCause, IsReportCause};
-ghost use Rattle.odb_sched.specs.invariants.Advances.{IsNext};
-ghost use Rattle.odb_sched.specs.run.Choosing.{AllowsOrder};
+ghost use Rattle.odb_sched.specs.run.Choosing.{IsNext, AllowsOrder};
 ghost use Rattle.odb_sched.specs.run.Laws as laws;
 ghost use Rattle.odb_sched.specs.invariants.Kept.{IsReached};
 
-use crate::chooser::Order;
+use crate::order::Order;
 use crate::done::Done;
 use crate::event::Step;
 use crate::laws::every_start;
@@ -156,8 +155,9 @@ impl<'p> Scheduler<'p> {
         self.run.running()
     }
 
-    /// Returns the next step in an order, or `None` if the run is finished.
-    pub(crate) fn next_in(&mut self, order: Order) -> Option<Step>
+    /// Returns the next step in an order, or `None` if the run is finished. It takes no step, and costs
+    /// constant time.
+    pub fn next_in(&mut self, order: Order) -> Option<Step>
         ensures same { self.new ≡ self.old }
         ensures finished { result ≡ None → steps.is_finished self.old ≡ true }
         ensures next { IfSome result (IsNext (AllowsOrder order) self.old) }

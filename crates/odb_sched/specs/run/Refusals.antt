@@ -1,4 +1,4 @@
--- What is printed of a refusal of events, and of a fault of named events or of an execution.
+-- What is printed of a refusal of events, and of a fault of named events.
 use Rattle.std.specs.Prelude.{◌≢◌, ℕ, List, Option, Some, None, codes}
 use Rattle.odb_doc.specs.Refusals.{Printed, fault_at}
 use Rattle.odb_doc.specs.declared.fault.Place.TheVariants as places
@@ -10,8 +10,6 @@ use Rattle.odb_sched.specs.declared.refusal.RunRefusal.{RunRefusal}
 use Rattle.odb_sched.specs.declared.refusal.RunRefusal.TheVariants as refusal
 use Rattle.odb_sched.specs.declared.event.ResolveFault.{ResolveFault}
 use Rattle.odb_sched.specs.declared.event.ResolveFault.TheVariants.{UnknownEvent, OutOfMemory}
-use Rattle.odb_sched.specs.declared.execution.ExecFault.{ExecFault}
-use Rattle.odb_sched.specs.declared.execution.ExecFault.TheVariants as fault
 
 -- the code and the name of a cause against a start
 abbrev pub start_row : StartRefusal → List ℕ × List ℕ
@@ -46,13 +44,3 @@ IsNumberedResolve fault = fault ≢ OutOfMemory
 abbrev pub resolve_row : ResolveFault → Option Printed
 resolve_row (UnknownEvent at) = Some (fault_at 65 (codes "UnknownEvent") (places.Event at))
 resolve_row OutOfMemory = None
-
--- any fault but out of memory
-abbrev pub IsNumberedExec : ExecFault → Type 0
-IsNumberedExec cause = cause ≢ fault.OutOfMemory
-
-abbrev pub exec_row : ExecFault → Option Printed
-exec_row (fault.NoOutcome i) = Some (fault_at 80 (codes "NoOutcome") (places.Request i))
-exec_row (fault.Service i) = Some (fault_at 81 (codes "Service") (places.Request i))
-exec_row (fault.BadStatus i) = Some (fault_at 82 (codes "BadStatus") (places.Request i))
-exec_row fault.OutOfMemory = None

@@ -1,5 +1,5 @@
 -- The state of a run: its requests, its policy, and the phase of each request.
-use Rattle.std.specs.Prelude.{ℕ, List, [], length, replicate, slice_index_or, slice_set, Bool, true, false, not, ◌&&◌, nat_lt, nat_le}
+use Rattle.std.specs.Prelude.{ℕ, List, [], length, replicate, slice_index_or, slice_set, Bool, true, false, not}
 use Rattle.odb_doc.specs.batch.Records.{Record}
 use Rattle.odb_doc.specs.declared.recorded.outcome.Outcome.{Outcome}
 use Rattle.odb_check.specs.declared.plan.Plan.{Plan}
@@ -12,7 +12,7 @@ use Rattle.odb_sched.specs.declared.phase.Phase.{Phase}
 use Rattle.odb_sched.specs.declared.phase.Phase.TheVariants.{Unstarted, Running, Reported}
 use Rattle.odb_sched.specs.declared.event.Event.{Event}
 use Rattle.odb_sched.specs.declared.event.Event.TheVariants.{Start, Report}
-use Rattle.odb_doc.specs.Statuses.{is_success}
+use Rattle.odb_doc.specs.Statuses.{is_error, is_success}
 
 -- the shape is that of the requests; the phases are by position
 pub record State : Type 0 where
@@ -88,4 +88,4 @@ has_failed (Reported outcome) = not (is_success outcome.status)
 abbrev pub has_erred : Phase → Bool
 has_erred Unstarted = false
 has_erred Running = false
-has_erred (Reported outcome) = nat_le 400 outcome.status && nat_lt outcome.status 600
+has_erred (Reported outcome) = is_error outcome.status

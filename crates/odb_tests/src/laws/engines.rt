@@ -3,7 +3,7 @@
 
 ghost use Rattle.std.specs.Prelude.{◌≡◌, true, false, Some, IfSome, string_bytes};
 ghost use Rattle.odb_sched.specs.run.Choosing.{AllowsOrder};
-ghost use Rattle.odb_sched.specs.declared.chooser.Order.TheVariants as orders;
+ghost use Rattle.odb_sched.specs.declared.order.Order.TheVariants as orders;
 ghost use Rattle.odb_sched.specs.run.State.{State};
 ghost use Rattle.odb_engine.specs.declared.ending.Ended.TheVariants.{Done};
 ghost use Rattle.odb_engine.specs.Cascade.{Accepts, Answers};
@@ -27,7 +27,8 @@ use odb_engine::{
     Answer, Ended, Form, LineTask, Setup, answer_line, canon_batch, check_batch, draw_batch,
     match_batch, open_run, plan_batch, replay_batch, run_batch, text_of_run,
 };
-use odb_sched::{Last, Mode, Policy};
+use odb_exec::Last;
+use odb_sched::{Mode, Policy};
 use std::alloc::Global;
 
 /// How a command ended, and what it wrote.

@@ -3,15 +3,16 @@
 ghost use Rattle.std.specs.Prelude.{◌≡◌, IfOk, IfSome};
 ghost use Rattle.odb_doc.specs.recorded.OutcomeLists.{entries};
 ghost use Rattle.odb_check.specs.Plans.{plan_records};
-ghost use Rattle.odb_sched.specs.run.Recordings.{Faults, Finishes, recorded_for};
+ghost use Rattle.odb_exec.specs.Recordings.{Faults, Finishes, recorded_for};
 ghost use Rattle.odb_sched.specs.run.State.{initial};
-ghost use Rattle.odb_sched.specs.declared.chooser.Order.TheVariants as orders;
+ghost use Rattle.odb_sched.specs.declared.order.Order.TheVariants as orders;
 ghost use Rattle.odb_tests.specs.Readings.{IsReading};
 
 use odb_check::Plan;
 use odb_doc::Outcomes;
-use odb_sched::laws::every_order;
-use odb_sched::{ExecFault, Last, Policy, Recorded, Trace, execute};
+use odb_exec::laws::every_order;
+use odb_exec::{ExecFault, Last, Recorded, Trace, execute};
+use odb_sched::Policy;
 use std::alloc::Global;
 
 /// Executes a plan by recorded outcomes, unless memory runs out.

@@ -2,7 +2,8 @@
 
 use super::compare;
 use odb_check::Need;
-use odb_sched::{ExecFault, ReportRefusal, RunRefusal, ServiceFault, StartRefusal};
+use odb_exec::{ExecFault, ServiceFault};
+use odb_sched::{ReportRefusal, RunRefusal, StartRefusal};
 use std::test::Fail;
 
 /// S1 to S5.

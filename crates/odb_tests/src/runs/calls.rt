@@ -2,16 +2,15 @@
 //! no other. And lists of events that `run` refuses.
 
 ghost use Rattle.std.specs.Prelude.{◌≡◌, IfOk};
-ghost use Rattle.odb_sched.specs.run.Calls.{reported_by};
+ghost use Rattle.odb_exec.specs.Calls.{reported_by};
 
 use super::events::events_of;
 use super::{GROUP, OnPlan, PASSED_ON, REFERENCE, THREE, on_document, outcome};
 use odb_check::Plan;
 use odb_doc::{Outcome, Request};
-use odb_sched::laws::every_call;
-use odb_sched::{
-    ExecFault, Mode, Order, Policy, RunRefusal, Service, ServiceFault, Step, Trace, execute, run,
-};
+use odb_exec::laws::every_call;
+use odb_exec::{ExecFault, Service, ServiceFault, Trace, execute};
+use odb_sched::{Mode, Order, Policy, RunRefusal, Step, run};
 use std::alloc::{AllocError, Global};
 use std::test::Fail;
 

@@ -7,7 +7,8 @@ use super::{OnPlan, PASSED_ON, THREE, on_document, outcome, policy};
 use odb_check::Plan;
 use odb_doc::{Outcome, Request};
 use odb_sched::Mode::{Continue, Stop};
-use odb_sched::{Chooser, Mode, Order, Policy, Service, ServiceFault, execute};
+use odb_exec::{Chooser, Service, ServiceFault, execute};
+use odb_sched::{Mode, Order, Policy};
 use std::alloc::{AllocError, Global};
 use std::test::Fail;
 

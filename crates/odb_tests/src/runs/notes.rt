@@ -1,7 +1,8 @@
 //! Notes of what a run did, as texts that a table can hold.
 
 use odb_doc::Fault;
-use odb_sched::{Done, ExecFault, Step, Trace};
+use odb_exec::{ExecFault, Trace};
+use odb_sched::{Done, Step};
 use std::alloc::{AllocError, Global};
 
 /// Adds the steps, as `+0` for a start and `-0` for a report.

@@ -1,6 +1,7 @@
 //! The orders that choosers name, which an execution follows without asking for each step.
 
-use odb_sched::{Choice, Chooser, First, Last, Order, Wide};
+use odb_exec::{Choice, Chooser, First, Last, Wide};
+use odb_sched::Order;
 
 /// Starts the first ready request of the list, and reports the first running one if none is ready.
 struct Front;

@@ -1,9 +1,10 @@
 //! The choosers of the tests.
 
 ghost use Rattle.std.specs.Prelude.{◌<◌, ◌+◌, length};
-ghost use Rattle.odb_sched.specs.run.Choosing.{IsInRange};
+ghost use Rattle.odb_exec.specs.Choices.{IsInRange};
 
-use odb_sched::{Choice, Chooser, First, Last, Order, Wide};
+use odb_exec::{Choice, Chooser, First, Last, Wide};
+use odb_sched::Order;
 
 /// What picks the next step.
 #[derive(Clone, Copy)]

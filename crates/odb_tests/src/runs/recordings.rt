@@ -4,7 +4,7 @@ use super::{OnPlan, THREE, on_document};
 use crate::documents::records::push_outcome;
 use odb_check::Plan;
 use odb_doc::{Outcome, Outcomes, parse};
-use odb_sched::{Recorded, Service, ServiceFault};
+use odb_exec::{Recorded, Service, ServiceFault};
 use std::alloc::{AllocError, Global};
 use std::test::Fail;
 

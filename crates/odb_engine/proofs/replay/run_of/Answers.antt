@@ -4,9 +4,9 @@ use Rattle.odb_doc.specs.declared.recorded.outcome.Outcome.{Outcome}
 use Rattle.odb_doc.specs.recorded.OutcomeLists.{entries}
 use Rattle.odb_check.specs.Plans.{plan_records}
 use Rattle.odb_sched.specs.run.Answers.{reported}
-use Rattle.odb_sched.specs.run.Courses.{IsReportEnabled, IsCausedBy, IsFinishedBy}
+use Rattle.odb_exec.specs.Courses.{IsReportEnabled, IsCausedBy, IsFinishedBy}
 use Rattle.odb_sched.specs.run.Laws.{StartsAfterDependencies}
-use Rattle.odb_sched.specs.run.Recordings.{OffersRecorded}
+use Rattle.odb_exec.specs.Recordings.{OffersRecorded}
 use Rattle.odb_sched.specs.run.State.{first_state}
 use Rattle.odb_reply.specs.Fits.{ListsFit}
 use Rattle.odb_reply.specs.OnePerId.{HasOnePerId}

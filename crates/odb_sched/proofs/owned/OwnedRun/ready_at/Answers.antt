@@ -1,7 +1,7 @@
 -- The end of the ready positions is that of the positions that may start.
 use Rattle.std.proofs.Common.{◌≡◌, ◌<◌, true, subst, sym, IfSome}
-use Rattle.odb_sched.specs.run.Choosing.{IsNone, IsAt}
-use Rattle.odb_sched.specs.run.Courses.{ready_set, running_set}
+use Rattle.odb_sched.specs.run.Choosing.{IsNone, ready_set, running_set}
+use Rattle.odb_sched.specs.invariants.Ends.{IsAt}
 use Rattle.odb_sched.specs.run.State.{size}
 use Rattle.odb_sched.specs.run.Steps.{may_start, is_finished}
 use Rattle.odb_sched.proofs.EndLemmas.{none_starts, starts_at, finished_none}

@@ -1,7 +1,6 @@
 -- The end of the running positions is that of the positions that run.
 use Rattle.std.proofs.Common.{◌≡◌, true, subst, sym}
-use Rattle.odb_sched.specs.run.Choosing.{IsNone}
-use Rattle.odb_sched.specs.run.Courses.{ready_set}
+use Rattle.odb_sched.specs.run.Choosing.{IsNone, ready_set}
 use Rattle.odb_sched.specs.run.Steps.{is_finished}
 use Rattle.odb_sched.proofs.EndLemmas.{none_runs, runs_at, finished_none}
 use Rattle.odb_sched.proofs.owned.OwnedRun.running_at.Goals as goal

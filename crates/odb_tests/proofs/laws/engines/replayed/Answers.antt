@@ -1,6 +1,7 @@
 use Rattle.std.proofs.Common.{ℕ, List, Some, Bor, subst}
 use Rattle.odb_doc.specs.Devices.{Reading}
-use Rattle.odb_sched.specs.run.Choosing.{AllowsLast}
+use Rattle.odb_sched.specs.declared.order.Order.TheVariants as orders
+use Rattle.odb_sched.specs.run.Choosing.{AllowsOrder}
 use Rattle.odb_engine.specs.Cascade.{Answers}
 use Rattle.odb_engine.specs.Replays.{Replays}
 use Rattle.odb_engine.proofs.MemoryLemmas.{document-of, text-in}
@@ -9,7 +10,7 @@ use Rattle.odb_tests.proofs.laws.engines.replayed.Goals as goal
 pub returns-in-Ok : goal.returns-in-Ok
 returns-in-Ok c =
     let e = c.in-Ok.ensures.ends in
-    let Is : Reading (Bor (List ℕ)) → List ℕ → Type 0 = λ r. Answers (Replays AllowsLast c.args.policy c.args.traced (Some r.reader.now)) e.0 c.in-Ok.ended in (
+    let Is : Reading (Bor (List ℕ)) → List ℕ → Type 0 = λ r. Answers (Replays (AllowsOrder orders.Last) c.args.policy c.args.traced (Some r.reader.now)) e.0 c.in-Ok.ended in (
       e.0,
       document-of c.args.batch c.new-2.result e.0 c.new-2.ensures e.1,
       subst (λ (r : Reading (Bor (List ℕ))). Is r c.into_inner.result.items) c.new-3.ensures

@@ -1,6 +1,6 @@
 use Rattle.std.proofs.Common.{true, Some}
 use Rattle.odb_sched.specs.run.Choosing.{AllowsOrder}
-use Rattle.odb_sched.specs.declared.chooser.Order.TheVariants as orders
+use Rattle.odb_sched.specs.declared.order.Order.TheVariants as orders
 use Rattle.odb_engine.specs.Cascade.{Answers}
 use Rattle.odb_engine.specs.Replays.{Replays}
 use Rattle.odb_tests.proofs.LawLemmas.{one_written}

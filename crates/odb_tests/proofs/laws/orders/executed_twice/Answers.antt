@@ -2,10 +2,10 @@ use Rattle.std.proofs.Common.{◌≡◌, List, Option, Some, None, Result, Ok, E
 use Rattle.odb_doc.specs.recorded.OutcomeLists.{entries}
 use Rattle.odb_doc.specs.declared.recorded.outcome.Outcome.{Outcome}
 use Rattle.odb_check.specs.Plans.{plan_records}
-use Rattle.odb_sched.specs.declared.chooser.Order.TheVariants as orders
-use Rattle.odb_sched.specs.declared.execution.Trace.{Trace}
-use Rattle.odb_sched.specs.declared.execution.ExecFault.{ExecFault}
-use Rattle.odb_sched.specs.run.Recordings.{Faults, Finishes, HasOneCourse, recorded_for}
+use Rattle.odb_sched.specs.declared.order.Order.TheVariants as orders
+use Rattle.odb_exec.specs.declared.execution.Trace.{Trace}
+use Rattle.odb_exec.specs.declared.execution.ExecFault.{ExecFault}
+use Rattle.odb_exec.specs.Recordings.{Faults, Finishes, HasOneCourse, recorded_for}
 use Rattle.odb_sched.specs.run.State.{State, initial}
 use Rattle.odb_tests.specs.Readings.{IsReading}
 use Rattle.odb_tests.proofs.laws.orders.executed_twice.Goals as goal

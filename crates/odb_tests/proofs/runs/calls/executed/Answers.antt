@@ -1,7 +1,7 @@
 -- The calls are those of the reports, which are the reports among the steps.
 use Rattle.std.proofs.Common.{◌∙◌, ◌++◌, ap, sym, map}
 use Rattle.odb_check.specs.Plans.{plan_records}
-use Rattle.odb_sched.specs.run.Calls.{calls_of, reported_by}
+use Rattle.odb_exec.specs.Calls.{calls_of, reported_by}
 use Rattle.odb_tests.specs.declared.runs.calls.Counting.{Counting}
 use Rattle.odb_tests.proofs.runs.calls.executed.Goals as goal
 
