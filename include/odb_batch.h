@@ -161,7 +161,9 @@ uint32_t odb_replay_as(const uint8_t *batch, size_t batch_size, const uint8_t *o
  *              no lock.
  *   Memory     A handle owns a copy of the batch document, its ids and all outcomes that were reported. No call
  *              keeps what it was passed.
- *   Overlap    The place of the handle must not overlap the other arguments. */
+ *   NULL       `run`, `count` and `position` must not be NULL. `positions` and `id` may be, which are a buffer
+ *              and an id of size 0.
+ *   Overlap    The place of the handle, `*count` and `*position` must not overlap the other arguments. */
 typedef struct odb_live_run {
     void *at;
 } odb_live_run;
