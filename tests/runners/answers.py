@@ -13,18 +13,47 @@ def check_line(requests):
     return f"ok {len(requests)} requests {len(groups)} groups\n"
 
 
-def plan_text(requests):
-    """The lines of `plan`."""
-    level_of, lines = {}, []
-    for position, request in enumerate(requests):
+def planned(requests):
+    """The requests of a plan, as its JSON has them."""
+    level_of, rows = {}, []
+    for request in requests:
         names, group = request.get("dependsOn", []), request.get("atomicityGroup")
         level = max((level_of[name] + 1 for name in names), default=0)
         level_of[request["id"]] = level
+        row = {"id": request["id"], "level": level, "needs": names}
         if group is not None:
             level_of[group] = max(level, level_of.get(group, 0))
-        needs = ",".join(names) or "*"
-        lines.append(f"{position} {request['id']} level {level} group {group or '*'} needs {needs}\n")
+            row["group"] = group
+        rows.append(row)
+    return rows
+
+
+def plan_text(requests):
+    """The lines of `plan`."""
+    lines = []
+    for position, row in enumerate(planned(requests)):
+        group, needs = row.get("group", "*"), ",".join(row["needs"]) or "*"
+        lines.append(f"{position} {row['id']} level {row['level']} group {group} needs {needs}\n")
     return "".join(lines)
+
+
+def drawing_text(requests):
+    """The drawing of `plan --dot`, of names, methods and URLs that are short and need no quotes."""
+    rows, begun, units = planned(requests), {}, {}
+    lines = ["digraph plan {\n  compound=true; newrank=true; node [shape=box]\n"]
+    for at, (request, row) in enumerate(zip(requests, rows)):
+        id, group = row["id"], row.get("group")
+        unit = units.setdefault(group or id, len(units))
+        begun[id] = at, ""
+        lines.append(f'  {at} [label="{id}\\n{request["method"]} {request["url"]}"]\n')
+        if group:
+            begun.setdefault(group, (at, f" [ltail=cluster_{unit}]"))
+            lines.append(f'  subgraph cluster_{unit} {{ label="{group}"; {at} }}\n')
+        lines.append(f'  {{ rank=same; node [shape=plaintext]; "level {row["level"]}"; {at} }}\n')
+        lines += [f"  {begun[name][0]} -> {at}{begun[name][1]}\n" for name in row["needs"]]
+    levels = max((row["level"] for row in rows), default=0)
+    lines += [f'  "level {level}" -> "level {level + 1}" [style=invis]\n' for level in range(levels)]
+    return "".join(lines) + "}\n"
 
 
 def folded(headers):
@@ -43,10 +72,15 @@ def canonical(requests):
     return {"requests": written}
 
 
+def matched(requests, outcomes):
+    """The responses of a match, as its JSON has them."""
+    status_of = {outcome["id"]: outcome["status"] for outcome in outcomes}
+    return [{"id": request["id"], "status": status_of[request["id"]]} for request in requests]
+
+
 def match_text(requests, outcomes):
     """The lines of `match`."""
-    status_of = {outcome["id"]: outcome["status"] for outcome in outcomes}
-    lines = [f"{request['id']} {status_of[request['id']]}\n" for request in requests]
+    lines = [f"{row['id']} {row['status']}\n" for row in matched(requests, outcomes)]
     return f"ok {len(requests)} responses\n" + "".join(lines)
 
 
@@ -76,12 +110,18 @@ def is_line_of(text, wanted):
 
 def is_right(command, requests, outcomes, text):
     """Whether a command printed what it has to print."""
-    if command == "check":
+    if command in ("check", "check --lines"):
         return text == check_line(requests)
     if command == "plan":
         return text == plan_text(requests)
-    if command == "canon":
+    if command == "plan --dot":
+        return text == drawing_text(requests)
+    if command == "plan --lines":
+        return is_line_of(text, {"requests": planned(requests)})
+    if command in ("canon", "canon --lines"):
         return is_line_of(text, canonical(requests))
     if command == "match":
         return text == match_text(requests, outcomes)
+    if command == "match --lines":
+        return is_line_of(text, {"responses": matched(requests, outcomes)})
     return is_line_of(text, responses(requests, outcomes))

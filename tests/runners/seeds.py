@@ -2,7 +2,8 @@
 
 All names of such a batch share bits of their hashes in tables that start from the seed, so that a
 look-up compares a name with every other one. A command whose tables have the seed then takes some
-thirty times as long as on random names, and any other about as long. Each command is run
+thirty times as long as on random names, and any other about as long. Each command, also over a log of
+one line, is run
 
 - on names for no seed, for the seeds 0, 1 and 7, and for one drawn here, while the system gives it
   random bytes, and while the system gives none: it must not be slow;
@@ -32,10 +33,12 @@ KNOWN_SEEDS = (None, 0, 1, 7)
 SLOW = 6
 TRIES = 2
 
-# The commands, each with the kind of its second document.
-COMMANDS = {
-    "check": (), "plan": (), "canon": (), "replay": ("outcomes",), "match": ("responses",), "run": ("events",),
+# The commands over documents, each with the kinds of these; and all that are run.
+KINDS = {
+    "check": ("batch",), "plan": ("batch",), "canon": ("batch",),
+    "replay": ("batch", "outcomes"), "match": ("batch", "responses"), "run": ("batch", "events"),
 }  # fmt: skip
+COMMANDS = (*KINDS, "plan --dot", *(f"{command} --lines" for command in KINDS))
 
 
 @dataclass(frozen=True)
@@ -59,21 +62,30 @@ def sources(folder, seed):
 
 
 def content_of(names):
-    requests = crowds.lookup_requests(names, IDS, LOOKED_UP)
+    """A batch with these names, two ids to a group, in which each is looked up many times, and what a run of it gave."""
+    requests = crowds.lookup_requests(names, len(names) * crowds.MEMBERS // (crowds.MEMBERS + 1), LOOKED_UP)
     return contents.Content(requests, [{"id": it["id"], "status": 200} for it in requests])
 
 
+def documents_of(command, texts):
+    """What a command reads: a document or two; of two documents in a log a line with both."""
+    documents = [texts[kind] for kind in KINDS[command.split()[0]]]
+    return [f"[{','.join(documents)}]"] if len(documents) > 1 and "--lines" in command else documents
+
+
 def calls_of(folder, name, content):
-    """The words of each command on a batch and what a run of it gave, by its name."""
-    paths = {}
-    for kind, text in contents.documents_of(content).items():
-        paths[kind] = os.path.join(folder, f"{name}_{kind}.json")
-        with open(paths[kind], "w", encoding="utf-8") as file:
-            file.write(text)
-    return {command: (command, *(paths[it] for it in ("batch", *kinds))) for command, kinds in COMMANDS.items()}
+    """The words of each command on a batch and what a run of it gave, by the command."""
+    texts, calls = contents.documents_of(content), {}
+    for command in COMMANDS:
+        calls[command] = command.split()
+        for number, document in enumerate(documents_of(command, texts)):
+            calls[command].append(os.path.join(folder, f"{name} {command} {number}"))
+            with open(calls[command][-1], "w", encoding="utf-8") as file:
+                file.write(document)
+    return calls
 
 
-def seconds(program, call, content, source, folder):
+def seconds(program, command, call, content, source, folder):
     """The processor time of a call whose random bytes come from the source; ends the runner on a wrong answer."""
     printed = os.path.join(folder, "printed")
     with open(printed, "wb") as file:
@@ -83,7 +95,7 @@ def seconds(program, call, content, source, folder):
         started.returncode = os.waitstatus_to_exitcode(status)
     with open(printed, encoding="utf-8", errors="replace", newline="") as file:
         text = file.read()
-    if started.returncode or not answers.is_right(call[0], content.requests, content.outcomes, text):
+    if started.returncode or not answers.is_right(command, content.requests, content.outcomes, text):
         sys.exit(f"wrong: {' '.join(words)}: status {started.returncode}, or a wrong answer")
     return usage.ru_utime + usage.ru_stime
 
@@ -95,12 +107,12 @@ class Crowd:
         self.program, self.folder, self.runs, self.wrong = program, folder, 0, 0
         content = content_of(crowds.random_names(IDS + GROUPS))
         calls = calls_of(folder, "random", content)
-        timed = lambda call: min(seconds(program, call, content, usual, folder) for _ in range(TRIES))
-        self.plain = {command: timed(call) for command, call in calls.items()}
+        timed = lambda it: min(seconds(program, it, calls[it], content, usual, folder) for _ in range(TRIES))
+        self.plain = {command: timed(command) for command in COMMANDS}
 
-    def is_slow(self, call, content, source):
-        limit = SLOW * self.plain[call[0]]
-        return all(seconds(self.program, call, content, source, self.folder) > limit for _ in range(TRIES))
+    def is_slow(self, command, call, content, source, tries):
+        limit = SLOW * self.plain[command]
+        return all(seconds(self.program, command, call, content, source, self.folder) > limit for _ in range(tries))
 
     def try_names(self, seed, told):
         """Runs each command on names for a seed; the sources say with which it has to be slow."""
@@ -109,11 +121,12 @@ class Crowd:
         content = content_of(crowds.colliding_names(self.folder, IDS + GROUPS, LOW_BITS, TAG_BITS, *given))
         calls = calls_of(self.folder, name.replace(" ", "_"), content)
         for source, wanted in told.items():
-            wrong = [command for command, call in calls.items() if self.is_slow(call, content, source) != wanted]
-            self.runs, self.wrong = self.runs + len(calls), self.wrong + len(wrong)
+            tries = 1 if wanted else TRIES
+            wrong = [it for it in COMMANDS if self.is_slow(it, calls[it], content, source, tries) != wanted]
+            self.runs, self.wrong = self.runs + len(COMMANDS), self.wrong + len(wrong)
             how = "slow" if wanted else "not slow"
-            title = f"names for {name}, {source.title}: {len(calls)} commands have to be {how}: {len(wrong)} wrong"
-            print(title, *wrong, flush=True)
+            title = f"names for {name}, {source.title}: {len(COMMANDS)} commands have to be {how}: {len(wrong)} wrong"
+            print(title, *wrong, sep=", ", flush=True)
 
 
 def main():
