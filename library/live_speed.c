@@ -1,6 +1,6 @@
 /* Measures a live run of the batch in a document, whose ids are `r0` and so on, with all its calls: opens it,
  * looks for each request by its id, starts and reports it when it is ready, and writes the response. Prints the
- * processor time of it all, in milliseconds.
+ * response, and to standard error the processor time of it all, in milliseconds.
  *
  *   live_speed FILE */
 
@@ -25,24 +25,22 @@ static int is_started(odb_live_run *run, uint32_t position)
         && odb_run_start(run, position) == ODB_DONE;
 }
 
-/* Starts all that is ready, reports all that runs, and so on to the end. Returns how many have run. */
-static long driven(odb_live_run *run)
+/* Starts all that is ready, reports all that runs, and so on to the end. */
+static int is_driven(odb_live_run *run)
 {
     static uint32_t positions[MOST_REQUESTS];
-    long total = 0;
     size_t count;
     while (!odb_run_finished(run)) {
         if (odb_run_ready(run, positions, MOST_REQUESTS, &count) != ODB_DONE || count == 0)
-            return -1;
+            return 0;
         for (size_t at = 0; at < count; at++)
             if (!is_started(run, positions[at]))
-                return -1;
+                return 0;
         for (size_t at = 0; at < count; at++)
             if (odb_run_report(run, positions[at], 200, NULL, 0, body, sizeof body - 1) != ODB_DONE)
-                return -1;
-        total += (long)count;
+                return 0;
     }
-    return total;
+    return 1;
 }
 
 int main(int count, char **words)
@@ -58,11 +56,12 @@ int main(int count, char **words)
     if (odb_run_open(document, size, events, sizeof events - 1, ODB_CONTINUE, ODB_MAX_WIDTH, &run,
                      text, MOST_BYTES, &length, odb_seed()) != ODB_DONE)
         return 1;
-    long total = driven(&run);
-    uint32_t status = odb_run_response(&run, text, MOST_BYTES, &length);
+    int is_done = is_driven(&run) && odb_run_response(&run, text, MOST_BYTES, &length) == ODB_DONE;
     odb_run_close(run);
-    printf("%ld requests, %zu bytes, %.1f ms\n", total, length, (double)(clock() - begun) / CLOCKS_PER_SEC * 1e3);
+    fprintf(stderr, "%.1f\n", (double)(clock() - begun) / CLOCKS_PER_SEC * 1e3);
+    if (is_done)
+        fwrite(text, 1, length, stdout);
     free(document);
     free(text);
-    return total < 0 || status != ODB_DONE;
+    return !is_done;
 }

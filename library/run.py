@@ -170,7 +170,10 @@ class Parts:
         run("cc", "-std=gnu99", *STRICT, "-pthread", "-o", self.path("stack"), source, self.archive)
         run(self.path("stack"))
 
-    def cost_of_a_check(self):
+    def short_benchmark(self):
+        run(sys.executable, os.path.join(HERE, "speed.py"), "--short")
+
+    def cost_of_calls(self):
         need("valgrind")
         need("callgrind_annotate")
         run(sys.executable, os.path.join(HERE, "cost.py"), self.folder)

@@ -1,4 +1,5 @@
-/* Measures checks of a document: prints the processor time of one, in microseconds.
+/* Measures checks of a document: prints the text of one, and to standard error its processor time, in
+ * microseconds.
  *
  *   speed FILE SECONDS */
 
@@ -30,7 +31,8 @@ int main(int count, char **words)
             return 1;
         calls++;
     } while (spent() - begun < limit);
-    printf("%.1f\n", (spent() - begun) / (double)calls * 1e6);
+    fprintf(stderr, "%.1f\n", (spent() - begun) / (double)calls * 1e6);
+    fwrite(text, 1, length, stdout);
     fclose(file);
     free(document);
     return 0;

@@ -2,7 +2,8 @@
 """Measures a check in process, by C and by Python, beside one that starts the program; and a live run.
 
 Prints the processor time of a check, in microseconds, for documents of several sizes; and of a live run
-with all its calls, in milliseconds, beside a replay by the program. It needs `cc` and the built program.
+with all its calls, in milliseconds, beside a replay by the program. Their answers are compared. Without
+--short the status is 1 if the live run takes too long. It needs `cc` and the built program.
 """
 
 import argparse
@@ -18,11 +19,13 @@ ROOT = os.path.dirname(os.path.dirname(os.path.realpath(__file__)))
 sys.dont_write_bytecode = True
 sys.path.append(os.path.join(ROOT, "tests"))
 
+from runners import answers
 from runners.program import add_program, ready
 
 SIZES = (300, 1_000, 100_000, 10_000_000)
 MOST_REQUESTS = 10_000
-MOST_RATIO = 1.5  # of the processor time of a live run and of its replay
+MOST_RATIO = 1.5  # of what a live run takes and its replay
+SHORT_SECONDS = 0.1
 
 
 def document_of(size):
@@ -35,38 +38,72 @@ def document_of(size):
 
 
 def repeated(work, seconds):
-    """The processor time of one call, that of child processes included, in microseconds."""
+    """What a call returns, and its processor time, that of child processes included, in microseconds."""
     spent = lambda: sum(sum(resource.getrusage(it)[:2]) for it in (resource.RUSAGE_SELF, resource.RUSAGE_CHILDREN))
     begun, before, count = time.monotonic(), spent(), 0
-    while time.monotonic() - begun < seconds:
-        work()
+    while count == 0 or time.monotonic() - begun < seconds:
+        found = work()
         count += 1
-    return (spent() - before) / count * 1e6
+    return found, (spent() - before) / count * 1e6
 
 
-def live_documents():
-    """A batch of as many requests as may be, of which each second one needs the one before, and its outcomes."""
+def printed(*words):
+    """What a command prints, which has to end with status 0."""
+    return subprocess.run(words, capture_output=True, check=True).stdout.decode()
+
+
+def measured(*words):
+    """What a program of this folder prints, and its time, which it writes to standard error."""
+    done = subprocess.run(words, capture_output=True, check=True)
+    return done.stdout.decode(), float(done.stderr)
+
+
+def compare(title, wanted, *found):
+    """Ends the script if one of the answers is another than the wanted one."""
+    if any(it != wanted for it in found):
+        sys.exit(f"{title}: an answer is wrong")
+
+
+def measure_checks(folder, program, seconds):
+    """Prints what checks of documents of several sizes take, by each way."""
+    import odb_batch
+
+    binary, path = compiled(folder, "speed"), os.path.join(folder, "document")
+    print("| bytes | C | Python | a process |\n|---|---|---|---|")
+    for size in SIZES:
+        document = document_of(size)
+        with open(path, "wb") as file:
+            file.write(document)
+        in_c, of_c = measured(binary, path, str(seconds))
+        counts, of_python = repeated(lambda: odb_batch.check(document), seconds)
+        by_process, of_process = repeated(lambda: printed(program, "check", path), seconds)
+        in_python = f"ok {counts.requests} requests {counts.groups} groups\n"
+        compare("a check", answers.check_line(json.loads(document)["requests"]), in_c, in_python, by_process)
+        print(f"| {len(document):,} | {of_c} | {of_python:.1f} | {of_process:.0f} |", flush=True)
+
+
+def live_documents(folder, count):
+    """Writes a batch of which each second request needs the one before, and its outcomes; returns the paths."""
     need = lambda i: {"dependsOn": [f"r{i - 1}"]} if i % 2 else {}
-    requests = [{"id": f"r{i}", "method": "get", "url": "Orders", **need(i)} for i in range(MOST_REQUESTS)]
-    outcomes = [{"id": f"r{i}", "status": 200, "body": {"Count": 1}} for i in range(MOST_REQUESTS)]
-    return json.dumps({"requests": requests}), json.dumps({"outcomes": outcomes})
+    requests = [{"id": f"r{i}", "method": "get", "url": "Orders", **need(i)} for i in range(count)]
+    outcomes = [{"id": f"r{i}", "status": 200, "body": {"Count": 1}} for i in range(count)]
+    paths = [os.path.join(folder, f"{name}{count}") for name in ("batch", "outcomes")]
+    for path, document in zip(paths, ({"requests": requests}, {"outcomes": outcomes})):
+        with open(path, "w", encoding="utf-8") as file:
+            json.dump(document, file)
+    return paths
 
 
 def measure_live(folder, program, seconds):
-    """Prints what a live run takes in C, and what a replay by the program takes; returns whether that is in its bound."""
-    paths = [os.path.join(folder, name) for name in ("batch", "outcomes")]
-    for path, text in zip(paths, live_documents()):
-        with open(path, "w", encoding="utf-8") as file:
-            file.write(text)
+    """Prints what a live run takes in C, and what a replay by the program takes; returns the ratio."""
+    paths = live_documents(folder, MOST_REQUESTS)
     binary = compiled(folder, "live_speed")
-    tries = [subprocess.run([binary, paths[0]], capture_output=True, text=True, check=True).stdout for _ in range(5)]
-    best = min(tries, key=lambda it: float(it.split()[-2])).strip()
-    replay = lambda: subprocess.run([program, "replay", *paths], capture_output=True, check=True)
-    replayed = repeated(replay, seconds) / 1e3
-    ratio = float(best.split()[-2]) / replayed
-    print(f"a live run: {best}\na replay by the program: {replayed:.1f} ms")
-    print(f"the run takes {ratio:.2f} times the replay, and {MOST_RATIO} times at most")
-    return ratio <= MOST_RATIO
+    tries = [measured(binary, paths[0]) for _ in range(5)]
+    replayed, of_replay = repeated(lambda: printed(program, "replay", *paths), seconds)
+    compare("a live run", replayed, *[text for text, _ in tries])
+    best, of_replay = min(time for _, time in tries), of_replay / 1e3
+    print(f"a live run of {MOST_REQUESTS:,} requests: {best:.1f} ms, and a replay by the program: {of_replay:.1f} ms")
+    return best / of_replay
 
 
 def compiled(folder, name):
@@ -81,27 +118,17 @@ def main():
     parser = argparse.ArgumentParser(description="Measures checks in process beside those of the program.")
     add_program(parser.add_argument)
     parser.add_argument("--seconds", type=float, default=1, metavar="S", help="how long each is repeated; 1")
+    parser.add_argument("--short", action="store_true", help=f"repeat each for {SHORT_SECONDS} s, and judge no time")
     options = parser.parse_args()
-    program = ready(options.program)
+    program, seconds = ready(options.program), SHORT_SECONDS if options.short else options.seconds
     with tempfile.TemporaryDirectory(prefix="speed-") as folder:
         subprocess.run([os.path.join(ROOT, "bin", "odb_library"), folder], check=True)
-        binary, path = compiled(folder, "speed"), os.path.join(folder, "document")
         os.environ["ODB_BATCH_LIBRARY"] = os.path.join(folder, "libodb_batch.so.0")
         sys.path.insert(0, os.path.join(ROOT, "python"))
-        import odb_batch
-
-        print("| bytes | C | Python | a process |\n|---|---|---|---|")
-        for size in SIZES:
-            document = document_of(size)
-            with open(path, "wb") as file:
-                file.write(document)
-            timed = subprocess.run([binary, path, str(options.seconds)], capture_output=True, text=True, check=True)
-            in_c = timed.stdout.strip()
-            in_python = repeated(lambda: odb_batch.check(document), options.seconds)
-            started = lambda: subprocess.run([program, "check", path], capture_output=True, check=True)
-            by_process = repeated(started, options.seconds)
-            print(f"| {len(document):,} | {in_c} | {in_python:.1f} | {by_process:.0f} |", flush=True)
-        return 0 if measure_live(folder, program, options.seconds) else 1
+        measure_checks(folder, program, seconds)
+        ratio = measure_live(folder, program, seconds)
+    print(f"the run takes {ratio:.2f} times the replay{'' if options.short else f', and {MOST_RATIO} times at most'}")
+    return 1 if ratio > MOST_RATIO and not options.short else 0
 
 
 if __name__ == "__main__":
