@@ -188,6 +188,9 @@ class Parts:
             run("c++", "-x", "c++", f"-std={dialect}", *STRICT, "-o", self.path("use"), use, "-x", "none", self.shared)
             run(self.path("use"), env=self.variables)
 
+    def seeds_of_calls(self):
+        run(sys.executable, os.path.join(HERE, "seeds.py"), env=self.variables)
+
     def page_in_c(self):
         source = self.write("page.c", block("c"))
         run("cc", "-std=c99", *STRICT, "-o", self.path("page"), source, f"-L{self.folder}", "-lodb_batch")
