@@ -100,6 +100,12 @@ def block(language, at=0):
         return re.findall(rf"```{language}\n(.*?)```", file.read(), re.DOTALL)[at]
 
 
+def example(name):
+    """A program of examples/."""
+    with open(os.path.join(ROOT, "examples", name), encoding="utf-8") as file:
+        return file.read()
+
+
 class Parts:
     """The parts, in the order in which they run: each a method, named after what it tests."""
 
@@ -291,7 +297,7 @@ fn main() {
     assert_eq!(answered(b"", 128, 0), (1, b"fault F02 NotJson batch\\n".to_vec()));
 }
 """
-        source = self.write("live.rs", block("rust", 1) + main)
+        source = self.write("live.rs", example("live_run.rs") + main)
         run("rustc", "--edition=2021", "-Dwarnings", "-L", self.folder, "-o", self.path("live_rs"), source)
         run(self.path("live_rs"), wanted=ANSWERED, env=self.variables)
 
@@ -308,6 +314,7 @@ fn main() {
         os.makedirs(self.path("go/main"), exist_ok=True)
         self.write("go/go.mod", "module page\n\ngo 1.20\n")
         self.write("go/page.go", block("go"))
+        self.write("go/live_run.go", example("live_run.go"))
         self.write("go/main/main.go", main)
         flags = {"CGO_CFLAGS": f"-I{ROOT}/include", "CGO_LDFLAGS": f"-L{self.folder}"}
         run("go", "run", "./main", wanted=ONE + ANSWERED, cwd=self.path("go"), env={**self.variables, **flags})
@@ -319,7 +326,7 @@ fn main() {
             raise Skipped("java 22 is not installed")
         os.makedirs(self.path("java"), exist_ok=True)
         self.write("java/Odb.java", block("java"))
-        self.write("java/OdbRun.java", block("java", 1))
+        self.write("java/OdbRun.java", example("OdbRun.java"))
         self.write(
             "java/Page.java",
             "class Page { public static void main(String[] args) throws Throwable {\n"
@@ -345,7 +352,7 @@ fn main() {
             'var (_, length) = OdbRun.Answer("""\n{"requests":[{"id":"a","method":"get","url":"Books"}]}\n"""u8, text, 7);\n'
             "System.Console.Write(System.Text.Encoding.UTF8.GetString(text, 0, length));\n",
         )
-        self.write("csharp/OdbRun.cs", block("csharp", 1))
+        self.write("csharp/OdbRun.cs", example("OdbRun.cs"))
         self.write(
             "csharp/page.csproj",
             '<Project Sdk="Microsoft.NET.Sdk"><PropertyGroup><OutputType>Exe</OutputType>'
