@@ -31,7 +31,7 @@ ROOT = os.path.dirname(os.path.dirname(os.path.realpath(__file__)))
 # What `.ci/run` may spend on edits; and what one edit of a crate takes, of odb_engine and odb_ffi what the
 # count of a whole run leaves for them. A crate without a number counts as one of those.
 MINUTES = 70
-SECONDS = {"odb_dense": 9, "odb_names": 10, "odb_doc": 26, "odb_check": 16, "odb_sched": 23, "odb_reply": 17}
+SECONDS = {"odb_dense": 9, "odb_names": 10, "odb_doc": 26, "odb_check": 16, "odb_sched": 20, "odb_exec": 18, "odb_reply": 17}
 OTHER = 70
 
 BLOCK = re.compile(r"(?:pub )?(?:unsafe )?(impl|trait)\b(.*)")

@@ -1,5 +1,5 @@
 -- A run that goes on after recorded events, and what is written of it.
-use Rattle.std.specs.Prelude.{◌≡◌, ◌⊎◌, ℕ, List, [], ◌∷◌, ◌++◌, Some, true, false}
+use Rattle.std.specs.Prelude.{◌≡◌, ◌⊎◌, ℕ, List, [], ◌∷◌, ◌++◌, Option, Some, None, true, false, if◌then◌else◌}
 use Rattle.odb_doc.specs.declared.fault.TextFault.TheVariants.{NotWhole}
 use Rattle.odb_doc.specs.batch.Records.{Record}
 use Rattle.odb_doc.specs.Faults.{text_row}
@@ -42,6 +42,10 @@ Opens policy batch events run = Accepts batch (λ records. IsAfter policy record
 -- the least fault of a batch document and an events document that open no run
 abbrev pub IsLeastOfOpening : Policy → List ℕ → List ℕ → Printed → Type 0
 IsLeastOfOpening policy batch events refusal = IsLeast batch refusal ⊎ Accepts batch (λ records. IsLeastAfter policy records events refusal)
+
+-- the fault of a state that is to be at its end: F66 if it is not finished, else none
+abbrev pub end_row : State → Option Printed
+end_row state = if is_finished state then None else Some unfinished
 
 -- why a state has no response: it is not finished, or else it answers a request by a number that is not whole
 pub data IsLeastOfState (state : State) (refusal : Printed) : Type 0 where

@@ -53,7 +53,7 @@ pub use halt::Halt;
 pub use ids::Ids;
 pub use line::{LineTask, answer_line};
 pub use lines::fault_line;
-pub use live::{Opened, open_run, text_of_run};
+pub use live::{Opened, open_run, text_of_run, undone_of_run};
 pub use match_responses::{match_batch, match_batch_with};
 pub use plan::{plan_batch, plan_batch_with};
 pub use replay::{replay_batch, replay_batch_with};

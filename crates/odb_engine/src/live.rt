@@ -1,13 +1,14 @@
 //! Live runs for programs in other languages: a run is opened and answered from the bytes of its documents.
 
-ghost use Rattle.std.specs.Prelude.{◌≡◌, ◌≢◌, ◌++◌, ◌∷◌, [], true, Err, IfOk, IfErr, string_bytes};
+ghost use Rattle.std.specs.Prelude.{◌≡◌, ◌≢◌, ◌<◌, ◌++◌, ◌∷◌, [], true, All, Err, IfOk, IfErr, OnOk, string_bytes};
 ghost use Rattle.odb_check.specs.Plans.{plan_records};
 ghost use Rattle.odb_check.specs.Texts.{newline};
-ghost use Rattle.odb_sched.specs.run.State.{with_requests, without_requests};
+ghost use Rattle.odb_sched.specs.run.Answers.{undone};
+ghost use Rattle.odb_sched.specs.run.State.{size, with_requests, without_requests};
 ghost use Rattle.odb_sched.specs.run.Steps.{is_finished};
 ghost use Rattle.odb_engine.specs.declared.halt.Halt.TheVariants as halts;
 ghost use Rattle.odb_engine.specs.Cascade.{Accepts, Answers};
-ghost use Rattle.odb_engine.specs.Halts.{Found, Halted};
+ghost use Rattle.odb_engine.specs.Halts.{Found, Halted, HaltsBy};
 ghost use Rattle.odb_engine.specs.Ids.{AreIdsIn, AreIdsOf};
 ghost use Rattle.odb_engine.specs.Lines.{response_line};
 ghost use Rattle.odb_engine.specs.Live as live;
@@ -185,4 +186,25 @@ pub fn text_of_run(
     };
     let plan = plan_of(alloc, &read, setup)?;
     line_on(alloc, &plan.value, kept)
+}
+
+/// Returns the positions of the undone requests of a finished run, from the last to the first: those
+/// that reported a status from 200 to 299 but are answered 424, since their unit did not succeed.
+///
+/// Takes O(requests) time and memory.
+///
+/// # Errors
+///
+/// `Refused` by F66 if the run is not finished, whatever memory there is; else `OutOfMemory` if an
+/// allocation fails. Never `Read`.
+pub fn undone_of_run(alloc: Global, run: &OwnedRun) -> Result<Vec<u32>, Halt>
+    ensures value { IfOk result (λ positions. positions.items ≡ undone run.now) }
+    ensures within { IfOk result (λ positions. All (λ i. i < size run.now) positions.items) }
+    ensures finished { OnOk result (is_finished run.now ≡ true) }
+    ensures least { IfErr result (HaltsBy (live.end_row run.now)) }
+{
+    if !run.is_finished() {
+        return Err(UNFINISHED);
+    }
+    Ok(run.undone(alloc)?)
 }

@@ -18,7 +18,7 @@ use crate::outcome::{NoOutcome, outcome_of};
 use crate::positions::give_positions;
 use crate::status;
 use odb_doc::Outcome;
-use odb_engine::{Answer, Halt, Ids, Opened, open_run, text_of_run};
+use odb_engine::{Answer, Halt, Ids, Opened, open_run, text_of_run, undone_of_run};
 use odb_sched::{OwnedRun, Policy, ReportRefusal};
 use std::alloc::Global;
 
@@ -88,11 +88,9 @@ impl Session {
         ensures { live.GivesUndone self.now.run result count.new positions.old positions.new }
     {
         *count = 0;
-        if !self.run.is_finished() {
-            return status::REFUSED;
-        }
-        match self.run.undone(alloc) {
+        match undone_of_run(alloc, &self.run) {
             Ok(found) => give_positions(&found, positions, count),
+            Err(Halt::Refused(_)) => status::REFUSED,
             Err(_) => status::OUT_OF_MEMORY,
         }
     }

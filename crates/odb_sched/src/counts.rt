@@ -13,8 +13,8 @@ ghost use Rattle.odb_check.specs.PlanGraph.{IsNeed};
 ghost use Rattle.odb_sched.specs.invariants.Kept.{state_of, first_of};
 ghost use Rattle.odb_sched.specs.run.Steps.{satisfied_in};
 
-use crate::order::End;
 use crate::graph::Graph;
+use crate::order::End;
 use crate::phase::Phase;
 use crate::policy::Policy;
 use odb_check::Need;

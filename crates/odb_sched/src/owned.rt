@@ -14,10 +14,10 @@ ghost use Rattle.odb_sched.specs.run.State as state;
 ghost use Rattle.odb_sched.specs.invariants.Kept.{first_of, IsReached};
 ghost use Rattle.odb_sched.specs.run.Steps as steps;
 
-use crate::order::{End, Order};
 use crate::counts::Counts;
 use crate::event::Step;
 use crate::graph::Graph;
+use crate::order::{End, Order};
 use crate::phase::Phase;
 use crate::policy::Policy;
 use crate::refusal::{ReportRefusal, StartRefusal};

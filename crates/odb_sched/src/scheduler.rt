@@ -14,10 +14,10 @@ ghost use Rattle.odb_sched.specs.run.Choosing.{IsNext, AllowsOrder};
 ghost use Rattle.odb_sched.specs.run.Laws as laws;
 ghost use Rattle.odb_sched.specs.invariants.Kept.{IsReached};
 
-use crate::order::Order;
 use crate::done::Done;
 use crate::event::Step;
 use crate::laws::every_start;
+use crate::order::Order;
 use crate::owned::OwnedRun;
 use crate::phase::Phase;
 use crate::policy::Policy;

@@ -3,8 +3,8 @@
 use super::{OnPlan, on_document};
 use odb_check::{Plan, Seed, check_with};
 use odb_doc::{Batch, Outcome, Request, parse};
-use odb_reply::response_text;
 use odb_exec::{First, Service, ServiceFault, execute};
+use odb_reply::response_text;
 use odb_sched::{Mode, Policy, Scheduler};
 use std::alloc::Global;
 use std::collections::BTreeMap;
