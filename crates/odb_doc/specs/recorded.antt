@@ -8,6 +8,6 @@ pub mod OutcomeFaults
 pub mod OutcomeLists
 pub mod OutcomeValues
 pub mod Outcomes
+pub mod Parts
 -- What invariants, private clauses and proofs cite: nothing to believe.
 pub mod RawOutcomes
-pub mod Parts

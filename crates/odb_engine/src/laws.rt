@@ -1,6 +1,5 @@
 //! What the contracts of the engines determine: for the same bytes of the documents, one text, of a
-//! fault in the form of lines; and that
-//! a response is read again.
+//! fault in the form of lines; and that a response is read again.
 //!
 //! The laws are clauses of functions that change nothing. They speak of the very relations that the
 //! clauses `ends` of the engines cite.
