@@ -17,8 +17,6 @@ use Rattle.odb_check.specs.LeastNameFault.{HasGoodNames}
 use Rattle.odb_engine.specs.declared.ending.Ended.{Ended}
 use Rattle.odb_engine.specs.declared.ending.Ended.TheVariants.{Done, Refused}
 use Rattle.odb_engine.specs.declared.ending.EngineFault.{EngineFault}
-use Rattle.odb_engine.specs.declared.input.ReadFault.{ReadFault}
-use Rattle.odb_engine.specs.declared.input.ReadFault.TheVariants as reads
 use Rattle.odb_engine.specs.declared.halt.Halt.{Halt}
 use Rattle.odb_engine.specs.declared.halt.Halt.TheVariants as halts
 use Rattle.odb_engine.specs.Inputs.{most_read, GivesDocument, SomeDocument}
@@ -28,7 +26,7 @@ use Rattle.odb_engine.specs.Engines.{Ends, WritesPrefix}
 use Rattle.odb_engine.specs.declared.form.Form.{Form}
 use Rattle.odb_engine.specs.declared.form.Form.TheVariants.{Lines, Json}
 use Rattle.odb_engine.specs.Forms.{InForm, fault_text}
-use Rattle.odb_engine.specs.Halts.{Found, Refuses, RefusesNamesOf, Halted, text_found, HaltsBy, halt_of}
+use Rattle.odb_engine.specs.Halts.{Found, Refuses, RefusesNamesOf, Halted, text_found, HaltsBy}
 
 -- a result of the search for a text
 abbrev pub FoundText : Type 0
@@ -76,15 +74,11 @@ pub reports : (Is : Printed → Type 0) (refusal : Printed) → Is refusal → R
 reports Is refusal is = record { refusal = refusal; is = is; ends = refl; line = refl }
 
 -- no document was read, so there is no value
-pub unread-value : {T : Type 0} (left : Option (List ℕ)) (Q : List ℕ → T → Type 0) (Is : List ℕ → Printed → Type 0) (read : ReadFault) (r : Result T Halt) → IsErrAnd r (λ halt. halt ≡ halt_of read)
+pub unread-value : {T : Type 0} (left : Option (List ℕ)) (Q : List ℕ → T → Type 0) (Is : List ℕ → Printed → Type 0) (halt : Halt) (r : Result T Halt) → IsErrAnd r (λ other. other ≡ halt) → Halted (λ refusal. ⊥) halt
     → SomeDocument left (λ bytes. IfOk r (Q bytes) × IfErr r (Halted (Is bytes)))
-unread-value left Q Is read r is =
+unread-value left Q Is halt r is unrefused =
     let (bytes, gives) = some-document left in
-    (bytes, gives, exit-error (λ x. IfOk x (Q bytes) × IfErr x (Halted (Is bytes))) (halt_of read) r is (tt, unrefused (Is bytes) read))
-  where
-    unrefused : (Is : Printed → Type 0) (read : ReadFault) → Halted Is (halt_of read)
-    unrefused Is reads.Read = tt
-    unrefused Is reads.OutOfMemory = tt
+    (bytes, gives, exit-error (λ x. IfOk x (Q bytes) × IfErr x (Halted (Is bytes))) halt r is (tt, Halted-weaker (λ refusal. ⊥) (Is bytes) (λ refusal none. absurd none) halt unrefused))
 
 -- the value of a document at a place is written so
 pub of-value : (place : Place) (P : Data → Writes) (bytes : List ℕ) (value : Data) → IsDocument bytes value → (ended : Ended) (text : List ℕ) → P value ended text → OfDocument place P bytes ended text

@@ -14,8 +14,6 @@ use Rattle.odb_engine.specs.declared.ending.EngineFault.TheVariants as faults
 use Rattle.odb_engine.specs.declared.halt.Halt.{Halt}
 use Rattle.odb_engine.specs.declared.halt.Halt.TheVariants as halts
 use Rattle.odb_engine.specs.declared.form.Form.{Form}
-use Rattle.odb_engine.specs.declared.input.ReadFault.{ReadFault}
-use Rattle.odb_engine.specs.declared.input.ReadFault.TheVariants as reads
 use Rattle.odb_doc.specs.Refusals.{Printed}
 use Rattle.odb_doc.specs.Refusals as refusals
 use Rattle.odb_engine.specs.Cascade.{Writes, Prints, line_of}
@@ -61,10 +59,6 @@ abbrev pub HaltsBy : Option Printed → Halt → Type 0
 HaltsBy row (halts.Refused refusal) = row ≡ Some (refusals.printed refusal)
 HaltsBy row halts.Read = ⊥
 HaltsBy row halts.OutOfMemory = row ≡ None
-
-abbrev pub halt_of : ReadFault → Halt
-halt_of reads.Read = halts.Read
-halt_of reads.OutOfMemory = halts.OutOfMemory
 
 -- the names of these requests have a fault
 pub record RefusesNamesOf (batch : List Record) (refusal : Printed) : Type 0 where

@@ -1,9 +1,7 @@
 //! Why a command ends early: a refused document, or a failure.
 
-ghost use Rattle.std.specs.Prelude.{◌≡◌};
-ghost use Rattle.odb_engine.specs.Halts.{HaltsBy, halt_of};
+ghost use Rattle.odb_engine.specs.Halts.{HaltsBy};
 
-use crate::input::ReadFault;
 use odb_doc::{Fault, Refusal};
 
 /// Why an engine has no result.
@@ -24,17 +22,6 @@ impl<T: Fault + Copy> From<T> for Halt {
         match fault.refusal() {
             Some(refusal) => Halt::Refused(refusal),
             None => Halt::OutOfMemory,
-        }
-    }
-}
-
-impl From<ReadFault> for Halt {
-    ghost from_gives = { λ read halt. halt ≡ halt_of read };
-
-    fn from(fault: ReadFault) -> Self {
-        match fault {
-            ReadFault::Read => Halt::Read,
-            ReadFault::OutOfMemory => Halt::OutOfMemory,
         }
     }
 }

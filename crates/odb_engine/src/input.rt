@@ -7,15 +7,13 @@ ghost use Rattle.odb_doc.specs.Faults.{document_row};
 ghost use Rattle.odb_engine.specs.Cascade.{RefusesBytes, at_place};
 ghost use Rattle.odb_engine.specs.Halts.{Halted, HaltsBy};
 ghost use Rattle.odb_engine.specs.Inputs.{GivesDocument, GivesFew, IsFresh, ReadsFew, SomeDocument, WasRead};
-ghost use Rattle.odb_engine.specs.declared.input.ReadFault.TheVariants as faults;
 ghost use Rattle.odb_engine.specs.declared.halt.Halt.TheVariants as halts;
 
 use crate::halt::Halt;
-use odb_doc::{DeviceFault, DocFault, Fault, Input, MAX_DOCUMENT_BYTES, Place, Refusal, parse};
+use odb_doc::{DocFault, Fault, Input, MAX_DOCUMENT_BYTES, Place, Refusal, parse};
 use serde_json::Value;
-use std::alloc::{AllocError, Global};
+use std::alloc::Global;
 use std::io::Read;
-use thiserror::Error;
 
 /// How many bytes are read of a document: one more than it may have, so that a document that is too
 /// long is noticed.
@@ -29,39 +27,15 @@ const CHUNK_BYTES: usize = 8192;
 /// is written, and grows it without a copy.
 const ROOM_BYTES: usize = 262_144;
 
-/// Why a document was not read.
-#[derive(Clone, Copy, Debug, PartialEq, Eq, Error)]
-pub enum ReadFault {
-    #[error("the input failed")]
-    Read,
-    #[error("out of memory")]
-    OutOfMemory,
-}
-
-impl From<DeviceFault> for ReadFault {
-    ghost from_gives = { λ _ fault. fault ≡ faults.Read };
-
-    fn from(_fault: DeviceFault) -> Self {
-        ReadFault::Read
-    }
-}
-
-impl From<AllocError> for ReadFault {
-    ghost from_gives = { λ _ fault. fault ≡ faults.OutOfMemory };
-
-    fn from(_error: AllocError) -> Self {
-        ReadFault::OutOfMemory
-    }
-}
-
 /// Reads a document: what the input gives until a read gives nothing, but 16,777,217 bytes at most.
-pub fn read_document<R: Read>(alloc: Global, input: &mut Input<R>) -> Result<Vec<u8>, ReadFault>
+pub fn read_document<R: Read>(alloc: Global, input: &mut Input<R>) -> Result<Vec<u8>, Halt>
     requires works { input.old.failed ≡ false }
     requires fresh { input.old.reads ≡ 0 }
     ensures document { IfOk result (λ bytes. GivesDocument (R.remaining input.old.reader)
         bytes.items) }
     ensures whole { IfOk result (λ bytes. WasRead R.remaining input.old input.new bytes.items) }
-    ensures fault { (result ≡ Err ReadFault.Read) ↔ IsTrue input.new.failed }
+    ensures fault { (result ≡ Err halts.Read) ↔ IsTrue input.new.failed }
+    ensures unrefused { IfErr result (Halted (λ _. ⊥)) }
     ensures reads { input.new.reads ≤ 16777217 }
     ensures given { GivesFew (R.remaining input.old.reader) (R.remaining input.new.reader)
         input.new.reads }
@@ -70,7 +44,9 @@ pub fn read_document<R: Read>(alloc: Global, input: &mut Input<R>) -> Result<Vec
     let mut chunk = [0u8; CHUNK_BYTES];
     while bytes.len() < MAX_READ_BYTES {
         let room = CHUNK_BYTES.min(MAX_READ_BYTES - bytes.len());
-        let count = input.take(&mut chunk[..room])?;
+        let Ok(count) = input.take(&mut chunk[..room]) else {
+            return Err(Halt::Read);
+        };
         if count == 0 {
             return Ok(bytes);
         }

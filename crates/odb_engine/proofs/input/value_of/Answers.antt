@@ -8,7 +8,7 @@ use Rattle.odb_engine.proofs.input.value_of.Goals as goal
 
 pub returns-in_err-bytes-clause-value : goal.returns-in_err-bytes-clause-value
 returns-in_err-bytes-clause-value g c =
-    unread-value _ (λ bytes value. IsDocument bytes (view value) × WasRead g.R.Read.remaining c.args.input.now c.read_document.new.input bytes) (RefusesBytes c.args.place) _ _ c.from_residual.ensures.1
+    unread-value _ (λ bytes value. IsDocument bytes (view value) × WasRead g.R.Read.remaining c.args.input.now c.read_document.new.input bytes) (RefusesBytes c.args.place) _ _ c.from_residual.ensures.1 c.in_err-bytes.ensures.unrefused
 
 pub returns-in-Ok-clause-value : goal.returns-in-Ok-clause-value
 returns-in-Ok-clause-value g c =
