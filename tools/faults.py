@@ -27,14 +27,13 @@ TEXTS = os.path.join(ROOT, "crates", "odb_batch", "src", "explain")
 
 # The files of texts: which codes they have, and what they are about.
 FILES = {
-    "documents": (r"F[012]\d", "the document, a line, and the form of its requests"),
+    "documents": (r"F0\d", "the document and of a line"),
+    "requests": (r"F[12]\d", "the form of a request"),
     "names": (r"F[34]\d", "ids, groups, names and references"),
     "records": (r"F[56]\d", "texts, recorded outcomes and recorded events"),
     "responses": (r"F7\d", "the responses of a service"),
     "runs": (r"F8\d|[SP]\d", "executions, and events that may not come"),
 }
-
-INDENT = " " * 12
 
 
 @dataclass
@@ -81,17 +80,9 @@ def read_page():
     return [read_fault(re.split(r"(?m)^## ", section)[0]) for section in sections], batch
 
 
-def literal(text):
-    """A string of the program, a line of the text on each of its lines."""
-    if '"' in text:
-        return f'r#"{text}"#'
-    lines = text.split("\n")
-    return '"' + f"\\n\\\n{INDENT}".join(lines) + '"'
-
-
-def row(fault):
-    texts = ("code", "name", "places", "meaning", "refused", "accepted")
-    return "Explanation { " + "".join(f"{it}: {literal(plain(getattr(fault, it)))},\n" for it in texts) + "},\n"
+def literal(fault):
+    """What `explain` prints of a fault as a string of the program, which ends without a line feed."""
+    return f'r#"{fault.printed[:-1]}"#'
 
 
 def write(faults):
@@ -101,8 +92,7 @@ def write(faults):
         with open(os.path.join(TEXTS, name + ".rt"), "w", encoding="utf-8") as file:
             file.write("// Generated from docs/faults.md by tools/faults.py --write; do not edit.\n")
             file.write(f"//! The faults of {subject}.\n\n")
-            file.write("use super::Explanation;\n\n")
-            file.write(f"pub const FAULTS: [Explanation; {len(chosen)}] = [{''.join(map(row, chosen))}];\n")
+            file.write(f"pub const FAULTS: [&str; {len(chosen)}] = [{', '.join(map(literal, chosen))}];\n")
 
 
 def call(binary, folder, *words):

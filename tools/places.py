@@ -15,7 +15,7 @@ from dataclasses import dataclass
 
 ROOT = os.path.dirname(os.path.dirname(os.path.realpath(__file__)))
 CODE = r"(?:F\d\d|[SP]\d)"
-EXPLAINED = r'code: "(%s)",\s+name: "(\w+)"' % CODE
+EXPLAINED = r'r#"(%s) (\w+) ' % CODE
 VARIANT = re.compile(r"    /// (%s): (?:[^\n]*\n    ///)*[^\n]*\n    #\[error\([^\n]*\)\]\n    (\w+)" % CODE)
 LABEL = r'= (?:Some \(fault_at |\()(\d+),? \(?codes "(\w+)"'
 SOURCES, SPECS = "crates/*/src/**/*.rt", "crates/*/specs/**/*.antt"
@@ -145,7 +145,7 @@ PLACES = {
     "where code finds it": test,
     "section of docs/faults.md": at("page", r"^### {code} {name}, "),
     "rule of docs/batches.md": at("rules", r"\[[^\]]*\b{code}\b[^\]]*\]"),
-    "text of explain": at("explained", r'code: "{code}",\s+name: "{name}"'),
+    "text of explain": at("explained", r'r#"{code} {name} '),
     "text for Python": binding("python/odb_batch/_explanations.py"),
     "text for Node": binding("node/explanations.json"),
     "test of its message": message,

@@ -3,31 +3,19 @@
 mod documents;
 mod names;
 mod records;
+mod requests;
 mod responses;
 mod runs;
 
 use crate::page::Page;
 
-/// What is printed of a fault. The texts are those of docs/faults.md, which is compared with what the
+/// Returns the explanations, in the order of their codes. The first line of each has the code, the name
+/// and the places of its fault. They are the texts of docs/faults.md, which is compared with what the
 /// program prints of each document there.
-#[derive(Clone, Copy)]
-pub struct Explanation {
-    code: &'static str,
-    name: &'static str,
-    /// Where it may be.
-    places: &'static str,
-    /// What it means, why it is asked, and how it is repaired.
-    meaning: &'static str,
-    /// A small document that has the fault.
-    refused: &'static str,
-    /// A document close to it that has not.
-    accepted: &'static str,
-}
-
-/// Returns the faults, in the order of their codes.
-fn families() -> [&'static [Explanation]; 5] {
+fn families() -> [&'static [&'static str]; 6] {
     [
         &documents::FAULTS,
+        &requests::FAULTS,
         &names::FAULTS,
         &records::FAULTS,
         &responses::FAULTS,
@@ -35,51 +23,50 @@ fn families() -> [&'static [Explanation]; 5] {
     ]
 }
 
-/// Adds the line of a fault: code, name and places.
-fn add_line(page: &mut Page, row: &Explanation) {
-    page.add_all(&[row.code, " ", row.name, " ", row.places, "\n"]);
+/// Splits a text at the first of these characters, which neither part has.
+fn split(text: &str, end: char) -> (&str, &str) {
+    text.split_once(end).unwrap_or((text, ""))
 }
 
-/// Adds the lines of these faults.
-fn add_lines(page: &mut Page, rows: &[Explanation]) {
-    for row in rows {
-        add_line(page, row);
+/// Adds the first line of an explanation.
+fn add_heading(page: &mut Page, text: &str) {
+    page.add_all(&[split(text, '\n').0, "\n"]);
+}
+
+/// Adds the first lines of these explanations.
+fn add_headings(page: &mut Page, texts: &[&str]) {
+    for text in texts {
+        add_heading(page, text);
     }
 }
 
-/// Adds the lines of all faults.
+/// Adds the code, the name and the places of all faults.
 pub fn add_table(page: &mut Page) {
     for family in families() {
-        add_lines(page, family);
+        add_headings(page, family);
     }
 }
 
-/// Tests whether the word is the code or the name of the fault, in any ASCII case.
-fn is_named(row: &Explanation, word: &str) -> bool {
-    row.code.eq_ignore_ascii_case(word) || row.name.eq_ignore_ascii_case(word)
+/// Tests whether the word is the code or the name with which an explanation begins, in any ASCII case.
+fn is_named(text: &str, word: &str) -> bool {
+    let (code, rest) = split(text, ' ');
+    let (name, _) = split(rest, ' ');
+    code.eq_ignore_ascii_case(word) || name.eq_ignore_ascii_case(word)
 }
 
-/// Adds the explanation of a fault, after an empty line if the page has another.
-fn add_explanation(page: &mut Page, row: &Explanation) {
+/// Adds an explanation, after an empty line if the page has another.
+fn add_explanation(page: &mut Page, text: &str) {
     if !page.is_empty() {
         page.add("\n");
     }
-    add_line(page, row);
-    page.add_all(&[
-        row.meaning,
-        "\nrefused: ",
-        row.refused,
-        "\naccepted: ",
-        row.accepted,
-        "\n",
-    ]);
+    page.add_all(&[text, "\n"]);
 }
 
-/// Adds the explanations of those of these faults that have this code or name.
-fn add_named(page: &mut Page, rows: &[Explanation], word: &str) {
-    for row in rows {
-        if is_named(row, word) {
-            add_explanation(page, row);
+/// Adds those of these explanations whose faults have this code or name.
+fn add_named(page: &mut Page, texts: &[&str], word: &str) {
+    for text in texts {
+        if is_named(text, word) {
+            add_explanation(page, text);
         }
     }
 }
