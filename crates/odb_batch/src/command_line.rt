@@ -1,11 +1,12 @@
 //! What the arguments ask for.
 
-use crate::commands::{ORDER, WIDTH, program};
+use crate::commands::{ORDER, WIDTH};
 use crate::log::Log;
+use crate::parser::program;
 use clap::{ArgMatches, Error};
 use odb_engine::{Form, LineTask};
 use odb_sched::{MAX_WIDTH, Mode, Order, Policy};
-use std::alloc::{AllocError, Global};
+use std::alloc::Global;
 
 /// Returns the order of this name, one of `ORDERS`, or the default.
 fn order_of(name: Option<&str>) -> Order {
@@ -111,18 +112,6 @@ pub enum BadArguments {
     Arguments(Error),
     /// The width is not a decimal number from 1 to 10,000.
     Width,
-}
-
-impl From<Error> for BadArguments {
-    fn from(error: Error) -> Self {
-        BadArguments::Arguments(error)
-    }
-}
-
-impl From<AllocError> for BadArguments {
-    fn from(error: AllocError) -> Self {
-        BadArguments::Arguments(Error::from(error))
-    }
 }
 
 /// Parses a width: decimal digits for a number from 1 to 10,000.
@@ -276,6 +265,11 @@ fn task_of<'a>(args: &ArgMatches<'a>) -> Option<Task<'a>> {
     }
 }
 
+/// Returns what `clap` finds in these arguments.
+fn matches_of<'a>(alloc: Global, args: &'a [String]) -> Result<ArgMatches<'a>, Error> {
+    program(alloc)?.try_get_matches_from(args)
+}
+
 impl<'a> Task<'a> {
     /// Reads the arguments of the program, its name first.
     ///
@@ -284,7 +278,9 @@ impl<'a> Task<'a> {
     /// `Width` for a width that is not valid; `Arguments` for all else that `clap` rejects, for help
     /// and the version, and out of memory.
     pub fn read(alloc: Global, args: &'a [String]) -> Result<Task<'a>, BadArguments> {
-        let matches = program(alloc)?.try_get_matches_from(args)?;
-        task_of(&matches).ok_or(BadArguments::Width)
+        match matches_of(alloc, args) {
+            Ok(matches) => task_of(&matches).ok_or(BadArguments::Width),
+            Err(error) => Err(BadArguments::Arguments(error)),
+        }
     }
 }

@@ -1,7 +1,5 @@
-//! The command line: a row for each command, with its arguments and their help, and how `clap` is given them.
-
-use clap::{Arg, ArgAction, Command};
-use std::alloc::{AllocError, Global};
+//! The commands and their arguments: a row for each command. The parser of the command line, the completions
+//! and the manual page are made of them.
 
 /// The identifiers of options with a value, which help shows as the value's name.
 pub const ORDER: &str = "ORDER";
@@ -14,13 +12,37 @@ const SHELLS: &[&str] = &["bash", "zsh", "fish"];
 
 pub const VERSION: &str = "0.2.0";
 
+pub const PROGRAM_ABOUT: &str =
+    "Checks OData JSON batch requests. Without a command it checks standard input.";
+
 pub const PROGRAM_NOTES: &str =
     "Exit status: 0 for a result, 1 for a fault of a document, 2 for wrong \
     arguments, 3 if a file or the output fails, 4 if out of memory";
 
+/// An option that `clap` adds by itself.
+#[derive(Clone, Copy)]
+pub struct Added {
+    pub short: &'static str,
+    pub long: &'static str,
+    pub help: &'static str,
+}
+
+/// The option that each command has after its own, and the program before `SHOW_VERSION`.
+pub const SHOW_HELP: Added = Added {
+    short: "h",
+    long: "help",
+    help: "Print help",
+};
+
+pub const SHOW_VERSION: Added = Added {
+    short: "V",
+    long: "version",
+    help: "Print version",
+};
+
 /// What an argument is, and which others it may be given with.
 #[derive(Clone, Copy)]
-enum Kind {
+pub enum Kind {
     /// A word that may be absent.
     Optional,
     /// A word that has to be given, one of these.
@@ -43,19 +65,48 @@ enum Kind {
 
 /// An argument of a command. An option without a value has its identifier as its name.
 #[derive(Clone, Copy)]
-struct Argument {
-    id: &'static str,
-    kind: Kind,
-    help: &'static str,
+pub struct Argument {
+    pub id: &'static str,
+    pub kind: Kind,
+    pub help: &'static str,
+}
+
+impl Argument {
+    /// Returns the long name of an option, or `None` for a positional argument.
+    pub fn long(&self) -> Option<&'static str> {
+        match self.kind {
+            Kind::Flag | Kind::FlagWithout(_) | Kind::FlagOf(_) => Some(self.id),
+            Kind::Value(name) | Kind::Choice(name, _) => Some(name),
+            _ => None,
+        }
+    }
+
+    /// Tests whether it is an option with a value.
+    pub fn has_value(&self) -> bool {
+        matches!(self.kind, Kind::Value(_) | Kind::Choice(_, _))
+    }
+
+    /// Returns the values that it may have, if they are listed.
+    pub fn values(&self) -> &'static [&'static str] {
+        match self.kind {
+            Kind::OneOf(words) | Kind::Choice(_, words) => words,
+            _ => &[],
+        }
+    }
+
+    /// Tests whether it has to be given.
+    pub fn is_required(&self) -> bool {
+        matches!(self.kind, Kind::OneOf(_))
+    }
 }
 
 /// A command, with its arguments in the order in which help shows them.
 #[derive(Clone, Copy)]
-struct Row {
-    name: &'static str,
-    about: &'static str,
-    notes: &'static str,
-    arguments: &'static [Argument],
+pub struct Row {
+    pub name: &'static str,
+    pub about: &'static str,
+    pub notes: &'static str,
+    pub arguments: &'static [Argument],
 }
 
 const BATCH: Argument = Argument {
@@ -106,7 +157,7 @@ const FLUSH: Argument = Argument {
     help: "Write each line at once",
 };
 
-const CHECK: Row = Row {
+static CHECK: Row = Row {
     name: "check",
     about: "Check a batch: print one line, that it is accepted or its least fault",
     notes: "Example: odb_batch check batch.json\n\n\
@@ -124,7 +175,7 @@ const CHECK: Row = Row {
     ],
 };
 
-const PLAN: Row = Row {
+static PLAN: Row = Row {
     name: "plan",
     about: "Plan a batch: print a line per request, with its level, its group and its dependencies",
     notes: "Example: odb_batch plan batch.json\n\n\
@@ -143,7 +194,7 @@ const PLAN: Row = Row {
     ],
 };
 
-const CANON: Row = Row {
+static CANON: Row = Row {
     name: "canon",
     about: "Print the canonical text of a batch: equal texts mean equal batches",
     notes: "Example: odb_batch canon batch.json\n\n\
@@ -152,7 +203,7 @@ const CANON: Row = Row {
     arguments: &[BATCH, FAULT, LINES, FLUSH],
 };
 
-const REPLAY: Row = Row {
+static REPLAY: Row = Row {
     name: "replay",
     about: "Replay a batch by recorded outcomes: print its response",
     notes: "Example: odb_batch replay batch.json outcomes.json --order wide --trace\n\n\
@@ -184,7 +235,7 @@ const REPLAY: Row = Row {
     ],
 };
 
-const MATCH: Row = Row {
+static MATCH: Row = Row {
     name: "match",
     about: "Match a service's responses against a batch: print the status of each request",
     notes: "Example: odb_batch match batch.json responses.json\n\n\
@@ -203,7 +254,7 @@ const MATCH: Row = Row {
     ],
 };
 
-const RUN: Row = Row {
+static RUN: Row = Row {
     name: "run",
     about: "Run a batch by recorded events: print its response, or the first event that may not come",
     notes: "Example: odb_batch run batch.json events.json --stop\n\n\
@@ -224,7 +275,7 @@ const RUN: Row = Row {
     ],
 };
 
-const EXPLAIN: Row = Row {
+static EXPLAIN: Row = Row {
     name: "explain",
     about: "Explain a fault: what it means, why it is asked, and how to repair it",
     notes: "Example: odb_batch explain F41\n\n\
@@ -237,7 +288,7 @@ const EXPLAIN: Row = Row {
     }],
 };
 
-const COMPLETIONS: Row = Row {
+static COMPLETIONS: Row = Row {
     name: "completions",
     about: "Print a completion script for a shell",
     notes: "Example: source <(odb_batch completions bash)\n\n\
@@ -249,7 +300,7 @@ const COMPLETIONS: Row = Row {
     }],
 };
 
-const MAN: Row = Row {
+static MAN: Row = Row {
     name: "man",
     about: "Print the manual page, as roff",
     notes: "Example: odb_batch man | man -l -\n\n\
@@ -257,81 +308,17 @@ const MAN: Row = Row {
     arguments: &[],
 };
 
-/// The commands, in the order in which help shows them.
-const COMMANDS: &[Row] = &[
-    CHECK,
-    PLAN,
-    CANON,
-    REPLAY,
-    MATCH,
-    RUN,
-    EXPLAIN,
-    COMPLETIONS,
-    MAN,
-];
-
-/// Returns an argument as `clap` is given it.
-fn arg_of<'a>(alloc: Global, argument: &Argument) -> Result<Arg<'a>, AllocError> {
-    let arg = Arg::new(alloc, argument.id).help(argument.help);
-    match argument.kind {
-        Kind::Optional => Ok(arg),
-        Kind::OneOf(words) => Ok(arg.required(true).value_parser(words)),
-        Kind::Batch => arg.required_unless_present("lines"),
-        Kind::Second => arg
-            .required_unless_present("lines")?
-            .conflicts_with("lines"),
-        Kind::Flag => Ok(flag(arg, argument.id)),
-        Kind::FlagWithout(others) => flag(arg, argument.id).conflicts_with_all(others),
-        Kind::FlagOf(other) => flag(arg, argument.id).requires_arg(other),
-        Kind::Value(name) => Ok(arg.long(name)),
-        Kind::Choice(name, words) => Ok(arg.long(name).value_parser(words)),
-    }
-}
-
-/// Returns the argument as an option of this name without a value.
-fn flag<'a>(arg: Arg<'a>, name: &'a str) -> Arg<'a> {
-    arg.long(name).action(ArgAction::SetTrue)
-}
-
-/// Returns arguments as `clap` is given them.
-fn args_of<'a>(alloc: Global, arguments: &[Argument]) -> Result<Vec<Arg<'a>>, AllocError> {
-    let mut args = Vec::new(alloc);
-    for argument in arguments {
-        args.push(arg_of(alloc, argument)?)?;
-    }
-    Ok(args)
-}
-
-/// Returns a command as `clap` is given it.
-fn command_of<'a>(alloc: Global, row: &Row) -> Result<Command<'a>, AllocError> {
-    let args = args_of(alloc, row.arguments)?;
-    Command::new(alloc, row.name)
-        .about(row.about)
-        .after_help(row.notes)
-        .args(args)
-}
-
-/// Returns the command that explains a fault.
-pub fn explain_command<'a>(alloc: Global) -> Result<Command<'a>, AllocError> {
-    command_of(alloc, &EXPLAIN)
-}
-
-/// Returns all commands.
-fn commands<'a>(alloc: Global) -> Result<Vec<Command<'a>>, AllocError> {
-    let mut commands = Vec::new(alloc);
-    for row in COMMANDS {
-        commands.push(command_of(alloc, row)?)?;
-    }
-    Ok(commands)
-}
-
-/// Returns the whole program.
-pub fn program<'a>(alloc: Global) -> Result<Command<'a>, AllocError> {
-    let commands = commands(alloc)?;
-    Command::new(alloc, "odb_batch")
-        .about("Checks OData JSON batch requests. Without a command it checks standard input.")
-        .version(VERSION)
-        .after_help(PROGRAM_NOTES)
-        .disable_help_subcommand(true)
-        .subcommands(commands)
+/// Returns the commands, in the order in which help shows them.
+pub fn rows() -> [&'static Row; 9] {
+    [
+        &CHECK,
+        &PLAN,
+        &CANON,
+        &REPLAY,
+        &MATCH,
+        &RUN,
+        &EXPLAIN,
+        &COMPLETIONS,
+        &MAN,
+    ]
 }

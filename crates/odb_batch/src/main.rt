@@ -14,11 +14,12 @@ mod explain;
 mod log;
 mod man;
 mod page;
+mod parser;
 mod progress;
 mod texts;
 
 use clap::error::ErrorKind;
-use command_line::{BadArguments, Task, Text};
+use command_line::{BadArguments, Task};
 use ending::{Status, failed};
 use engines::{Environment, canon, check, draw, match_responses, plan, replay, run_events};
 use log::answer_log;
@@ -56,14 +57,6 @@ fn reject<R: Runtime>(rt: &R, wrong: &BadArguments) -> Status {
     }
 }
 
-/// Prints a text, or why there is none.
-fn print_text<R: Runtime + AllocGlobal>(rt: &R, text: Text<'_>) -> Status {
-    match texts::print(rt, text) {
-        Ok(status) => status,
-        Err(wrong) => reject(rt, &wrong),
-    }
-}
-
 /// Performs a task.
 fn perform<R: Runtime + AllocGlobal>(rt: &R, environment: Environment, task: Task<'_>) -> Status {
     match task {
@@ -79,7 +72,7 @@ fn perform<R: Runtime + AllocGlobal>(rt: &R, environment: Environment, task: Tas
         } => match_responses(rt, environment, file, responses, form),
         Task::Run(task) => run_events(rt, environment, task),
         Task::Log(log) => answer_log(rt, environment, log),
-        Task::Print(text) => print_text(rt, text),
+        Task::Print(text) => texts::print(rt, text),
     }
 }
 
@@ -106,11 +99,13 @@ fn environment_of(rt: &HostRuntime) -> Environment {
     }
 }
 
+/// Returns the arguments of the program, its name first.
+fn arguments(rt: &HostRuntime) -> io::Result<Vec<String>> {
+    Ok(env::args(rt)?.collect(rt.alloc())?)
+}
+
 fn main(rt: HostRuntime) -> ExitCode {
-    let args: io::Result<Vec<String>> = env::args(&rt).and_then(|args| Ok(args.collect(
-        rt.alloc(),
-    )?));
-    let status = match args {
+    let status = match arguments(&rt) {
         Ok(args) => run(&rt, environment_of(&rt), args.as_slice()),
         Err(error) if error.kind() == io::ErrorKind::OutOfMemory => {
             failed(&rt, "memory", Status::Memory)

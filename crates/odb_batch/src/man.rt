@@ -1,9 +1,9 @@
-//! The manual page, made of the description of the commands.
+//! The manual page, made of the rows of the commands.
 
-use crate::commands::PROGRAM_NOTES;
-use crate::completions::{add_values, takes_value, values_of};
+use crate::commands::{
+    Added, Argument, PROGRAM_ABOUT, PROGRAM_NOTES, Row, SHOW_HELP, SHOW_VERSION, rows,
+};
 use crate::page::Page;
-use clap::{Arg, ArgAction, Command};
 
 const HEAD: &str = ".TH ODB_BATCH 1\n\
     .SH NAME\n\
@@ -33,91 +33,91 @@ fn add_line(page: &mut Page, words: &str) {
     page.add("\n");
 }
 
-/// Adds the long name of an option, and the name of its value.
-fn add_long(page: &mut Page, arg: &Arg<'_>) {
-    page.add("\\-\\-");
-    add_plain(page, arg.get_long().unwrap_or(""));
-    if takes_value(arg) {
-        page.add_all(&[" ", arg.get_id()]);
+/// Adds the name of an argument: the long name of an option, with the name of its value.
+fn add_name(page: &mut Page, argument: &Argument) {
+    match argument.long() {
+        None => page.add(argument.id),
+        Some(long) => {
+            page.add("\\-\\-");
+            add_plain(page, long);
+            if argument.has_value() {
+                page.add_all(&[" ", argument.id]);
+            }
+        }
     }
 }
 
-/// Adds the name of an argument.
-fn add_name(page: &mut Page, arg: &Arg<'_>) {
-    if arg.is_positional() {
-        page.add(arg.get_id());
-        return;
-    }
-    if let Some(short) = arg.get_short() {
-        page.add("\\-");
-        page.add_char(short);
-        page.add(", ");
-    }
-    add_long(page, arg);
-}
-
-/// Adds what an argument means.
-fn add_argument(page: &mut Page, arg: &Arg<'_>) {
-    page.add(".TP\n.B ");
-    add_name(page, arg);
-    page.add("\n");
-    add_line(page, arg.get_help().unwrap_or(""));
-    if values_of(arg).is_some() {
+/// Adds the values that an argument may have, if they are listed.
+fn add_values(page: &mut Page, values: &[&str]) {
+    if !values.is_empty() {
         page.add("One of:");
-        add_values(page, arg);
+        page.add_words(values);
         page.add("\n");
     }
 }
 
-/// Adds what all arguments of a command mean.
-fn add_arguments(page: &mut Page, command: &Command<'_>) {
-    for arg in command.get_arguments() {
-        add_argument(page, arg);
-    }
+/// Adds what an argument means.
+fn add_argument(page: &mut Page, argument: &Argument) {
+    page.add(".TP\n.B ");
+    add_name(page, argument);
+    page.add("\n");
+    add_line(page, argument.help);
+    add_values(page, argument.values());
+}
+
+/// Adds what an option that `clap` adds means.
+fn add_added(page: &mut Page, option: &Added) {
+    page.add_all(&[
+        ".TP\n.B \\-",
+        option.short,
+        ", \\-\\-",
+        option.long,
+        "\n",
+        option.help,
+        "\n",
+    ]);
 }
 
 /// Adds an argument as the heading of its command shows it.
-fn add_use(page: &mut Page, arg: &Arg<'_>) {
-    if arg.is_required_set() {
-        page.add_all(&[" ", arg.get_id()]);
+fn add_use(page: &mut Page, argument: &Argument) {
+    if argument.is_required() {
+        page.add_all(&[" ", argument.id]);
         return;
     }
     page.add(" [");
-    if arg.is_positional() {
-        page.add(arg.get_id());
-    } else {
-        add_long(page, arg);
-    }
+    add_name(page, argument);
     page.add("]");
 }
 
 /// Adds the heading of a command: its arguments, without the help option that each has.
-fn add_heading(page: &mut Page, command: &Command<'_>) {
-    page.add_all(&[".SS ", command.get_name()]);
-    for arg in command.get_arguments() {
-        if arg.get_action() != ArgAction::Help {
-            add_use(page, arg);
-        }
+fn add_heading(page: &mut Page, row: &Row) {
+    page.add_all(&[".SS ", row.name]);
+    for argument in row.arguments {
+        add_use(page, argument);
     }
     page.add("\n");
 }
 
 /// Adds the section of a command.
-fn add_command(page: &mut Page, command: &Command<'_>) {
-    add_heading(page, command);
-    add_line(page, command.get_about().unwrap_or(""));
-    add_arguments(page, command);
+fn add_command(page: &mut Page, row: &Row) {
+    add_heading(page, row);
+    add_line(page, row.about);
+    for argument in row.arguments {
+        add_argument(page, argument);
+    }
+    add_added(page, &SHOW_HELP);
 }
 
-/// Adds the page. The program must be built, so that it has its help options.
-pub fn add_page(page: &mut Page, program: &Command<'_>) {
+/// Adds the page.
+pub fn add_page(page: &mut Page) {
     page.add(HEAD);
-    add_line(page, program.get_about().unwrap_or(""));
+    add_line(page, PROGRAM_ABOUT);
     page.add(".SH OPTIONS\n");
-    add_arguments(page, program);
+    add_added(page, &SHOW_HELP);
+    add_added(page, &SHOW_VERSION);
     page.add(COMMANDS);
-    for command in program.get_subcommands() {
-        add_command(page, command);
+    for row in rows() {
+        add_command(page, row);
     }
     page.add(".SH EXIT STATUS\n");
     add_line(page, PROGRAM_NOTES);

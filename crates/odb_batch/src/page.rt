@@ -52,9 +52,9 @@ impl Page {
     }
 
     /// Returns the text, unless memory ran out.
-    pub fn into_text(self) -> Result<String, AllocError> {
+    pub fn text(&self) -> Result<&str, AllocError> {
         if self.is_whole {
-            Ok(self.text)
+            Ok(self.text.as_str())
         } else {
             Err(AllocError)
         }

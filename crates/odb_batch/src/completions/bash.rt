@@ -1,9 +1,9 @@
 //! Completions for bash: a pattern for each command, over the number of the word, the command and the
 //! word before.
 
-use super::{add_options, add_positional_values, add_values, takes_value, values_of};
+use super::{add_options, add_positional_values, add_program_options};
+use crate::commands::{Row, rows};
 use crate::page::Page;
-use clap::{Arg, Command};
 
 const HEAD: &str =
     "# Completions of odb_batch for bash: source this text, or put it where bash-completion looks.\n\
@@ -20,47 +20,48 @@ const TAIL: &str = "    esac\n    \
     complete -o default -F _odb_batch odb_batch\n";
 
 /// Adds the pattern of the value of an option.
-fn add_value<'a>(page: &mut Page, command: &'a str, arg: &Arg<'a>) {
-    page.add_all(&["    *' ", command, " --", arg.get_long().unwrap_or("")]);
-    if values_of(arg).is_none() {
+fn add_value<'a>(page: &mut Page, command: &'a str, long: &'a str, values: &[&str]) {
+    page.add_all(&["    *' ", command, " --", long]);
+    if values.is_empty() {
         page.add("') compopt +o default ;;\n");
         return;
     }
     page.add("') words='");
-    add_values(page, arg);
+    page.add_words(values);
     page.add("' ;;\n");
 }
 
 /// Adds the patterns of the values of all options of a command.
-fn add_option_values(page: &mut Page, command: &Command<'_>) {
-    for arg in command.get_arguments() {
-        if takes_value(arg) {
-            add_value(page, command.get_name(), arg);
+fn add_option_values(page: &mut Page, row: &Row) {
+    for argument in row.arguments {
+        if argument.has_value() {
+            let long = argument.long().unwrap_or("");
+            add_value(page, row.name, long, argument.values());
         }
     }
 }
 
 /// Adds the patterns of a command.
-fn add_command(page: &mut Page, command: &Command<'_>) {
-    add_option_values(page, command);
-    page.add_all(&["    *' ", command.get_name(), " '*) words='"]);
-    add_positional_values(page, command);
+fn add_command(page: &mut Page, row: &Row) {
+    add_option_values(page, row);
+    page.add_all(&["    *' ", row.name, " '*) words='"]);
+    add_positional_values(page, row);
     page.add("' options='");
-    add_options(page, command);
+    add_options(page, row);
     page.add("' ;;\n");
 }
 
 /// Adds the script.
-pub fn add_script(page: &mut Page, program: &Command<'_>) {
+pub fn add_script(page: &mut Page) {
     page.add(HEAD);
-    for command in program.get_subcommands() {
-        page.add_all(&[" ", command.get_name()]);
+    for row in rows() {
+        page.add_all(&[" ", row.name]);
     }
     page.add("' options='");
-    add_options(page, program);
+    add_program_options(page);
     page.add("' ;;\n");
-    for command in program.get_subcommands() {
-        add_command(page, command);
+    for row in rows() {
+        add_command(page, row);
     }
     page.add(TAIL);
 }

@@ -1,8 +1,8 @@
 //! Completions for fish: a line for each command and each option.
 
-use super::{about_of, add_quoted, add_values, takes_value, values_of};
+use super::add_quoted;
+use crate::commands::{Added, Argument, Row, SHOW_HELP, SHOW_VERSION, rows};
 use crate::page::Page;
-use clap::{Arg, Command};
 
 const HEAD: &str =
     "# Completions of odb_batch for fish: put this text into ~/.config/fish/completions/odb_batch.fish.\n";
@@ -21,77 +21,85 @@ fn add_condition(page: &mut Page, command: Option<&str>) {
     }
 }
 
-/// Adds the names of an option.
-fn add_names(page: &mut Page, arg: &Arg<'_>) {
-    if let Some(short) = arg.get_short() {
-        page.add(" -s ");
-        page.add_char(short);
-    }
-    if let Some(long) = arg.get_long() {
-        page.add_all(&[" -l ", long]);
-    }
-}
-
 /// Adds the values of an option that has one.
-fn add_option_values(page: &mut Page, arg: &Arg<'_>) {
+fn add_values(page: &mut Page, argument: &Argument) {
     page.add(" -x");
-    if values_of(arg).is_some() {
+    if !argument.values().is_empty() {
         page.add(" -a '");
-        add_values(page, arg);
+        page.add_words(argument.values());
         page.add("'");
     }
 }
 
-/// Adds the line of an option.
-fn add_option(page: &mut Page, command: Option<&str>, arg: &Arg<'_>) {
-    add_condition(page, command);
-    add_names(page, arg);
-    if takes_value(arg) {
-        add_option_values(page, arg);
-    }
+/// Adds what an option does, and ends its line.
+fn add_help(page: &mut Page, help: &str) {
     page.add(" -d ");
-    add_quoted(page, arg.get_help().unwrap_or(""), "\\'");
+    add_quoted(page, help, "\\'");
     page.add("\n");
 }
 
-/// Adds the lines of all options.
-fn add_options(page: &mut Page, command: Option<&str>, args: &[Arg<'_>]) {
-    for arg in args {
-        if !arg.is_positional() {
-            add_option(page, command, arg);
+/// Adds the line of an option that `clap` adds.
+fn add_added(page: &mut Page, command: Option<&str>, option: &Added) {
+    add_condition(page, command);
+    page.add_all(&[" -s ", option.short, " -l ", option.long]);
+    add_help(page, option.help);
+}
+
+/// Adds the line of an option.
+fn add_option(page: &mut Page, command: &str, argument: &Argument, long: &str) {
+    add_condition(page, Some(command));
+    page.add_all(&[" -l ", long]);
+    if argument.has_value() {
+        add_values(page, argument);
+    }
+    add_help(page, argument.help);
+}
+
+/// Adds the line of the values of a positional argument, if they are listed.
+fn add_positional(page: &mut Page, command: &str, argument: &Argument) {
+    if !argument.values().is_empty() {
+        add_condition(page, Some(command));
+        page.add(" -f -a '");
+        page.add_words(argument.values());
+        page.add("'\n");
+    }
+}
+
+/// Adds the lines of the options of a command.
+fn add_options(page: &mut Page, row: &Row) {
+    for argument in row.arguments {
+        if let Some(long) = argument.long() {
+            add_option(page, row.name, argument, long);
+        }
+    }
+    add_added(page, Some(row.name), &SHOW_HELP);
+}
+
+/// Adds the lines of what may follow a command.
+fn add_command(page: &mut Page, row: &Row) {
+    add_options(page, row);
+    for argument in row.arguments {
+        if argument.long().is_none() {
+            add_positional(page, row.name, argument);
         }
     }
 }
 
 /// Adds the line of a command.
-fn add_about(page: &mut Page, command: &Command<'_>) {
-    page.add_all(&[FIRST, " -f -a ", command.get_name(), " -d "]);
-    add_quoted(page, about_of(command), "\\'");
-    page.add("\n");
-}
-
-/// Adds the lines of what may follow a command.
-fn add_command(page: &mut Page, command: &Command<'_>) {
-    let name = Some(command.get_name());
-    add_options(page, name, command.get_arguments());
-    for arg in command.get_arguments() {
-        if arg.is_positional() && values_of(arg).is_some() {
-            add_condition(page, name);
-            page.add(" -f -a '");
-            add_values(page, arg);
-            page.add("'\n");
-        }
-    }
+fn add_about(page: &mut Page, row: &Row) {
+    page.add_all(&[FIRST, " -f -a ", row.name]);
+    add_help(page, row.about);
 }
 
 /// Adds the script.
-pub fn add_script(page: &mut Page, program: &Command<'_>) {
+pub fn add_script(page: &mut Page) {
     page.add(HEAD);
-    add_options(page, None, program.get_arguments());
-    for command in program.get_subcommands() {
-        add_about(page, command);
+    add_added(page, None, &SHOW_HELP);
+    add_added(page, None, &SHOW_VERSION);
+    for row in rows() {
+        add_about(page, row);
     }
-    for command in program.get_subcommands() {
-        add_command(page, command);
+    for row in rows() {
+        add_command(page, row);
     }
 }

@@ -1,8 +1,8 @@
 //! Completions for zsh: a pattern for each command, over the command and the word before.
 
-use super::{about_of, add_options, add_positional_values, add_quoted, add_values, takes_value};
+use super::{add_options, add_positional_values, add_program_options, add_quoted};
+use crate::commands::{Row, rows};
 use crate::page::Page;
-use clap::{Arg, Command};
 
 const HEAD: &str = "#compdef odb_batch\n\
     # Completions of odb_batch for zsh: source this text, or put it as _odb_batch into a folder of fpath.\n\
@@ -38,55 +38,50 @@ const TAIL: &str = "    esac\n    \
     fi\n";
 
 /// Adds the name of a command and what it does.
-fn add_about(page: &mut Page, command: &Command<'_>) {
-    page.add_all(&["        ", command.get_name(), ":"]);
-    add_quoted(page, about_of(command), "'\\''");
+fn add_about(page: &mut Page, row: &Row) {
+    page.add_all(&["        ", row.name, ":"]);
+    add_quoted(page, row.about, "'\\''");
     page.add("\n");
 }
 
 /// Adds the pattern of the value of an option.
-fn add_value<'a>(page: &mut Page, command: &'a str, arg: &Arg<'a>) {
-    page.add_all(&[
-        "    '",
-        command,
-        " --",
-        arg.get_long().unwrap_or(""),
-        "') compadd --",
-    ]);
-    add_values(page, arg);
+fn add_value<'a>(page: &mut Page, command: &'a str, long: &'a str, values: &[&str]) {
+    page.add_all(&["    '", command, " --", long, "') compadd --"]);
+    page.add_words(values);
     page.add("; return ;;\n");
 }
 
 /// Adds the patterns of the values of all options of a command.
-fn add_option_values(page: &mut Page, command: &Command<'_>) {
-    for arg in command.get_arguments() {
-        if takes_value(arg) {
-            add_value(page, command.get_name(), arg);
+fn add_option_values(page: &mut Page, row: &Row) {
+    for argument in row.arguments {
+        if argument.has_value() {
+            let long = argument.long().unwrap_or("");
+            add_value(page, row.name, long, argument.values());
         }
     }
 }
 
 /// Adds the patterns of a command.
-fn add_command(page: &mut Page, command: &Command<'_>) {
-    add_option_values(page, command);
-    page.add_all(&["    '", command.get_name(), " '*) values=("]);
-    add_positional_values(page, command);
+fn add_command(page: &mut Page, row: &Row) {
+    add_option_values(page, row);
+    page.add_all(&["    '", row.name, " '*) values=("]);
+    add_positional_values(page, row);
     page.add(") options=(");
-    add_options(page, command);
+    add_options(page, row);
     page.add(") ;;\n");
 }
 
 /// Adds the script.
-pub fn add_script(page: &mut Page, program: &Command<'_>) {
+pub fn add_script(page: &mut Page) {
     page.add(HEAD);
-    for command in program.get_subcommands() {
-        add_about(page, command);
+    for row in rows() {
+        add_about(page, row);
     }
     page.add(FIRST);
-    add_options(page, program);
+    add_program_options(page);
     page.add(BODY);
-    for command in program.get_subcommands() {
-        add_command(page, command);
+    for row in rows() {
+        add_command(page, row);
     }
     page.add(TAIL);
 }
