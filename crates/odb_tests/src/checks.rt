@@ -2,10 +2,12 @@
 
 mod seeds;
 
-use odb_check::{CheckFault, Need, Plan, Seed, check, check_with};
+use crate::rows::expect;
+use odb_check::Need::{Group, One};
+use odb_check::{CheckFault, NameRule, Need, Plan, Seed, check, check_with};
 use odb_doc::{Batch, parse};
 use serde_json::Value;
-use std::alloc::{AllocError, Global};
+use std::alloc::Global;
 use std::test::Fail;
 
 /// Two groups, of which the second needs the first, and a request that needs both and a member.
@@ -16,136 +18,176 @@ const GROUPS: &str = r#"{"requests":[
     {"id":"d","method":"delete","url":"X","atomicityGroup":"right"},
     {"id":"e","method":"get","url":"$b/Y","dependsOn":["right","c","right","left"]}]}"#;
 
-/// Texts that are ids or groups of `GROUPS`, or neither.
-const TEXTS: &[&str] = &["a", "e", "left", "A", ""];
+/// The parts of a plan.
+#[derive(Clone, Copy)]
+struct Parts {
+    text: &'static str,
+    /// The id of each request, its unit, its level and what it needs.
+    requests: &'static [(&'static str, u32, u32, &'static [Need])],
+    /// The first member of each unit, and the end of its members.
+    members: &'static [(u32, u32)],
+    groups: u32,
+    /// Texts, and the position of the request that has each as its id.
+    positions: &'static [(&'static str, Option<u32>)],
+}
 
-/// Batches, and the fault, or the plan: its text; for each request its unit, its level and what it
-/// needs; the members of each unit; how many groups there are; and where each of `TEXTS` is an id.
-const BATCHES: &[(&str, &str)] = &[
-    (r#"{"requests":[]}"#, "0 groups None None None None None "),
+impl Parts {
+    /// Whether a plan has the request at a position, and it is this one.
+    fn has_request(&self, plan: &Plan<'_>, i: u32) -> bool {
+        if i >= plan.len() {
+            return false;
+        }
+        let (unit, level, needs) = (plan.unit_of(i), plan.level(i), plan.needs(i));
+        let id = plan.request(i).id;
+        match self.requests.get(i as usize) {
+            Some(row) => (id, unit, level) == (row.0, row.1, row.2) && needs == row.3,
+            None => false,
+        }
+    }
+
+    fn has_requests(&self, plan: &Plan<'_>) -> bool {
+        for i in 0..plan.len() {
+            if !self.has_request(plan, i) {
+                return false;
+            }
+        }
+        plan.len() as usize == self.requests.len()
+    }
+
+    fn has_members(&self, plan: &Plan<'_>) -> bool {
+        for u in 0..plan.unit_count() {
+            let members = plan.members(u);
+            if self.members.get(u as usize).copied() != Some((members.start, members.end)) {
+                return false;
+            }
+        }
+        plan.unit_count() as usize == self.members.len()
+    }
+
+    fn has_positions(&self, plan: &Plan<'_>) -> bool {
+        for (text, position) in self.positions {
+            if plan.position_of(text) != *position {
+                return false;
+            }
+        }
+        true
+    }
+
+    fn has_text(&self, alloc: Global, plan: &Plan<'_>) -> bool {
+        match plan.text(alloc) {
+            Ok(text) => text.as_str() == self.text,
+            Err(_) => false,
+        }
+    }
+
+    /// Whether a plan has these parts.
+    fn are_of(&self, alloc: Global, plan: &Plan<'_>) -> bool {
+        self.has_text(alloc, plan)
+            && self.has_requests(plan)
+            && self.has_members(plan)
+            && self.has_positions(plan)
+            && plan.group_count() == self.groups
+    }
+}
+
+/// What a check finds.
+type Found = Result<Parts, CheckFault>;
+
+/// Batches, and what is found of each.
+const BATCHES: &[(&str, Found)] = &[
+    (
+        r#"{"requests":[]}"#,
+        Ok(Parts {
+            text: "",
+            requests: &[],
+            members: &[],
+            groups: 0,
+            positions: &[("", None)],
+        }),
+    ),
     (
         GROUPS,
-        "0 a level 0 group left needs *\n\
-         1 b level 1 group left needs a\n\
-         2 c level 2 group right needs left\n\
-         3 d level 0 group right needs *\n\
-         4 e level 3 group * needs right,c,left,b\n\
-         a 0 0 [] b 0 1 [One(0)] c 1 2 [Group(0)] d 1 0 [] \
-         e 2 3 [Group(1), One(2), Group(0), One(1)] 0..2 2..4 4..5 2 groups \
-         Some(0) Some(4) None None None ",
+        Ok(Parts {
+            text: "0 a level 0 group left needs *\n\
+                   1 b level 1 group left needs a\n\
+                   2 c level 2 group right needs left\n\
+                   3 d level 0 group right needs *\n\
+                   4 e level 3 group * needs right,c,left,b\n",
+            requests: &[
+                ("a", 0, 0, &[]),
+                ("b", 0, 1, &[One(0)]),
+                ("c", 1, 2, &[Group(0)]),
+                ("d", 1, 0, &[]),
+                ("e", 2, 3, &[Group(1), One(2), Group(0), One(1)]),
+            ],
+            members: &[(0, 2), (2, 4), (4, 5)],
+            groups: 2,
+            positions: &[
+                ("a", Some(0)),
+                ("e", Some(4)),
+                ("left", None),
+                ("A", None),
+                ("", None),
+            ],
+        }),
     ),
     (
         r#"{"requests":[{"id":"a","method":"get","url":"X"},{"id":"a","method":"get","url":"X"}]}"#,
-        "request 1: an earlier request has the same `id`",
+        Err(CheckFault::Request {
+            at: 1,
+            rule: NameRule::IdTwice,
+        }),
     ),
     (
         r#"{"requests":[{"id":"a","method":"get","url":"X"},
             {"id":"b","method":"get","url":"X","dependsOn":["b"]}]}"#,
-        "request 1: `dependsOn` names a request or a group that does not precede",
+        Err(CheckFault::Request {
+            at: 1,
+            rule: NameRule::ForwardName,
+        }),
     ),
 ];
 
-/// Adds what a plan has of one request.
-fn push_request(
-    alloc: Global,
-    notes: &mut String,
-    id: &str,
-    numbers: (u32, u32),
-    needs: &[Need],
-) -> Result<(), AllocError> {
-    let (unit, level) = numbers;
-    notes.push_str(&format!(in alloc; "{id} {unit} {level} {needs:?} ")?)
-}
-
-fn push_requests(alloc: Global, plan: &Plan<'_>, notes: &mut String) -> Result<(), AllocError> {
-    for i in 0..plan.len() {
-        let numbers = (plan.unit_of(i), plan.level(i));
-        push_request(alloc, notes, plan.request(i).id, numbers, plan.needs(i))?;
-    }
-    Ok(())
-}
-
-fn push_members(alloc: Global, plan: &Plan<'_>, notes: &mut String) -> Result<(), AllocError> {
-    for u in 0..plan.unit_count() {
-        let members = plan.members(u);
-        notes.push_str(&format!(in alloc; "{}..{} ", members.start, members.end)?)?;
-    }
-    Ok(())
-}
-
-fn push_positions(alloc: Global, plan: &Plan<'_>, notes: &mut String) -> Result<(), AllocError> {
-    for text in TEXTS {
-        let position = plan.position_of(text);
-        notes.push_str(&format!(in alloc; "{position:?} ")?)?;
-    }
-    Ok(())
-}
-
-fn push_count(alloc: Global, plan: &Plan<'_>, notes: &mut String) -> Result<(), AllocError> {
-    notes.push_str(&format!(in alloc; "{} groups ", plan.group_count())?)
-}
-
-/// Adds the parts of a plan.
-fn push_parts(alloc: Global, plan: &Plan<'_>, notes: &mut String) -> Result<(), AllocError> {
-    push_requests(alloc, plan, notes)?;
-    push_members(alloc, plan, notes)?;
-    push_count(alloc, plan, notes)?;
-    push_positions(alloc, plan, notes)
-}
-
-/// The text of a plan and its parts.
-fn parts_of(alloc: Global, plan: &Plan<'_>) -> Result<String, AllocError> {
-    let mut notes = plan.text(alloc)?;
-    push_parts(alloc, plan, &mut notes)?;
-    Ok(notes)
-}
-
-/// What a plan has, or the fault in words.
-fn text_of(alloc: Global, found: &Result<Plan<'_>, CheckFault>) -> Result<String, AllocError> {
-    match found {
-        Ok(plan) => parts_of(alloc, plan),
-        Err(CheckFault::OutOfMemory) => Err(AllocError),
-        Err(fault) => format!(in alloc; "{fault}"),
+/// Whether this is what a check found.
+fn is_wanted(alloc: Global, found: &Result<Plan<'_>, CheckFault>, wanted: Found) -> bool {
+    match (found, wanted) {
+        (Ok(plan), Ok(parts)) => parts.are_of(alloc, plan),
+        (Err(fault), Err(wanted)) => *fault == wanted,
+        _ => false,
     }
 }
 
-fn has_text(
-    alloc: Global,
-    found: &Result<Plan<'_>, CheckFault>,
-    want: &str,
-) -> Result<bool, AllocError> {
-    Ok(text_of(alloc, found)?.as_str() == want)
+fn is_found_plainly(alloc: Global, batch: &Batch<'_>, wanted: Found) -> bool {
+    is_wanted(alloc, &check(alloc, batch), wanted)
 }
 
-fn is_found_plainly(alloc: Global, batch: &Batch<'_>, want: &str) -> Result<bool, AllocError> {
-    let found = check(alloc, batch);
-    has_text(alloc, &found, want)
+fn is_found_with_seed(alloc: Global, batch: &Batch<'_>, wanted: Found) -> bool {
+    is_wanted(alloc, &check_with(alloc, Seed::new(7), batch), wanted)
 }
 
-fn is_found_with_seed(alloc: Global, batch: &Batch<'_>, want: &str) -> Result<bool, AllocError> {
-    let found = check_with(alloc, Seed::new(7), batch);
-    has_text(alloc, &found, want)
+/// Whether a check of a batch finds this, with and without a seed.
+fn is_found(alloc: Global, batch: &Batch<'_>, wanted: Found) -> bool {
+    is_found_plainly(alloc, batch, wanted) && is_found_with_seed(alloc, batch, wanted)
 }
 
-/// Whether what is found of a batch has this text, with and without a seed.
-fn is_found(alloc: Global, batch: &Batch<'_>, want: &str) -> Result<bool, Fail> {
-    Ok(is_found_plainly(alloc, batch, want)? && is_found_with_seed(alloc, batch, want)?)
+fn is_value_found(alloc: Global, value: &Value, wanted: Found) -> bool {
+    match Batch::read(alloc, value) {
+        Ok(batch) => is_found(alloc, &batch, wanted),
+        Err(_) => false,
+    }
 }
 
-fn is_value_found(alloc: Global, value: &Value, want: &str) -> Result<bool, Fail> {
-    let batch = Batch::read(alloc, value)?;
-    is_found(alloc, &batch, want)
-}
-
-fn is_document_found(alloc: Global, document: &str, want: &str) -> Result<bool, Fail> {
-    let value = parse(alloc, document.as_bytes())?;
-    is_value_found(alloc, &value, want)
+fn is_document_found(alloc: Global, document: &str, wanted: Found) -> bool {
+    match parse(alloc, document.as_bytes()) {
+        Ok(value) => is_value_found(alloc, &value, wanted),
+        Err(_) => false,
+    }
 }
 
 #[test]
 fn plans_or_refuses_alike_with_and_without_a_seed(rt: HostRuntime) -> Result<(), Fail> {
-    for (document, want) in BATCHES {
-        assert!(rt; is_document_found(rt.alloc(), document, want)?, "{want}");
+    for (document, wanted) in BATCHES {
+        expect(is_document_found(rt.alloc(), document, *wanted), document)?;
     }
     Ok(())
 }

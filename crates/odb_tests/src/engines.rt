@@ -22,7 +22,7 @@ use std::alloc::Global;
 use std::io::{Read, Write};
 
 /// A command; the first three read a batch alone.
-#[derive(Clone, Copy, Debug, PartialEq, Eq)]
+#[derive(Clone, Copy)]
 enum Command {
     Check,
     Plan,

@@ -12,6 +12,8 @@ mod documents;
 #[cfg(test)]
 mod engines;
 #[cfg(test)]
+mod fail;
+#[cfg(test)]
 mod laws;
 #[cfg(test)]
 mod lines;
@@ -21,5 +23,7 @@ mod messages;
 mod names;
 #[cfg(test)]
 mod replies;
+#[cfg(test)]
+mod rows;
 #[cfg(test)]
 mod runs;

@@ -57,21 +57,23 @@ const TURNS: [[usize; 3]; 4] = [[1, 1, 1], [3, 3, 3], [1, 7, 2], [1_000, 1_000, 
 /// More calls than a device is called.
 const ENOUGH: usize = 1_000;
 
-/// How the lines of a text end, and what is written of them.
-type Answers = (Result<Ended, EngineFault>, Vec<u8>);
+/// How the lines of a text end.
+type End = Result<Ended, EngineFault>;
 
-/// Answers the lines of a text by devices that work at these paces.
-fn answers(
+/// Whether the lines of a text are answered so by devices that work at these paces.
+fn are_written(
     alloc: Global,
     text: &str,
     [reads, writes]: [Pace; 2],
     flush: bool,
-) -> Result<Answers, AllocError> {
-    let mut input = LineInput::new(alloc, Slow::new(text.as_bytes(), reads))?;
+    (written, ended): (&str, End),
+) -> bool {
+    let Ok(mut input) = LineInput::new(alloc, Slow::new(text.as_bytes(), reads)) else {
+        return false;
+    };
     let mut output = Output::new(Narrow::new(alloc, writes));
-    let ended = answer_lines(alloc, &mut input, &mut output, &Length, flush);
-    let Narrow { bytes, .. } = output.into_inner();
-    Ok((ended, bytes))
+    let end = answer_lines(alloc, &mut input, &mut output, &Length, flush);
+    end == ended && output.into_inner().bytes.as_slice() == written.as_bytes()
 }
 
 /// Whether a text is answered so by devices of which none fails.
@@ -81,10 +83,7 @@ fn are_answered(alloc: Global, (text, written, ended): (&str, &str, Ended), flus
             turns: *turns,
             calls: ENOUGH,
         };
-        let Ok((end, bytes)) = answers(alloc, text, [pace; 2], flush) else {
-            return false;
-        };
-        if end != Ok(ended) || bytes.as_slice() != written.as_bytes() {
+        if !are_written(alloc, text, [pace; 2], flush, (written, Ok(ended))) {
             return false;
         }
     }
@@ -94,8 +93,9 @@ fn are_answered(alloc: Global, (text, written, ended): (&str, &str, Ended), flus
 #[test]
 fn each_line_is_answered(rt: HostRuntime) {
     for example in &EXAMPLES {
-        assert!(rt; are_answered(rt.alloc(), *example, false));
-        assert!(rt; are_answered(rt.alloc(), *example, true));
+        assert!(rt;
+            are_answered(rt.alloc(), *example, false) && are_answered(rt.alloc(), *example, true)
+        );
     }
 }
 
@@ -122,10 +122,16 @@ fn written_twice(alloc: Global, text: &[u8]) -> (Option<Written>, Option<Written
     (written(alloc, text), written(alloc, text))
 }
 
+fn is_written_again(alloc: Global, text: &[u8]) -> bool {
+    match &written_twice(alloc, text) {
+        (Some(one), Some(other)) => one == other,
+        _ => false,
+    }
+}
+
 #[test]
 fn the_same_text_is_written_again(rt: HostRuntime) {
-    let (one, other) = written_twice(rt.alloc(), b"ab\n\nc");
-    assert!(rt; one.is_some() && one == other);
+    assert!(rt; is_written_again(rt.alloc(), b"ab\n\nc"));
 }
 
 /// A batch, an empty line, and a batch whose request has no identifier.
@@ -134,25 +140,24 @@ const LOG: &str = r#"{"requests":[{"id":"1","method":"get","url":"A"}]}
 {"requests":[{"method":"get","url":"A"}]}
 "#;
 
-/// What is written of these lines by a task in a form, and how that ends.
-fn done(alloc: Global, task: LineTask, form: Form) -> Result<Answers, AllocError> {
+/// Whether a task writes this of these lines, in a form.
+fn is_done(alloc: Global, task: LineTask, form: Form, written: &str) -> bool {
     let setup = Setup {
         form,
         ..Setup::plain()
     };
-    let mut input = LineInput::new(alloc, LOG.as_bytes())?;
-    let mut output = Output::new(Vec::new(alloc));
-    let command = EachLine { task, setup };
-    let ended = answer_lines(alloc, &mut input, &mut output, &command, false);
-    Ok((ended, output.into_inner()))
-}
-
-/// Whether a task writes this of these lines.
-fn is_done(alloc: Global, task: LineTask, form: Form, written: &str) -> bool {
-    let Ok((ended, bytes)) = done(alloc, task, form) else {
+    let Ok(mut input) = LineInput::new(alloc, LOG.as_bytes()) else {
         return false;
     };
-    ended == Ok(Ended::Refused) && bytes.as_slice() == written.as_bytes()
+    let mut output = Output::new(Vec::new(alloc));
+    let ended = answer_lines(
+        alloc,
+        &mut input,
+        &mut output,
+        &EachLine { task, setup },
+        false,
+    );
+    ended == Ok(Ended::Refused) && output.into_inner().as_slice() == written.as_bytes()
 }
 
 #[test]
@@ -176,16 +181,18 @@ const CUT: [(usize, &str); 7] = [
     (8, "2\n0\n1\n"),
 ];
 
-/// Whether a call of a device fails, and this is written.
-fn fails(alloc: Global, calls: [usize; 2], fault: EngineFault, written: &str) -> bool {
-    let paces = calls.map(|calls| Pace {
+/// The pace of a device that moves a byte a call, of which so many go well.
+fn bytewise(calls: usize) -> Pace {
+    Pace {
         turns: [1, 1, 1],
         calls,
-    });
-    let Ok((end, bytes)) = answers(alloc, "ab\n\nc\nde", paces, false) else {
-        return false;
-    };
-    end == Err(fault) && bytes.as_slice() == written.as_bytes()
+    }
+}
+
+/// Whether a call of a device fails, and this is written.
+fn fails(alloc: Global, [reads, writes]: [usize; 2], fault: EngineFault, written: &str) -> bool {
+    let paces = [bytewise(reads), bytewise(writes)];
+    are_written(alloc, "ab\n\nc\nde", paces, false, (written, Err(fault)))
 }
 
 #[test]
@@ -211,22 +218,27 @@ fn a_failed_write_ends_it(rt: HostRuntime) {
 }
 
 /// Whether a line of so many bytes and a short one are answered so.
-fn is_cut(alloc: Global, count: u64, written: &str) -> Result<bool, AllocError> {
+fn is_cut(alloc: Global, count: u64, written: &str) -> bool {
     let reader = repeat(b'a').take(count).chain("\nab".as_bytes());
-    let mut input = LineInput::new(alloc, reader)?;
+    let Ok(mut input) = LineInput::new(alloc, reader) else {
+        return false;
+    };
     let mut output = Output::new(Vec::new(alloc));
     let ended = answer_lines(alloc, &mut input, &mut output, &Length, false);
-    Ok(ended == Ok(Ended::Done) && output.into_inner().as_slice() == written.as_bytes())
+    ended == Ok(Ended::Done) && output.into_inner().as_slice() == written.as_bytes()
 }
+
+/// How many bytes a line has, and what is written of it and a short one.
+const LONG: [(u64, &str); 3] = [
+    (16_777_216, "16777216\n2\n"),
+    (16_777_217, "16777217\n2\n"),
+    (17_000_000, "16777217\n2\n"),
+];
 
 #[test]
 fn a_long_line_is_cut(rt: HostRuntime) {
-    for (count, written) in [
-        (16_777_216, "16777216\n2\n"),
-        (16_777_217, "16777217\n2\n"),
-        (17_000_000, "16777217\n2\n"),
-    ] {
-        assert!(rt; is_cut(rt.alloc(), count, written) == Ok(true));
+    for (count, written) in &LONG {
+        assert!(rt; is_cut(rt.alloc(), *count, written));
     }
 }
 
@@ -294,9 +306,12 @@ fn passing(alloc: Global, count: usize, flush: bool) -> Result<(bool, bool), All
     Ok((was_kept_waiting.get(), were_gathered.get()))
 }
 
+/// How many bytes are sent at a time, whether each answer is flushed, and whether they are gathered.
+const PASSING: [(usize, bool, bool); 3] = [(3, false, false), (11, false, true), (11, true, false)];
+
 #[test]
 fn what_was_answered_is_passed_on_before_a_read(rt: HostRuntime) {
-    for (count, flush, are_gathered) in [(3, false, false), (11, false, true), (11, true, false)] {
-        assert!(rt; passing(rt.alloc(), count, flush) == Ok((false, are_gathered)));
+    for (count, flush, are_gathered) in &PASSING {
+        assert!(rt; passing(rt.alloc(), *count, *flush) == Ok((false, *are_gathered)));
     }
 }

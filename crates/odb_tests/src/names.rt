@@ -1,7 +1,9 @@
 //! URLs: how each begins, and whether it is that of a batch.
 
+use crate::rows::expect;
 use odb_names::{Front, front, is_nested_batch};
-use std::alloc::{AllocError, Global};
+use std::alloc::Global;
+use std::test::Fail;
 
 const PLAIN: &[&str] = &[
     "",
@@ -71,41 +73,59 @@ const NOT_NESTED: &[&str] = &[
     "%2524batch",
 ];
 
-fn is_reference(alloc: Global, url: &str, id: &str) -> Result<bool, AllocError> {
-    match front(alloc, url)? {
-        Front::Reference(found) => Ok(found.as_str() == id),
-        _ => Ok(false),
+/// Whether a URL begins so, where it refers to no request.
+fn is_front(alloc: Global, url: &str, wanted: &Front) -> bool {
+    match front(alloc, url) {
+        Ok(found) => found == *wanted,
+        Err(_) => false,
     }
 }
 
-#[test]
-fn reads_fronts(rt: HostRuntime) -> Result<(), AllocError> {
-    for (urls, want) in [
-        (PLAIN, Front::Plain),
-        (RESERVED, Front::Reserved),
-        (BAD, Front::Bad),
-    ] {
-        for url in urls {
-            assert!(rt; front(rt.alloc(), url)? == want, "{url}");
+fn is_reference(alloc: Global, url: &str, id: &str) -> bool {
+    match front(alloc, url) {
+        Ok(Front::Reference(found)) => found.as_str() == id,
+        _ => false,
+    }
+}
+
+fn are_fronts(alloc: Global, urls: &[&str], wanted: &Front) -> bool {
+    for url in urls {
+        if !is_front(alloc, url, wanted) {
+            return false;
         }
     }
-    Ok(())
+    true
 }
 
 #[test]
-fn reads_references(rt: HostRuntime) -> Result<(), AllocError> {
+fn reads_fronts(rt: HostRuntime) {
+    let alloc = rt.alloc();
+    assert!(rt;
+        are_fronts(alloc, PLAIN, &Front::Plain)
+            && are_fronts(alloc, RESERVED, &Front::Reserved)
+            && are_fronts(alloc, BAD, &Front::Bad)
+    );
+}
+
+#[test]
+fn reads_references(rt: HostRuntime) -> Result<(), Fail> {
     for (url, id) in REFERENCES {
-        assert!(rt; is_reference(rt.alloc(), url, id)?, "{url}");
+        expect(is_reference(rt.alloc(), url, id), url)?;
     }
     Ok(())
 }
 
-#[test]
-fn finds_nested_batches(rt: HostRuntime) -> Result<(), AllocError> {
-    for (urls, want) in [(NESTED, true), (NOT_NESTED, false)] {
-        for url in urls {
-            assert!(rt; is_nested_batch(rt.alloc(), url)? == want, "{url}");
+fn are_nested(alloc: Global, urls: &[&str], wanted: bool) -> bool {
+    for url in urls {
+        if is_nested_batch(alloc, url) != Ok(wanted) {
+            return false;
         }
     }
-    Ok(())
+    true
+}
+
+#[test]
+fn finds_nested_batches(rt: HostRuntime) {
+    let alloc = rt.alloc();
+    assert!(rt; are_nested(alloc, NESTED, true) && are_nested(alloc, NOT_NESTED, false));
 }

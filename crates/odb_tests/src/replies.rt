@@ -5,20 +5,16 @@ mod refusals;
 mod texts;
 mod writers;
 
-ghost use Rattle.std.specs.Prelude.{◌≡◌, length};
-ghost use Rattle.odb_check.specs.Plans.{plan_records};
-ghost use Rattle.odb_sched.specs.run.State.{size};
-
-use crate::runs::{OnPlan, on_document};
+use crate::runs::{OnPlan, holds_of};
 use odb_check::Plan;
-use odb_doc::{Outcome, Output, TextFault};
+use odb_doc::{Outcome, Output, Request, TextFault};
+use odb_exec::{ExecFault, First, Service, ServiceFault, Trace, execute};
 use odb_reply::{ReplyFault, response_text, write_responses};
-use odb_sched::{Done, Mode, Policy, Scheduler};
+use odb_sched::{Done, Mode, Policy};
 use serde_json::Value;
 use std::alloc::{AllocError, Global};
 use std::collections::BTreeMap;
 use std::io::{self, Write};
-use std::test::Fail;
 
 /// Four requests: the second and the third are a group that depends on the first, and the last
 /// depends on the group.
@@ -34,9 +30,9 @@ const USUAL: &str = r#"{"requests":[
 const TWO: &str = r#"{"requests":[{"id":"a","method":"get","url":"X"},
     {"id":"b","method":"get","url":"X"}]}"#;
 
-/// What a request ends with: its position, the status, the headers, and the JSON text of the body,
-/// which is empty for none.
-type Ending<'a> = (u32, u16, &'a [(&'a str, &'a str)], &'a str);
+/// What a request ends with: the status, the headers, and the JSON text of the body, which is empty for
+/// none.
+type Ending<'a> = (u16, &'a [(&'a str, &'a str)], &'a str);
 
 /// Takes all bytes and remembers how many came in the longest call.
 #[derive(Drop)]
@@ -68,7 +64,10 @@ fn insert(
     Ok(())
 }
 
-fn headers_of(alloc: Global, listed: &[(&str, &str)]) -> Result<BTreeMap<String, String>, Fail> {
+fn headers_of(
+    alloc: Global,
+    listed: &[(&str, &str)],
+) -> Result<BTreeMap<String, String>, AllocError> {
     let mut headers = BTreeMap::new(alloc);
     for (name, value) in listed {
         insert(alloc, &mut headers, name, value)?;
@@ -76,132 +75,114 @@ fn headers_of(alloc: Global, listed: &[(&str, &str)]) -> Result<BTreeMap<String,
     Ok(headers)
 }
 
-fn body_of(alloc: Global, text: &str) -> Result<Option<Value>, Fail> {
+fn body_of(alloc: Global, text: &str) -> Option<Value> {
     if text.is_empty() {
-        return Ok(None);
+        return None;
     }
-    Ok(Some(Value::from_str(alloc, text)?))
+    Value::from_str(alloc, text).ok()
 }
 
-/// The outcome of an ending.
-fn outcome_of(alloc: Global, ending: &Ending<'_>) -> Result<Outcome, Fail> {
-    let (_, status, headers, body) = *ending;
-    let body = body_of(alloc, body)?;
-    Ok(Outcome {
-        status,
-        headers: headers_of(alloc, headers)?,
-        body,
-    })
-}
-
-/// Starts the request of an ending, and reports its outcome.
-fn play(
+/// Ends the first requests of a batch so, and has no outcome for the others.
+#[derive(Clone, Copy, Drop)]
+struct Endings<'a> {
     alloc: Global,
-    plan: &Plan<'_>,
-    scheduler: &mut Scheduler<'_>,
-    ending: &Ending<'_>,
-) -> Result<(), Fail>
-    requires { size scheduler.old ≡ length (plan_records plan.now) }
-    ensures { size scheduler.new ≡ size scheduler.old }
-{
-    let i = ending.0;
-    if i < plan.len() {
-        scheduler.start(i)?;
-        scheduler.report(i, outcome_of(alloc, ending)?)?;
-    }
-    Ok(())
-}
-
-/// Plays all endings in turn.
-fn play_all(
-    alloc: Global,
-    plan: &Plan<'_>,
-    scheduler: &mut Scheduler<'_>,
-    endings: &[Ending<'_>],
-) -> Result<(), Fail>
-    requires { size scheduler.old ≡ length (plan_records plan.now) }
-{
-    for ending in endings {
-        play(alloc, plan, scheduler, ending)?;
-    }
-    Ok(())
-}
-
-/// The text of the response to a run; and how writing it ended, and what was written.
-#[derive(Drop)]
-struct Reply {
-    text: Result<String, TextFault>,
-    written: Result<(), ReplyFault>,
-    writer: Longest,
-}
-
-impl Reply {
-    fn of(alloc: Global, done: &Done<'_>) -> Reply {
-        let mut output = Output::new(Longest {
-            bytes: Vec::new(alloc),
-            longest: 0,
-        });
-        let text = response_text(alloc, done);
-        let written = write_responses(alloc, &mut output, done);
-        Reply {
-            text,
-            written,
-            writer: output.into_inner(),
-        }
-    }
-
-    /// Whether both calls gave this text.
-    fn is_text(&self, want: &str) -> bool {
-        let is_text = match &self.text {
-            Ok(text) => text.as_str() == want,
-            Err(_) => false,
-        };
-        is_text && self.written == Ok(()) && self.writer.bytes.as_slice() == want.as_bytes()
-    }
-
-    /// Whether both calls refused the body of this request, and the second wrote nothing.
-    fn is_refused(&self, at: usize) -> bool {
-        let is_refused = match &self.text {
-            Err(fault) => *fault == TextFault::NotWhole { at },
-            Ok(_) => false,
-        };
-        is_refused
-            && self.written == Err(ReplyFault::NotWhole { at })
-            && self.writer.bytes.is_empty()
-    }
-}
-
-/// The reply to a run that is finished.
-fn reply_after(alloc: Global, scheduler: Scheduler<'_>) -> Result<Reply, Fail> {
-    if scheduler.is_finished() {
-        Ok(Reply::of(alloc, &scheduler.close()))
-    } else {
-        Err(Fail::new("the run is not finished"))
-    }
-}
-
-/// Starts and ends each request in turn.
-#[derive(Clone, Copy)]
-struct Playing<'a> {
     endings: &'a [Ending<'a>],
 }
 
-impl OnPlan for Playing<'_> {
-    type Found = Reply;
+impl Service for Endings<'_> {
+    ghost offers = { λ _ _ _. Unit {0} };
 
-    fn on_plan(&mut self, alloc: Global, plan: &Plan<'_>) -> Result<Reply, Fail> {
-        let mut scheduler = Scheduler::new(alloc, plan, Policy::free(Mode::Continue))?;
-        play_all(alloc, plan, &mut scheduler, self.endings)?;
-        reply_after(alloc, scheduler)
+    ghost performs = { λ _ _ _ _ _. Unit {0} };
+
+    fn perform(&mut self, i: u32, _request: &Request<'_>) -> Result<Outcome, ServiceFault> {
+        let Some((status, headers, body)) = self.endings.get(i as usize) else {
+            return Err(ServiceFault::NoOutcome);
+        };
+        match headers_of(self.alloc, headers) {
+            Ok(headers) => Ok(Outcome {
+                status: *status,
+                headers,
+                body: body_of(self.alloc, body),
+            }),
+            Err(_) => Err(ServiceFault::OutOfMemory),
+        }
     }
 }
 
-/// The reply to a batch whose requests end so.
-fn reply_to(alloc: Global, document: &str, endings: &[Ending<'_>]) -> Result<Reply, Fail> {
-    on_document(alloc, document, &mut Playing { endings })
+/// Whether the response to a finished run has this text, or a fault if the body of a request is
+/// refused.
+fn has_text(alloc: Global, done: &Done<'_>, wanted: Result<&str, usize>) -> bool {
+    match response_text(alloc, done) {
+        Ok(text) => wanted == Ok(text.as_str()),
+        Err(TextFault::NotWhole { at }) => wanted == Err(at),
+        Err(TextFault::OutOfMemory) => false,
+    }
 }
 
-/// Whether the reply to a batch whose requests end so has this text.
-fn gives(alloc: Global, document: &str, endings: &[Ending<'_>], want: &str) -> Result<bool, Fail> {
-    Ok(reply_to(alloc, document, endings)?.is_text(want))
+/// Whether the text is written, in pieces of which none is longer than this; nothing is written if the
+/// body of a request is refused.
+fn is_written(alloc: Global, done: &Done<'_>, wanted: Result<&str, usize>, longest: usize) -> bool {
+    let mut output = Output::new(Longest {
+        bytes: Vec::new(alloc),
+        longest: 0,
+    });
+    let ended = write_responses(alloc, &mut output, done);
+    let writer = output.into_inner();
+    let (fault, text) = match wanted {
+        Ok(text) => (Ok(()), text),
+        Err(at) => (Err(ReplyFault::NotWhole { at }), ""),
+    };
+    ended == fault && writer.bytes.as_slice() == text.as_bytes() && writer.longest <= longest
+}
+
+/// How the requests of a batch end, the response or the first request whose body is refused, and how many
+/// bytes the longest write may have.
+#[derive(Clone, Copy)]
+struct Reply<'a> {
+    endings: &'a [Ending<'a>],
+    wanted: Result<&'a str, usize>,
+    longest: usize,
+}
+
+impl Reply<'_> {
+    /// Whether the response to an execution is the one that is wanted.
+    fn is_to(&self, alloc: Global, executed: &Result<Trace<'_>, ExecFault>) -> bool {
+        match executed {
+            Ok(trace) => {
+                has_text(alloc, &trace.done, self.wanted)
+                    && is_written(alloc, &trace.done, self.wanted, self.longest)
+            }
+            Err(_) => false,
+        }
+    }
+}
+
+impl OnPlan for Reply<'_> {
+    fn holds(&self, alloc: Global, plan: &Plan<'_>) -> bool {
+        let policy = Policy::free(Mode::Continue);
+        let mut service = Endings {
+            alloc,
+            endings: self.endings,
+        };
+        self.is_to(
+            alloc,
+            &execute(alloc, plan, policy, &mut First, &mut service),
+        )
+    }
+}
+
+/// Whether a batch whose requests end so has this response, and no write is longer than this.
+fn replies(
+    alloc: Global,
+    document: &str,
+    endings: &[Ending<'_>],
+    wanted: Result<&str, usize>,
+    longest: usize,
+) -> bool {
+    let reply = Reply {
+        endings,
+        wanted,
+        longest,
+    };
+    holds_of(alloc, document, &reply)
 }

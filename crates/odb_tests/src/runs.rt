@@ -1,14 +1,12 @@
 //! Runs of plans: what each event may do, which requests are ready and which run after it, and what
 //! each request is answered in the end.
 
-mod bodies;
-mod calls;
-mod embedding;
+pub mod embedding;
+mod ends;
 mod events;
 mod executions;
+mod listed;
 mod lists;
-mod notes;
-mod orders;
 mod picks;
 mod plain;
 mod recordings;
@@ -22,7 +20,6 @@ use odb_sched::{Mode, Policy, ReportRefusal, Scheduler};
 use serde_json::Value;
 use std::alloc::Global;
 use std::collections::BTreeMap;
-use std::test::Fail;
 
 /// Two requests that do not depend on each other, and a third that depends on the first.
 const THREE: &str = r#"{"requests":[{"id":"r","method":"get","url":"X"},
@@ -45,32 +42,32 @@ const PASSED_ON: &str = r#"{"requests":[{"id":"a","method":"get","url":"X"},
     {"id":"q","method":"delete","url":"X","atomicityGroup":"g","dependsOn":["a"]},
     {"id":"r","method":"get","url":"X","dependsOn":["g"]}]}"#;
 
-/// What a test does with the plan of a document.
+/// What a test asks of the plan of a document.
 pub trait OnPlan {
-    /// What it finds out.
-    type Found;
-
-    fn on_plan(&mut self, alloc: Global, plan: &Plan<'_>) -> Result<Self::Found, Fail>;
+    /// Whether it holds. A call that runs out of memory, or finds a fault, does not hold.
+    fn holds(&self, alloc: Global, plan: &Plan<'_>) -> bool;
 }
 
-fn on_batch<T: OnPlan>(alloc: Global, batch: &Batch<'_>, task: &mut T) -> Result<T::Found, Fail> {
-    let plan = check(alloc, batch)?;
-    task.on_plan(alloc, &plan)
+fn holds_of_batch<T: OnPlan>(alloc: Global, batch: &Batch<'_>, task: &T) -> bool {
+    match check(alloc, batch) {
+        Ok(plan) => task.holds(alloc, &plan),
+        Err(_) => false,
+    }
 }
 
-fn on_value<T: OnPlan>(alloc: Global, value: &Value, task: &mut T) -> Result<T::Found, Fail> {
-    let batch = Batch::read(alloc, value)?;
-    on_batch(alloc, &batch, task)
+fn holds_of_value<T: OnPlan>(alloc: Global, value: &Value, task: &T) -> bool {
+    match Batch::read(alloc, value) {
+        Ok(batch) => holds_of_batch(alloc, &batch, task),
+        Err(_) => false,
+    }
 }
 
-/// What a task finds out of the plan of a document.
-pub fn on_document<T: OnPlan>(
-    alloc: Global,
-    document: &str,
-    task: &mut T,
-) -> Result<T::Found, Fail> {
-    let value = parse(alloc, document.as_bytes())?;
-    on_value(alloc, &value, task)
+/// Whether a document is a batch that the check accepts, and its plan is what is asked for.
+pub fn holds_of<T: OnPlan>(alloc: Global, document: &str, task: &T) -> bool {
+    match parse(alloc, document.as_bytes()) {
+        Ok(value) => holds_of_value(alloc, &value, task),
+        Err(_) => false,
+    }
 }
 
 /// A policy of this width, or a free one where the width is 0.
@@ -78,13 +75,18 @@ fn policy(mode: Mode, width: u32) -> Policy {
     Policy::new(mode, width).unwrap_or(Policy::free(mode))
 }
 
-/// An outcome with this status and nothing else.
+/// An outcome with this status and the body `true`.
 fn outcome(alloc: Global, status: u16) -> Outcome {
     Outcome {
         status,
         headers: BTreeMap::new(alloc),
-        body: None,
+        body: Some(Value::Bool(true)),
     }
+}
+
+/// Whether an outcome is this one.
+fn is_outcome(outcome: &Outcome, status: u16) -> bool {
+    outcome.status == status && matches!(outcome.body, Some(Value::Bool(true)))
 }
 
 /// The code of the refusal of a start, or `ok`.
@@ -98,11 +100,11 @@ fn start_code(scheduler: &mut Scheduler<'_>, i: u32) -> &'static str
     }
 }
 
-/// The code of the refusal of a report that hands back an outcome with this status, or `ok`.
+/// The code of the refusal of a report that hands back the outcome with this status, or `ok`.
 fn refusal_code(refusal: &Result<(), (ReportRefusal, Outcome)>, status: u16) -> &'static str {
     match refusal {
         Ok(()) => "ok",
-        Err((cause, back)) if back.status == status => cause.code(),
+        Err((cause, back)) if is_outcome(back, status) => cause.code(),
         Err(_) => "another outcome",
     }
 }

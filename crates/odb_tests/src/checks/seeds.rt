@@ -1,25 +1,21 @@
 //! What a seed is made of: eight bytes of the source that is given.
 
 use odb_check::Seed;
-use std::io;
-use std::io::ErrorKind;
+use std::io::{self, ErrorKind, Read};
 use std::random::RandomSource;
-use std::test::Fail;
 
 /// How many seeds are drawn. Of 256 seeds it would be likely within 20 that one comes twice.
 const DRAWS: usize = 64;
 
-/// Gives the bytes of a number, the lowest first.
+/// Gives the eight bytes of a number, the lowest first, and no more.
 #[derive(Drop)]
 struct Bytes(u64);
 
 impl RandomSource for Bytes {
     fn fill_bytes(&self, buf: &mut [u8]) -> io::Result<()> {
         let bytes = self.0.to_le_bytes();
-        let count = buf.len().min(bytes.len());
-        buf.fill(0);
-        buf[..count].copy_from_slice(&bytes[..count]);
-        Ok(())
+        let mut left = bytes.as_slice();
+        left.read_exact(buf)
     }
 }
 
@@ -33,33 +29,39 @@ impl RandomSource for Dry {
     }
 }
 
+/// Whether the bytes of a number make the seed of it.
+fn is_read(number: u64) -> bool {
+    match Seed::random(&Bytes(number)) {
+        Ok(seed) => seed == Seed::new(number),
+        Err(_) => false,
+    }
+}
+
 #[test]
-fn reads_every_bit_of_eight_bytes(rt: HostRuntime) -> Result<(), Fail> {
+fn reads_every_bit_of_eight_bytes(rt: HostRuntime) {
     for bit in 0_u32..64 {
         let number = 1_u64 << bit;
-        assert!(rt; Seed::random(&Bytes(number))? == Seed::new(number), "{bit}");
-        assert!(rt;
-            Seed::random(&Bytes(u64::MAX - number))? == Seed::new(u64::MAX - number),
-            "{bit}"
-        );
+        assert!(rt; is_read(number) && is_read(u64::MAX - number));
     }
-    Ok(())
+}
+
+/// Adds a seed to those that were drawn, unless it is one of them.
+fn is_new<R: RandomSource>(random: &R, drawn: &mut Vec<Seed>) -> bool {
+    match Seed::random(random) {
+        Ok(seed) => !drawn.contains(&seed) && drawn.push(seed).is_ok(),
+        Err(_) => false,
+    }
 }
 
 #[test]
-fn draws_no_seed_twice(rt: HostRuntime) -> Result<(), Fail> {
+fn draws_no_seed_twice(rt: HostRuntime) {
     let mut drawn = Vec::new(rt.alloc());
     for _ in 0..DRAWS {
-        let seed = Seed::random(&rt)?;
-        assert!(rt; !drawn.contains(&seed));
-        drawn.push(seed)?;
+        assert!(rt; is_new(&rt, &mut drawn));
     }
-    Ok(())
 }
 
 #[test]
-fn is_not_made_of_nothing(rt: HostRuntime) -> Result<(), Fail> {
-    assert!(rt; Seed::random(&Dry).is_err());
-    assert!(rt; Seed::new(0) != Seed::none());
-    Ok(())
+fn is_not_made_of_nothing(rt: HostRuntime) {
+    assert!(rt; Seed::random(&Dry).is_err() && Seed::new(0) != Seed::none());
 }

@@ -4,23 +4,31 @@ use odb_doc::{
     EventFault, EventRule, Events, NamedEvent, Outcome, OutcomeFault, OutcomeRule, Outcomes, parse,
 };
 use std::alloc::{AllocError, Global};
-use std::test::Fail;
 
 const OUTCOMES: &[u8] = br#"{"outcomes":[
     {"id":"a","status":201,"headers":{"Location":"X(1)","ETAG":"7"},"body":{"n":[1,-2],"t":"x"}},
     {"status":404,"id":"b c","headers":null,"body":null},
     {"id":"","status":599,"headers":{},"body":false}]}"#;
 
-/// What is read of them.
-const READ_OUTCOMES: &str =
-    "a 201 {\"etag\": \"7\", \"location\": \"X(1)\"} {\"n\":[1,-2],\"t\":\"x\"};\
-    b c 404 {} -; 599 {} false;";
+/// The ids that are read of them, each with the text of its outcome.
+const READ_OUTCOMES: &[(&str, &str)] = &[
+    (
+        "a",
+        "201 {\"etag\": \"7\", \"location\": \"X(1)\"} {\"n\":[1,-2],\"t\":\"x\"}",
+    ),
+    ("b c", "404 {} -"),
+    ("", "599 {} false"),
+];
 
 const EVENTS: &[u8] = br#"{"events":[{"start":"a"},
     {"status":65535,"report":"b c","headers":{"ETag":"7"},"body":[1]},{"start":""}]}"#;
 
-/// What is read of them.
-const READ_EVENTS: &str = "a;b c 65535 {\"etag\": \"7\"} [1];;";
+/// The ids that are read of them, those of reports with the text of their outcome.
+const READ_EVENTS: &[(&str, Option<&str>)] = &[
+    ("a", None),
+    ("b c", Some("65535 {\"etag\": \"7\"} [1]")),
+    ("", None),
+];
 
 /// The body as JSON, `-` where there is none.
 fn body_text(alloc: Global, outcome: &Outcome) -> Result<String, AllocError> {
@@ -30,105 +38,132 @@ fn body_text(alloc: Global, outcome: &Outcome) -> Result<String, AllocError> {
     }
 }
 
-/// Adds an outcome with its id.
-pub fn push_outcome(
-    alloc: Global,
-    notes: &mut String,
-    id: &str,
-    outcome: &Outcome,
-) -> Result<(), AllocError> {
-    let (status, headers) = (outcome.status, &outcome.headers);
+/// The status, the headers and the body of an outcome.
+fn outcome_text(alloc: Global, outcome: &Outcome) -> Result<String, AllocError> {
     let body = body_text(alloc, outcome)?;
-    notes.push_str(&format!(in alloc; "{id} {status} {headers:?} {body};")?)
+    format!(in alloc; "{} {:?} {body}", outcome.status, outcome.headers)
 }
 
-fn push_event(alloc: Global, notes: &mut String, event: &NamedEvent) -> Result<(), AllocError> {
-    match event {
-        NamedEvent::Start(id) => notes.push_str(&format!(in alloc; "{id};")?),
-        NamedEvent::Report(id, outcome) => push_outcome(alloc, notes, id, outcome),
+/// Whether an outcome has this text.
+pub fn is_outcome(alloc: Global, outcome: &Outcome, text: &str) -> bool {
+    match outcome_text(alloc, outcome) {
+        Ok(found) => found.as_str() == text,
+        Err(_) => false,
     }
 }
 
-/// The outcomes as they are looked at one by one.
-fn push_entries(alloc: Global, notes: &mut String, outcomes: &Outcomes) -> Result<(), AllocError> {
-    for k in 0..outcomes.len() {
-        let (id, outcome) = outcomes.entry(k);
-        push_outcome(alloc, notes, id, outcome)?;
+/// Whether outcomes that are looked at one by one are these.
+fn are_entries(alloc: Global, outcomes: &Outcomes, wanted: &[(&str, &str)]) -> bool {
+    if outcomes.len() != wanted.len() {
+        return false;
     }
-    Ok(())
-}
-
-fn push_outcomes(
-    alloc: Global,
-    notes: &mut String,
-    outcomes: &[(String, Outcome)],
-) -> Result<(), AllocError> {
-    for (id, outcome) in outcomes {
-        push_outcome(alloc, notes, id, outcome)?;
+    for (k, (id, text)) in wanted.iter().enumerate() {
+        let (found, outcome) = outcomes.entry(k);
+        if found != *id || !is_outcome(alloc, outcome, text) {
+            return false;
+        }
     }
-    Ok(())
+    true
 }
 
-fn push_events(alloc: Global, notes: &mut String, events: &[NamedEvent]) -> Result<(), AllocError> {
-    for event in events {
-        push_event(alloc, notes, event)?;
+/// Whether the outcomes of a list are these.
+fn are_outcomes(alloc: Global, outcomes: &[(String, Outcome)], wanted: &[(&str, &str)]) -> bool {
+    for ((found, outcome), (id, text)) in outcomes.iter().zip(wanted) {
+        if found.as_str() != *id || !is_outcome(alloc, outcome, text) {
+            return false;
+        }
     }
-    Ok(())
+    outcomes.len() == wanted.len()
 }
 
-/// Whether `read` gives the outcomes, looked at one by one.
-fn are_outcomes_read(alloc: Global) -> Result<bool, Fail> {
-    let outcomes = Outcomes::read(alloc, parse(alloc, OUTCOMES)?)?;
-    let mut notes = String::new(alloc);
-    push_entries(alloc, &mut notes, &outcomes)?;
-    Ok(notes.as_str() == READ_OUTCOMES)
+/// Whether an event is a start, or a report with an outcome that has this text.
+fn is_event(alloc: Global, event: &NamedEvent, (id, text): (&str, Option<&str>)) -> bool {
+    match (event, text) {
+        (NamedEvent::Start(found), None) => found.as_str() == id,
+        (NamedEvent::Report(found, outcome), Some(text)) => {
+            found.as_str() == id && is_outcome(alloc, outcome, text)
+        }
+        _ => false,
+    }
 }
 
-/// Whether `split` gives them, as a list.
-fn are_outcomes_split(alloc: Global) -> Result<bool, Fail> {
-    let (outcomes, _emptied) = Outcomes::split(alloc, parse(alloc, OUTCOMES)?)?;
-    let mut notes = String::new(alloc);
-    push_outcomes(alloc, &mut notes, &outcomes.into_vec())?;
-    Ok(notes.as_str() == READ_OUTCOMES)
+fn are_events(alloc: Global, events: &[NamedEvent], wanted: &[(&str, Option<&str>)]) -> bool {
+    for (event, row) in events.iter().zip(wanted) {
+        if !is_event(alloc, event, *row) {
+            return false;
+        }
+    }
+    events.len() == wanted.len()
 }
 
-fn are_events(alloc: Global, events: &[NamedEvent]) -> Result<bool, Fail> {
-    let mut notes = String::new(alloc);
-    push_events(alloc, &mut notes, events)?;
-    Ok(notes.as_str() == READ_EVENTS)
+/// What `read` finds in a document of outcomes.
+pub fn outcomes_in(alloc: Global, document: &[u8]) -> Result<Outcomes, OutcomeFault> {
+    match parse(alloc, document) {
+        Ok(value) => Outcomes::read(alloc, value),
+        Err(_) => Err(OutcomeFault::OutOfMemory),
+    }
 }
 
-fn are_events_read(alloc: Global) -> Result<bool, Fail> {
-    let events = Events::read(alloc, parse(alloc, EVENTS)?)?.into_vec();
-    are_events(alloc, &events)
+/// What `split` finds in a document of outcomes, as a list.
+fn outcomes_split(alloc: Global, document: &[u8]) -> Option<Vec<(String, Outcome)>> {
+    let value = parse(alloc, document).ok()?;
+    match Outcomes::split(alloc, value) {
+        Ok((outcomes, _emptied)) => Some(outcomes.into_vec()),
+        Err(_) => None,
+    }
+}
+
+/// What `read` finds in a document of events, as a list.
+fn events_in(alloc: Global, document: &[u8]) -> Result<Vec<NamedEvent>, EventFault> {
+    match parse(alloc, document) {
+        Ok(value) => Ok(Events::read(alloc, value)?.into_vec()),
+        Err(_) => Err(EventFault::OutOfMemory),
+    }
+}
+
+fn are_outcomes_read(alloc: Global) -> bool {
+    match outcomes_in(alloc, OUTCOMES) {
+        Ok(outcomes) => are_entries(alloc, &outcomes, READ_OUTCOMES),
+        Err(_) => false,
+    }
+}
+
+fn are_outcomes_split(alloc: Global) -> bool {
+    match outcomes_split(alloc, OUTCOMES) {
+        Some(outcomes) => are_outcomes(alloc, &outcomes, READ_OUTCOMES),
+        None => false,
+    }
+}
+
+fn are_events_read(alloc: Global) -> bool {
+    match events_in(alloc, EVENTS) {
+        Ok(events) => are_events(alloc, &events, READ_EVENTS),
+        Err(_) => false,
+    }
+}
+
+#[test]
+fn reads_outcomes_and_events(rt: HostRuntime) {
+    let alloc = rt.alloc();
+    assert!(rt; are_outcomes_read(alloc));
+    assert!(rt; are_outcomes_split(alloc));
+    assert!(rt; are_events_read(alloc));
 }
 
 /// Whether the least fault of outcomes is given.
-fn are_outcomes_refused(alloc: Global) -> Result<bool, Fail> {
+fn are_outcomes_refused(alloc: Global) -> bool {
     let document = br#"{"outcomes":[{"id":"a","status":200},{"id":"a","status":600}]}"#;
-    let found = Outcomes::read(alloc, parse(alloc, document)?).err();
     let rule = OutcomeRule::OutcomeTwice;
-    Ok(found == Some(OutcomeFault::Outcome { at: 1, rule }))
+    outcomes_in(alloc, document).err() == Some(OutcomeFault::Outcome { at: 1, rule })
 }
 
-fn are_events_refused(alloc: Global) -> Result<bool, Fail> {
+fn are_events_refused(alloc: Global) -> bool {
     let document = br#"{"events":[{"start":"a"},{"start":1}]}"#;
-    let found = Events::read(alloc, parse(alloc, document)?).err();
     let rule = EventRule::BadEvents;
-    Ok(found == Some(EventFault::Event { at: 1, rule }))
+    events_in(alloc, document).err() == Some(EventFault::Event { at: 1, rule })
 }
 
 #[test]
-fn reads_outcomes_and_events(rt: HostRuntime) -> Result<(), Fail> {
-    assert!(rt; are_outcomes_read(rt.alloc())?);
-    assert!(rt; are_outcomes_split(rt.alloc())?);
-    assert!(rt; are_events_read(rt.alloc())?);
-    Ok(())
-}
-
-#[test]
-fn refuses_outcomes_and_events(rt: HostRuntime) -> Result<(), Fail> {
-    assert!(rt; are_outcomes_refused(rt.alloc())?);
-    assert!(rt; are_events_refused(rt.alloc())?);
-    Ok(())
+fn refuses_outcomes_and_events(rt: HostRuntime) {
+    assert!(rt; are_outcomes_refused(rt.alloc()) && are_events_refused(rt.alloc()));
 }

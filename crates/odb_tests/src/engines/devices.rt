@@ -6,7 +6,7 @@ use std::io::{ErrorKind, Read, Write};
 
 /// How a device works: how many bytes it gives or takes at each call, in turns of three, and how
 /// many calls go well before one fails.
-#[derive(Clone, Copy, Debug)]
+#[derive(Clone, Copy)]
 pub struct Pace {
     pub turns: [usize; 3],
     pub calls: usize,

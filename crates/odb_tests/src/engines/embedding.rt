@@ -1,9 +1,9 @@
 //! What a caller of a command writes.
 
+use crate::fail::Fail;
 use odb_doc::{Input, Output};
 use odb_engine::check_batch;
 use std::alloc::Global;
-use std::test::Fail;
 
 /// Returns what the check of a document writes: the line of its counts, or of its first fault.
 fn check_line(alloc: Global, document: &[u8]) -> Result<Vec<u8>, Fail> {
@@ -12,11 +12,22 @@ fn check_line(alloc: Global, document: &[u8]) -> Result<Vec<u8>, Fail> {
     Ok(output.into_inner())
 }
 
+/// Whether the check of a document writes this.
+fn is_line(alloc: Global, document: &[u8], line: &[u8]) -> bool {
+    match check_line(alloc, document) {
+        Ok(found) => found.as_slice() == line,
+        Err(_) => false,
+    }
+}
+
 #[test]
-fn checks_a_document(rt: HostRuntime) -> Result<(), Fail> {
-    let good = check_line(rt.alloc(), b"{\"requests\":[]}")?;
-    assert_eq!(rt; good.as_slice(), b"ok 0 requests 0 groups\n".as_slice());
-    let bad = check_line(rt.alloc(), b"")?;
-    assert_eq!(rt; bad.as_slice(), b"fault F02 NotJson batch\n".as_slice());
-    Ok(())
+fn checks_a_document(rt: HostRuntime) {
+    assert!(rt;
+        is_line(
+            rt.alloc(),
+            b"{\"requests\":[]}",
+            b"ok 0 requests 0 groups\n"
+        )
+    );
+    assert!(rt; is_line(rt.alloc(), b"", b"fault F02 NotJson batch\n"));
 }

@@ -17,10 +17,13 @@ const ENOUGH: usize = 1_000;
 const OUTPUT: usize = 2;
 
 /// How an engine ended, and what it did to its devices.
-#[derive(Drop)]
+#[derive(Clone, Copy)]
 struct Calls {
     ended: Result<Ended, EngineFault>,
-    written: Vec<u8>,
+    /// How many bytes were written.
+    written: usize,
+    /// Whether they are a prefix of the text of the example.
+    is_prefix: bool,
     /// How often each device was called.
     counts: [usize; 3],
     /// Whether the inputs counted as many reads as their readers did.
@@ -30,26 +33,25 @@ struct Calls {
 impl Calls {
     fn are_whole(&self, text: &str) -> bool {
         self.ended == Ok(Ended::Done)
-            && self.written.as_slice() == text.as_bytes()
+            && self.is_prefix
+            && self.written == text.len()
             && self.are_counted
     }
 
     /// Whether an input failed and nothing was written.
     fn are_cut_in_reading(&self) -> bool {
-        self.ended == Err(EngineFault::Read) && self.written.is_empty() && self.are_counted
+        self.ended == Err(EngineFault::Read) && self.written == 0 && self.are_counted
     }
 
     /// Whether the output failed and has received a prefix of the text.
     fn are_cut_in_writing(&self, text: &str) -> bool {
-        self.ended == Err(EngineFault::Write)
-            && self.written.len() < text.len()
-            && text.as_bytes().starts_with(&self.written)
+        self.ended == Err(EngineFault::Write) && self.is_prefix && self.written < text.len()
     }
 }
 
 /// Calls an engine whose devices work at these paces.
 fn calls_of(alloc: Global, example: Example, paces: [Pace; 3], disposal: Disposal) -> Calls {
-    let (command, document, _text) = example;
+    let (command, document, text) = example;
     let mut batch = Input::new(Slow::new(PAIR.as_bytes(), paces[0]));
     let mut second = Input::new(Slow::new(document.as_bytes(), paces[1]));
     let mut output = Output::new(Narrow::new(alloc, paces[OUTPUT]));
@@ -65,7 +67,8 @@ fn calls_of(alloc: Global, example: Example, paces: [Pace; 3], disposal: Disposa
     let Narrow { bytes, calls, .. } = output.into_inner();
     Calls {
         ended,
-        written: bytes,
+        written: bytes.len(),
+        is_prefix: text.as_bytes().starts_with(&bytes),
         counts: [counts[0], counts[1], calls],
         are_counted: reads == counts,
     }

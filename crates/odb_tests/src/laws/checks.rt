@@ -67,10 +67,15 @@ fn verdict_of(found: &Option<Result<Plan<'_>, CheckFault>>) -> Result<(), CheckF
     }
 }
 
-/// Returns what two checks of a batch found.
-fn verdicts(alloc: Global, batch: &Batch<'_>) -> (Result<(), CheckFault>, Result<(), CheckFault>) {
-    let (one, other) = plan_twice(alloc, batch);
-    (verdict_of(&one), verdict_of(&other))
+/// What two checks of a batch found.
+type Verdicts = (Result<(), CheckFault>, Result<(), CheckFault>);
+
+fn verdicts_of(both: &TwoPlans<'_>) -> Verdicts {
+    (verdict_of(&both.0), verdict_of(&both.1))
+}
+
+fn verdicts(alloc: Global, batch: &Batch<'_>) -> Verdicts {
+    verdicts_of(&plan_twice(alloc, batch))
 }
 
 /// Returns the code of what a check found: none for a plan, and `memory` if memory ran out.

@@ -260,38 +260,65 @@ fn are_same_events(alloc: Global, bytes: &[u8], is_good: bool) -> bool {
 }
 
 /// Whether two readings of a batch refuse it alike.
+fn are_alike_refusals(both: &TwoBatches<'_>) -> bool {
+    match both {
+        (Some(Err(one)), Some(Err(other))) => one == other,
+        _ => false,
+    }
+}
+
 fn is_refused_alike(alloc: Global, bytes: &[u8]) -> bool {
     match parse(alloc, bytes) {
-        Ok(value) => match batch_twice(alloc, &value) {
-            (Some(Err(one)), Some(Err(other))) => one == other,
-            _ => false,
-        },
+        Ok(value) => are_alike_refusals(&batch_twice(alloc, &value)),
         Err(_) => false,
     }
+}
+
+/// Whether two readings of a URL find that it is plain.
+fn is_plain_twice(alloc: Global, url: &str) -> bool {
+    matches!(
+        front_twice(alloc, url),
+        (Some(Front::Plain), Some(Front::Plain))
+    )
+}
+
+/// Whether a document is written so.
+fn is_written(alloc: Global, bytes: &[u8], text: &str) -> bool {
+    match written(alloc, bytes) {
+        Some(found) => found.as_str() == text,
+        None => false,
+    }
+}
+
+/// Whether two readings of outcomes and of events find the same, a value or a fault.
+fn are_same_records(alloc: Global) -> bool {
+    are_same_outcomes(alloc, br#"{"outcomes":[{"id":"a","status":200}]}"#, true)
+        && are_same_outcomes(alloc, b"{}", false)
+        && are_same_events(alloc, br#"{"events":[{"start":"a"}]}"#, true)
+        && are_same_events(alloc, b"{}", false)
+}
+
+/// Whether two readings of a text find the same.
+fn are_same_texts(alloc: Global) -> bool {
+    method_twice("gEt") == (Some(Method::Get), Some(Method::Get))
+        && type_twice(b"a/b;c").1.1 == b";c".as_slice()
+        && is_plain_twice(alloc, "a/b")
 }
 
 #[test]
 fn two_readings_of_one_document_are_one(rt: HostRuntime) {
     let alloc = rt.alloc();
-    assert!(rt; method_twice("gEt") == (Some(Method::Get), Some(Method::Get)));
-    assert!(rt;
-        matches!(
-            front_twice(alloc, "a/b"),
-            (Some(Front::Plain), Some(Front::Plain))
-        )
-    );
-    assert!(rt; type_twice(b"a/b;c").1.1 == b";c".as_slice());
-    assert!(rt; is_refused_alike(alloc, b"{}"));
-    assert!(rt; are_same_outcomes(alloc, br#"{"outcomes":[{"id":"a","status":200}]}"#, true));
-    assert!(rt; are_same_outcomes(alloc, b"{}", false));
-    assert!(rt; are_same_events(alloc, br#"{"events":[{"start":"a"}]}"#, true));
-    assert!(rt; are_same_events(alloc, b"{}", false));
+    assert!(rt; are_same_texts(alloc) && is_refused_alike(alloc, b"{}") && are_same_records(alloc));
+}
+
+/// Whether what is written of a value and of a batch is read back.
+fn are_read_back(alloc: Global) -> bool {
+    is_same(alloc, BATCH, SAME) == Some(true)
+        && is_written(alloc, b"[1, 2]", "[1,2]")
+        && canonical_of(alloc, BATCH).is_some()
 }
 
 #[test]
 fn a_written_text_is_read_back(rt: HostRuntime) {
-    let alloc = rt.alloc();
-    assert!(rt; is_same(alloc, BATCH, SAME) == Some(true));
-    assert!(rt; written(alloc, b"[1, 2]").is_some_and(|text| text.as_str() == "[1,2]"));
-    assert!(rt; canonical_of(alloc, BATCH).is_some());
+    assert!(rt; are_read_back(rt.alloc()));
 }

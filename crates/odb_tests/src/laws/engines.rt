@@ -325,18 +325,27 @@ fn are_alike(both: Option<(String, Written)>) -> bool {
     }
 }
 
+/// Whether the commands of a batch alone write one text each.
+fn are_one_of_batch(alloc: Global) -> bool {
+    is_one(checked_twice(alloc, BATCH), "ok 2")
+        && is_one(planned_twice(alloc, BATCH), "0 a level 0")
+        && is_one(drawn_twice(alloc, BATCH), "digraph plan {\n")
+        && is_one(made_canonical_twice(alloc, BATCH), "{\"requests\":")
+        && is_one(line_answered_twice(alloc, BATCH, LineTask::Check), "ok 2")
+}
+
+/// Whether those of two documents do, and a live run writes the text of a recorded one.
+fn are_one_of_two(alloc: Global, policy: Policy) -> bool {
+    is_one(matched_twice(alloc, BATCH, RESPONSES), "ok 2")
+        && is_one(ran_twice(alloc, BATCH, EVENTS, policy), "{\"responses\":")
+        && is_one(replayed_twice(alloc, BATCH, OUTCOMES, policy), "start a\n")
+        && are_alike(live_and_recorded(alloc, BATCH, EVENTS, policy))
+}
+
 #[test]
 fn engines_write_one_text_of_the_same_bytes(rt: HostRuntime) {
-    let (alloc, policy) = (rt.alloc(), Policy::free(Mode::Continue));
-    assert!(rt; is_one(checked_twice(alloc, BATCH), "ok 2"));
-    assert!(rt; is_one(planned_twice(alloc, BATCH), "0 a level 0"));
-    assert!(rt; is_one(drawn_twice(alloc, BATCH), "digraph plan {\n"));
-    assert!(rt; is_one(made_canonical_twice(alloc, BATCH), "{\"requests\":"));
-    assert!(rt; is_one(matched_twice(alloc, BATCH, RESPONSES), "ok 2"));
-    assert!(rt; is_one(ran_twice(alloc, BATCH, EVENTS, policy), "{\"responses\":"));
-    assert!(rt; is_one(replayed_twice(alloc, BATCH, OUTCOMES, policy), "start a\n"));
-    assert!(rt; are_alike(live_and_recorded(alloc, BATCH, EVENTS, policy)));
-    assert!(rt; is_one(line_answered_twice(alloc, BATCH, LineTask::Check), "ok 2"));
+    assert!(rt; are_one_of_batch(rt.alloc()));
+    assert!(rt; are_one_of_two(rt.alloc(), Policy::free(Mode::Continue)));
 }
 
 /// Whether a match finds that responses fit the batch.

@@ -93,12 +93,11 @@ fn started_first(
         → IfSome result (λ it. IfErr it (λ cause. cause ≢ WidthReached)) }
 {
     every_start(plan);
-    let Ok(mut state) = Scheduler::new(alloc, plan, policy) else {
+    if i >= plan.len() {
         return None;
-    };
-    if i < plan.len() {
-        Some(state.start(i))
-    } else {
-        None
+    }
+    match Scheduler::new(alloc, plan, policy) {
+        Ok(mut state) => Some(state.start(i)),
+        Err(_) => None,
     }
 }

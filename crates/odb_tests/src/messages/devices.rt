@@ -4,6 +4,7 @@ use super::compare;
 use odb_doc::{DeviceFault, TextFault};
 use odb_engine::EngineFault;
 use odb_reply::ReplyFault;
+use std::alloc::Global;
 use std::test::Fail;
 
 /// F50.
@@ -30,11 +31,14 @@ const ENGINES: &[(EngineFault, &str)] = &[
     (EngineFault::OutOfMemory, "out of memory"),
 ];
 
-#[test]
-fn faults_of_devices_have_their_messages(rt: HostRuntime) -> Result<(), Fail> {
-    let alloc = rt.alloc();
+fn compare_devices(alloc: Global) -> Result<(), Fail> {
     compare(alloc, TEXTS)?;
     compare(alloc, REPLIES)?;
     compare(alloc, &[(DeviceFault, "the device failed")])?;
     compare(alloc, ENGINES)
+}
+
+#[test]
+fn faults_of_devices_have_their_messages(rt: HostRuntime) -> Result<(), Fail> {
+    compare_devices(rt.alloc())
 }

@@ -7,6 +7,7 @@ use odb_doc::{
 };
 use odb_reply::{MatchFault, MatchRule, ResponseFault};
 use odb_sched::ResolveFault;
+use std::alloc::Global;
 use std::test::Fail;
 
 /// F01 to F06, and how the position of a request is shown.
@@ -258,9 +259,7 @@ const MISFITS: &[(MatchFault, &str)] = &[
     (MatchFault::OutOfMemory, "out of memory"),
 ];
 
-#[test]
-fn faults_of_batches_have_their_messages(rt: HostRuntime) -> Result<(), Fail> {
-    let alloc = rt.alloc();
+fn compare_batches(alloc: Global) -> Result<(), Fail> {
     compare(alloc, DOCUMENTS)?;
     compare(alloc, REQUESTS)?;
     compare(alloc, NAMES)?;
@@ -268,12 +267,20 @@ fn faults_of_batches_have_their_messages(rt: HostRuntime) -> Result<(), Fail> {
 }
 
 #[test]
-fn faults_of_records_have_their_messages(rt: HostRuntime) -> Result<(), Fail> {
-    let alloc = rt.alloc();
+fn faults_of_batches_have_their_messages(rt: HostRuntime) -> Result<(), Fail> {
+    compare_batches(rt.alloc())
+}
+
+fn compare_records(alloc: Global) -> Result<(), Fail> {
     compare(alloc, OUTCOMES)?;
     compare(alloc, EVENTS)?;
     compare(alloc, RESOLVED)?;
     compare(alloc, RESPONSES)?;
     compare(alloc, MATCHES)?;
     compare(alloc, MISFITS)
+}
+
+#[test]
+fn faults_of_records_have_their_messages(rt: HostRuntime) -> Result<(), Fail> {
+    compare_records(rt.alloc())
 }

@@ -4,6 +4,7 @@ use super::compare;
 use odb_check::Need;
 use odb_exec::{ExecFault, ServiceFault};
 use odb_sched::{ReportRefusal, RunRefusal, StartRefusal};
+use std::alloc::Global;
 use std::test::Fail;
 
 /// S1 to S5.
@@ -75,12 +76,15 @@ const SERVICES: &[(ServiceFault, &str)] = &[
     (ServiceFault::OutOfMemory, "out of memory"),
 ];
 
-#[test]
-fn refusals_of_runs_have_their_messages(rt: HostRuntime) -> Result<(), Fail> {
-    let alloc = rt.alloc();
+fn compare_runs(alloc: Global) -> Result<(), Fail> {
     compare(alloc, STARTS)?;
     compare(alloc, REPORTS)?;
     compare(alloc, RUNS)?;
     compare(alloc, EXECUTIONS)?;
     compare(alloc, SERVICES)
+}
+
+#[test]
+fn refusals_of_runs_have_their_messages(rt: HostRuntime) -> Result<(), Fail> {
+    compare_runs(rt.alloc())
 }

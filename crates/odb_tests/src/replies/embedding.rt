@@ -1,13 +1,16 @@
 //! What a caller writes beside a run: the key of a batch, the response of a recorded run, and whether
 //! the responses of a service fit.
 
-use crate::runs::{OnPlan, on_document};
+use crate::fail::Fail;
+use crate::rows::expect;
+use crate::runs::embedding::response_of;
+use crate::runs::{OnPlan, holds_of};
 use odb_check::Plan;
 use odb_doc::{Batch, Events, parse};
-use odb_reply::{Responses, match_responses, response_text};
+use odb_reply::{Responses, match_responses};
 use odb_sched::{Mode, Policy, resolve, run};
 use std::alloc::Global;
-use std::test::Fail;
+use std::test;
 
 /// Returns the text that all documents of the same batch have, as a key of a cache.
 fn cache_key(alloc: Global, document: &[u8]) -> Result<String, Fail> {
@@ -20,11 +23,10 @@ fn cache_key(alloc: Global, document: &[u8]) -> Result<String, Fail> {
 fn recorded(alloc: Global, plan: &Plan<'_>, document: &[u8]) -> Result<Option<String>, Fail> {
     let named = Events::read(alloc, parse(alloc, document)?)?;
     let events = resolve(alloc, plan, named)?;
-    let scheduler = run(alloc, plan, Policy::free(Mode::Continue), events)?;
-    if !scheduler.is_finished() {
-        return Ok(None);
-    }
-    Ok(Some(response_text(alloc, &scheduler.close())?))
+    response_of(
+        alloc,
+        run(alloc, plan, Policy::free(Mode::Continue), events)?,
+    )
 }
 
 /// Checks that the responses of a service fit a plan.
@@ -35,20 +37,26 @@ fn accept(alloc: Global, plan: &Plan<'_>, document: &[u8]) -> Result<(), Fail> {
     Ok(())
 }
 
-/// Recorded events.
+/// Recorded events, and the text of the response if they finish the run.
 #[derive(Clone, Copy)]
-struct OfEvents<'e>(&'e str);
+struct OfEvents(&'static str, Option<&'static str>);
 
-impl OnPlan for OfEvents<'_> {
-    type Found = Option<String>;
-
-    /// Returns the text of the response, which fits.
-    fn on_plan(&mut self, alloc: Global, plan: &Plan<'_>) -> Result<Option<String>, Fail> {
-        let text = recorded(alloc, plan, self.0.as_bytes())?;
-        if let Some(text) = &text {
-            accept(alloc, plan, text.as_bytes())?;
+impl OfEvents {
+    /// Whether the response has this text, and fits.
+    fn is_response(&self, alloc: Global, plan: &Plan<'_>, found: Option<&str>) -> bool {
+        match found {
+            Some(text) => found == self.1 && accept(alloc, plan, text.as_bytes()).is_ok(),
+            None => self.1.is_none(),
         }
-        Ok(text)
+    }
+}
+
+impl OnPlan for OfEvents {
+    fn holds(&self, alloc: Global, plan: &Plan<'_>) -> bool {
+        match recorded(alloc, plan, self.0.as_bytes()) {
+            Ok(found) => self.is_response(alloc, plan, found.as_deref()),
+            Err(_) => false,
+        }
     }
 }
 
@@ -68,29 +76,21 @@ const ROWS: &[(&str, &str, &str, Option<&str>)] = &[
     ),
 ];
 
-fn is_key(alloc: Global, document: &str, want: &str) -> Result<bool, Fail> {
-    let found = cache_key(alloc, document.as_bytes())?;
-    Ok(found.as_str() == want)
-}
-
-fn is_recorded(
-    alloc: Global,
-    document: &str,
-    events: &str,
-    want: Option<&str>,
-) -> Result<bool, Fail> {
-    let found = on_document(alloc, document, &mut OfEvents(events))?;
-    Ok(found.as_deref() == want)
+fn is_key(alloc: Global, document: &str, want: &str) -> bool {
+    match cache_key(alloc, document.as_bytes()) {
+        Ok(found) => found.as_str() == want,
+        Err(_) => false,
+    }
 }
 
 #[test]
-fn keys_and_recorded_runs(rt: HostRuntime) -> Result<(), Fail> {
+fn keys_and_recorded_runs(rt: HostRuntime) -> Result<(), test::Fail> {
     for (document, key, events, text) in ROWS {
-        assert!(rt; is_key(rt.alloc(), document, key)?, "{document}");
-        assert!(rt;
-            is_recorded(rt.alloc(), document, events, *text)?,
-            "{events}"
-        );
+        expect(is_key(rt.alloc(), document, key), document)?;
+        expect(
+            holds_of(rt.alloc(), document, &OfEvents(events, *text)),
+            events,
+        )?;
     }
     Ok(())
 }

@@ -1,37 +1,32 @@
 //! Bodies that hold a number that is not whole.
 
-use super::{Ending, TWO, reply_to};
+use super::{Ending, TWO, replies};
+use crate::rows::expect;
 use odb_doc::{Fault, Place};
 use odb_reply::ReplyFault;
-use std::alloc::Global;
 use std::test::Fail;
 
 /// How two requests end, and the first whose body is not whole.
 const REFUSED: &[(&[Ending<'static>], usize)] = &[
     // A fraction.
-    (&[(0, 200, &[], "1"), (1, 200, &[], "1.5")], 1),
+    (&[(200, &[], "1"), (200, &[], "1.5")], 1),
     // An exponent in the first body, and a fraction in the second.
-    (&[(0, 500, &[], r#"{"a":[1e2]}"#), (1, 200, &[], "1.5")], 0),
+    (&[(500, &[], r#"{"a":[1e2]}"#), (200, &[], "1.5")], 0),
     // A number beyond 64 bits.
     (
         &[
-            (0, 200, &[], "18446744073709551615"),
-            (1, 200, &[], "18446744073709551616"),
+            (200, &[], "18446744073709551615"),
+            (200, &[], "18446744073709551616"),
         ],
         1,
     ),
 ];
 
-/// Whether the body of this request is refused.
-fn refuses(alloc: Global, endings: &[Ending<'_>], at: usize) -> Result<bool, Fail> {
-    Ok(reply_to(alloc, TWO, endings)?.is_refused(at))
-}
-
 #[test]
 fn refuses_the_first_body_that_is_not_whole(rt: HostRuntime) -> Result<(), Fail> {
-    let alloc = rt.alloc();
     for (endings, at) in REFUSED {
-        assert!(rt; refuses(alloc, endings, *at)?, "{at}");
+        let is_refused = replies(rt.alloc(), TWO, endings, Err(*at), usize::MAX);
+        expect(is_refused, "not refused")?;
     }
     Ok(())
 }

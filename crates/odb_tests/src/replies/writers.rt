@@ -1,8 +1,7 @@
 //! Long bodies: how much is written at once.
 
-use super::{Ending, USUAL, reply_to};
+use super::{Ending, USUAL, replies};
 use std::alloc::{AllocError, Global};
-use std::test::Fail;
 
 /// A JSON string of as many letters.
 fn long_body(alloc: Global, letters: usize) -> Result<String, AllocError> {
@@ -20,23 +19,27 @@ fn long_text(alloc: Global, first: &str, second: &str) -> Result<String, AllocEr
 /// Endings of the usual requests with these bodies.
 fn endings_with<'a>(first: &'a str, second: &'a str) -> [Ending<'a>; 4] {
     [
-        (0, 200, &[], first),
-        (1, 200, &[], second),
-        (2, 201, &[], first),
-        (3, 200, &[], ""),
+        (200, &[], first),
+        (200, &[], second),
+        (201, &[], first),
+        (200, &[], ""),
     ]
 }
 
-/// Whether both calls give the text of responses with these bodies, the second without a write
-/// that is longer than this.
-fn gives_bodies(alloc: Global, first: &str, second: &str, longest: usize) -> Result<bool, Fail> {
+/// Whether responses with these bodies are written, none of it in a write that is longer than this.
+fn gives_bodies(
+    alloc: Global,
+    first: &str,
+    second: &str,
+    longest: usize,
+) -> Result<bool, AllocError> {
     let want = long_text(alloc, first, second)?;
-    let reply = reply_to(alloc, USUAL, &endings_with(first, second))?;
-    Ok(reply.is_text(&want) && reply.writer.longest <= longest)
+    let endings = endings_with(first, second);
+    Ok(replies(alloc, USUAL, &endings, Ok(&want), longest))
 }
 
 /// Whether that holds of bodies with so many letters.
-fn gives_letters(alloc: Global, row: &(usize, usize, usize)) -> Result<bool, Fail> {
+fn gives_letters(alloc: Global, row: &(usize, usize, usize)) -> Result<bool, AllocError> {
     let (first, second, longest) = *row;
     let first = long_body(alloc, first)?;
     let second = long_body(alloc, second)?;
@@ -53,9 +56,8 @@ const LONG: &[(usize, usize, usize)] = &[
 ];
 
 #[test]
-fn long_bodies_are_written_whole(rt: HostRuntime) -> Result<(), Fail> {
+fn long_bodies_are_written_whole(rt: HostRuntime) {
     for row in LONG {
-        assert!(rt; gives_letters(rt.alloc(), row)?);
+        assert!(rt; gives_letters(rt.alloc(), row) == Ok(true));
     }
-    Ok(())
 }

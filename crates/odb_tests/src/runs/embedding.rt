@@ -1,15 +1,17 @@
 //! What a caller writes: a run that is driven by hand, and one that is executed.
 
-use super::{OnPlan, on_document};
+use super::{OnPlan, holds_of};
+use crate::fail::Fail;
+use crate::rows::expect;
 use odb_check::{Plan, Seed, check_with};
 use odb_doc::{Batch, Outcome, Request, parse};
 use odb_exec::{First, Service, ServiceFault, execute};
 use odb_reply::response_text;
-use odb_sched::{Mode, Policy, Scheduler};
+use odb_sched::{Done, Mode, Policy, Scheduler};
 use std::alloc::Global;
 use std::collections::BTreeMap;
 use std::random::RandomSource;
-use std::test::Fail;
+use std::test;
 
 /// Returns the text of the response to a batch whose requests the service performs. The seed of the
 /// tables of names is random, so that nobody can choose names that make the check slow.
@@ -19,9 +21,20 @@ fn respond<R: RandomSource, S: Service>(
     document: &[u8],
     service: &mut S,
 ) -> Result<String, Fail> {
+    let seed = Seed::random(random)?;
     let value = parse(alloc, document)?;
     let batch = Batch::read(alloc, &value)?;
-    let plan = check_with(alloc, Seed::random(random)?, &batch)?;
+    perform_batch(alloc, seed, &batch, service)
+}
+
+/// Checks a batch, and has the service perform its requests.
+fn perform_batch<S: Service>(
+    alloc: Global,
+    seed: Seed,
+    batch: &Batch<'_>,
+    service: &mut S,
+) -> Result<String, Fail> {
+    let plan = check_with(alloc, seed, batch)?;
     perform_all(alloc, &plan, service)
 }
 
@@ -33,7 +46,12 @@ fn perform_all<S: Service>(
 ) -> Result<String, Fail> {
     let policy = Policy::free(Mode::Continue);
     let trace = execute(alloc, plan, policy, &mut First, service)?;
-    Ok(response_text(alloc, &trace.done)?)
+    response_to(alloc, &trace.done)
+}
+
+/// Returns the text of the response to a finished run.
+fn response_to(alloc: Global, done: &Done<'_>) -> Result<String, Fail> {
+    Ok(response_text(alloc, done)?)
 }
 
 /// Neither a request runs nor one may start, and yet the run is not finished.
@@ -44,13 +62,26 @@ struct Stuck;
 /// the response.
 fn send_all(alloc: Global, plan: &Plan<'_>) -> Result<String, Fail> {
     let mut scheduler = Scheduler::new(alloc, plan, Policy::free(Mode::Continue))?;
-    for _ in 0..plan.len() {
-        send_next(alloc, &mut scheduler)?;
+    send_each(alloc, plan, &mut scheduler)?;
+    match response_of(alloc, scheduler)? {
+        Some(text) => Ok(text),
+        None => Err(Stuck.into()),
     }
+}
+
+/// Returns the text of the response to a run, or `None` if the run is not finished.
+pub fn response_of(alloc: Global, scheduler: Scheduler<'_>) -> Result<Option<String>, Fail> {
     if !scheduler.is_finished() {
-        return Err(Stuck.into());
+        return Ok(None);
     }
-    Ok(response_text(alloc, &scheduler.close())?)
+    Ok(Some(response_to(alloc, &scheduler.close())?))
+}
+
+fn send_each(alloc: Global, plan: &Plan<'_>, scheduler: &mut Scheduler<'_>) -> Result<(), Fail> {
+    for _ in 0..plan.len() {
+        send_next(alloc, scheduler)?;
+    }
+    Ok(())
 }
 
 /// Sends a request that may start, if there is one, and reports its outcome.
@@ -91,15 +122,16 @@ impl Service for Store {
     }
 }
 
-/// Drives the run of a plan by hand.
+/// The response to a plan whose run is driven by hand.
 #[derive(Clone, Copy)]
-struct ByHand;
+struct ByHand(&'static str);
 
 impl OnPlan for ByHand {
-    type Found = String;
-
-    fn on_plan(&mut self, alloc: Global, plan: &Plan<'_>) -> Result<String, Fail> {
-        send_all(alloc, plan)
+    fn holds(&self, alloc: Global, plan: &Plan<'_>) -> bool {
+        match send_all(alloc, plan) {
+            Ok(found) => found.as_str() == self.0,
+            Err(_) => false,
+        }
     }
 }
 
@@ -119,26 +151,18 @@ const ROWS: &[(&str, &str, &str)] = &[
     ),
 ];
 
-fn is_sent(alloc: Global, document: &str, want: &str) -> Result<bool, Fail> {
-    let found = on_document(alloc, document, &mut ByHand)?;
-    Ok(found.as_str() == want)
-}
-
-fn is_stored<R: RandomSource>(
-    alloc: Global,
-    random: &R,
-    document: &str,
-    want: &str,
-) -> Result<bool, Fail> {
-    let found = respond(alloc, random, document.as_bytes(), &mut Store { alloc })?;
-    Ok(found.as_str() == want)
+fn is_stored<R: RandomSource>(alloc: Global, random: &R, document: &str, want: &str) -> bool {
+    match respond(alloc, random, document.as_bytes(), &mut Store { alloc }) {
+        Ok(found) => found.as_str() == want,
+        Err(_) => false,
+    }
 }
 
 #[test]
-fn drives_and_executes_a_plan(rt: HostRuntime) -> Result<(), Fail> {
+fn drives_and_executes_a_plan(rt: HostRuntime) -> Result<(), test::Fail> {
     for (document, sent, stored) in ROWS {
-        assert!(rt; is_sent(rt.alloc(), document, sent)?, "{sent}");
-        assert!(rt; is_stored(rt.alloc(), &rt, document, stored)?, "{stored}");
+        expect(holds_of(rt.alloc(), document, &ByHand(sent)), sent)?;
+        expect(is_stored(rt.alloc(), &rt, document, stored), stored)?;
     }
     Ok(())
 }

@@ -4,11 +4,13 @@ ghost use Rattle.std.specs.Prelude.{◌≡◌, length};
 ghost use Rattle.odb_check.specs.Plans.{plan_records};
 ghost use Rattle.odb_sched.specs.run.State.{size};
 
+use super::ends::ended;
 use super::plain::Plain;
-use super::{OnPlan, on_document, policy};
+use super::{OnPlan, holds_of, policy};
+use crate::rows::expect;
 use odb_check::Plan;
 use odb_sched::{Mode, Policy, Scheduler};
-use std::alloc::{AllocError, Global};
+use std::alloc::Global;
 use std::test::Fail;
 
 /// A small batch, and what its plan has to be: the unit of each request, and the pairs of a request
@@ -64,12 +66,6 @@ const EVENTS: &[(u32, u16)] = &[
     (0, 600),
 ];
 
-/// Tries each list of events in both modes, at the widths 1 and 2.
-#[derive(Clone, Copy)]
-struct EachList {
-    small: &'static Small,
-}
-
 /// How a run takes a list of events.
 #[derive(Clone, Copy, PartialEq, Eq)]
 enum Taken {
@@ -88,52 +84,42 @@ fn events_taken(
     scheduler: &mut Scheduler<'_>,
     plain: &mut Plain<'_>,
     events: &[(u32, u16)],
-) -> Result<Taken, AllocError>
+) -> Taken
     requires { size scheduler.old ≡ length (plan_records plan.now) }
 {
     for (i, status) in events {
         if *i < plan.len() {
-            match plain.agreed_code(alloc, scheduler, *i, *status)? {
-                None => return Ok(Taken::Otherwise),
+            match plain.agreed_code(alloc, scheduler, *i, *status) {
+                None => return Taken::Otherwise,
                 Some("ok") => {}
-                Some(_) => return Ok(Taken::Refused),
+                Some(_) => return Taken::Refused,
             }
         }
     }
-    Ok(Taken::Whole)
-}
-
-/// How a run takes the events, and ends where it is finished.
-fn run_taken(
-    alloc: Global,
-    plan: &Plan<'_>,
-    plain: &mut Plain<'_>,
-    policy: Policy,
-    events: &[(u32, u16)],
-) -> Result<Taken, AllocError> {
-    let mut scheduler = Scheduler::new(alloc, plan, policy)?;
-    let taken = events_taken(alloc, plan, &mut scheduler, plain, events)?;
-    let agrees = plain.agrees_on_end(alloc, scheduler)?;
-    Ok(if agrees { taken } else { Taken::Otherwise })
+    Taken::Whole
 }
 
 /// A small batch, and the policy of its runs.
 #[derive(Clone, Copy)]
-struct Runs<'s> {
-    small: &'s Small,
+struct Runs {
+    small: &'static Small,
     policy: Policy,
 }
 
-impl<'s> Runs<'s> {
-    /// How a list of events is taken.
-    fn taken(
-        self,
-        alloc: Global,
-        plan: &Plan<'_>,
-        events: &[(u32, u16)],
-    ) -> Result<Taken, AllocError> {
-        let mut plain = Plain::new(alloc, self.small.units, self.small.needs, self.policy);
-        run_taken(alloc, plan, &mut plain, self.policy, events)
+impl Runs {
+    /// How a run takes a list of events, and ends where it is finished.
+    fn taken(self, alloc: Global, plan: &Plan<'_>, events: &[(u32, u16)]) -> Taken {
+        let mut plain = Plain::new(self.small.units, self.small.needs, self.policy);
+        match Scheduler::new(alloc, plan, self.policy) {
+            Ok(mut scheduler) => {
+                let taken = events_taken(alloc, plan, &mut scheduler, &mut plain, events);
+                match ended(alloc, scheduler, &plain) {
+                    Some(false) => Taken::Otherwise,
+                    _ => taken,
+                }
+            }
+            Err(_) => Taken::Otherwise,
+        }
     }
 
     /// Whether each list that begins with these events and has at most so many more is taken as the
@@ -144,24 +130,18 @@ impl<'s> Runs<'s> {
         plan: &Plan<'_>,
         events: &mut Vec<(u32, u16)>,
         more: u32,
-    ) -> Result<bool, AllocError> {
-        let taken = self.taken(alloc, plan, events)?;
+    ) -> bool {
+        let taken = self.taken(alloc, plan, events);
         if taken != Taken::Whole || more == 0 {
-            return Ok(taken != Taken::Otherwise);
+            return taken != Taken::Otherwise;
         }
         for event in EVENTS {
-            events.push(*event)?;
-            if !self.agree_from(alloc, plan, events, more - 1)? {
-                return Ok(false);
+            if events.push(*event).is_err() || !self.agree_from(alloc, plan, events, more - 1) {
+                return false;
             }
             let _last = events.pop();
         }
-        Ok(true)
-    }
-
-    /// Whether each list of up to six events is taken as the rules say.
-    fn agree(self, alloc: Global, plan: &Plan<'_>) -> Result<bool, AllocError> {
-        self.agree_from(alloc, plan, &mut Vec::new(alloc), 6)
+        true
     }
 }
 
@@ -172,29 +152,27 @@ const POLICIES: &[(Mode, u32)] = &[
     (Mode::Stop, 2),
 ];
 
-impl OnPlan for EachList {
-    /// Whether each list is taken as the rules say.
-    type Found = bool;
-
-    fn on_plan(&mut self, alloc: Global, plan: &Plan<'_>) -> Result<bool, Fail> {
+impl OnPlan for &'static Small {
+    /// Whether each list of up to six events is taken as the rules say, in both modes, at the widths
+    /// 1 and 2.
+    fn holds(&self, alloc: Global, plan: &Plan<'_>) -> bool {
         for (mode, width) in POLICIES {
             let runs = Runs {
-                small: self.small,
+                small: *self,
                 policy: policy(*mode, *width),
             };
-            if !runs.agree(alloc, plan)? {
-                return Ok(false);
+            if !runs.agree_from(alloc, plan, &mut Vec::new(alloc), 6) {
+                return false;
             }
         }
-        Ok(true)
+        true
     }
 }
 
 #[test]
 fn takes_every_list_as_the_rules_say(rt: HostRuntime) -> Result<(), Fail> {
     for small in BATCHES {
-        let mut task = EachList { small };
-        assert!(rt; on_document(rt.alloc(), small.document, &mut task)?);
+        expect(holds_of(rt.alloc(), small.document, &small), small.document)?;
     }
     Ok(())
 }
