@@ -17,24 +17,34 @@ fn order_of(name: Option<&str>) -> Order {
     }
 }
 
-/// How a batch is replayed.
+/// What is done with one batch.
 #[derive(Clone, Copy)]
-pub struct Replay<'a> {
-    pub file: &'a str,
-    pub outcomes: &'a str,
-    pub order: Order,
-    pub policy: Policy,
-    pub traced: bool,
-    pub form: Form,
+pub enum BatchTask {
+    /// Check it.
+    Check,
+    /// Plan it.
+    Plan,
+    /// Draw its plan.
+    Draw,
+    /// Print its canonical text.
+    Canon,
 }
 
-/// How a batch is run by events.
+/// What is done with a batch and a second document.
 #[derive(Clone, Copy)]
-pub struct Run<'a> {
-    pub file: &'a str,
-    pub events: &'a str,
-    pub policy: Policy,
-    pub form: Form,
+pub enum PairTask {
+    /// Match the responses in the second document.
+    Match,
+    /// Replay the batch by the outcomes in the second document.
+    Replay {
+        policy: Policy,
+        order: Order,
+        traced: bool,
+    },
+    /// Run the batch by the events in the second document.
+    Run {
+        policy: Policy,
+    },
 }
 
 /// A shell that completions are for.
@@ -70,35 +80,19 @@ pub enum Text<'a> {
 /// What the command line asks for.
 #[derive(Clone, Copy)]
 pub enum Task<'a> {
-    /// Check the batch in the file, or the one on standard input where none is named.
-    Check {
+    /// Do this with the batch in the file, or the one on standard input where none is named.
+    Batch {
         file: Option<&'a str>,
+        task: BatchTask,
         form: Form,
     },
-    /// Plan the batch in the file.
-    Plan {
+    /// Do this with the batch in a file and the second document in another.
+    Pair {
         file: &'a str,
+        second: &'a str,
+        task: PairTask,
         form: Form,
     },
-    /// Draw the plan of the batch in the file.
-    Draw {
-        file: &'a str,
-    },
-    /// Print the canonical text of the batch in the file.
-    Canon {
-        file: &'a str,
-        form: Form,
-    },
-    /// Replay the batch in a file by the outcomes in another.
-    Replay(Replay<'a>),
-    /// Match the responses in a file against the batch in another.
-    Match {
-        file: &'a str,
-        responses: &'a str,
-        form: Form,
-    },
-    /// Run the batch in a file by the events in another.
-    Run(Run<'a>),
     /// Do one of these on each line of a log.
     Log(Log<'a>),
     /// Print a text that depends on no document.
@@ -160,75 +154,68 @@ fn log_of<'a>(args: &ArgMatches<'a>, task: LineTask, form: Form) -> Option<Task<
     }))
 }
 
-/// Returns the replay that its command asks for, or `None` if the width is not valid.
-fn replay_of<'a>(args: &ArgMatches<'a>) -> Option<Task<'a>> {
-    let (policy, order) = (policy_of(args)?, order_of(args.get_str(ORDER)));
-    let form = form_of(args);
-    let replay = Task::Replay(Replay {
-        file: value_of(args, "FILE"),
-        outcomes: value_of(args, "OUTCOMES"),
-        order,
-        policy,
-        traced: args.get_flag("trace"),
-        form,
-    });
-    Some(log_of(args, LineTask::Replay { policy, order }, form).unwrap_or(replay))
+/// Returns this task, on the batch that is named.
+fn on_batch<'a>(args: &ArgMatches<'a>, task: BatchTask) -> Task<'a> {
+    Task::Batch {
+        file: args.get_str("FILE"),
+        task,
+        form: form_of(args),
+    }
 }
 
-/// Returns the run that its command asks for, or `None` if the width is not valid.
-fn run_of<'a>(args: &ArgMatches<'a>) -> Option<Task<'a>> {
-    let (policy, form) = (policy_of(args)?, form_of(args));
-    let run = Task::Run(Run {
+/// Returns this task, on the batch that is named and the second document, an argument of this identifier.
+fn on_pair<'a>(args: &ArgMatches<'a>, second: &str, task: PairTask) -> Task<'a> {
+    Task::Pair {
         file: value_of(args, "FILE"),
-        events: value_of(args, "EVENTS"),
-        policy,
-        form,
-    });
-    Some(log_of(args, LineTask::Run { policy }, form).unwrap_or(run))
+        second: value_of(args, second),
+        task,
+        form: form_of(args),
+    }
 }
 
 /// Returns the check that its command asks for.
 fn check_of<'a>(args: &ArgMatches<'a>) -> Task<'a> {
-    let form = form_of(args);
-    let check = Task::Check {
-        file: args.get_str("FILE"),
-        form,
-    };
-    log_of(args, LineTask::Check, form).unwrap_or(check)
+    log_of(args, LineTask::Check, form_of(args)).unwrap_or(on_batch(args, BatchTask::Check))
 }
 
 /// Returns the plan, or the drawing of it, that its command asks for. Of each line it is JSON.
 fn plan_of<'a>(args: &ArgMatches<'a>) -> Task<'a> {
-    let file = value_of(args, "FILE");
-    let plan = if args.get_flag("dot") {
-        Task::Draw { file }
+    let task = if args.get_flag("dot") {
+        BatchTask::Draw
     } else {
-        Task::Plan {
-            file,
-            form: form_of(args),
-        }
+        BatchTask::Plan
     };
-    log_of(args, LineTask::Plan, Form::Json).unwrap_or(plan)
+    log_of(args, LineTask::Plan, Form::Json).unwrap_or(on_batch(args, task))
 }
 
 /// Returns the canonical text that its command asks for.
 fn canon_of<'a>(args: &ArgMatches<'a>) -> Task<'a> {
-    let form = form_of(args);
-    let canon = Task::Canon {
-        file: value_of(args, "FILE"),
-        form,
-    };
-    log_of(args, LineTask::Canon, form).unwrap_or(canon)
+    log_of(args, LineTask::Canon, form_of(args)).unwrap_or(on_batch(args, BatchTask::Canon))
 }
 
 /// Returns the match that its command asks for. Of each line it is JSON.
 fn match_of<'a>(args: &ArgMatches<'a>) -> Task<'a> {
-    let one = Task::Match {
-        file: value_of(args, "FILE"),
-        responses: value_of(args, "RESPONSES"),
-        form: form_of(args),
-    };
+    let one = on_pair(args, "RESPONSES", PairTask::Match);
     log_of(args, LineTask::Match, Form::Json).unwrap_or(one)
+}
+
+/// Returns the replay that its command asks for, or `None` if the width is not valid.
+fn replay_of<'a>(args: &ArgMatches<'a>) -> Option<Task<'a>> {
+    let (policy, order) = (policy_of(args)?, order_of(args.get_str(ORDER)));
+    let task = PairTask::Replay {
+        policy,
+        order,
+        traced: args.get_flag("trace"),
+    };
+    let one = on_pair(args, "OUTCOMES", task);
+    Some(log_of(args, LineTask::Replay { policy, order }, form_of(args)).unwrap_or(one))
+}
+
+/// Returns the run that its command asks for, or `None` if the width is not valid.
+fn run_of<'a>(args: &ArgMatches<'a>) -> Option<Task<'a>> {
+    let policy = policy_of(args)?;
+    let one = on_pair(args, "EVENTS", PairTask::Run { policy });
+    Some(log_of(args, LineTask::Run { policy }, form_of(args)).unwrap_or(one))
 }
 
 /// Returns the explanations that their command asks for.
@@ -258,8 +245,9 @@ fn task_named<'a>(name: &str, args: &ArgMatches<'a>) -> Option<Task<'a>> {
 fn task_of<'a>(args: &ArgMatches<'a>) -> Option<Task<'a>> {
     match args.subcommand() {
         Some((name, command)) => task_named(name, command),
-        None => Some(Task::Check {
+        None => Some(Task::Batch {
             file: None,
+            task: BatchTask::Check,
             form: Form::Lines,
         }),
     }

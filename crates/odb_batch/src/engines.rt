@@ -1,8 +1,8 @@
-//! The commands over documents: each opens its files and calls its engine.
+//! The commands over documents: their files are opened, and their engine is called.
 ghost use Rattle.std.specs.Prelude.{IfOk};
 ghost use Rattle.odb_engine.specs.Inputs.{IsFresh};
 
-use crate::command_line::{Replay, Run};
+use crate::command_line::{BatchTask, PairTask};
 use crate::ending::{Status, failed, finish};
 use odb_check::Seed;
 use odb_doc::{Input, Output};
@@ -10,6 +10,7 @@ use odb_engine::{
     Disposal, Form, Setup, canon_batch_with, check_batch_with, draw_batch_with, match_batch_with,
     plan_batch_with, replay_batch_with, run_batch_with,
 };
+use std::io::Read;
 use std::rt::Runtime;
 use std::{fs, io};
 
@@ -64,153 +65,83 @@ fn open<R: Runtime>(rt: &R, environment: Environment, path: &str) -> Result<Inpu
     }
 }
 
-/// Checks the batch in a file, or on standard input.
-pub fn check<R: Runtime + AllocGlobal>(
+/// Answers the batch in an input.
+fn answer<R: Runtime + AllocGlobal, I: Read>(
+    rt: &R,
+    input: &mut Input<I>,
+    task: BatchTask,
+    setup: Setup,
+) -> Status
+    requires { IsFresh input.old }
+{
+    let mut output = Output::new(io::writer(rt));
+    let ended = match task {
+        BatchTask::Check => check_batch_with(rt.alloc(), input, &mut output, setup),
+        BatchTask::Plan => plan_batch_with(rt.alloc(), input, &mut output, setup),
+        BatchTask::Draw => draw_batch_with(rt.alloc(), input, &mut output, setup),
+        BatchTask::Canon => canon_batch_with(rt.alloc(), input, &mut output, setup),
+    };
+    finish(rt, ended)
+}
+
+/// Answers the batch in a file, or on standard input.
+pub fn answer_batch<R: Runtime + AllocGlobal>(
     rt: &R,
     environment: Environment,
     file: Option<&str>,
+    task: BatchTask,
     form: Form,
 ) -> Status {
-    let mut output = Output::new(io::writer(rt));
     let setup = environment.setup(form);
-    let ended = match file {
-        None => check_batch_with(rt.alloc(), &mut Input::new(rt.reader()), &mut output, setup),
+    match file {
+        None => answer(rt, &mut Input::new(rt.reader()), task, setup),
         Some(path) => match open(rt, environment, path) {
-            Ok(mut input) => check_batch_with(rt.alloc(), &mut input, &mut output, setup),
-            Err(status) => return status,
+            Ok(mut input) => answer(rt, &mut input, task, setup),
+            Err(status) => status,
         },
-    };
-    finish(rt, ended)
-}
-
-/// Plans the batch in a file.
-pub fn plan<R: Runtime + AllocGlobal>(
-    rt: &R,
-    environment: Environment,
-    path: &str,
-    form: Form,
-) -> Status {
-    let mut output = Output::new(io::writer(rt));
-    match open(rt, environment, path) {
-        Ok(mut input) => finish(
-            rt,
-            plan_batch_with(rt.alloc(), &mut input, &mut output, environment.setup(form)),
-        ),
-        Err(status) => status,
     }
 }
 
-/// Draws the plan of the batch in a file.
-pub fn draw<R: Runtime + AllocGlobal>(rt: &R, environment: Environment, path: &str) -> Status {
+/// Answers the batch and the second document in two files.
+pub fn answer_pair<R: Runtime + AllocGlobal>(
+    rt: &R,
+    environment: Environment,
+    files: (&str, &str),
+    task: PairTask,
+    form: Form,
+) -> Status {
+    let mut batch = match open(rt, environment, files.0) {
+        Ok(input) => input,
+        Err(status) => return status,
+    };
+    let mut second = match open(rt, environment, files.1) {
+        Ok(input) => input,
+        Err(status) => return status,
+    };
     let mut output = Output::new(io::writer(rt));
-    match open(rt, environment, path) {
-        Ok(mut input) => finish(
-            rt,
-            draw_batch_with(
-                rt.alloc(),
-                &mut input,
+    let (alloc, setup) = (rt.alloc(), environment.setup(form));
+    let ended = match task {
+        PairTask::Match => match_batch_with(alloc, &mut batch, &mut second, &mut output, setup),
+        PairTask::Replay {
+            policy,
+            order,
+            traced,
+        } => {
+            let mut order = order;
+            replay_batch_with(
+                alloc,
+                &mut batch,
+                &mut second,
                 &mut output,
-                environment.setup(Form::Lines),
-            ),
-        ),
-        Err(status) => status,
-    }
-}
-
-/// Prints the canonical text of the batch in a file.
-pub fn canon<R: Runtime + AllocGlobal>(
-    rt: &R,
-    environment: Environment,
-    path: &str,
-    form: Form,
-) -> Status {
-    let mut output = Output::new(io::writer(rt));
-    match open(rt, environment, path) {
-        Ok(mut input) => finish(
-            rt,
-            canon_batch_with(rt.alloc(), &mut input, &mut output, environment.setup(form)),
-        ),
-        Err(status) => status,
-    }
-}
-
-/// Matches the responses in a file against the batch in another.
-pub fn match_responses<R: Runtime + AllocGlobal>(
-    rt: &R,
-    environment: Environment,
-    file: &str,
-    responses: &str,
-    form: Form,
-) -> Status {
-    let mut batch = match open(rt, environment, file) {
-        Ok(input) => input,
-        Err(status) => return status,
+                policy,
+                &mut order,
+                traced,
+                setup,
+            )
+        }
+        PairTask::Run { policy } => {
+            run_batch_with(alloc, &mut batch, &mut second, &mut output, policy, setup)
+        }
     };
-    let mut responses = match open(rt, environment, responses) {
-        Ok(input) => input,
-        Err(status) => return status,
-    };
-    let mut output = Output::new(io::writer(rt));
-    let ended = match_batch_with(
-        rt.alloc(),
-        &mut batch,
-        &mut responses,
-        &mut output,
-        environment.setup(form),
-    );
-    finish(rt, ended)
-}
-
-/// Replays the batch in a file by the outcomes in another.
-pub fn replay<R: Runtime + AllocGlobal>(
-    rt: &R,
-    environment: Environment,
-    replay: Replay<'_>,
-) -> Status {
-    let mut batch = match open(rt, environment, replay.file) {
-        Ok(input) => input,
-        Err(status) => return status,
-    };
-    let mut outcomes = match open(rt, environment, replay.outcomes) {
-        Ok(input) => input,
-        Err(status) => return status,
-    };
-    let mut order = replay.order;
-    let ended = replay_batch_with(
-        rt.alloc(),
-        &mut batch,
-        &mut outcomes,
-        &mut Output::new(io::writer(rt)),
-        replay.policy,
-        &mut order,
-        replay.traced,
-        environment.setup(replay.form),
-    );
-    finish(rt, ended)
-}
-
-/// Runs the batch in a file by the events in another.
-pub fn run_events<R: Runtime + AllocGlobal>(
-    rt: &R,
-    environment: Environment,
-    run: Run<'_>,
-) -> Status {
-    let mut batch = match open(rt, environment, run.file) {
-        Ok(input) => input,
-        Err(status) => return status,
-    };
-    let mut events = match open(rt, environment, run.events) {
-        Ok(input) => input,
-        Err(status) => return status,
-    };
-    let mut output = Output::new(io::writer(rt));
-    let ended = run_batch_with(
-        rt.alloc(),
-        &mut batch,
-        &mut events,
-        &mut output,
-        run.policy,
-        environment.setup(run.form),
-    );
     finish(rt, ended)
 }

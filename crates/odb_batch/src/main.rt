@@ -21,7 +21,7 @@ mod texts;
 use clap::error::ErrorKind;
 use command_line::{BadArguments, Task};
 use ending::{Status, failed};
-use engines::{Environment, canon, check, draw, match_responses, plan, replay, run_events};
+use engines::{Environment, answer_batch, answer_pair};
 use log::answer_log;
 use odb_check::Seed;
 use std::io::IsTerminal;
@@ -60,17 +60,13 @@ fn reject<R: Runtime>(rt: &R, wrong: &BadArguments) -> Status {
 /// Performs a task.
 fn perform<R: Runtime + AllocGlobal>(rt: &R, environment: Environment, task: Task<'_>) -> Status {
     match task {
-        Task::Check { file, form } => check(rt, environment, file, form),
-        Task::Plan { file, form } => plan(rt, environment, file, form),
-        Task::Draw { file } => draw(rt, environment, file),
-        Task::Canon { file, form } => canon(rt, environment, file, form),
-        Task::Replay(task) => replay(rt, environment, task),
-        Task::Match {
+        Task::Batch { file, task, form } => answer_batch(rt, environment, file, task, form),
+        Task::Pair {
             file,
-            responses,
+            second,
+            task,
             form,
-        } => match_responses(rt, environment, file, responses, form),
-        Task::Run(task) => run_events(rt, environment, task),
+        } => answer_pair(rt, environment, (file, second), task, form),
         Task::Log(log) => answer_log(rt, environment, log),
         Task::Print(text) => texts::print(rt, text),
     }
