@@ -1,5 +1,12 @@
--- What a law says of two calls: two texts of one document, and two readings of one thing.
-use Rattle.std.proofs.Common.{◌≡◌, ℕ, List, Option, Some, None, Result, Ok, Err, IfSome, subst}
+-- What a law says of two calls: two texts of one document, and two readings of one thing; and the premise of the law of a live
+-- run that goes on.
+use Rattle.std.proofs.Common.{◌≡◌, ℕ, List, [], ◌∷◌, length, slice_get, Option, Some, None, Result, Ok, Err, IfSome, subst, sym}
+use Rattle.odb_doc.specs.batch.Records.{Record}
+use Rattle.odb_doc.specs.recorded.Events.{EventValue}
+use Rattle.odb_doc.specs.recorded.Events as named
+use Rattle.odb_check.specs.Laws.{HasPositions}
+use Rattle.odb_check.specs.Positions.{id_at}
+use Rattle.odb_check.specs.Units.{position_of}
 use Rattle.odb_engine.specs.declared.ending.Ended.{Ended}
 use Rattle.odb_engine.specs.declared.ending.Ended.TheVariants.{Done}
 use Rattle.serde_json.specs.Data.{Data}
@@ -78,3 +85,17 @@ pub with_good : {X F : Type 0} (A : Type 0) (B : X → Type 0) (Q : F → Type 0
 with_good A B Q None _ = tt
 with_good A B Q (Some (Ok x)) p = ((p.0.0, (p.0.0, p.0.1)), tt)
 with_good A B Q (Some (Err f)) p = (tt, p.1)
+
+-- ---- one event
+
+-- the one element of a list
+pub only : {X : Type 0} (xs : List X) (x : X) → length xs ≡ 1 → slice_get xs 0 ≡ Some x → xs ≡ x ∷ []
+only [] x one first = absurd (cc one)
+only (y ∷ []) x one first = cc first
+only (y ∷ z ∷ zs) x one first = absurd (cc one)
+
+-- the position that is found for the id of the one event
+pub starts_one : (rs : List Record) (events : List EventValue) (id : List ℕ) → events ≡ named.Start id ∷ [] → HasPositions rs → (found : Option ℕ) → found ≡ position_of rs id
+    → IfSome found (λ i. (id : List ℕ) × (events ≡ named.Start id ∷ []) × (id_at rs i ≡ Some id))
+starts_one rs events id one positions None is = tt
+starts_one rs events id one positions (Some i) is = (id, one, (positions.found id i).0 (sym is))

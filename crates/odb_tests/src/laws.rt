@@ -3,6 +3,7 @@
 mod checks;
 mod documents;
 mod engines;
+mod live;
 mod orders;
 mod replies;
 mod runs;

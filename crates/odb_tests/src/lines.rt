@@ -3,10 +3,12 @@
 ghost use Rattle.std.specs.Prelude.{◌≡◌, IfSome};
 ghost use Rattle.odb_lines.specs.Answers.{AnswersEach, OfAnyLine};
 ghost use Rattle.odb_lines.specs.Lines.{lines_of};
-ghost use Rattle.odb_tests.specs.Lengths.{WritesLength};
+ghost use Rattle.odb_engine.specs.declared.form.Form.TheVariants.{Lines};
+ghost use Rattle.odb_engine.specs.LineTasks.{OfLine};
 
 use crate::engines::devices::{Narrow, Pace, Slow};
 use odb_doc::Output;
+use odb_engine::laws::one_line;
 use odb_engine::{Ended, EngineFault, Form, LineTask, Setup};
 use odb_lines::laws::one_text;
 use odb_lines::{EachLine, LineCommand, LineInput, answer_lines};
@@ -99,31 +101,49 @@ fn each_line_is_answered(rt: HostRuntime) {
     }
 }
 
-/// How the lines of a text in memory end, and what is written of them.
+/// A batch, an empty line, and a batch whose request has no identifier.
+const LOG: &str = r#"{"requests":[{"id":"1","method":"get","url":"A"}]}
+
+{"requests":[{"method":"get","url":"A"}]}
+"#;
+
+/// How the lines of a log in memory end, and what is written of them.
 type Written = (Ended, Vec<u8>);
 
-fn written(alloc: Global, text: &[u8]) -> Option<Written>
-    ensures { IfSome result (λ it.
-        AnswersEach (OfAnyLine WritesLength) (lines_of text.now) it.0 it.1.items) }
+/// Returns the task on each line, whose answers are lines of words.
+fn on_each_line(task: LineTask) -> EachLine
+    ensures task { result.task ≡ task }
+    ensures form { result.setup.form ≡ Lines }
 {
-    let mut input = LineInput::new(alloc, text).ok()?;
+    EachLine {
+        task,
+        setup: Setup::plain(),
+    }
+}
+
+fn written(alloc: Global, log: &[u8], task: LineTask) -> Option<Written>
+    ensures { IfSome result (λ it.
+        AnswersEach (OfAnyLine (OfLine task Lines)) (lines_of log.now) it.0 it.1.items) }
+{
+    let mut input = LineInput::new(alloc, log).ok()?;
     let mut output = Output::new(Vec::new(alloc));
-    match answer_lines(alloc, &mut input, &mut output, &Length, false) {
+    match answer_lines(alloc, &mut input, &mut output, &on_each_line(task), false) {
         Ok(ended) => Some((ended, output.into_inner())),
         Err(_) => None,
     }
 }
 
-fn written_twice(alloc: Global, text: &[u8]) -> (Option<Written>, Option<Written>)
+fn written_twice(alloc: Global, log: &[u8], task: LineTask) -> (Option<Written>, Option<Written>)
     ensures { IfSome result.0 (λ one. IfSome result.1 (λ other.
         (one.0 ≡ other.0) × (one.1.items ≡ other.1.items))) }
 {
-    one_text(&Length);
-    (written(alloc, text), written(alloc, text))
+    one_line();
+    one_text(&on_each_line(task));
+    (written(alloc, log, task), written(alloc, log, task))
 }
 
-fn is_written_again(alloc: Global, text: &[u8]) -> bool {
-    match &written_twice(alloc, text) {
+fn is_written_again(alloc: Global, log: &[u8], task: LineTask) -> bool {
+    match &written_twice(alloc, log, task) {
         (Some(one), Some(other)) => one == other,
         _ => false,
     }
@@ -131,14 +151,8 @@ fn is_written_again(alloc: Global, text: &[u8]) -> bool {
 
 #[test]
 fn the_same_text_is_written_again(rt: HostRuntime) {
-    assert!(rt; is_written_again(rt.alloc(), b"ab\n\nc"));
+    assert!(rt; is_written_again(rt.alloc(), LOG.as_bytes(), LineTask::Check));
 }
-
-/// A batch, an empty line, and a batch whose request has no identifier.
-const LOG: &str = r#"{"requests":[{"id":"1","method":"get","url":"A"}]}
-
-{"requests":[{"method":"get","url":"A"}]}
-"#;
 
 /// Whether a task writes this of these lines, in a form.
 fn is_done(alloc: Global, task: LineTask, form: Form, written: &str) -> bool {

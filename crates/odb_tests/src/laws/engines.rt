@@ -1,10 +1,9 @@
 //! The engines over bytes in memory: two calls for the same bytes end alike, and write one text; and a
 //! response that they write is read again.
 
-ghost use Rattle.std.specs.Prelude.{◌≡◌, true, false, Some, IfSome, string_bytes};
+ghost use Rattle.std.specs.Prelude.{◌≡◌, true, false, Some, IfSome};
 ghost use Rattle.odb_sched.specs.run.Choosing.{AllowsOrder};
 ghost use Rattle.odb_sched.specs.declared.order.Order.TheVariants as orders;
-ghost use Rattle.odb_sched.specs.run.State.{State};
 ghost use Rattle.odb_engine.specs.declared.ending.Ended.TheVariants.{Done};
 ghost use Rattle.odb_engine.specs.Cascade.{Accepts, Answers};
 ghost use Rattle.odb_engine.specs.Commands.{BySecond, Canonical, Counts, Plans};
@@ -12,27 +11,23 @@ ghost use Rattle.odb_engine.specs.Drawings.{Drawings};
 ghost use Rattle.odb_engine.specs.Inputs.{SomeDocument};
 ghost use Rattle.odb_engine.specs.declared.form.Form.TheVariants.{Lines};
 ghost use Rattle.odb_engine.specs.LineTasks.{OfLine};
-ghost use Rattle.odb_engine.specs.Live.{Opens, Shows};
 ghost use Rattle.odb_engine.specs.Matches.{Matches};
 ghost use Rattle.odb_engine.specs.ReadAgain.{IsReadAgain};
 ghost use Rattle.odb_engine.specs.Replays.{Replays};
 ghost use Rattle.odb_engine.specs.Runs.{Runs};
 
-use odb_check::Seed;
 use odb_doc::{Input, Output};
-use odb_engine::laws::{
-    one_document, one_line, one_live_run, one_replay, one_run, one_text, read_again,
-};
+use odb_engine::laws::{one_document, one_line, one_replay, one_run, one_text, read_again};
 use odb_engine::{
     Answer, Ended, Form, LineTask, Setup, answer_line, canon_batch, check_batch, draw_batch,
-    match_batch, open_run, plan_batch, replay_batch, run_batch, text_of_run,
+    match_batch, plan_batch, replay_batch, run_batch,
 };
 use odb_exec::Last;
 use odb_sched::{Mode, Policy};
 use std::alloc::Global;
 
 /// How a command ended, and what it wrote.
-type Written = (Ended, Vec<u8>);
+pub type Written = (Ended, Vec<u8>);
 
 /// What two calls wrote.
 type Both = (Option<Written>, Option<Written>);
@@ -145,7 +140,7 @@ fn matched_twice(alloc: Global, batch: &[u8], responses: &[u8]) -> Both
     )
 }
 
-fn ran(alloc: Global, batch: &[u8], events: &[u8], policy: Policy) -> Option<Written>
+pub fn ran(alloc: Global, batch: &[u8], events: &[u8], policy: Policy) -> Option<Written>
     ensures { IfSome result (λ it. SomeDocument (Some batch.now) (λ bytes.
         Answers (Runs policy (Some events.now)) bytes it.0 it.1.items)) }
 {
@@ -235,39 +230,6 @@ fn replayed_and_read(
     replayed(alloc, batch, outcomes, policy, false)
 }
 
-/// Opens a live run after recorded events, and returns its response.
-fn live(alloc: Global, batch: &[u8], events: &[u8], policy: Policy) -> Option<String>
-    ensures { IfSome result (λ text. (run : State) × Opens policy batch.now events.now run
-        × Answers (Shows run) batch.now Done (string_bytes text)) }
-{
-    match open_run(alloc, batch, events, policy, Seed::none()) {
-        Ok(mut opened) => {
-            match text_of_run(alloc, batch, &mut opened.run, Seed::none()) {
-                Ok(text) => Some(text),
-                Err(_) => None,
-            }
-        }
-        Err(_) => None,
-    }
-}
-
-/// A live run and a run by recorded events, of the same events.
-fn live_and_recorded(
-    alloc: Global,
-    batch: &[u8],
-    events: &[u8],
-    policy: Policy,
-) -> Option<(String, Written)>
-    ensures { IfSome result (λ both. (both.1.0 ≡ Done)
-        × (string_bytes both.0 ≡ both.1.1.items)) }
-{
-    one_document();
-    one_live_run();
-    let text = live(alloc, batch, events, policy)?;
-    let written = ran(alloc, batch, events, policy)?;
-    Some((text, written))
-}
-
 fn line_answered(alloc: Global, line: &[u8], task: LineTask) -> Option<Written>
     ensures { IfSome result (λ it. OfLine task Lines line.now it.0 it.1.items) }
 {
@@ -293,12 +255,12 @@ fn line_answered_twice(alloc: Global, line: &[u8], task: LineTask) -> Both
 }
 
 /// Two requests, of which the second needs the first.
-const BATCH: &[u8] = br#"{"requests":[{"id":"a","method":"get","url":"X"},
+pub const BATCH: &[u8] = br#"{"requests":[{"id":"a","method":"get","url":"X"},
     {"id":"b","method":"get","url":"X","dependsOn":["a"]}]}"#;
 
 const OUTCOMES: &[u8] = br#"{"outcomes":[{"id":"a","status":200},{"id":"b","status":201}]}"#;
 
-const EVENTS: &[u8] = br#"{"events":[{"start":"a"},{"report":"a","status":404}]}"#;
+pub const EVENTS: &[u8] = br#"{"events":[{"start":"a"},{"report":"a","status":404}]}"#;
 
 const RESPONSES: &[u8] = br#"{"responses":[{"id":"b","status":201},{"id":"a","status":200}]}"#;
 
@@ -317,14 +279,6 @@ fn is_one(both: Both, text: &str) -> bool {
     are_one(&both, Ended::Done, text)
 }
 
-/// Whether a live run and a run by recorded events wrote the same response.
-fn are_alike(both: Option<(String, Written)>) -> bool {
-    match &both {
-        Some((text, (Ended::Done, written))) => text.as_bytes() == written.as_slice(),
-        _ => false,
-    }
-}
-
 /// Whether the commands of a batch alone write one text each.
 fn are_one_of_batch(alloc: Global) -> bool {
     is_one(checked_twice(alloc, BATCH), "ok 2")
@@ -334,12 +288,11 @@ fn are_one_of_batch(alloc: Global) -> bool {
         && is_one(line_answered_twice(alloc, BATCH, LineTask::Check), "ok 2")
 }
 
-/// Whether those of two documents do, and a live run writes the text of a recorded one.
+/// Whether those of two documents do.
 fn are_one_of_two(alloc: Global, policy: Policy) -> bool {
     is_one(matched_twice(alloc, BATCH, RESPONSES), "ok 2")
         && is_one(ran_twice(alloc, BATCH, EVENTS, policy), "{\"responses\":")
         && is_one(replayed_twice(alloc, BATCH, OUTCOMES, policy), "start a\n")
-        && are_alike(live_and_recorded(alloc, BATCH, EVENTS, policy))
 }
 
 #[test]

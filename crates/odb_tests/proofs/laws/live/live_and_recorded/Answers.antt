@@ -3,7 +3,7 @@ use Rattle.odb_engine.specs.declared.ending.Ended.TheVariants.{Done}
 use Rattle.odb_engine.specs.Cascade.{Answers}
 use Rattle.odb_engine.specs.Runs.{Runs}
 use Rattle.odb_engine.proofs.MemoryLemmas.{whole-document}
-use Rattle.odb_tests.proofs.laws.engines.live_and_recorded.Goals as goal
+use Rattle.odb_tests.proofs.laws.live.live_and_recorded.Goals as goal
 
 pub returns : goal.returns
 returns c =
