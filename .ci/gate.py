@@ -62,22 +62,28 @@ def read(path):
 
 
 def processes():
-    """The processes of this machine, by number: the parent, and the seconds spent so far."""
+    """The processes of this machine: the parent, and the seconds spent so far.
+
+    A process is its number and when it started, since the system gives the number of one that ended to
+    another. The parent is its number alone, whose process runs as long as it is the parent.
+    """
     found = {}
     for name in filter(str.isdigit, os.listdir("/proc")):
         fields = read(f"/proc/{name}/stat").rpartition(")")[2].split()
-        if len(fields) > 12:
-            found[int(name)] = int(fields[1]), (int(fields[11]) + int(fields[12])) / TICK
+        if len(fields) > 19:
+            it = int(name), int(fields[19])
+            found[it] = int(fields[1]), (int(fields[11]) + int(fields[12])) / TICK
     return found
 
 
 def kind_of(process):
     """What a process of `rt ci` is for, or None where its parent has to say."""
-    words = read(f"/proc/{process}/cmdline").split("\0")
+    number, _started = process
+    words = read(f"/proc/{number}/cmdline").split("\0")
     if not words[0].endswith("/rattle"):
         return None
     try:
-        if os.path.basename(os.readlink(f"/proc/{process}/cwd")).startswith("rt-edit-"):
+        if os.path.basename(os.readlink(f"/proc/{number}/cwd")).startswith("rt-edit-"):
             return "must-fail edits"
     except OSError:
         return None
@@ -90,16 +96,18 @@ class Watch:
     """Looks at the processes below one process, and adds up what each kind spends."""
 
     def __init__(self, top):
-        self.top, self.kinds, self.spent, self.over = top, {top: None}, {}, threading.Event()
+        first = next((it for it in processes() if it[0] == top), (top, 0))
+        self.kinds, self.spent, self.over = {first: None}, {}, threading.Event()
         self.thread = threading.Thread(target=self.run, daemon=True)
         self.thread.start()
 
     def look(self):
         now = processes()
-        below = lambda it: it in self.kinds or (it in now and now[it][0] in self.kinds)
+        running = {it[0]: it for it in now if it in self.kinds}
         for _ in range(8):
-            for it in [it for it in now if it not in self.kinds and below(it)]:
-                self.kinds[it] = kind_of(it) or self.kinds[now[it][0]]
+            for it in [it for it in now if it not in self.kinds and now[it][0] in running]:
+                self.kinds[it] = kind_of(it) or self.kinds[running[now[it][0]]]
+                running[it[0]] = it
         for it in self.kinds:
             if it in now:
                 # a process that was seen as its parent's copy may have become another program since
