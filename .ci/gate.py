@@ -64,8 +64,8 @@ def read(path):
 def processes():
     """The processes of this machine: the parent, and the seconds spent so far.
 
-    A process is its number and when it started, since the system gives the number of one that ended to
-    another. The parent is its number alone, whose process runs as long as it is the parent.
+    A process is a pair of its number and when it started: the system gives the number of a process that
+    ended to a new one. A parent is given by its number alone.
     """
     found = {}
     for name in filter(str.isdigit, os.listdir("/proc")):
@@ -96,7 +96,7 @@ class Watch:
     """Looks at the processes below one process, and adds up what each kind spends."""
 
     def __init__(self, top):
-        first = next((it for it in processes() if it[0] == top), (top, 0))
+        first = next(it for it in processes() if it[0] == top)
         self.kinds, self.spent, self.over = {first: None}, {}, threading.Event()
         self.thread = threading.Thread(target=self.run, daemon=True)
         self.thread.start()

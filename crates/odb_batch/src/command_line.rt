@@ -80,22 +80,22 @@ pub enum Text<'a> {
 /// What the command line asks for.
 #[derive(Clone, Copy)]
 pub enum Task<'a> {
-    /// Do this with the batch in the file, or the one on standard input where none is named.
+    /// A task on the batch in the file, or on standard input where none is named.
     Batch {
         file: Option<&'a str>,
         task: BatchTask,
         form: Form,
     },
-    /// Do this with the batch in a file and the second document in another.
+    /// A task on the batch in a file and the second document in another.
     Pair {
         file: &'a str,
         second: &'a str,
         task: PairTask,
         form: Form,
     },
-    /// Do one of these on each line of a log.
+    /// A task on each line of a log.
     Log(Log<'a>),
-    /// Print a text that depends on no document.
+    /// A text to print that depends on no document.
     Print(Text<'a>),
 }
 
@@ -154,7 +154,7 @@ fn log_of<'a>(args: &ArgMatches<'a>, task: LineTask, form: Form) -> Option<Task<
     }))
 }
 
-/// Returns this task, on the batch that is named.
+/// Returns this task on the batch that is named.
 fn on_batch<'a>(args: &ArgMatches<'a>, task: BatchTask) -> Task<'a> {
     Task::Batch {
         file: args.get_str("FILE"),
@@ -163,7 +163,7 @@ fn on_batch<'a>(args: &ArgMatches<'a>, task: BatchTask) -> Task<'a> {
     }
 }
 
-/// Returns this task, on the batch that is named and the second document, an argument of this identifier.
+/// Returns this task on the batch that is named, and on the second document that the argument `second` names.
 fn on_pair<'a>(args: &ArgMatches<'a>, second: &str, task: PairTask) -> Task<'a> {
     Task::Pair {
         file: value_of(args, "FILE"),

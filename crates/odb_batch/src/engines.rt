@@ -1,4 +1,4 @@
-//! The commands over documents: their files are opened, and their engine is called.
+//! The commands over documents: each opens its files and calls its engine.
 ghost use Rattle.std.specs.Prelude.{IfOk};
 ghost use Rattle.odb_engine.specs.Inputs.{IsFresh};
 
@@ -65,7 +65,7 @@ fn open<R: Runtime>(rt: &R, environment: Environment, path: &str) -> Result<Inpu
     }
 }
 
-/// Answers the batch in an input.
+/// Performs a task on the batch in an input.
 fn answer<R: Runtime + AllocGlobal, I: Read>(
     rt: &R,
     input: &mut Input<I>,
@@ -84,7 +84,7 @@ fn answer<R: Runtime + AllocGlobal, I: Read>(
     finish(rt, ended)
 }
 
-/// Answers the batch in a file, or on standard input.
+/// Performs a task on the batch in a file, or on standard input.
 pub fn answer_batch<R: Runtime + AllocGlobal>(
     rt: &R,
     environment: Environment,
@@ -102,7 +102,7 @@ pub fn answer_batch<R: Runtime + AllocGlobal>(
     }
 }
 
-/// Answers the batch and the second document in two files.
+/// Performs a task on the batch in the first file and the second document in the other.
 pub fn answer_pair<R: Runtime + AllocGlobal>(
     rt: &R,
     environment: Environment,

@@ -1,5 +1,5 @@
 //! Live runs over bytes in memory: one that was opened after recorded events writes what a run by those events
-//! writes; and one that has taken an event more is the one that is opened after that event too.
+//! writes; and one that then takes one event more is the run that is opened after all of them.
 
 ghost use Rattle.std.specs.Prelude.{◌≡◌, ◌∷◌, [], ℕ, List, Some, IfSome, string_bytes};
 ghost use Rattle.odb_check.specs.Plans.{plan_records};
@@ -94,7 +94,7 @@ fn started_on(alloc: Global, plan: &Plan<'_>, events: &[u8], more: &[u8]) -> Opt
     started_by(plan, &events_in(alloc, more)?)
 }
 
-/// Returns the position of the request of a batch that `more` starts after `events`, of which there are none.
+/// Returns what [`started_on`] does, for the batch in a document.
 fn started(alloc: Global, batch: &[u8], events: &[u8], more: &[u8]) -> Option<u32>
     ensures { IfSome result (λ i. Accepts batch.now (λ requests.
         RecordsOneMore requests events.now more.now (Start i))) }
@@ -111,8 +111,8 @@ fn started(alloc: Global, batch: &[u8], events: &[u8], more: &[u8]) -> Option<u3
     }
 }
 
-/// Opens a live run after `events`, and starts the request that `more` starts after them: the run is the one
-/// that is opened after `more`.
+/// Opens a live run after `events`, and starts the request that `more` starts. A run that is opened after
+/// `more` is the same.
 fn gone_on(
     alloc: Global,
     batch: &[u8],
