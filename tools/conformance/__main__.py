@@ -100,7 +100,8 @@ def judge(options: argparse.Namespace, cases: List[Any]) -> int:
         progress(0, "", 0)
         for url in [*entities.left, *entities.made]:
             print(f"not removed: {url}", file=sys.stderr)
-        print(f"error: {str(error) or 'interrupted'}", file=sys.stderr)
+        # a codec or an import that is interrupted gives its KeyboardInterrupt a text of its own
+        print(f"error: {'interrupted' if isinstance(error, KeyboardInterrupt) else error}", file=sys.stderr)
         return UNUSABLE
     progress(0, "", 0)
     if options.json:
