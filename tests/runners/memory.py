@@ -2,7 +2,7 @@
 
 For each command on small documents the first allocation fails, then the second, and so on until a run
 has none that fails. That is done twice: the one allocation fails, or all from that one on. On a batch
-of 1,000 requests one of ten allocations is tried, chosen by a seed. A run has to end with status 4,
+of 250 requests one of ten allocations is tried, chosen by a seed. A run has to end with status 4,
 `error: memory`, and the beginning of what it prints otherwise, of a log in whole lines; or exactly as
 if none had failed. The last line is `N runs, M wrong`.
 """

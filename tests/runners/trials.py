@@ -5,7 +5,9 @@ import os
 import shutil
 from dataclasses import dataclass
 
-MANY = 1000
+MANY = 250
+# A text in each body, so that a response has more than the 64 KiB that are written at once.
+LONG = "x" * 400
 WRITE_AS_THEY_GO = ("replay", "run")
 USUAL_EVENTS = [
     {"start": "book"},
@@ -48,7 +50,8 @@ def many_requests():
     """Requests in groups of five, each of which needs the group before it and refers to a member of it."""
     found = []
     for i in range(MANY):
-        request = {"id": f"r{i}", "method": "post", "url": "X", "atomicityGroup": f"g{i // 5}", "body": {"n": i}}
+        body = {"n": i, "text": LONG}
+        request = {"id": f"r{i}", "method": "post", "url": "X", "atomicityGroup": f"g{i // 5}", "body": body}
         if i >= 5:
             request |= {"dependsOn": [f"g{i // 5 - 1}"], "url": f"$r{i - 5}/Y", "headers": {"Prefer": "x"}}
         found.append(request)
