@@ -97,6 +97,22 @@ module _ (state : State) (i : ℕ) (outcome : Outcome) where
   pub one_report : (cause other : ReportRefusal) → IsReportCause state i outcome cause → IsReportCause state i outcome other → cause ≡ other
   one_report cause other x y = same_report cause other (same_number report_number (λ c. BarsReport c state i outcome) cause other x y)
 
+  -- no cause comes before the first
+  none_less : (other : ReportRefusal) → report_number other < 1 → ⊥
+  none_less report.NotRunning less = omega arith
+  none_less report.BadStatus less = omega arith
+
+  pub first_idle : is_running (phase_at state i) ≡ false → IsReportCause state i outcome report.NotRunning
+  first_idle bars = record { broken = bars; least = λ other less. absurd (none_less other less) }
+
+  module _ (runs : is_running (phase_at state i) ≡ true) where
+    runs_before : (other : ReportRefusal) → report_number other < 2 → ¬ BarsReport other state i outcome
+    runs_before report.NotRunning less bars = both_ways _ bars runs
+    runs_before report.BadStatus less bars = absurd (omega arith)
+
+    pub first_bad : is_status outcome.status ≡ false → IsReportCause state i outcome report.BadStatus
+    first_bad bars = record { broken = bars; least = runs_before }
+
   unbarred_report : (is_running (phase_at state i) ≡ true) × (is_status outcome.status ≡ true) → (cause : ReportRefusal) → ¬ BarsReport cause state i outcome
   unbarred_report parts report.NotRunning bars = both_ways _ bars parts.0
   unbarred_report parts report.BadStatus bars = both_ways _ bars parts.1

@@ -1,7 +1,7 @@
 -- The questions to a run between events, by its counts.
-use Rattle.std.proofs.Common.{◌≡◌, ℕ, ◌<◌, ◌≤◌, ◌+◌, ◌==◌, ◌∙◌, ap, refl, subst, arith, Bool, true, false, not, cond, ◌&&◌, ◌||◌, nat_lt, eq-eqb, ne_eqb, eqb-true, lt-ltb, sym, ◌⊎◌, List, [], ◌∷◌, length, get_or, map, inl, inr, count_by}
+use Rattle.std.proofs.Common.{◌≡◌, ℕ, ◌<◌, ◌≤◌, ◌+◌, ◌==◌, ◌∙◌, ap, refl, subst, arith, Bool, true, false, not, cond, ◌&&◌, ◌||◌, nat_lt, leb, eq-eqb, ne_eqb, eqb-true, lt-ltb, le-ltb, le-leb, sym, ◌⊎◌, List, [], ◌∷◌, length, get_or, map, inl, inr, count_by}
 use Rattle.std.specs.List.{list_all}
-use Rattle.std.proofs.lemmas.Bool.{cases_Bool, cases_lt, both_ways, false_from_ne_true, and_parts, and_from, and_left, and_right, or_cases, or_left, or_right, not-true, not_from_true}
+use Rattle.std.proofs.lemmas.Bool.{cases_Bool, cases_lt, both_ways, false_from_ne_true, and_parts, and_from, and_left, and_right, or_cases, or_left, or_right, not-true, not_from_true, lt-leb}
 use Rattle.std.proofs.Math.ListN.{get_or-map}
 use Rattle.std.proofs.lemmas.List.{get_or_default, get_or_past, length-map}
 use Rattle.std.proofs.lemmas.List.Sums.{sum_by-cons, get_or-le-sum_by}
@@ -50,8 +50,15 @@ none_pass test xs d = elim (cases_Bool (any_below (length xs) (λ i. test (get_o
 pub running_is : (state : State) (counted : Counts) → IsCounted state counted → count_by (λ runs. runs) counted.progress.running ≡ running_count state
 running_is state counted are = ap (count_by (λ runs. runs)) are.counts.running ∙ count_map is_running state.phases
 
+-- as many run as may exactly when no fewer do
+pub full_is : (count width : ℕ) → leb width count ≡ not (nat_lt count width)
+full_is count width = elim (cases_lt count width) [
+  | inl room ↦ rw (lt-leb width count room, lt-ltb count width room) refl
+  | inr full ↦ rw (le-leb width count full, le-ltb count width full) refl
+]
+
 -- whether the unit of a request has failed
-skipped_is : (state : State) (counted : Counts) (i : ℕ) → IsReached state → IsCounted state counted → i < size state → is_skipped state.plan_graph counted.progress.units i ≡ unit_failed state (unit_of state.plan_graph i)
+pub skipped_is : (state : State) (counted : Counts) (i : ℕ) → IsReached state → IsCounted state counted → i < size state → is_skipped state.plan_graph counted.progress.units i ≡ unit_failed state (unit_of state.plan_graph i)
 skipped_is state counted i reached are within = are.counts.units.failed (unit_of state.plan_graph i) (reached.laws.counted i within)
 
 unmet_is : (state : State) (counted : Counts) (i : ℕ) → IsCounted state counted → i < size state → (get_or counted.progress.unmet.items i 0 == 0) ≡ all_satisfied state i

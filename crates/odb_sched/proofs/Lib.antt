@@ -13,13 +13,10 @@ pub mod RunLemmas
 pub mod EventLemmas
 pub mod NameLemmas
 pub mod ResultLemmas
-pub mod SpanLemmas
 pub mod ListLemmas
 pub mod CountLemmas
 pub mod PropagateLemmas
 pub mod DependentLemmas
-pub mod NeedPairLemmas
-pub mod GraphLemmas
 pub mod FirstLemmas
 pub mod SkippedLemmas
 pub mod FailLemmas

@@ -1,5 +1,4 @@
 -- What invariants, private clauses and proofs cite: nothing to believe.
-pub mod Graphs
 pub mod Counts
 pub mod Propagation
 pub mod Kept

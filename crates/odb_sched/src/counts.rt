@@ -2,9 +2,7 @@
 
 ghost use Rattle.std.specs.Prelude.{◌≡◌, ◌<◌, ◌&&◌, ◌||◌, ◌==◌, ℕ, true, false, not, nat_lt, length, find, replicate, slice_index_or, slice_set, count_by, IfOk, IfSome, IsSome, None, All};
 ghost use Rattle.odb_check.specs.PlanGraph as plan_graphs;
-ghost use Rattle.odb_dense.specs.declared.worklist.Mark.TheVariants.{Unvisited};
 ghost use Rattle.odb_dense.specs.Lists.{ListsOnce};
-ghost use Rattle.odb_dense.specs.Marks.{is_visited};
 ghost use Rattle.odb_sched.specs.declared.phase.Phase.TheVariants.{Unstarted, Running};
 ghost use Rattle.odb_sched.specs.invariants.Ends.{IsEndOf};
 ghost use Rattle.odb_sched.specs.invariants.Counts as counts;
@@ -13,12 +11,12 @@ ghost use Rattle.odb_check.specs.PlanGraph.{IsNeed};
 ghost use Rattle.odb_sched.specs.invariants.Kept.{state_of, first_of};
 ghost use Rattle.odb_sched.specs.run.Steps.{satisfied_in};
 
-use crate::graph::Graph;
 use crate::order::End;
 use crate::phase::Phase;
 use crate::policy::Policy;
 use odb_check::Need;
 use odb_dense::{MinMaxSet, Worklist};
+use odb_graph::Graph;
 use std::alloc::{AllocError, Global};
 
 /// What is counted of a run beside the phases of its requests, which are read while it changes.
@@ -36,13 +34,22 @@ pub(crate) struct Progress {
     pub(crate) running: MinMaxSet,
 }
 
+/// Returns the number of dependencies of a request.
+fn needs_in(graph: &Graph, i: u32) -> usize
+    requires { i < length graph.now.plan_graph.units }
+    ensures { result ≡ counts.needs_in graph.now.plan_graph i }
+{
+    let needs = graph.needs(i);
+    needs.len()
+}
+
 /// Returns for each request the number of its dependencies.
 fn need_counts(alloc: Global, graph: &Graph) -> Result<Vec<usize>, AllocError>
     ensures { IfOk result (λ found. found.items ≡ counts.need_counts graph.now.plan_graph) }
 {
     let mut counts = Vec::with_capacity(alloc, graph.len() as usize)?;
     for i in 0..graph.len() {
-        counts.push(graph.needs(i).len())?;
+        counts.push(needs_in(graph, i))?;
     }
     Ok(counts)
 }
@@ -195,12 +202,11 @@ impl Counts {
         None
     }
 
-    /// Returns whether a unit has failed.
-    pub(crate) fn has_failed(&self, u: u32) -> bool
-        requires { u < length self.now.progress.units }
-        ensures { result ≡ is_visited (slice_index_or self.now.progress.units u Unvisited) }
+    /// Returns whether as many requests are running as the width allows.
+    pub(crate) fn is_full(&self, policy: Policy) -> bool
+        ensures { result ≡ not (nat_lt (count_by (λ runs. runs) self.now.progress.running) policy.width) }
     {
-        self.progress.units.is_visited(u)
+        self.progress.running.len() >= policy.width as usize
     }
 
     /// Returns whether nothing may start now: the run is stopped, or as many requests are running
@@ -209,7 +215,7 @@ impl Counts {
         ensures { result ≡ (self.now.stopped
             || not (nat_lt (count_by (λ runs. runs) self.now.progress.running) policy.width)) }
     {
-        self.stopped || self.progress.running.len() >= policy.width as usize
+        self.stopped || self.is_full(policy)
     }
 
     /// Returns whether no request is running and none may start any more.

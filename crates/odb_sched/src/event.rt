@@ -1,17 +1,18 @@
 //! Events of a run, recorded events, and steps: events without their outcomes.
 
-ghost use Rattle.std.specs.Prelude.{◌≡◌, ◌<◌, true, length, All, OnOk, IfOk, IfErr, List, Some};
+ghost use Rattle.std.specs.Prelude.{◌≡◌, ◌<◌, true, length, All, OnOk, IfOk, IfErr, IsErr, List, Some};
 ghost use Rattle.odb_check.specs.Plans.{plan_records};
 ghost use Rattle.odb_sched.specs.run.State as state;
-ghost use Rattle.odb_sched.specs.run.Steps.{may_come};
-ghost use Rattle.odb_sched.specs.run.Runs.{event_position, IsRun, state_after, RefusesEvent, Refuses};
+ghost use Rattle.odb_sched.specs.declared.event.Event.TheVariants.{Start, Report};
+ghost use Rattle.odb_sched.specs.run.Steps.{may_come, may_start, may_report};
+ghost use Rattle.odb_sched.specs.run.Runs.{event_position, after_all, IsRunFrom, IsRun, state_after, RefusesEvent, Refuses};
 ghost use Rattle.odb_sched.specs.run.Laws.{StartsAfterDependencies, HasFewEvents};
 ghost use Rattle.std.specs.List.{AllZip};
 ghost use Rattle.odb_doc.specs.recorded.EventLists.{entries};
 ghost use Rattle.odb_doc.specs.recorded.Events.{event_value};
 ghost use Rattle.odb_doc.specs.batch.Records.{Record};
 ghost use Rattle.odb_check.specs.Positions.{id_at};
-ghost use Rattle.odb_sched.specs.declared.event.ResolveFault.TheVariants.{OutOfMemory};
+ghost use Rattle.odb_sched.specs.declared.event.ResolveFault.TheVariants.{UnknownEvent, OutOfMemory};
 ghost use Rattle.odb_sched.specs.run.Refusals.{resolve_row};
 ghost use Rattle.odb_sched.specs.run.Resolving.{IsKnown, IsResolved, RefusesNamed, named_id};
 
@@ -33,6 +34,37 @@ pub enum Event {
     Report(u32, Outcome),
 }
 
+/// Starts request `i`, by the event at index `at` of its list, if it may start.
+fn take_start(scheduler: &mut Scheduler<'_>, at: usize, i: u32) -> Result<(), RunRefusal>
+    requires { i < state.size scheduler.old }
+    ensures allowed { OnOk result (may_start scheduler.old i ≡ true) }
+    ensures state { OnOk result (scheduler.new ≡ state.started scheduler.old i) }
+    ensures refused { IfErr result (RefusesEvent scheduler.old at (Start i)) }
+{
+    match scheduler.start(i) {
+        Ok(()) => Ok(()),
+        Err(cause) => Err(RunRefusal::Start { at, cause }),
+    }
+}
+
+/// Takes the outcome of request `i`, by the event at index `at` of its list, if it may come.
+fn take_report(
+    scheduler: &mut Scheduler<'_>,
+    at: usize,
+    i: u32,
+    outcome: Outcome,
+) -> Result<(), RunRefusal>
+    requires { i < state.size scheduler.old }
+    ensures allowed { OnOk result (may_report scheduler.old i outcome ≡ true) }
+    ensures state { OnOk result (scheduler.new ≡ state.reported scheduler.old i outcome) }
+    ensures refused { IfErr result (RefusesEvent scheduler.old at (Report i outcome)) }
+{
+    match scheduler.report(i, outcome) {
+        Ok(()) => Ok(()),
+        Err((cause, _)) => Err(RunRefusal::Report { at, cause }),
+    }
+}
+
 /// Takes the event at index `at` of its list, if it may come.
 fn take(scheduler: &mut Scheduler<'_>, at: usize, event: Event) -> Result<(), RunRefusal>
     requires { event_position event < state.size scheduler.old }
@@ -41,15 +73,22 @@ fn take(scheduler: &mut Scheduler<'_>, at: usize, event: Event) -> Result<(), Ru
     ensures refused { IfErr result (RefusesEvent scheduler.old at event) }
 {
     match event {
-        Event::Start(i) => match scheduler.start(i) {
-            Ok(()) => Ok(()),
-            Err(cause) => Err(RunRefusal::Start { at, cause }),
-        },
-        Event::Report(i, outcome) => match scheduler.report(i, outcome) {
-            Ok(()) => Ok(()),
-            Err((cause, _)) => Err(RunRefusal::Report { at, cause }),
-        },
+        Event::Start(i) => take_start(scheduler, at, i),
+        Event::Report(i, outcome) => take_report(scheduler, at, i, outcome),
     }
+}
+
+/// Takes the events in their order, up to the first that may not come.
+fn take_all(scheduler: &mut Scheduler<'_>, events: Vec<Event>) -> Result<(), RunRefusal>
+    requires { All (λ event. event_position event < state.size scheduler.old) events.items }
+    ensures run { OnOk result (IsRunFrom scheduler.old events.items) }
+    ensures state { OnOk result (scheduler.new ≡ after_all scheduler.old events.items) }
+    ensures refused { IfErr result (Refuses scheduler.old events.items) }
+{
+    for (at, event) in events.into_iter().enumerate() {
+        take(scheduler, at, event)?;
+    }
+    Ok(())
 }
 
 /// Runs a plan by these events, in their order.
@@ -75,9 +114,7 @@ pub fn run<'a: 'p, 'p>(
 {
     every_run(plan);
     let mut scheduler = Scheduler::new(alloc, plan, policy)?;
-    for (at, event) in events.into_iter().enumerate() {
-        take(&mut scheduler, at, event)?;
-    }
+    take_all(&mut scheduler, events)?;
     Ok(scheduler)
 }
 
@@ -152,6 +189,19 @@ fn at_position(event: NamedEvent, i: u32) -> Event
     }
 }
 
+/// Returns the event at index `at` of its list, at the position of its request.
+fn resolved(plan: &Plan<'_>, at: usize, event: NamedEvent) -> Result<Event, ResolveFault>
+    ensures resolved { IfOk result (IsResolved (plan_records plan.now) (event_value event)) }
+    ensures within { IfOk result (λ found. event_position found < length (plan_records plan.now)) }
+    ensures place { IfErr result (λ fault. fault ≡ UnknownEvent at) }
+    ensures unknown { IsErr result → ¬ IsKnown (plan_records plan.now) (event_value event) }
+{
+    match plan.position_of(id_of(&event)) {
+        Some(i) => Ok(at_position(event, i)),
+        None => Err(ResolveFault::UnknownEvent { at }),
+    }
+}
+
 /// Returns the events by the positions of their requests, in their order. The outcomes are moved.
 ///
 /// Costs O(number of events).
@@ -170,10 +220,8 @@ pub fn resolve(alloc: Global, plan: &Plan<'_>, events: Events) -> Result<Vec<Eve
 {
     let mut found = Vec::with_capacity(alloc, events.len())?;
     for event in events.into_vec() {
-        match plan.position_of(id_of(&event)) {
-            Some(i) => found.push(at_position(event, i))?,
-            None => return Err(ResolveFault::UnknownEvent { at: found.len() }),
-        }
+        let next = resolved(plan, found.len(), event)?;
+        found.push(next)?;
     }
     Ok(found)
 }

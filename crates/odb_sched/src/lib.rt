@@ -11,7 +11,6 @@
 mod counts;
 mod done;
 mod event;
-mod graph;
 pub mod laws;
 mod order;
 mod owned;

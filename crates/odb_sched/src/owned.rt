@@ -16,7 +16,6 @@ ghost use Rattle.odb_sched.specs.run.Steps as steps;
 
 use crate::counts::Counts;
 use crate::event::Step;
-use crate::graph::Graph;
 use crate::order::{End, Order};
 use crate::phase::Phase;
 use crate::policy::Policy;
@@ -24,6 +23,7 @@ use crate::refusal::{ReportRefusal, StartRefusal};
 use odb_check::Plan;
 use odb_doc::Outcome;
 use odb_doc::status::is_status;
+use odb_graph::Graph;
 use std::alloc::{AllocError, Global};
 use std::marker::Model;
 
@@ -109,25 +109,33 @@ impl OwnedRun {
         self.graph.is_of(plan)
     }
 
+    /// Returns whether the unit of a request has failed.
+    fn unit_failed(&self, i: u32) -> bool
+        requires { i < state.size self.now }
+        ensures { result ≡ steps.unit_failed self.now (unit_of self.now.plan_graph i) }
+    {
+        self.counts.progress.units.is_visited(self.graph.unit_of(i))
+    }
+
     /// Returns the first cause why a request may not start.
     fn start_refusal(&self, i: u32) -> Option<StartRefusal>
         requires { i < state.size self.now }
         ensures cause { IfSome result (IsStartCause self.now i) }
         ensures none { result ≡ None → steps.may_start self.now i ≡ true }
     {
-        if !self.counts.phases[i as usize].is_unstarted() {
+        if !self.phase(i).is_unstarted() {
             return Some(StartRefusal::AlreadyStarted);
         }
         if self.counts.stopped {
             return Some(StartRefusal::Stopped);
         }
-        if self.counts.has_failed(self.graph.unit_of(i)) {
+        if self.unit_failed(i) {
             return Some(StartRefusal::UnitFailed);
         }
         if let Some(need) = self.counts.first_unmet(&self.graph, i) {
             return Some(StartRefusal::Waiting(need));
         }
-        if self.counts.running().len() >= self.policy.width as usize {
+        if self.counts.is_full(self.policy) {
             return Some(StartRefusal::WidthReached);
         }
         None
@@ -160,7 +168,7 @@ impl OwnedRun {
         ensures cause { IfSome result (IsReportCause self.now i outcome.now) }
         ensures none { result ≡ None → steps.may_report self.now i outcome.now ≡ true }
     {
-        if !self.counts.phases[i as usize].is_running() {
+        if !self.phase(i).is_running() {
             return Some(ReportRefusal::NotRunning);
         }
         if !is_status(outcome.status) {

@@ -6,7 +6,7 @@ use odb_doc::Outcome;
 use odb_doc::status::{is_error, is_success};
 
 /// What has happened to a request in a run.
-#[derive(Debug, Drop)]
+#[derive(Drop)]
 pub enum Phase {
     Unstarted,
     Running,
@@ -28,28 +28,12 @@ impl Phase {
         matches!(self, Phase::Running)
     }
 
-    pub(crate) fn is_reported(&self) -> bool
-        ensures { result ≡ state.is_reported self.now }
-    {
-        matches!(self, Phase::Reported(_))
-    }
-
     /// Returns whether a status from 200 to 299 was reported.
     pub(crate) fn has_succeeded(&self) -> bool
         ensures { result ≡ state.has_succeeded self.now }
     {
         match self {
             Phase::Reported(outcome) => is_success(outcome.status),
-            _ => false,
-        }
-    }
-
-    /// Returns whether a status from 300 to 599 was reported.
-    pub(crate) fn has_failed(&self) -> bool
-        ensures { result ≡ state.has_failed self.now }
-    {
-        match self {
-            Phase::Reported(outcome) => !is_success(outcome.status),
             _ => false,
         }
     }

@@ -12,10 +12,10 @@ ghost use Rattle.odb_sched.specs.invariants.Propagation as propagation;
 ghost use Rattle.odb_sched.specs.run.Steps.{stops};
 
 use crate::counts::{Counts, Progress};
-use crate::graph::Graph;
 use crate::phase::Phase;
 use crate::policy::{Mode, Policy};
 use odb_doc::Outcome;
+use odb_graph::Graph;
 
 /// Counts one need of a request as satisfied. The last one makes the request ready, unless it has
 /// started or its unit has failed.

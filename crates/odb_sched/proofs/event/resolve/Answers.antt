@@ -1,12 +1,10 @@
-use Rattle.std.proofs.Common.{◌≡◌, ◌∙◌, sym, ap, arith, rules, length, map, Some, None}
+use Rattle.std.proofs.Common.{◌≡◌, ◌∙◌, sym, ap, subst, arith, rules, length, map}
 use Rattle.std.proofs.lemmas.List.{nil_from_length}
 use Rattle.std.specs.Vec.Iter.{into_iter_items}
 use Rattle.odb_check.specs.Plans.{plan_records}
-use Rattle.odb_check.specs.Units as units
 use Rattle.odb_doc.specs.recorded.EventLists.{entries}
 use Rattle.odb_doc.specs.recorded.Events.{event_value}
-use Rattle.odb_sched.specs.run.Resolving.{named_id}
-use Rattle.odb_check.proofs.PositionLemmas.{position_first, position_none}
+use Rattle.odb_sched.specs.run.Resolving.{IsKnown, RefusesNamed}
 use Rattle.odb_sched.proofs.ResolveLemmas.{resolved_none, resolved_more, resolved_all, resolved_as, unknown_next}
 use Rattle.odb_sched.proofs.event.resolve.Goals as goal
 
@@ -22,24 +20,22 @@ loop-event-init c =
 pub loop-event-preserved : goal.loop-event-preserved
 loop-event-preserved c =
     let batch = plan_records c.args.plan.now in
-    let found : units.position_of batch (named_id (event_value c.in-Some.event)) ≡ Some c.in-Some-position_of.i = ap (units.position_of batch) (sym c.id_of.ensures) ∙ sym c.position_of.ensures ∙ c.in-Some-position_of.is in
-    let first = position_first batch (named_id (event_value c.in-Some.event)) c.in-Some-position_of.i found in
     let so_far = resolved_as batch (entries c.args.events) _ _ c.loop-event.found.items (ap (map event_value) c.in-Some.ensures.steps.0) c.loop-event.invariant.resolved in
     record {
       left = let fewer = c.in-Some.ensures.steps.1 in let short = ap length c.in-Some.ensures.steps.0 in let was = c.loop-event.invariant.left in omega arith;
-      resolved = rw c.in_ok-push-in-Some-position_of.ensures.items
-          (resolved_more batch (entries c.args.events) (event_value c.in-Some.event) (map event_value (into_iter_items c.next.new.self)) c.loop-event.found.items c.at_position.result so_far
-          (c.at_position.ensures.same batch first.1.here) (rw c.at_position.ensures.place first.0));
+      resolved = rw c.in_ok-push.ensures.items
+          (resolved_more batch (entries c.args.events) (event_value c.in-Some.event) (map event_value (into_iter_items c.next.new.self)) c.loop-event.found.items _ so_far c.in_ok-next.ensures.resolved c.in_ok-next.ensures.within);
     }
 
-pub returns-in-None-position_of-clause-least : goal.returns-in-None-position_of-clause-least
-returns-in-None-position_of-clause-least c =
+pub returns-in_err-next-clause-least : goal.returns-in_err-next-clause-least
+returns-in_err-next-clause-least c =
     let batch = plan_records c.args.plan.now in
-    let missing : units.position_of batch (named_id (event_value c.in-Some.event)) ≡ None = ap (units.position_of batch) (sym c.id_of.ensures) ∙ sym c.position_of.ensures ∙ c.in-None-position_of.is in
     let so_far = resolved_as batch (entries c.args.events) _ _ c.loop-event.found.items (ap (map event_value) c.in-Some.ensures.steps.0) c.loop-event.invariant.resolved in
-    let place : c.len-in-None-position_of.result ≡ length c.loop-event.found.items = search rules in
-    unknown_next batch (entries c.args.events) (event_value c.in-Some.event) (map event_value (into_iter_items c.next.new.self)) c.loop-event.found.items c.len-in-None-position_of.result so_far place
-    (λ is. position_none batch (named_id (event_value c.in-Some.event)) missing is.0 is.1)
+    let place : c.len-in-loop-event.result ≡ length c.loop-event.found.items = search rules in
+    let unknown : ¬ IsKnown batch (event_value c.in-Some.event) = search rules in
+    let refused : RefusesNamed c.in_err-next.field-0.0 batch (entries c.args.events) = subst (λ fault. RefusesNamed fault batch (entries c.args.events)) (sym c.in_err-next.ensures.place)
+    (unknown_next batch (entries c.args.events) (event_value c.in-Some.event) (map event_value (into_iter_items c.next.new.self)) c.loop-event.found.items c.len-in-loop-event.result so_far place unknown) in
+    search (rules, refused)
 
 pub returns-clause-known : goal.returns-clause-known
 returns-clause-known c =

@@ -1,66 +1,24 @@
--- The events that were taken are a prefix of the list, and all of it at the end.
-use Rattle.std.proofs.Common.{refl, ◌≡◌, ◌∙◌, sym, ap, arith, rules, length}
-use Rattle.std.proofs.lemmas.List.{nil_from_length}
-use Rattle.std.specs.Iterator.Adapters.{enumerate_source, enumerate_count}
-use Rattle.std.specs.Vec.Iter.{into_iter_items, into_iter_len}
+-- What the events make of the first state holds of the first state of the plan.
+use Rattle.std.proofs.Common.{◌∙◌, ap, subst, rules}
 use Rattle.odb_sched.specs.run.State.{initial}
-use Rattle.odb_sched.proofs.PlanLemmas.{length-plan_graph}
-use Rattle.odb_sched.proofs.TakenLemmas.{taken_none, taken_as, next_within, taken_more, taken_all, taken_refused, sized}
+use Rattle.odb_sched.specs.run.Runs.{after_all, IsRunFrom, Refuses}
+use Rattle.odb_sched.proofs.TakenLemmas.{sized}
 use Rattle.odb_sched.proofs.event.run.Goals as goal
 
-pub loop-at-init : goal.loop-at-init
-loop-at-init c =
-    let given : c.into_iter-at-iterator.result ≡ c.enumerate-at-items.result = c.into_iter-at-iterator.ensures.into_iter_gives in
-    let source : enumerate_source c.into_iter-at-iterator.result ≡ c.into_iter.result = ap enumerate_source given ∙ c.enumerate-at-items.ensures.source in
-    let items : into_iter_items (enumerate_source c.into_iter-at-iterator.result) ≡ c.args.events.items = ap into_iter_items source ∙ c.into_iter.ensures.rest in
-    let count : enumerate_count c.into_iter-at-iterator.result ≡ 0 = ap enumerate_count given ∙ c.enumerate-at-items.ensures.count in
-    let len : into_iter_len (enumerate_source c.into_iter-at-iterator.result) ≡ c.args.events.len = ap into_iter_len source ∙ c.into_iter.ensures.len in
-    record {
-      next = search rules;
-      ends = tt;
-      left = len ∙ c.args.events.ok.0 ∙ ap length (sym items);
-      taken = rw (items, count, c.in_ok-scheduler.ensures.state) (taken_none _ _);
-    }
+pub take_all-requires : goal.take_all-requires
+take_all-requires c = sized c.in_ok-scheduler.scheduler _ c.args.events.items c.in_ok-scheduler.ensures.size c.requires
 
-pub take-requires : goal.take-requires
-take-requires c =
-    let first = initial c.args.plan.now c.args.policy in
-    let count = enumerate_count c.loop-at.at-iterator in
-    let later = into_iter_items (enumerate_source c.next.new.self) in
-    next_within first c.args.events.items c.in-Some.event later count c.loop-at.scheduler
-    (sized first _ _ (length-plan_graph c.args.plan.now) c.requires)
-    (taken_as first c.args.events.items _ _ count count c.loop-at.scheduler c.in-Some.ensures.steps.0.0 refl c.loop-at.invariant.taken)
-
-pub loop-at-preserved : goal.loop-at-preserved
-loop-at-preserved c =
-    let first = initial c.args.plan.now c.args.policy in
-    let count = enumerate_count c.loop-at.at-iterator in
-    let later = into_iter_items (enumerate_source c.next.new.self) in
-    let taken = taken_as first c.args.events.items _ _ count count c.loop-at.scheduler c.in-Some.ensures.steps.0.0 refl c.loop-at.invariant.taken in
-    let within = next_within first c.args.events.items c.in-Some.event later count c.loop-at.scheduler (sized first _ _ (length-plan_graph c.args.plan.now) c.requires) taken in
-    record {
-      next = search rules;
-      ends = tt;
-      left = let fewer = c.in-Some.ensures.steps.0.1 in let short = ap length c.in-Some.ensures.steps.0.0 in let was = c.loop-at.invariant.left in omega arith;
-      taken = taken_as first c.args.events.items later later _ _ c.take.new.scheduler refl (sym c.in-Some.ensures.steps.2)
-          (taken_more first c.args.events.items c.in-Some.event later count c.loop-at.scheduler c.take.new.scheduler taken within c.in_ok-take.ensures.allowed c.in_ok-take.ensures.state);
-    }
-
-pub returns-in_err-take-clause-refused : goal.returns-in_err-take-clause-refused
-returns-in_err-take-clause-refused c =
-    let first = initial c.args.plan.now c.args.policy in
-    let count = enumerate_count c.loop-at.at-iterator in
-    let later = into_iter_items (enumerate_source c.next.new.self) in
-    let taken = taken_as first c.args.events.items _ _ count count c.loop-at.scheduler c.in-Some.ensures.steps.0.0 refl c.loop-at.invariant.taken in
-    let refused = taken_refused first c.args.events.items c.in-Some.event later c.in-Some.at count c.loop-at.scheduler c.in_err-take.field-0.0 taken c.in-Some.ensures.steps.1 c.in_err-take.ensures.refused in
+pub returns-in_err-take_all-clause-refused : goal.returns-in_err-take_all-clause-refused
+returns-in_err-take_all-clause-refused c =
+    let refused : Refuses (initial c.args.plan.now c.args.policy) c.args.events.items c.in_err-take_all.field-0.0 =
+    subst (λ first. Refuses first c.args.events.items c.in_err-take_all.field-0.0) c.in_ok-scheduler.ensures.state c.in_err-take_all.ensures.refused in
     search (rules, refused)
 
 pub returns-clause-run : goal.returns-clause-run
-returns-clause-run c =
-    let first = initial c.args.plan.now c.args.policy in
-    let count = enumerate_count c.loop-at.at-iterator in
-    (taken_all first c.args.events.items count c.loop-at.scheduler
-    (taken_as first c.args.events.items _ _ count count c.loop-at.scheduler (nil_from_length _ (sym c.loop-at.invariant.left ∙ c.in-None.ensures.steps.0.0)) refl c.loop-at.invariant.taken)).0
+returns-clause-run c = subst (λ first. IsRunFrom first c.args.events.items) c.in_ok-scheduler.ensures.state c.in_ok-take_all.ensures.run
+
+pub returns-clause-state : goal.returns-clause-state
+returns-clause-state c = c.in_ok-take_all.ensures.state ∙ ap (λ first. after_all first c.args.events.items) c.in_ok-scheduler.ensures.state
 
 pub returns-clause-dependencies_first : goal.returns-clause-dependencies_first
 returns-clause-dependencies_first c = c.every_run.ensures.dependencies_first c.args.policy c.args.events.items (returns-clause-run c)

@@ -1,5 +1,5 @@
 -- A report that is not refused may come, and the counts follow.
-use Rattle.std.proofs.Common.{rules, ◌≡◌, ◌<◌, sym, subst, true, IfSome}
+use Rattle.std.proofs.Common.{refl, ◌≡◌, ◌<◌, sym, subst, true, IfSome}
 use Rattle.std.proofs.lemmas.Bool.{and_parts}
 use Rattle.odb_doc.specs.Statuses.{is_status}
 use Rattle.odb_sched.specs.run.State.{is_running, size, phase_at}
@@ -25,4 +25,4 @@ pub returns-in-Some-clause-cause : goal.returns-in-Some-clause-cause
 returns-in-Some-clause-cause c = subst (λ found. IfSome found (IsReportCause c.args.self.now c.args.i c.args.outcome)) c.in-Some.is c.report_refusal.ensures.cause
 
 pub returns-in-Some-clause-back : goal.returns-in-Some-clause-back
-returns-in-Some-clause-back c = search rules
+returns-in-Some-clause-back c = refl

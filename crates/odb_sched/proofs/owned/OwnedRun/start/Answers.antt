@@ -37,3 +37,12 @@ returns-in-Some-clause-cause c = subst (λ found. IfSome found (IsStartCause c.a
 
 pub returns-in-Some-clause-err : goal.returns-in-Some-clause-err
 returns-in-Some-clause-err c = search rules
+
+pub returns-clause-cause : goal.returns-clause-cause
+returns-clause-cause c = tt
+
+pub returns-clause-err : goal.returns-clause-err
+returns-clause-err c = tt
+
+pub returns-clause-free : goal.returns-clause-free
+returns-clause-free c = λ wide. tt

@@ -1,0 +1,3 @@
+pub mod SpanLemmas
+pub mod GraphLemmas
+pub mod NeedPairLemmas
