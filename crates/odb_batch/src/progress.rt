@@ -3,8 +3,8 @@
 ghost use Rattle.odb_engine.specs.Forms.{InForm};
 ghost use Rattle.odb_engine.specs.LineTasks as tasks;
 
-use odb_doc::Output;
 use odb_engine::{Ended, EngineFault};
+use odb_json::Output;
 use odb_lines::{EachLine, LineCommand};
 use std::alloc::Global;
 use std::cell::Cell;

@@ -6,8 +6,8 @@ use crate::ending::{Status, failed, finish};
 use crate::explain::{add_explanations, add_table};
 use crate::man::add_page;
 use crate::page::Page;
-use odb_doc::Output;
 use odb_engine::{Ended, EngineFault};
+use odb_json::Output;
 use std::io;
 use std::rt::Runtime;
 

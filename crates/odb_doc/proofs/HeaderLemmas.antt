@@ -19,11 +19,20 @@ use Rattle.std.proofs.lemmas.Map.Text.{is_eq-slice_cmp}
 use Rattle.serde_json.specs.Data.{Data}
 use Rattle.serde_json.specs.Find.{as_str}
 use Rattle.serde_json.specs.View.{view, members_view}
+use Rattle.odb_doc.specs.declared.broken.Broken.{Broken}
+use Rattle.odb_doc.specs.declared.broken.Broken.TheVariants.{Rule, OutOfMemory}
+use Rattle.odb_doc.specs.BrokenRules.{OnlyIf}
 use Rattle.odb_doc.specs.HeaderMaps.{Entry, Headers, HoldsMembers, AddsMember, RefusesMember}
 use Rattle.odb_doc.specs.Headers.{Header, folded, text_members, text_members_in, HoldsHeaders, header_of, headers_in}
-use Rattle.odb_doc.specs.Members.{names_of, given}
+use Rattle.odb_json.specs.Members.{names_of, given}
 use Rattle.odb_doc.proofs.FoldedNames.{names_of-text_members}
-use Rattle.odb_doc.proofs.WatchLemmas.{distinct_new}
+use Rattle.odb_json.proofs.DistinctLemmas.{distinct_new}
+
+-- ---- a reason that follows from another
+
+pub OnlyIf-weaker : {R : Type 0} (bad : R) (P Q : Type 0) (why : Broken R) → (P → Q) → OnlyIf bad P why → OnlyIf bad Q why
+OnlyIf-weaker bad P Q (Rule rule) reason only = (only.0, reason only.1)
+OnlyIf-weaker bad P Q OutOfMemory reason only = tt
 
 -- ---- an insertion into the map
 
@@ -95,6 +104,16 @@ none_step (Some t) f none = none t
 pub text_members-other : (es : List Entry) (e : Entry) (rest : List Entry) → as_str (view e.1) ≡ None → text_members (members_view (es ++ e ∷ rest)) ≡ None
 text_members-other [] e rest is = rw is refl
 text_members-other (x ∷ es) e rest is = none_step (as_str (view x.1)) _ (λ text. rw (text_members-other es e rest is) refl)
+
+text_members-at : (o : Option (List ℕ)) (es : List Entry) (e : Entry) (listed more : List Header) → as_str (view e.1) ≡ o → text_members (members_view es) ≡ Some listed
+    → option_map (λ text. listed ++ (string_bytes e.0, text) ∷ []) o ≡ Some more → text_members (members_view (es ++ e ∷ [])) ≡ Some more
+text_members-at None es e listed more is are put = absurd (cc (put))
+text_members-at (Some text) es e listed more is are put = text_members-push es e listed text is are ∙ put
+
+-- the strings with one more, if it is one
+pub text_members-more : (es : List Entry) (e : Entry) (listed more : List Header) → text_members (members_view es) ≡ Some listed
+    → option_map (λ text. listed ++ (string_bytes e.0, text) ∷ []) (as_str (view e.1)) ≡ Some more → text_members (members_view (es ++ e ∷ [])) ≡ Some more
+text_members-more es e listed more are put = text_members-at (as_str (view e.1)) es e listed more refl are put
 
 names_of-append : (es rest : List Entry) → names_of (members_view (es ++ rest)) ≡ names_of (members_view es) ++ names_of (members_view rest)
 names_of-append [] rest = refl

@@ -1,11 +1,13 @@
 -- A text has one name without the blanks at its ends, which is what the code cuts, and the kind that the name asks for
 -- determines which bodies are allowed.
-use Rattle.std.proofs.Common.{◌≡◌, ◌∙◌, ◌||◌, ℕ, Bool, true, false, List, [], ◌∷◌, ◌++◌, refl, ap, ap₂, sym, subst, true≢false, arith}
+use Rattle.std.proofs.Common.{◌≡◌, ◌∙◌, ◌||◌, ◌==◌, ◌<◌, ℕ, Bool, true, false, not, List, [], ◌∷◌, ◌++◌, length, drop, get_or, refl, ap, ap₂, sym, subst, true≢false, take-append-drop, length-drop, arith}
 use Rattle.std.specs.Char.{is_ascii_uppercase, to_ascii_lowercase}
-use Rattle.std.specs.List.{AllPass, list_any}
+use Rattle.std.specs.List.{AllPass, before_first, list_any, position_or_len}
 use Rattle.std.specs.Str.{str_to_ascii_lowercase}
 use Rattle.std.proofs.lemmas.Bool.Decides.{nat_tests}
+use Rattle.std.proofs.lemmas.List.{drop_more, get_or-take, length-take}
 use Rattle.std.proofs.lemmas.List.Elements.{All-head, All-tail}
+use Rattle.std.proofs.lemmas.List.Sums.{fails_before_first, passes_at_first}
 use Rattle.odb_names.specs.Runs.{SplitsRun}
 use Rattle.serde_json.specs.Data.{Data}
 use Rattle.odb_doc.specs.declared.batch.media_type.BodyKind.{BodyKind}
@@ -98,3 +100,26 @@ lower_here c is = grind (arith, nat_tests, is)
 pub lower_same : (text : List ℕ) → list_any is_ascii_uppercase text ≡ false → str_to_ascii_lowercase text ≡ text
 lower_same [] none = refl
 lower_same (c ∷ text) none = ap₂ (λ x xs. x ∷ xs) (lower_here c (no_head _ _ none)) (lower_same text (no_tail _ _ none))
+
+-- ---- the text before the parameters
+
+-- `;`
+abbrev pub ends_type : ℕ → Bool
+ends_type byte = byte == 59
+
+-- the text up to the first `;`, or all of it
+pub type_before : (text : List ℕ) → (rest : List ℕ) × SplitsRun is_in_type text (before_first ends_type text) rest
+type_before text =
+    let n = position_or_len ends_type text in (
+      drop n text,
+      record {
+        whole = sym (take-append-drop n text);
+        passes = λ k d less.
+            let within : k < n = omega (arith, length-take n text, less) in
+            ap not (ap ends_type (get_or-take n text k d within) ∙ fails_before_first ends_type text k d within);
+        stops = λ first more is.
+            let long : n < length text = omega (arith, length-drop n text, ap length is) in
+            let here : get_or text n first ≡ first = cc (drop_more text n first long, is) in
+            ap not (ap ends_type (sym here) ∙ passes_at_first ends_type text first long);
+      },
+    )

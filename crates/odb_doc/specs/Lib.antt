@@ -2,12 +2,10 @@
 pub mod batch
 pub mod canonical
 pub mod recorded
-pub mod Devices
 pub mod Documents
 pub mod Faults
 pub mod Headers
 pub mod LeastRules
-pub mod Members
 pub mod Refusals
 pub mod Statuses
 pub mod Texts

@@ -3,7 +3,6 @@ pub mod Batches
 pub mod Bodies
 pub mod LeastFault
 pub mod MediaTypes
-pub mod Names
 pub mod Records
 pub mod References
 pub mod Shapes

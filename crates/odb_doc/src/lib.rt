@@ -7,30 +7,24 @@
 //! [`Outcomes::read`] makes recorded outcomes of the value of a document of their own, and
 //! [`Outcomes::split`] returns what remains of it too; an [`Outcome`] is what a service answered.
 //! [`Events::read`] and [`Events::split`] do so for recorded events. [`is_whole`] returns whether a
-//! value can be written. [`Input`] and [`Output`] are a reader and a writer that remember whether they
-//! failed. [`status`] says what a status means, [`member`] looks into objects, and [`text`] appends
-//! pieces of JSON text.
+//! value can be written. [`status`] says what a status means, and [`text`] appends pieces of JSON text.
 #![tactic(auto)]
 
 mod batch;
 mod broken;
 mod canonical;
-mod device;
 mod document;
 mod fault;
 mod headers;
 pub mod laws;
-pub mod member;
 mod recorded;
 mod refusal;
-mod repeats;
 pub mod status;
 pub mod text;
 mod whole;
 
 pub use batch::Batch;
 pub use batch::request::Request;
-pub use device::{DeviceFault, Input, MAX_READS, Output};
 pub use document::{MAX_DOCUMENT_BYTES, parse};
 pub use fault::{DocFault, DocumentRule, Place, RequestRule, TextFault};
 pub use recorded::event::NamedEvent;

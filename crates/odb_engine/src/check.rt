@@ -15,7 +15,8 @@ use crate::json::counts_json;
 use crate::lines::accepted_line;
 use crate::setup::Setup;
 use odb_check::Plan;
-use odb_doc::{Batch, Input, Output};
+use odb_doc::Batch;
+use odb_json::{Input, Output};
 use std::alloc::Global;
 use std::io::{Read, Write};
 

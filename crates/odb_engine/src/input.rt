@@ -10,7 +10,8 @@ ghost use Rattle.odb_engine.specs.Inputs.{GivesDocument, GivesFew, IsFresh, Read
 ghost use Rattle.odb_engine.specs.declared.halt.Halt.TheVariants as halts;
 
 use crate::halt::Halt;
-use odb_doc::{DocFault, Fault, Input, MAX_DOCUMENT_BYTES, Place, Refusal, parse};
+use odb_doc::{DocFault, Fault, MAX_DOCUMENT_BYTES, Place, Refusal, parse};
+use odb_json::Input;
 use serde_json::Value;
 use std::alloc::Global;
 use std::io::Read;

@@ -14,7 +14,8 @@ use crate::halt::Halt;
 use crate::plan_json::plan_json;
 use crate::setup::Setup;
 use odb_check::Plan;
-use odb_doc::{Batch, Input, Output};
+use odb_doc::Batch;
+use odb_json::{Input, Output};
 use std::alloc::Global;
 use std::io::{Read, Write};
 

@@ -12,8 +12,8 @@ use crate::command::LineCommand;
 use crate::input::LineInput;
 use crate::line::{answer_line, hold};
 use memchr::memchr;
-use odb_doc::Output;
 use odb_engine::{Ended, EngineFault};
+use odb_json::Output;
 use std::alloc::Global;
 use std::io::{Read, Write};
 

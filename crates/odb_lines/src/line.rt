@@ -5,8 +5,9 @@ ghost use Rattle.odb_engine.specs.Inputs.{most_read};
 ghost use Rattle.odb_lines.specs.Steps.{EndsAnswer, cut};
 
 use crate::command::LineCommand;
-use odb_doc::{MAX_DOCUMENT_BYTES, Output};
+use odb_doc::MAX_DOCUMENT_BYTES;
 use odb_engine::{Ended, EngineFault};
+use odb_json::Output;
 use std::alloc::{AllocError, Global};
 use std::io::Write;
 

@@ -1,8 +1,8 @@
 //! The tasks of the engines, done on each line.
 
 use crate::command::LineCommand;
-use odb_doc::Output;
 use odb_engine::{Ended, EngineFault, LineTask, Setup, answer_line};
+use odb_json::Output;
 use std::alloc::Global;
 use std::io::Write;
 

@@ -11,12 +11,12 @@ mod failures;
 mod reads;
 
 use odb_check::Seed;
-use odb_doc::{Input, Output};
 use odb_engine::{
     Disposal, Ended, EngineFault, Setup, canon_batch, canon_batch_with, check_batch,
     check_batch_with, match_batch, match_batch_with, plan_batch, plan_batch_with, replay_batch,
     replay_batch_with, run_batch, run_batch_with,
 };
+use odb_json::{Input, Output};
 use odb_sched::{Mode, Order, Policy};
 use std::alloc::Global;
 use std::io::{Read, Write};

@@ -1,18 +1,16 @@
 -- What is moved out of an element of `outcomes`, or out of a report of `events`, while it is read, and the ids that are
 -- watched for a repeat: for private clauses, nothing to believe.
-use Rattle.std.specs.Prelude.{◌≡◌, ◌==◌, ◌&&◌, ◌||◌, ℕ, Bool, nat_lt, length, List, ◌++◌, Option, Some, None, map, option_map, codes, bytes_eq, string_bytes, if◌then◌else◌, String}
+use Rattle.std.specs.Prelude.{◌≡◌, ◌||◌, ℕ, List, ◌++◌, Option, Some, None, map, option_map, codes, bytes_eq, string_bytes, if◌then◌else◌, String}
 use Rattle.std.specs.declared.alloc.Global.{Global}
 use Rattle.std.specs.BTreeSet.{BTreeSet}
-use Rattle.std.specs.Cmp.Lexicographic.{slice_cmp}
 use Rattle.std.specs.List.{IsDistinct, list_any}
-use Rattle.std.specs.Ordering.{is_lt, nat_cmp}
 use Rattle.serde_json.specs.Data.{Data}
 use Rattle.serde_json.specs.Find.{as_number, as_str, get}
 use Rattle.serde_json.specs.View.{view, number_view}
 use Rattle.odb_doc.specs.declared.broken.Broken.{Broken}
 use Rattle.odb_doc.specs.declared.broken.Broken.TheVariants as broken
-use Rattle.odb_doc.specs.declared.member.Object.{Object}
-use Rattle.odb_doc.specs.declared.member.Object.TheVariants as objects
+use Rattle.odb_json.specs.declared.member.Object.{Object}
+use Rattle.odb_json.specs.declared.member.Object.TheVariants as objects
 use Rattle.odb_doc.specs.declared.recorded.outcome.Parts.{Parts}
 use Rattle.odb_doc.specs.declared.recorded.outcome.RawOutcome.{RawOutcome}
 use Rattle.odb_doc.specs.declared.recorded.event_fault.EventRule.{EventRule}
@@ -28,7 +26,8 @@ use Rattle.odb_doc.specs.recorded.EventFaults as event_table
 use Rattle.odb_doc.specs.recorded.LeastEventFault.{BreaksEvent}
 use Rattle.odb_doc.specs.recorded.LeastOutcomeFault.{BreaksOutcome}
 use Rattle.odb_doc.specs.LeastRules.{IsLeast}
-use Rattle.odb_doc.specs.Members.{HasOther, is_other, members_of, names_in, text_at}
+use Rattle.odb_json.specs.SameTexts.{AreSameTexts}
+use Rattle.odb_json.specs.Members.{HasOther, is_other, members_of, names_in, text_at}
 use Rattle.odb_doc.specs.recorded.OutcomeFaults.{rule_number}
 use Rattle.odb_doc.specs.recorded.Outcomes.{HasOutcome, status_of}
 
@@ -91,10 +90,6 @@ abbrev pub event_fault : Broken (ℕ × EventRule) → EventFault
 event_fault (broken.Rule place) = event_faults.Event place.0 place.1
 event_fault broken.OutOfMemory = event_faults.OutOfMemory
 
--- the same texts, whatever their order and however often each is listed
-abbrev pub AreSameTexts : List (List ℕ) → List (List ℕ) → Type 0
-AreSameTexts xs ys = (q : List ℕ) → list_any (bytes_eq q) xs ≡ list_any (bytes_eq q) ys
-
 -- the set has the ids so far; without a set these and those to come are distinct
 abbrev pub Watches : Option (BTreeSet (String Global)) → List (List ℕ) → List (List ℕ) → Type 0
 Watches (Some set) before coming = AreSameTexts (map string_bytes set.keys) before
@@ -102,7 +97,3 @@ Watches None before coming = IsDistinct bytes_eq (before ++ coming)
 
 abbrev pub IsWatched : SeenIds → List (List ℕ) → List (List ℕ) → Type 0
 IsWatched seen before coming = Watches seen.ids before coming
-
--- the first text is the shorter one, or as long as the second and before it in byte order
-abbrev pub rises_by_length : List ℕ → List ℕ → Bool
-rises_by_length x y = nat_lt (length x) (length y) || ((length x == length y) && is_lt (slice_cmp nat_cmp x y))

@@ -16,7 +16,7 @@ use crate::batch::media_type::BodyKind;
 use crate::batch::members::Members;
 use crate::broken::Broken;
 use crate::fault::RequestRule;
-use crate::member::given;
+use odb_json::member::given;
 use odb_names::{Method, is_base64url};
 use serde_json::Value;
 use std::alloc::{AllocError, Global};
@@ -28,7 +28,7 @@ fn is_of_kind(kind: BodyKind, body: &Value) -> bool
     match kind {
         BodyKind::Any => true,
         BodyKind::Text => body.is_string(),
-        BodyKind::Base64Url => body.as_str().is_some_and(|text| is_base64url(text)),
+        BodyKind::Base64Url => matches!(body.as_str(), Some(text) if is_base64url(text)),
     }
 }
 

@@ -1,6 +1,6 @@
 //! The headers of a request, lent from its document, in byte order of their names in lower case.
 
-ghost use Rattle.std.specs.Prelude.{◌≡◌, true, false, None, Some, map, IfOk, IfErr, OnOk, bytes_eq};
+ghost use Rattle.std.specs.Prelude.{◌≡◌, ◌++◌, ◌∷◌, [], true, false, None, Some, map, option_map, IfOk, IfErr, OnOk, bytes_eq, codes, string_bytes};
 ghost use Rattle.std.specs.Cmp.Lexicographic.{slice_cmp};
 ghost use Rattle.std.specs.List.{IsDistinct};
 ghost use Rattle.std.specs.List.Sorted.{IsPermutation, IsSorted};
@@ -8,7 +8,8 @@ ghost use Rattle.std.specs.Map.{keys_of};
 ghost use Rattle.std.specs.Ordering.{is_lt, nat_cmp};
 ghost use Rattle.std.specs.Str.{str_to_ascii_lowercase};
 ghost use Rattle.serde_json.specs.Data.{Data};
-ghost use Rattle.serde_json.specs.View.{members_view};
+ghost use Rattle.serde_json.specs.Find.{as_str};
+ghost use Rattle.serde_json.specs.View.{view, members_view};
 ghost use Rattle.odb_doc.specs.declared.fault.RequestRule.TheVariants as rules;
 ghost use Rattle.odb_doc.specs.BrokenRules.{OnRule, OnlyIf, BreaksNoneBefore, IsLeastRequestRule};
 ghost use Rattle.odb_doc.specs.batch.Bodies.{content_type};
@@ -19,7 +20,7 @@ ghost use Rattle.odb_doc.specs.Headers.{HasHeaders, IsInOrder, lent_header, text
 use crate::batch::members::Members;
 use crate::broken::Broken;
 use crate::fault::RequestRule;
-use crate::member::given;
+use odb_json::member::given;
 use serde_json::{Map, Value};
 use std::alloc::Global;
 use std::cmp::Ordering;
@@ -47,6 +48,22 @@ fn folded_cmp(x: &[u8], y: &[u8]) -> Ordering
     }
 }
 
+/// Appends the header that a member is, or returns F18 if its value is not a string.
+fn push_text<'a>(
+    found: &mut Vec<Header<'a>>,
+    name: &'a String,
+    value: &'a Value,
+) -> Result<(), Broken<RequestRule>>
+    ensures pushed { OnOk result (option_map (λ text. map written found.old.items
+        ++ (string_bytes name.now, text) ∷ []) (as_str (view value.now)) ≡ Some (map written found.new.items)) }
+    ensures none { IfErr result (OnlyIf rules.BadHeaders (as_str (view value.now) ≡ None)) }
+{
+    match value.as_str() {
+        Some(text) => Ok(found.push((name.as_str(), text))?),
+        None => Err(Broken::Rule(RequestRule::BadHeaders)),
+    }
+}
+
 /// Returns the members of an object, or F18 if a value is not a string.
 fn texts_of<'a>(
     alloc: Global,
@@ -59,10 +76,7 @@ fn texts_of<'a>(
 {
     let mut found = Vec::with_capacity(alloc, members.len())?;
     for (name, value) in members.iter() {
-        let Some(text) = value.as_str() else {
-            return Err(Broken::Rule(RequestRule::BadHeaders));
-        };
-        found.push((name.as_str(), text))?;
+        push_text(&mut found, name, value)?;
     }
     Ok(found)
 }
@@ -132,12 +146,19 @@ pub(crate) fn headers_of<'a>(
     in_order(texts)
 }
 
+/// Returns whether the name of a header is `content-type`, in any case of its letters.
+fn is_content_type(name: &str) -> bool
+    ensures { result ≡ bytes_eq (codes "content-type") (str_to_ascii_lowercase name.now) }
+{
+    name.eq_ignore_ascii_case("content-type")
+}
+
 /// Returns the value of the header `content-type`, or the empty text if there is none.
 pub(crate) fn content_type<'a>(headers: &[Header<'a>]) -> &'a str
     ensures { result.now ≡ content_type (map lent_header headers.now) }
 {
     for header in headers {
-        if header.0.eq_ignore_ascii_case("content-type") {
+        if is_content_type(header.0) {
             return header.1;
         }
     }

@@ -11,7 +11,7 @@ ghost use Rattle.odb_doc.specs.batch.Shapes.{HasId, HasMethod, HasGroup};
 
 use crate::batch::members::Members;
 use crate::fault::RequestRule;
-use crate::member::{given, text_in};
+use odb_json::member::{given, text_in};
 use odb_names::{Method, is_request_id};
 use serde_json::Value;
 
@@ -29,7 +29,8 @@ fn id_of<'a>(members: &Members<'a>) -> Option<&'a str>
     ensures { (d : Data) → AreMembersOf d members.now → MatchOption result
         ((id : List ℕ) → ¬ HasId d id) (λ id. HasId d id.now) }
 {
-    text_in(members.id).filter(|id| is_request_id(id))
+    let id = text_in(members.id)?;
+    is_request_id(id).then_some(id)
 }
 
 /// Returns the method that `method` names.
@@ -48,12 +49,12 @@ fn group_of<'a>(members: &Members<'a>) -> Result<Option<&'a str>, RequestRule>
     ensures none { OnErr result ((d : Data) → AreMembersOf d members.now
         → (group : Option (List ℕ)) → ¬ HasGroup d group) }
 {
-    match given(members.group).map(|value| value.as_str()) {
-        None => Ok(None),
-        Some(text) => match text.filter(|id| is_request_id(id)) {
-            Some(id) => Ok(Some(id)),
-            None => Err(RequestRule::BadGroup),
-        },
+    let Some(value) = given(members.group) else {
+        return Ok(None);
+    };
+    match value.as_str() {
+        Some(id) if is_request_id(id) => Ok(Some(id)),
+        _ => Err(RequestRule::BadGroup),
     }
 }
 
@@ -77,10 +78,19 @@ impl<'a> RequestLine<'a> {
         if members.has_unknown {
             return Err(RequestRule::UnknownRequestMember);
         }
+        let Some(id) = id_of(members) else {
+            return Err(RequestRule::BadId);
+        };
+        let Some(method) = method_of(members) else {
+            return Err(RequestRule::BadMethod);
+        };
+        let Some(url) = text_in(members.url) else {
+            return Err(RequestRule::BadUrl);
+        };
         Ok(RequestLine {
-            id: id_of(members).ok_or(RequestRule::BadId)?,
-            method: method_of(members).ok_or(RequestRule::BadMethod)?,
-            url: text_in(members.url).ok_or(RequestRule::BadUrl)?,
+            id,
+            method,
+            url,
             group: group_of(members)?,
         })
     }

@@ -1,6 +1,6 @@
 //! The media type of a `Content-Type` header, without its parameters.
 
-ghost use Rattle.std.specs.Prelude.{◌≡◌, ◌≤◌, ◌<◌, ◌-◌, ℕ, true, false, List, length, slice_index, IfOk};
+ghost use Rattle.std.specs.Prelude.{◌≡◌, ◌≤◌, ◌<◌, ◌-◌, ℕ, true, false, not, List, length, slice_index, IfOk};
 ghost use Rattle.std.specs.Char.{is_ascii_uppercase};
 ghost use Rattle.std.specs.List.{list_any};
 ghost use Rattle.std.specs.Str.{str_to_ascii_lowercase};
@@ -21,25 +21,28 @@ pub(crate) enum BodyKind {
     Base64Url,
 }
 
-fn is_blank(byte: u8) -> bool
-    ensures { result ≡ is_blank byte }
+/// Returns whether the byte is neither a space nor a tab.
+fn is_not_blank(byte: &u8) -> bool
+    ensures { result ≡ not (is_blank byte.now) }
 {
-    matches!(byte, b' ' | b'\t')
+    !matches!(*byte, b' ' | b'\t')
 }
 
 /// Returns the text before the first `;`, with which the parameters begin.
-fn without_parameters(value: &[u8]) -> &[u8]
+fn without_parameters(value: &str) -> &str
     ensures { (rest : List ℕ) × SplitsRun is_in_type value.now result.now rest }
 {
-    let place = value.iter().position(|byte| *byte == b';');
-    value.split_at(place.unwrap_or(value.len())).0
+    match value.split_once(';') {
+        Some((name, _)) => name,
+        None => value,
+    }
 }
 
 /// Returns the text after the spaces and tabs that it begins with.
 fn without_leading_blanks(text: &[u8]) -> &[u8]
     ensures { (before : List ℕ) × SplitsRun is_blank text.now before result.now }
 {
-    let place = text.iter().position(|byte| !is_blank(*byte));
+    let place = text.iter().position(is_not_blank);
     text.split_at(place.unwrap_or(text.len())).1
 }
 
@@ -50,7 +53,7 @@ fn trailing_blanks_at(text: &[u8]) -> usize
         → is_blank (slice_index text.now k) ≡ true }
     ensures stops { 0 < result → is_blank (slice_index text.now (result - 1)) ≡ false }
 {
-    match text.iter().rposition(|byte| !is_blank(*byte)) {
+    match text.iter().rposition(is_not_blank) {
         Some(last) => last + 1,
         None => 0,
     }
@@ -74,14 +77,14 @@ fn trimmed(text: &[u8]) -> &[u8]
 fn media_type(value: &str) -> &[u8]
     ensures { HasType value.now result.now }
 {
-    trimmed(without_parameters(value.as_bytes()))
+    trimmed(without_parameters(value).as_bytes())
 }
 
 /// Returns whether a letter of the text is in upper case.
 pub(crate) fn has_uppercase(text: &[u8]) -> bool
     ensures { result ≡ list_any is_ascii_uppercase text.now }
 {
-    text.iter().any(|byte| byte.is_ascii_uppercase())
+    text.iter().any(u8::is_ascii_uppercase)
 }
 
 /// Returns a copy of the text in lower case.

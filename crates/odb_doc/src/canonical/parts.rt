@@ -1,6 +1,6 @@
 //! The canonical text of one request.
 
-ghost use Rattle.std.specs.Prelude.{◌≡◌, ◌<◌, ◌+◌, ◌++◌, ◌∷◌, false, codes, length, map, string_bytes, OnOk};
+ghost use Rattle.std.specs.Prelude.{◌≡◌, ◌<◌, ◌+◌, ◌++◌, ◌∷◌, false, codes, length, map, option_map, string_bytes, OnOk};
 ghost use Rattle.serde_json.specs.Data.{string};
 ghost use Rattle.serde_json.specs.Written.{comma_if, compact_text};
 ghost use Rattle.odb_doc.specs.batch.Batches.{records};
@@ -8,11 +8,14 @@ ghost use Rattle.odb_doc.specs.canonical.Canonical.{HasWholeBodies, headers_valu
 ghost use Rattle.odb_doc.specs.Headers.{lent_header};
 ghost use Rattle.odb_doc.specs.canonical.CanonicalParts as canonical_parts;
 ghost use Rattle.odb_doc.specs.Texts.{member_part};
-ghost use Rattle.odb_doc.specs.batch.Names.{texts_in};
+ghost use Rattle.odb_json.specs.Names.{texts_in};
+ghost use Rattle.odb_doc.specs.batch.Records.{record_of};
+ghost use Rattle.odb_doc.specs.WholeNumbers.{HasWholeBody};
 
 use crate::batch::Batch;
 use crate::batch::headers::Header;
 use crate::batch::media_type::has_uppercase;
+use crate::batch::request::Request;
 use crate::text::{push_body, push_group, push_header, push_if, push_open, push_quoted};
 use odb_names::Method;
 use std::alloc::{AllocError, Global};
@@ -105,6 +108,24 @@ fn push_end(
     text.push_str("}")
 }
 
+/// Appends the start of a request, with a comma first if it comes `later` than another, and the members
+/// `atomicityGroup` and `body`, if it has them.
+fn push_group_and_body(
+    alloc: Global,
+    text: &mut String,
+    later: bool,
+    request: &Request<'_>,
+) -> Result<(), AllocError>
+    requires { HasWholeBody (record_of request.now).body }
+    ensures { OnOk result (string_bytes text.new ≡ string_bytes text.old ++ (comma_if later ++ (codes "{"
+        ++ (member_part (codes "\"atomicityGroup\":") (option_map string (record_of request.now).group)
+        ++ member_part (codes "\"body\":") (record_of request.now).body)))) }
+{
+    push_open(text, later)?;
+    push_group(alloc, text, request.group)?;
+    push_body(alloc, text, request.body)
+}
+
 /// Appends request `i`, with a comma first unless it is the first request.
 pub(crate) fn push_request(
     alloc: Global,
@@ -118,9 +139,7 @@ pub(crate) fn push_request(
         ≡ string_bytes text.new ++ canonical_parts.requests_left (records batch.now) (i + 1)) }
 {
     let request = batch.request(i);
-    push_open(text, i > 0)?;
-    push_group(alloc, text, request.group)?;
-    push_body(alloc, text, request.body)?;
+    push_group_and_body(alloc, text, i > 0, request)?;
     push_names(alloc, text, request.names.as_slice())?;
     push_headers(alloc, text, request.headers.as_slice())?;
     push_end(alloc, text, request.id, request.method, request.url)

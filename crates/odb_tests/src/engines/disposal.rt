@@ -2,8 +2,8 @@
 //! them, and all if they are to leave them. No clause can say so. Linux counts the pages of a process.
 
 use super::{EXAMPLES, Example, PAIR, called};
-use odb_doc::{Input, Output};
 use odb_engine::Disposal;
+use odb_json::{Input, Output};
 use std::alloc::Global;
 use std::fs;
 

@@ -1,8 +1,8 @@
 //! What a caller of a command writes.
 
 use crate::fail::Fail;
-use odb_doc::{Input, Output};
 use odb_engine::check_batch;
+use odb_json::{Input, Output};
 use std::alloc::Global;
 
 /// Returns what the check of a document writes: the line of its counts, or of its first fault.

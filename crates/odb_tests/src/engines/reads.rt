@@ -2,8 +2,8 @@
 
 use super::devices::Endless;
 use super::{Command, EXAMPLES, Example, PAIR, called};
-use odb_doc::{Input, Output};
 use odb_engine::{Disposal, Ended};
+use odb_json::{Input, Output};
 use std::alloc::Global;
 
 /// The commands that read a second document, and the line where it has no end.

@@ -16,13 +16,13 @@ ghost use Rattle.odb_engine.specs.ReadAgain.{IsReadAgain};
 ghost use Rattle.odb_engine.specs.Replays.{Replays};
 ghost use Rattle.odb_engine.specs.Runs.{Runs};
 
-use odb_doc::{Input, Output};
 use odb_engine::laws::{one_document, one_line, one_replay, one_run, one_text, read_again};
 use odb_engine::{
     Answer, Ended, Form, LineTask, Setup, answer_line, canon_batch, check_batch, draw_batch,
     match_batch, plan_batch, replay_batch, run_batch,
 };
 use odb_exec::Last;
+use odb_json::{Input, Output};
 use odb_sched::{Mode, Policy};
 use std::alloc::Global;
 

@@ -1,8 +1,9 @@
 //! The messages of texts that cannot be written, and of devices that fail.
 
 use super::compare;
-use odb_doc::{DeviceFault, TextFault};
+use odb_doc::TextFault;
 use odb_engine::EngineFault;
+use odb_json::DeviceFault;
 use odb_reply::ReplyFault;
 use std::alloc::Global;
 use std::test::Fail;

@@ -1,15 +1,9 @@
 use Rattle.std.proofs.Common.{◌∙◌, ◌∷◌, ◌++◌, [], refl, ap, sym, append_assoc, append-nil, length, arith, rules}
 use Rattle.std.proofs.lemmas.Map.Iter.{rest_more, rest_all}
-use Rattle.odb_doc.specs.declared.broken.Broken.{Broken}
-use Rattle.odb_doc.specs.declared.broken.Broken.TheVariants.{Rule, OutOfMemory}
 use Rattle.odb_doc.specs.BrokenRules.{OnlyIf}
 use Rattle.odb_doc.specs.HeaderMaps.{AreHeaders, Entry}
-use Rattle.odb_doc.proofs.HeaderLemmas.{HoldsMembers-none}
+use Rattle.odb_doc.proofs.HeaderLemmas.{HoldsMembers-none, OnlyIf-weaker}
 use Rattle.odb_doc.proofs.headers.moved_headers.Goals as goal
-
-OnlyIf-reason : {R : Type 0} (bad : R) (P Q : Type 0) (broken : Broken R) → (P → Q) → OnlyIf bad P broken → OnlyIf bad Q broken
-OnlyIf-reason bad P Q (Rule rule) reason only = (only.0, reason only.1)
-OnlyIf-reason bad P Q OutOfMemory reason only = tt
 
 pub loop-name-init : goal.loop-name-init
 loop-name-init g c = record {
@@ -38,7 +32,7 @@ returns-in_err-put-clause-none g c =
     let first = rest_more (λ (e : Entry). e) c.loop-name.name-iterator c.next.new.self c.next.result entry c.in-Some.is c.next.ensures.steps in
     let split = c.loop-name.invariant.split ∙ ap (λ rest. c.loop-name.yielded ++ rest) first in
     let fails : OnlyIf c.args.bad (¬ AreHeaders c.args.members.entries) c.in_err-put.field-0.0 =
-    OnlyIf-reason c.args.bad _ (¬ AreHeaders c.args.members.entries) c.in_err-put.field-0.0 (λ refuses. rw split (refuses c.loop-name.yielded c.next.new.self entry refl refl c.loop-name.invariant.holds)) c.in_err-put.ensures.refused in
+    OnlyIf-weaker c.args.bad _ (¬ AreHeaders c.args.members.entries) c.in_err-put.field-0.0 (λ refuses. rw split (refuses c.loop-name.yielded c.next.new.self entry refl refl c.loop-name.invariant.holds)) c.in_err-put.ensures.refused in
     search (rules, fails)
 
 pub returns : goal.returns

@@ -1,9 +1,9 @@
 use Rattle.std.proofs.Common.{refl, rules, string_bytes, subst}
-use Rattle.odb_doc.specs.Devices.{HasWritten, AppendsPrefix}
+use Rattle.odb_json.specs.Devices.{HasWritten, AppendsPrefix}
 use Rattle.odb_reply.specs.Responses.{response_text}
 use Rattle.odb_reply.proofs.ReadableLemmas.{readable-from}
 use Rattle.odb_reply.proofs.RestLemmas.{response_text-begun}
-use Rattle.odb_doc.proofs.WriteLemmas.{AppendsPrefix-none, AppendsPrefix-after, Appends-rest}
+use Rattle.odb_json.proofs.WriteLemmas.{AppendsPrefix-none, AppendsPrefix-after, Appends-rest}
 use Rattle.odb_reply.proofs.reply.write_responses.Goals as goal
 
 pub returns-in-Some-clause-err : goal.returns-in-Some-clause-err

@@ -1,7 +1,7 @@
 use Rattle.std.proofs.Common.{◌≡◌, ◌∙◌, ◌+◌, ◌++◌, ◌∷◌, [], ℕ, List, Bor, drop, refl, sym, ap, rules}
 use Rattle.std.proofs.lemmas.List.{at_drop_all, map-append}
-use Rattle.odb_doc.specs.batch.Names.{texts_in}
-use Rattle.odb_doc.proofs.RepeatLemmas.{texts_on, texts_on-zero, texts_on-nil, texts_on-text, texts_on-other, texts_on-drop}
+use Rattle.odb_json.specs.Names.{texts_in}
+use Rattle.odb_doc.proofs.ArrayLemmas.{texts_on, texts_on-zero, texts_on-nil, texts_on-text, texts_on-other, texts_on-drop}
 use Rattle.odb_doc.proofs.batch.depends_on.all_texts.Goals as goal
 
 pub loop-element-init : goal.loop-element-init

@@ -1,8 +1,8 @@
 use Rattle.std.proofs.Common.{◌≡◌, drop}
 use Rattle.serde_json.specs.View.{items_view}
-use Rattle.odb_doc.specs.batch.Names.{texts_in}
+use Rattle.odb_json.specs.Names.{texts_in}
 use Rattle.odb_doc.specs.batch.Shapes.{texts_of}
-use Rattle.odb_doc.proofs.RepeatLemmas.{texts_on}
+use Rattle.odb_doc.proofs.ArrayLemmas.{texts_on}
 use Rattle.odb_doc.proofs.batch.depends_on.all_texts.Given as goal
 
 -- the texts so far, and then those that are left, are the whole

@@ -1,8 +1,6 @@
 use Rattle.std.proofs.Common.{◌≡◌, ◌∙◌, ◌+◌, bytes_eq, codes, cond, drop, get_or, map, false, ap, sym, Some}
 use Rattle.std.specs.Map.{lookup}
 use Rattle.std.specs.Str.{str_to_ascii_lowercase}
-use Rattle.std.proofs.lemmas.Bool.{false_from_ne_true}
-use Rattle.std.proofs.lemmas.Slice.Eq.{bytes_eq-Decides}
 use Rattle.odb_doc.specs.Headers.{lent_header}
 use Rattle.odb_doc.proofs.LentLemmas.{find_more, no_header}
 use Rattle.odb_doc.proofs.batch.headers.content_type.Goals as goal
@@ -14,5 +12,5 @@ loop-header-preserved c =
     let h = get_or hs k no_header in
     let test = bytes_eq (codes "content-type") in
     let other : test (str_to_ascii_lowercase h.0.now) ≡ false =
-    false_from_ne_true _ (λ equal. cc (c.eq_ignore_ascii_case.ensures.test.1 (sym ((bytes_eq-Decides (codes "content-type") (str_to_ascii_lowercase h.0.now)).0 equal)), c.if-eq_ignore_ascii_case.false)) in
+    sym c.is_content_type.ensures ∙ c.if-is_content_type.false in
     ap (λ b. cond b (Some h.1.now) (lookup test (map lent_header (drop (k + 1) hs)))) (sym other) ∙ sym (find_more test hs k no_header c.loop-header-test.true) ∙ c.loop-header.invariant

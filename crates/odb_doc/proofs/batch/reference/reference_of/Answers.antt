@@ -1,5 +1,6 @@
-use Rattle.std.proofs.Common.{◌∙◌, ap, string_bytes, rules}
-use Rattle.odb_names.specs.Fronts.{form, reference, bad}
+use Rattle.std.proofs.Common.{◌∙◌, ap, string_bytes, subst}
+use Rattle.odb_names.specs.declared.segment.Front.{Front}
+use Rattle.odb_names.specs.Fronts.{HasFront, form, reference, bad}
 use Rattle.odb_doc.proofs.ReferenceLemmas.{plain_not_bad, plain_not_reference, reference_not_bad}
 use Rattle.odb_doc.proofs.batch.reference.reference_of.Goals as goal
 
@@ -16,4 +17,5 @@ returns-in-Reference-clause-unbroken c = λ stands.
     reference_not_bad (string_bytes c.in-Reference.id) (c.in_ok-front.ensures.only bad stands ∙ ap form c.in-Reference.is)
 
 pub returns-in-Reference-clause-refers : goal.returns-in-Reference-clause-refers
-returns-in-Reference-clause-refers c = search rules
+returns-in-Reference-clause-refers c =
+    subst (λ (f : Front). HasFront c.args.url.now (form f)) c.in-Reference.is c.in_ok-front.ensures.front
