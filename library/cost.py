@@ -21,7 +21,7 @@ import speed
 from runners.program import PROGRAM, ready
 
 MOST_OF_CHECK, MOST_OF_RUN = 1.3, 2
-READING = (r"odb_doc::document::parse", r"odb_doc::batch::Batch::read", r"odb_engine::serde_json\S*Value\+Destruct::drop")
+READING = (r"odb_doc::document::parse", r"odb_doc::batch::Batch::read", r"odb_(?:command|engine)::serde_json\S*Value\+Destruct::drop")
 REQUESTS = 1_000
 
 # With these the C library fills and copies without `rep`, of which valgrind counts each byte as an instruction.

@@ -28,10 +28,13 @@ import tempfile
 
 ROOT = os.path.dirname(os.path.dirname(os.path.realpath(__file__)))
 
-# What `.ci/run` may spend on edits; and what one edit of a crate takes, of odb_engine and odb_ffi what the
-# count of a whole run leaves for them. A crate without a number counts as one of those.
+# What `.ci/run` may spend on edits; and what one edit of a crate takes, beside other work. A crate without a number
+# counts as the dearest did.
 MINUTES = 70
-SECONDS = {"odb_dense": 9, "odb_names": 10, "odb_doc": 26, "odb_check": 16, "odb_sched": 20, "odb_exec": 18, "odb_reply": 17}
+SECONDS = {
+    "odb_dense": 11, "odb_names": 13, "odb_json": 16, "odb_doc": 28, "odb_check": 26, "odb_sched": 26, "odb_exec": 30,
+    "odb_reply": 24, "odb_draw": 60, "odb_command": 28, "odb_engine": 40, "odb_lines": 26,
+}  # fmt: skip
 OTHER = 70
 
 BLOCK = re.compile(r"(?:pub )?(?:unsafe )?(impl|trait)\b(.*)")

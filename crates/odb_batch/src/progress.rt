@@ -1,6 +1,6 @@
 //! Shows the progress of a log on standard error.
 
-ghost use Rattle.odb_engine.specs.Forms.{InForm};
+ghost use Rattle.odb_command.specs.Forms.{InForm};
 ghost use Rattle.odb_engine.specs.LineTasks as tasks;
 
 use odb_engine::{Ended, EngineFault};

@@ -1,10 +1,3 @@
-mod ReadLemmas
-mod TraceLemmas
-mod EngineLemmas
-pub mod MemoryLemmas
-mod AnswerLemmas
-mod PhaseLemmas
-mod SendLemmas
 mod ReplayLemmas
 mod RunLemmas
 mod RunLawLemmas
@@ -13,6 +6,7 @@ mod ReadAgainLemmas
 mod SecondLemmas
 mod CourseLemmas
 mod TextLemmas
+mod StatusLemmas
 mod MatchLemmas
 mod CanonLawLemmas
 mod MatchLawLemmas
@@ -20,6 +14,3 @@ mod LiveLemmas
 mod IdLemmas
 mod LiveLawLemmas
 mod LineLawLemmas
-mod ResultLemmas
-mod PlanLemmas
-mod DrawingLemmas

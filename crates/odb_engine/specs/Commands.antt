@@ -1,5 +1,5 @@
 -- What each command prints of the requests of a batch that is accepted.
-use Rattle.std.specs.Prelude.{◌≡◌, ◌++◌, ◌∷◌, ◌⊎◌, ℕ, List, [], Option, Some, length}
+use Rattle.std.specs.Prelude.{◌≡◌, ◌++◌, ◌∷◌, ◌⊎◌, ℕ, List, [], Some, length}
 use Rattle.odb_doc.specs.declared.fault.TextFault.TheVariants.{NotWhole}
 use Rattle.odb_doc.specs.canonical.Canonical.{HasWholeBodies, IsFirstNotWhole, canonical_text}
 use Rattle.odb_doc.specs.batch.Records.{Record}
@@ -7,13 +7,12 @@ use Rattle.odb_doc.specs.Faults.{text_row}
 use Rattle.odb_check.specs.Units.{groups_of}
 use Rattle.odb_check.specs.Texts.{plan_text, newline}
 use Rattle.odb_doc.specs.Refusals.{Printed}
-use Rattle.odb_engine.specs.declared.form.Form.{Form}
-use Rattle.odb_engine.specs.declared.form.Form.TheVariants.{Lines, Json}
-use Rattle.odb_engine.specs.Cascade.{Writes, Prints, Reports}
-use Rattle.odb_engine.specs.Forms.{json_line}
-use Rattle.odb_engine.specs.Inputs.{SomeDocument}
-use Rattle.odb_engine.specs.Lines.{accepted_line}
-use Rattle.odb_engine.specs.Results.{counts_value, plan_value}
+use Rattle.odb_command.specs.declared.form.Form.{Form}
+use Rattle.odb_command.specs.declared.form.Form.TheVariants.{Lines, Json}
+use Rattle.odb_command.specs.Cascade.{Writes, Prints, Reports}
+use Rattle.odb_text.specs.Results.{json_line, counts_value, plan_value}
+use Rattle.odb_draw.specs.Drawings.{drawing_text}
+use Rattle.odb_text.specs.Lines.{accepted_line}
 
 -- how many requests and groups there are
 abbrev pub counts_text : Form → List Record → List ℕ
@@ -41,9 +40,9 @@ PlansIn form batch = Prints (planned_text form batch)
 abbrev pub Plans : List Record → Writes
 Plans = PlansIn Lines
 
--- what is written by the second document of a reader
-abbrev pub BySecond : Option (List ℕ) → (List Record → List ℕ → Writes) → List Record → Writes
-BySecond left P batch ended text = SomeDocument left (λ bytes. P batch bytes ended text)
+-- the drawing of the plan
+abbrev pub Drawings : List Record → Writes
+Drawings batch = Prints (drawing_text batch)
 
 -- the first request whose body holds a number that is not whole is reported
 pub record IsNotWhole (batch : List Record) (refusal : Printed) : Type 0 where

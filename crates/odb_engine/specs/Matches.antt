@@ -1,6 +1,5 @@
 -- What a match writes of a batch and of the response document of a service (OData JSON Format 4.01, section 19.5).
-use Rattle.std.specs.Prelude.{◌≡◌, ◌⊎◌, ℕ, List, [], ◌∷◌, ◌++◌, Some, length, codes}
-use Rattle.std.specs.Fmt.{decimal}
+use Rattle.std.specs.Prelude.{◌≡◌, ◌⊎◌, ℕ, List, ◌++◌, Some, length}
 use Rattle.std.specs.List.{AllZip}
 use Rattle.serde_json.specs.Data.{Data}
 use Rattle.odb_doc.specs.declared.fault.Place.TheVariants as places
@@ -10,25 +9,13 @@ use Rattle.odb_reply.specs.Fits.{Fits, IsTableOf}
 use Rattle.odb_reply.specs.LeastMatchFault.{RefusesMatch}
 use Rattle.odb_reply.specs.MatchFaults.{match_row}
 use Rattle.odb_reply.specs.ResponseDocuments.{Entry, IsResponseDocument, RefusesResponses, ReadsAs, responses_in, responses_row}
-use Rattle.odb_engine.specs.declared.ending.Ended.{Ended}
-use Rattle.odb_engine.specs.declared.form.Form.{Form}
-use Rattle.odb_engine.specs.declared.form.Form.TheVariants.{Lines, Json}
+use Rattle.odb_command.specs.declared.ending.Ended.{Ended}
+use Rattle.odb_command.specs.declared.form.Form.{Form}
+use Rattle.odb_command.specs.declared.form.Form.TheVariants.{Lines, Json}
 use Rattle.odb_doc.specs.Refusals.{Printed}
-use Rattle.odb_engine.specs.Cascade.{Writes, Prints, Reports, HasFault, OfDocument}
-use Rattle.odb_check.specs.Texts.{newline}
-use Rattle.odb_engine.specs.Lines.{fit_line}
-use Rattle.odb_engine.specs.Forms.{json_line}
-use Rattle.odb_engine.specs.Results.{match_value}
-
--- `ID STATUS`
-abbrev pub status_line : List ℕ → ℕ → List ℕ
-status_line id status = id ++ codes " " ++ decimal status ++ newline ∷ []
-
--- a line for each request, with the status of its response
-abbrev pub status_lines : List Record → List ℕ → List ℕ
-status_lines [] statuses = []
-status_lines (r ∷ rs) [] = []
-status_lines (r ∷ rs) (status ∷ statuses) = status_line r.id status ++ status_lines rs statuses
+use Rattle.odb_command.specs.Cascade.{Writes, Prints, Reports, HasFault, OfDocument}
+use Rattle.odb_text.specs.Lines.{fit_line, status_lines}
+use Rattle.odb_text.specs.Results.{json_line, match_value}
 
 -- `ok N responses`, and the lines; or all of it as JSON
 abbrev pub match_text : Form → List Record → List ℕ → List ℕ

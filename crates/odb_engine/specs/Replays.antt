@@ -1,5 +1,5 @@
 -- What a run by recorded outcomes writes of a batch.
-use Rattle.std.specs.Prelude.{◌≡◌, ◌⊎◌, ℕ, Bool, List, [], ◌++◌, Option, All, Err, codes, if◌then◌else◌}
+use Rattle.std.specs.Prelude.{◌≡◌, ◌⊎◌, ℕ, Bool, List, ◌++◌, Option, All, Err, codes}
 use Rattle.serde_json.specs.Data.{Data}
 use Rattle.odb_doc.specs.declared.fault.Place.TheVariants as places
 use Rattle.odb_doc.specs.recorded.LeastOutcomeFault.{IsOutcomesDocument, RefusesOutcomes}
@@ -17,18 +17,14 @@ use Rattle.odb_exec.specs.Recordings.{recorded_for, OffersRecorded}
 use Rattle.odb_reply.specs.Responses.{response_value}
 use Rattle.odb_reply.specs.OnePerId.{HasOnePerId}
 use Rattle.odb_sched.specs.run.Laws.{StartsAfterDependencies}
-use Rattle.odb_engine.specs.declared.ending.Ended.{Ended}
-use Rattle.odb_engine.specs.declared.ending.Ended.TheVariants.{Done, Refused}
-use Rattle.odb_engine.specs.Lines.{response_line}
-use Rattle.odb_engine.specs.Traces.{trace_text}
+use Rattle.odb_command.specs.declared.ending.Ended.{Ended}
+use Rattle.odb_command.specs.declared.ending.Ended.TheVariants.{Done, Refused}
+use Rattle.odb_text.specs.Lines.{response_line}
+use Rattle.odb_text.specs.Traces.{trace_part}
 use Rattle.odb_doc.specs.Refusals.{Printed}
-use Rattle.odb_engine.specs.Cascade.{Writes, line_of, Reports, HasFault, OfDocument}
-use Rattle.odb_engine.specs.Commands.{BySecond}
+use Rattle.odb_command.specs.Cascade.{Writes, line_of, Reports, HasFault, OfDocument}
+use Rattle.odb_command.specs.Inputs.{BySecond}
 use Rattle.odb_engine.specs.ReadAgain.{IsReadAgain}
-
--- the trace, if one is wanted
-abbrev pub trace_part : Bool → State → List Step → List ℕ
-trace_part traced state steps = if traced then trace_text state steps else []
 
 -- the response as a line, after the trace if one is wanted
 abbrev pub result_text : Bool → State → List Step → List ℕ

@@ -3,17 +3,14 @@
 ghost use Rattle.std.specs.Prelude.{◌≡◌, ◌++◌, ◌∷◌, [], false, Err, IsTrue, IfOk, IfErr, string_bytes};
 ghost use Rattle.odb_doc.specs.batch.Batches.{records};
 ghost use Rattle.odb_doc.specs.canonical.Canonical.{canonical_text};
-ghost use Rattle.odb_engine.specs.Inputs.{IsFresh, ReadsFew, SomeDocument};
-ghost use Rattle.odb_engine.specs.Cascade.{Answers};
-ghost use Rattle.odb_engine.specs.Engines.{Ends};
-ghost use Rattle.odb_engine.specs.Forms.{InForm};
+ghost use Rattle.odb_command.specs.Inputs.{IsFresh, ReadsFew, SomeDocument};
+ghost use Rattle.odb_command.specs.Cascade.{Answers};
+ghost use Rattle.odb_command.specs.Engines.{Ends};
+ghost use Rattle.odb_command.specs.Forms.{InForm};
 ghost use Rattle.odb_engine.specs.Commands as commands;
 
-use crate::command::{Command, answer};
-use crate::ending::{Ended, EngineFault};
-use crate::halt::Halt;
-use crate::setup::Setup;
 use odb_check::Plan;
+use odb_command::{Command, Ended, EngineFault, Halt, Setup, answer_batch};
 use odb_doc::Batch;
 use odb_json::{Input, Output};
 use std::alloc::Global;
@@ -77,5 +74,5 @@ pub fn canon_batch_with<R: Read, W: Write>(
     ensures memory { result ≡ Err EngineFault.OutOfMemory → output.new ≡ output.old }
     ensures reads { ReadsFew R.remaining input.old input.new }
 {
-    answer(alloc, input, output, &Canonical, setup)
+    answer_batch(alloc, input, output, &Canonical, setup)
 }

@@ -1,22 +1,17 @@
 //! The command `check`: whether a batch is accepted.
 
 ghost use Rattle.std.specs.Prelude.{◌≡◌, false, Err, IsTrue};
-ghost use Rattle.odb_engine.specs.Inputs.{IsFresh, ReadsFew, SomeDocument};
-ghost use Rattle.odb_engine.specs.Cascade.{Answers};
-ghost use Rattle.odb_engine.specs.Engines.{Ends};
-ghost use Rattle.odb_engine.specs.Forms.{InForm};
+ghost use Rattle.odb_command.specs.Inputs.{IsFresh, ReadsFew, SomeDocument};
+ghost use Rattle.odb_command.specs.Cascade.{Answers};
+ghost use Rattle.odb_command.specs.Engines.{Ends};
+ghost use Rattle.odb_command.specs.Forms.{InForm};
 ghost use Rattle.odb_engine.specs.Commands as commands;
 
-use crate::command::{Command, answer};
-use crate::ending::{Ended, EngineFault};
-use crate::form::Form;
-use crate::halt::Halt;
-use crate::json::counts_json;
-use crate::lines::accepted_line;
-use crate::setup::Setup;
 use odb_check::Plan;
+use odb_command::{Command, Ended, EngineFault, Form, Halt, Setup, answer_batch};
 use odb_doc::Batch;
 use odb_json::{Input, Output};
+use odb_text::{accepted_line, counts_json};
 use std::alloc::Global;
 use std::io::{Read, Write};
 
@@ -85,5 +80,5 @@ pub fn check_batch_with<R: Read, W: Write>(
     ensures memory { result ≡ Err EngineFault.OutOfMemory → output.new ≡ output.old }
     ensures reads { ReadsFew R.remaining input.old input.new }
 {
-    answer(alloc, input, output, &Counts { form: setup.form }, setup)
+    answer_batch(alloc, input, output, &Counts { form: setup.form }, setup)
 }

@@ -1,19 +1,16 @@
 //! The drawing of a plan: `plan --dot`.
 
 ghost use Rattle.std.specs.Prelude.{◌≡◌, false, Err, IsTrue};
-ghost use Rattle.odb_engine.specs.Inputs.{IsFresh, ReadsFew, SomeDocument};
-ghost use Rattle.odb_engine.specs.Cascade.{Answers};
-ghost use Rattle.odb_engine.specs.Engines.{Ends};
-ghost use Rattle.odb_engine.specs.Forms.{InForm};
-ghost use Rattle.odb_engine.specs.Drawings as drawings;
+ghost use Rattle.odb_command.specs.Inputs.{IsFresh, ReadsFew, SomeDocument};
+ghost use Rattle.odb_command.specs.Cascade.{Answers};
+ghost use Rattle.odb_command.specs.Engines.{Ends};
+ghost use Rattle.odb_command.specs.Forms.{InForm};
+ghost use Rattle.odb_engine.specs.Commands as commands;
 
-use crate::command::{Command, answer};
-use crate::drawing::drawing_text;
-use crate::ending::{Ended, EngineFault};
-use crate::halt::Halt;
-use crate::setup::Setup;
 use odb_check::Plan;
+use odb_command::{Command, Ended, EngineFault, Halt, Setup, answer_batch};
 use odb_doc::Batch;
+use odb_draw::drawing_text;
 use odb_json::{Input, Output};
 use std::alloc::Global;
 use std::io::{Read, Write};
@@ -23,7 +20,7 @@ use std::io::{Read, Write};
 struct Drawings;
 
 impl Command for Drawings {
-    ghost writes = { λ self. drawings.Drawings };
+    ghost writes = { λ self. commands.Drawings };
 
     fn text(&self, alloc: Global, _batch: &Batch<'_>, plan: &Plan<'_>) -> Result<String, Halt> {
         Ok(drawing_text(alloc, plan)?)
@@ -49,7 +46,7 @@ pub fn draw_batch<R: Read, W: Write>(
     requires input { IsFresh input.old }
     requires output { output.old.failed ≡ false }
     ensures ends { SomeDocument (R.remaining input.old.reader) (λ bytes. Ends W.contents
-        (Answers drawings.Drawings bytes) (IsTrue input.new.failed)
+        (Answers commands.Drawings bytes) (IsTrue input.new.failed)
         output.old output.new result) }
     ensures memory { result ≡ Err EngineFault.OutOfMemory → output.new ≡ output.old }
     ensures reads { ReadsFew R.remaining input.old input.new }
@@ -71,10 +68,10 @@ pub fn draw_batch_with<R: Read, W: Write>(
     requires input { IsFresh input.old }
     requires output { output.old.failed ≡ false }
     ensures ends { SomeDocument (R.remaining input.old.reader) (λ bytes. Ends W.contents
-        (InForm setup.form (Answers drawings.Drawings bytes)) (IsTrue input.new.failed)
+        (InForm setup.form (Answers commands.Drawings bytes)) (IsTrue input.new.failed)
         output.old output.new result) }
     ensures memory { result ≡ Err EngineFault.OutOfMemory → output.new ≡ output.old }
     ensures reads { ReadsFew R.remaining input.old input.new }
 {
-    answer(alloc, input, output, &Drawings, setup)
+    answer_batch(alloc, input, output, &Drawings, setup)
 }

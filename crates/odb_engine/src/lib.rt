@@ -11,51 +11,33 @@
 //!
 //! [`draw_batch`] draws the plan of one document, and has a call with a [`Setup`] too.
 //!
-//! Another command is a relation in specs/, an `impl` of `Command` (one document) or of `PairCommand`
-//! (two), and a public function that passes it to `answer` or `answer_pair`.
+//! How a command reads, ends and writes, `odb_command` states, and its texts `odb_text` makes. Another command
+//! is a relation in specs/, an `impl` of `Command` (one document) or of `PairCommand` (two), and a public
+//! function that passes it to `answer_batch` or `answer_pair`.
 #![tactic(auto)]
 
-mod answer;
 mod canon;
 mod check;
-mod command;
-mod disposal;
 mod draw;
-mod drawing;
-mod ending;
-mod form;
-mod halt;
 mod ids;
-mod input;
-mod json;
 pub mod laws;
 mod line;
-mod lines;
 mod live;
 mod match_responses;
-mod output;
-mod pair;
 mod plan;
-mod plan_json;
 mod replay;
 mod run;
-mod setup;
-mod trace;
+mod statuses;
 
-pub use answer::Answer;
 pub use canon::{canon_batch, canon_batch_with};
 pub use check::{check_batch, check_batch_with};
-pub use disposal::Disposal;
 pub use draw::{draw_batch, draw_batch_with};
-pub use ending::{Ended, EngineFault};
-pub use form::Form;
-pub use halt::Halt;
 pub use ids::Ids;
 pub use line::{LineTask, answer_line};
-pub use lines::fault_line;
 pub use live::{Opened, open_run, text_of_run, undone_of_run};
 pub use match_responses::{match_batch, match_batch_with};
+pub use odb_command::{Answer, Disposal, Ended, EngineFault, Form, Halt, Setup};
+pub use odb_text::fault_line;
 pub use plan::{plan_batch, plan_batch_with};
 pub use replay::{replay_batch, replay_batch_with};
 pub use run::{run_batch, run_batch_with};
-pub use setup::Setup;

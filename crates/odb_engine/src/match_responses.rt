@@ -5,53 +5,27 @@ ghost use Rattle.serde_json.specs.View.{view};
 ghost use Rattle.odb_doc.specs.declared.fault.Place.TheVariants as places;
 ghost use Rattle.odb_check.specs.Plans.{plan_records};
 ghost use Rattle.odb_reply.specs.Fits.{statuses};
-ghost use Rattle.odb_engine.specs.declared.halt.Halt.TheVariants as halts;
-ghost use Rattle.odb_engine.specs.Cascade.{Answers};
-ghost use Rattle.odb_engine.specs.Commands.{BySecond};
-ghost use Rattle.odb_engine.specs.Engines.{Ends};
-ghost use Rattle.odb_engine.specs.Forms.{InForm};
-ghost use Rattle.odb_engine.specs.Halts.{Found};
-ghost use Rattle.odb_engine.specs.Inputs.{AskedFor, IsFresh, ReadsFew, SomeDocument};
-ghost use Rattle.odb_engine.specs.declared.form.Form.TheVariants.{Lines};
-ghost use Rattle.odb_engine.specs.Matches.{Matches, MatchesIn, MatchesValue, match_text, status_line};
+ghost use Rattle.odb_command.specs.declared.halt.Halt.TheVariants as halts;
+ghost use Rattle.odb_command.specs.Cascade.{Answers};
+ghost use Rattle.odb_command.specs.Inputs.{AskedFor, BySecond, IsFresh, ReadsFew, SomeDocument};
+ghost use Rattle.odb_command.specs.Engines.{Ends};
+ghost use Rattle.odb_command.specs.Forms.{InForm};
+ghost use Rattle.odb_command.specs.Halts.{Found};
+ghost use Rattle.odb_command.specs.declared.form.Form.TheVariants.{Lines};
+ghost use Rattle.odb_engine.specs.Matches.{Matches, MatchesIn, MatchesValue, match_text};
 
-use crate::disposal::DropOrLeak;
-use crate::ending::{Ended, EngineFault, Sent};
-use crate::form::Form;
-use crate::halt::Halt;
-use crate::json::match_json;
-use crate::lines::fit_line;
-use crate::output::print;
-use crate::pair::{PairCommand, answer_pair};
-use crate::setup::Setup;
+use crate::statuses::match_lines;
 use odb_check::Plan;
+use odb_command::{
+    DropOrLeak, Ended, EngineFault, Form, Halt, PairCommand, Sent, Setup, answer_pair, print,
+};
 use odb_doc::Place;
 use odb_json::{Input, Output};
 use odb_reply::{Responses, Table, match_responses};
+use odb_text::match_json;
 use serde_json::Value;
 use std::alloc::{AllocError, Global};
 use std::io::{Read, Write};
-
-/// Appends the line of a request.
-fn push_status(alloc: Global, text: &mut String, id: &str, status: u16) -> Result<(), AllocError>
-    ensures { OnOk result (string_bytes text.new ≡ string_bytes text.old ++ status_line id.now status) }
-{
-    text.push_str(&format!(in alloc; "{id} {status}\n")?)
-}
-
-/// Returns the line of the count, and the line of each request.
-fn match_lines(alloc: Global, plan: &Plan<'_>, table: &Table) -> Result<String, AllocError>
-    requires { length (statuses table.now) ≡ length (plan_records plan.now) }
-    ensures { IfOk result (λ text. string_bytes text
-        ≡ match_text Lines (plan_records plan.now) (statuses table.now)) }
-{
-    let count = plan.len();
-    let mut text = fit_line(alloc, count)?;
-    for i in 0..count {
-        push_status(alloc, &mut text, plan.request(i).id, table.status(i))?;
-    }
-    Ok(text)
-}
 
 /// Returns what is printed of responses that fit.
 fn match_text(

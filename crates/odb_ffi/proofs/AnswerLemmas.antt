@@ -2,14 +2,14 @@
 use Rattle.std.proofs.Common.{ℕ, List, Option, Some, None, IfSome, Result, Ok, Err, String, sym, subst}
 use Rattle.std.specs.declared.alloc.Global.{Global}
 use Rattle.odb_doc.specs.Refusals.{Printed, printed}
-use Rattle.odb_engine.specs.declared.ending.Ended.{Ended}
-use Rattle.odb_engine.specs.declared.ending.Ended.TheVariants.{Done, Refused}
-use Rattle.odb_engine.specs.declared.halt.Halt.{Halt}
-use Rattle.odb_engine.specs.declared.form.Form.TheVariants as forms
-use Rattle.odb_engine.specs.declared.halt.Halt.TheVariants as halts
-use Rattle.odb_engine.specs.Cascade.{Reports, Writes}
-use Rattle.odb_engine.specs.Halts.{Found, Halted, text_found}
-use Rattle.odb_engine.specs.declared.answer.Answer.{Answer}
+use Rattle.odb_command.specs.declared.ending.Ended.{Ended}
+use Rattle.odb_command.specs.declared.ending.Ended.TheVariants.{Done, Refused}
+use Rattle.odb_command.specs.declared.halt.Halt.{Halt}
+use Rattle.odb_command.specs.declared.form.Form.TheVariants as forms
+use Rattle.odb_command.specs.declared.halt.Halt.TheVariants as halts
+use Rattle.odb_command.specs.Cascade.{Reports, Writes}
+use Rattle.odb_command.specs.Halts.{Found, Halted, text_found}
+use Rattle.odb_command.specs.declared.answer.Answer.{Answer}
 
 written : (P : Writes) (found : Result (String Global) Halt) (ended : Ended) (text : List ℕ) → Found P found → text_found forms.Lines found ended text → P ended text
 written P (Ok line) ended text so (ends, same) = subst (λ e. P e text) (sym ends) (subst (P Done) (sym same) so)

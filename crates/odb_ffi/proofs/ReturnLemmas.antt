@@ -1,8 +1,8 @@
 -- What is given to the caller is what the command writes.
 use Rattle.std.proofs.Common.{◌≡◌, ℕ, List, Option, Some, None, IfSome, refl, sym, subst}
-use Rattle.odb_engine.specs.declared.ending.Ended.{Ended}
-use Rattle.odb_engine.specs.Cascade.{Writes}
-use Rattle.odb_engine.specs.declared.answer.Answer.{Answer}
+use Rattle.odb_command.specs.declared.ending.Ended.{Ended}
+use Rattle.odb_command.specs.Cascade.{Writes}
+use Rattle.odb_command.specs.declared.answer.Answer.{Answer}
 use Rattle.odb_ffi.specs.Returns.{Is, IsOutOfMemory, Returns}
 use Rattle.odb_ffi.specs.Returns.Returns.{Whole, TooLong, OutOfMemory}
 

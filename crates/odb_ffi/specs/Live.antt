@@ -12,7 +12,7 @@ use Rattle.odb_sched.specs.declared.refusal.ReportRefusal.{ReportRefusal}
 use Rattle.odb_sched.specs.run.Steps.{IsStartCause, IsReportCause, start_number, report_number, is_finished, may_start, may_report}
 use Rattle.odb_sched.specs.run.Answers.{undone}
 use Rattle.odb_sched.specs.run.State.{State, size, started, reported, without_requests}
-use Rattle.odb_engine.specs.Cascade as cascade
+use Rattle.odb_command.specs.Cascade as cascade
 use Rattle.odb_engine.specs.declared.ids.Ids.{Ids}
 use Rattle.odb_engine.specs.Ids.{AreIdsIn, at_id}
 use Rattle.odb_engine.specs.Live.{Opens, IsLeastOfOpening}

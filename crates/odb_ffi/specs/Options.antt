@@ -5,8 +5,8 @@ use Rattle.odb_sched.specs.declared.order.Order.TheVariants.{First, Last, Wide}
 use Rattle.odb_sched.specs.declared.policy.Mode.{Mode}
 use Rattle.odb_sched.specs.declared.policy.Mode.TheVariants.{Continue, Stop}
 use Rattle.odb_sched.specs.declared.policy.Policy.{Policy}
-use Rattle.odb_engine.specs.declared.form.Form.{Form}
-use Rattle.odb_engine.specs.declared.form.Form.TheVariants.{Lines, Json}
+use Rattle.odb_command.specs.declared.form.Form.{Form}
+use Rattle.odb_command.specs.declared.form.Form.TheVariants.{Lines, Json}
 use Rattle.odb_ffi.specs.declared.options.ReplayOptions.{ReplayOptions}
 
 abbrev pub mode_number : Mode → ℕ

@@ -1,12 +1,12 @@
 -- What a call from C returns, and what it leaves in the buffer of its caller.
 use Rattle.std.specs.Prelude.{◌≡◌, ◌<◌, ◌≤◌, ℕ, List, Some, ◌++◌, length, drop}
 use Rattle.odb_doc.specs.batch.Records.{Record}
-use Rattle.odb_engine.specs.declared.ending.Ended.{Ended}
-use Rattle.odb_engine.specs.declared.ending.Ended.TheVariants.{Done, Refused}
-use Rattle.odb_engine.specs.declared.form.Form.{Form}
-use Rattle.odb_engine.specs.Cascade.{Writes, Answers}
-use Rattle.odb_engine.specs.Forms.{InForm}
-use Rattle.odb_engine.specs.Inputs.{SomeDocument}
+use Rattle.odb_command.specs.declared.ending.Ended.{Ended}
+use Rattle.odb_command.specs.declared.ending.Ended.TheVariants.{Done, Refused}
+use Rattle.odb_command.specs.declared.form.Form.{Form}
+use Rattle.odb_command.specs.Cascade.{Writes, Answers}
+use Rattle.odb_command.specs.Forms.{InForm}
+use Rattle.odb_command.specs.Inputs.{SomeDocument}
 
 -- the status of an end
 abbrev pub status_of : Ended → ℕ

@@ -1,8 +1,8 @@
 //! How the answer of a command reaches the buffer of the caller.
 
 ghost use Rattle.std.specs.Prelude.{◌≡◌, None, IfSome};
-ghost use Rattle.odb_engine.specs.declared.form.Form.TheVariants as forms;
-ghost use Rattle.odb_engine.specs.Halts.{text_found};
+ghost use Rattle.odb_command.specs.declared.form.Form.TheVariants as forms;
+ghost use Rattle.odb_command.specs.Halts.{text_found};
 ghost use Rattle.odb_ffi.specs.Returns.{Is, IsOutOfMemory, IsWrongOption, Returns};
 
 use crate::status::{OUT_OF_MEMORY, SMALL_BUFFER, WRONG_OPTION, of_end};

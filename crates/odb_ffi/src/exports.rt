@@ -4,7 +4,8 @@
 
 ghost use Rattle.std.specs.Prelude.{◌≡◌, Some};
 ghost use Rattle.odb_sched.specs.run.Choosing.{AllowsOrder};
-ghost use Rattle.odb_engine.specs.Cascade.{Answers};
+ghost use Rattle.odb_command.specs.Cascade.{Answers};
+ghost use Rattle.odb_command.specs.Inputs.{BySecond};
 ghost use Rattle.odb_engine.specs.Commands as commands;
 ghost use Rattle.odb_engine.specs.Matches.{Matches};
 ghost use Rattle.odb_engine.specs.Replays.{Replays};
@@ -105,7 +106,7 @@ pub extern "C" fn odb_match(
     seed: u64,
 ) -> u32
     ensures { Returns (WritesOf batch.now
-        (Answers (commands.BySecond (Some responses.now) Matches)))
+        (Answers (BySecond (Some responses.now) Matches)))
         result text_length.new text.old text.new }
 {
     let documents = Documents {

@@ -6,6 +6,7 @@
 
 ghost use Rattle.std.specs.Prelude.{Some};
 ghost use Rattle.odb_sched.specs.run.Choosing.{AllowsOrder};
+ghost use Rattle.odb_command.specs.Inputs.{BySecond};
 ghost use Rattle.odb_engine.specs.Commands as commands;
 ghost use Rattle.odb_engine.specs.Matches.{MatchesIn};
 ghost use Rattle.odb_engine.specs.Replays.{Replays};
@@ -107,7 +108,7 @@ pub extern "C" fn odb_match_as(
 ) -> u32
     ensures { ReturnsBy (options.IsForm form) (options.NamesNoForm form)
         (λ form. WritesOf batch.now
-        (AnswersIn form (commands.BySecond (Some responses.now) (MatchesIn form))))
+        (AnswersIn form (BySecond (Some responses.now) (MatchesIn form))))
         result text_length.new text.old text.new }
 {
     let documents = Documents {

@@ -1,7 +1,7 @@
 //! The commands over one document in memory, in a form.
 
 ghost use Rattle.std.specs.Prelude.{IfSome};
-ghost use Rattle.odb_engine.specs.Forms.{InForm};
+ghost use Rattle.odb_command.specs.Forms.{InForm};
 ghost use Rattle.odb_engine.specs.LineTasks.{OfLine};
 
 use crate::options::seed_of;

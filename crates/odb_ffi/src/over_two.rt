@@ -3,7 +3,7 @@
 
 ghost use Rattle.std.specs.Prelude.{Some, IfSome};
 ghost use Rattle.odb_sched.specs.run.Choosing.{AllowsOrder};
-ghost use Rattle.odb_engine.specs.Commands.{BySecond};
+ghost use Rattle.odb_command.specs.Inputs.{BySecond};
 ghost use Rattle.odb_engine.specs.Matches.{MatchesIn};
 ghost use Rattle.odb_engine.specs.Replays.{Replays};
 ghost use Rattle.odb_engine.specs.Runs.{Runs};

@@ -4,8 +4,8 @@
 
 ghost use Rattle.std.specs.Prelude.{◌≡◌, IfOk, IfErr};
 ghost use Rattle.odb_dense.specs.Lists.{ListsOnce};
-ghost use Rattle.odb_engine.specs.Cascade.{Answers};
-ghost use Rattle.odb_engine.specs.Halts.{Halted};
+ghost use Rattle.odb_command.specs.Cascade.{Answers};
+ghost use Rattle.odb_command.specs.Halts.{Halted};
 ghost use Rattle.odb_engine.specs.Live as engines;
 ghost use Rattle.odb_sched.specs.run.State as state;
 ghost use Rattle.odb_sched.specs.run.Steps as steps;

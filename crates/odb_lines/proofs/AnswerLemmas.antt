@@ -8,12 +8,12 @@ use Rattle.std.proofs.KnownBytes.{Consumes-nil, Consumes-trans, Consumes-kept, C
 use Rattle.std.proofs.lemmas.Bool.{both_ways}
 use Rattle.odb_json.specs.Devices.{Writing}
 use Rattle.odb_check.specs.Texts.{newline}
-use Rattle.odb_engine.specs.declared.ending.Ended.{Ended}
-use Rattle.odb_engine.specs.declared.ending.Ended.TheVariants.{Done, Refused}
-use Rattle.odb_engine.specs.declared.ending.EngineFault.{EngineFault}
-use Rattle.odb_engine.specs.declared.ending.EngineFault.TheVariants as faults
-use Rattle.odb_engine.specs.Cascade.{Writes}
-use Rattle.odb_engine.specs.Engines.{WritesText, WritesPrefix}
+use Rattle.odb_command.specs.declared.ending.Ended.{Ended}
+use Rattle.odb_command.specs.declared.ending.Ended.TheVariants.{Done, Refused}
+use Rattle.odb_command.specs.declared.ending.EngineFault.{EngineFault}
+use Rattle.odb_command.specs.declared.ending.EngineFault.TheVariants as faults
+use Rattle.odb_command.specs.Cascade.{Writes}
+use Rattle.odb_command.specs.Engines.{WritesText, WritesPrefix}
 use Rattle.odb_lines.specs.Lines.{lines_of}
 use Rattle.odb_lines.specs.Sources.{LineReading, left}
 use Rattle.odb_lines.specs.Answers.{AnswersEach, AnswersLines, HasAnswered, OfAnyLine, both}

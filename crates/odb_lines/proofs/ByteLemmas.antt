@@ -1,6 +1,5 @@
 -- What is taken of an input, and what is held of a line.
-use Rattle.std.proofs.Common.{◌≡◌, ◌≢◌, ℕ, ◌+◌, ◌-◌, ◌<◌, ◌≤◌, min, Bool, true, false, cond, List, [], ◌∷◌, ◌++◌, length, take, drop, Option, None, Some, sym, ap, subst, ◌∙◌, arith, append_assoc, eq-eqb, eqb-true, take-append-drop, zero-le}
-use Rattle.std.proofs.Common.{◌⊎◌, inl, inr, le_refl, lit<, get_or-take}
+use Rattle.std.proofs.Common.{◌≡◌, ◌≢◌, ℕ, ◌+◌, ◌-◌, ◌<◌, ◌≤◌, min, Bool, true, false, cond, List, [], ◌∷◌, ◌++◌, length, take, drop, Option, None, Some, sym, ap, subst, ◌∙◌, arith, append_assoc, eq-eqb, eqb-true, take-append-drop, zero-le, ◌⊎◌, inl, inr, le_refl, lit<, get_or-take}
 use Rattle.std.proofs.lemmas.Bool.{cases_lt}
 use Rattle.std.proofs.lemmas.List.{take_all, take-append-le, take-take, take_more, take_min, drop-append-le, drop_all, length-take, nil_from_length}
 use Rattle.std.proofs.lemmas.List.Elements.{All-from_get_or}
@@ -8,7 +7,7 @@ use Rattle.std.proofs.Math.Seq.{take-append-add}
 use Rattle.std.specs.Io.KnownBytes.{Consumes, prepend_known}
 use Rattle.std.specs.Io.BufRead.{DropsConsumable}
 use Rattle.memchr.specs.Find.{Nowhere, Passes, is_byte}
-use Rattle.odb_engine.specs.Inputs.{most_read, IsDocumentOf}
+use Rattle.odb_command.specs.Inputs.{most_read, IsDocumentOf}
 use Rattle.odb_check.specs.Texts.{newline}
 use Rattle.odb_lines.specs.Steps.{IsOpen, cut}
 

@@ -2,8 +2,8 @@
 use Rattle.std.proofs.Common.{◌≡◌, ◌⊎◌, ℕ, ◌<◌, ◌≤◌, List, [], ◌++◌, length, take, refl, sym, ap, ap₂, subst, ◌∙◌, inl, inr, append-nil, arith}
 use Rattle.std.proofs.lemmas.Bool.{cases_lt}
 use Rattle.std.proofs.lemmas.List.{take_all, take_at}
-use Rattle.odb_engine.specs.Cascade.{Writes, IsOne}
-use Rattle.odb_engine.specs.Inputs.{most_read, IsDocumentOf}
+use Rattle.odb_command.specs.Cascade.{Writes, IsOne}
+use Rattle.odb_command.specs.Inputs.{most_read, IsDocumentOf}
 use Rattle.odb_lines.specs.Answers.{AnswersEach, OfAnyLine, both}
 use Rattle.odb_lines.specs.Answers.AnswersEach.{NoLine, Line}
 use Rattle.odb_lines.specs.Steps.{cut}

@@ -2,13 +2,13 @@
 use Rattle.std.specs.Prelude.{◌≡◌, ◌↔◌, ℕ, List, [], ◌∷◌, ◌++◌, Option, Some, Result, Err, IfOk, IfSome, IsTrue, take}
 use Rattle.std.specs.Io.KnownBytes.{Consumes}
 use Rattle.odb_json.specs.Devices.{Writing}
-use Rattle.odb_engine.specs.declared.ending.Ended.{Ended}
-use Rattle.odb_engine.specs.declared.ending.Ended.TheVariants.{Done, Refused}
-use Rattle.odb_engine.specs.declared.ending.EngineFault.{EngineFault}
-use Rattle.odb_engine.specs.declared.ending.EngineFault.TheVariants as faults
-use Rattle.odb_engine.specs.Cascade.{Writes}
-use Rattle.odb_engine.specs.Engines.{WritesText, WritesPrefix}
-use Rattle.odb_engine.specs.Inputs.{SomeDocument}
+use Rattle.odb_command.specs.declared.ending.Ended.{Ended}
+use Rattle.odb_command.specs.declared.ending.Ended.TheVariants.{Done, Refused}
+use Rattle.odb_command.specs.declared.ending.EngineFault.{EngineFault}
+use Rattle.odb_command.specs.declared.ending.EngineFault.TheVariants as faults
+use Rattle.odb_command.specs.Cascade.{Writes}
+use Rattle.odb_command.specs.Engines.{WritesText, WritesPrefix}
+use Rattle.odb_command.specs.Inputs.{SomeDocument}
 use Rattle.odb_lines.specs.Lines.{lines_of, ended_lines}
 use Rattle.odb_lines.specs.Sources.{LineReading, left}
 

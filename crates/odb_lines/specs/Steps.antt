@@ -3,13 +3,13 @@ use Rattle.std.specs.Prelude.{◌≡◌, ◌≢◌, ℕ, List, [], ◌∷◌, �
 use Rattle.std.specs.Io.KnownBytes.{Consumes}
 use Rattle.odb_check.specs.Texts.{newline}
 use Rattle.odb_json.specs.Devices.{Writing}
-use Rattle.odb_engine.specs.declared.ending.Ended.{Ended}
-use Rattle.odb_engine.specs.declared.ending.Ended.TheVariants.{Done}
-use Rattle.odb_engine.specs.declared.ending.EngineFault.{EngineFault}
-use Rattle.odb_engine.specs.declared.ending.EngineFault.TheVariants as faults
-use Rattle.odb_engine.specs.Cascade.{Writes}
-use Rattle.odb_engine.specs.Engines.{Ends}
-use Rattle.odb_engine.specs.Inputs.{most_read}
+use Rattle.odb_command.specs.declared.ending.Ended.{Ended}
+use Rattle.odb_command.specs.declared.ending.Ended.TheVariants.{Done}
+use Rattle.odb_command.specs.declared.ending.EngineFault.{EngineFault}
+use Rattle.odb_command.specs.declared.ending.EngineFault.TheVariants as faults
+use Rattle.odb_command.specs.Cascade.{Writes}
+use Rattle.odb_command.specs.Engines.{Ends}
+use Rattle.odb_command.specs.Inputs.{most_read}
 
 -- no newline is in it
 abbrev pub IsOpen : List ℕ → Type 0

@@ -2,8 +2,8 @@
 
 ghost use Rattle.std.specs.Prelude.{◌≡◌, ◌≢◌, ◌↔◌, ◌+◌, ◌^◌, ◌<◌, ◌≤◌, [], false, length, Err, IsTrue, Ok, OnOk};
 ghost use Rattle.std.specs.Io.KnownBytes.{IsAtEnd, Keeps};
-ghost use Rattle.odb_engine.specs.declared.ending.EngineFault.TheVariants as faults;
-ghost use Rattle.odb_engine.specs.Inputs.{most_read};
+ghost use Rattle.odb_command.specs.declared.ending.EngineFault.TheVariants as faults;
+ghost use Rattle.odb_command.specs.Inputs.{most_read};
 ghost use Rattle.odb_lines.specs.Answers.{AnswersLines, OfAnyLine, both};
 ghost use Rattle.odb_lines.specs.Sources.{ahead, left};
 ghost use Rattle.odb_lines.specs.Steps.{Advances};

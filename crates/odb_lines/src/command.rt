@@ -10,9 +10,9 @@ use std::io::Write;
 /// [`crate::answer_lines`] runs it on each line of an input.
 pub trait LineCommand {
     ghost use Rattle.std.specs.Prelude.{◌≡◌, ℕ, List, false, Err};
-    ghost use Rattle.odb_engine.specs.declared.ending.Ended.{Ended};
-    ghost use Rattle.odb_engine.specs.declared.ending.EngineFault.TheVariants as faults;
-    ghost use Rattle.odb_engine.specs.Engines.{Ends};
+    ghost use Rattle.odb_command.specs.declared.ending.Ended.{Ended};
+    ghost use Rattle.odb_command.specs.declared.ending.EngineFault.TheVariants as faults;
+    ghost use Rattle.odb_command.specs.Engines.{Ends};
 
     /// How it ends for the bytes of a line, and what it has written then.
     ghost writes: { Self → List ℕ → Ended → List ℕ → Type 0 };

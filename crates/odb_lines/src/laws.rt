@@ -1,7 +1,7 @@
 //! What holds of the answers to the lines of an input.
 
 ghost use Rattle.std.specs.Prelude.{ℕ, List};
-ghost use Rattle.odb_engine.specs.Cascade.{IsOne};
+ghost use Rattle.odb_command.specs.Cascade.{IsOne};
 ghost use Rattle.odb_lines.specs.Answers.{AnswersEach, OfAnyLine};
 
 use crate::command::LineCommand;

@@ -1,7 +1,7 @@
 //! Holds the beginning of a line until its end is read, and has the line answered.
 
 ghost use Rattle.std.specs.Prelude.{◌≡◌, ◌++◌, ◌≤◌, [], false, length, OnOk};
-ghost use Rattle.odb_engine.specs.Inputs.{most_read};
+ghost use Rattle.odb_command.specs.Inputs.{most_read};
 ghost use Rattle.odb_lines.specs.Steps.{EndsAnswer, cut};
 
 use crate::command::LineCommand;

@@ -15,7 +15,7 @@ pub struct EachLine {
 }
 
 impl LineCommand for EachLine {
-    ghost use Rattle.odb_engine.specs.Forms.{InForm};
+    ghost use Rattle.odb_command.specs.Forms.{InForm};
     ghost use Rattle.odb_engine.specs.LineTasks.{OfLine};
 
     ghost writes = { λ self line.

@@ -3,7 +3,7 @@
 ghost use Rattle.std.specs.Prelude.{◌≡◌, IfSome};
 ghost use Rattle.odb_lines.specs.Answers.{AnswersEach, OfAnyLine};
 ghost use Rattle.odb_lines.specs.Lines.{lines_of};
-ghost use Rattle.odb_engine.specs.declared.form.Form.TheVariants.{Lines};
+ghost use Rattle.odb_command.specs.declared.form.Form.TheVariants.{Lines};
 ghost use Rattle.odb_engine.specs.LineTasks.{OfLine};
 
 use crate::engines::devices::{Narrow, Pace, Slow};

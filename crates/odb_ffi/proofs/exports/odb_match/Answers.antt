@@ -1,6 +1,6 @@
 use Rattle.std.proofs.Common.{Some}
-use Rattle.odb_engine.specs.Cascade.{Answers}
-use Rattle.odb_engine.specs.Commands.{BySecond}
+use Rattle.odb_command.specs.Cascade.{Answers}
+use Rattle.odb_command.specs.Inputs.{BySecond}
 use Rattle.odb_engine.specs.Matches.{Matches}
 use Rattle.odb_ffi.specs.Returns.{WritesOf}
 use Rattle.odb_ffi.proofs.ReturnLemmas.{returned}

@@ -1,6 +1,6 @@
 use Rattle.std.proofs.Common.{Some}
 use Rattle.odb_sched.specs.run.Choosing.{AllowsOrder}
-use Rattle.odb_engine.specs.Cascade.{Answers}
+use Rattle.odb_command.specs.Cascade.{Answers}
 use Rattle.odb_engine.specs.Replays.{Replays}
 use Rattle.odb_ffi.specs.Returns.{WritesOf}
 use Rattle.odb_ffi.specs.Returns.ReturnsBy.{Named}

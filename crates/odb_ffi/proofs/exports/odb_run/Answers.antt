@@ -1,5 +1,5 @@
 use Rattle.std.proofs.Common.{Some}
-use Rattle.odb_engine.specs.Cascade.{Answers}
+use Rattle.odb_command.specs.Cascade.{Answers}
 use Rattle.odb_engine.specs.Runs.{Runs}
 use Rattle.odb_ffi.specs.Returns.{WritesOf}
 use Rattle.odb_ffi.specs.Returns.ReturnsBy.{Named}

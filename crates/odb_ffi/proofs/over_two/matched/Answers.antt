@@ -1,9 +1,9 @@
 use Rattle.std.proofs.Common.{ℕ, List, Some, Bor, subst}
 use Rattle.odb_json.specs.Devices.{Reading}
-use Rattle.odb_engine.specs.Commands.{BySecond}
+use Rattle.odb_command.specs.Inputs.{BySecond}
 use Rattle.odb_engine.specs.Matches.{MatchesIn}
 use Rattle.odb_ffi.specs.Returns.{AnswersIn}
-use Rattle.odb_engine.proofs.MemoryLemmas.{document-of, text-in}
+use Rattle.odb_command.proofs.MemoryLemmas.{document-of, text-in}
 use Rattle.odb_ffi.proofs.over_two.matched.Goals as goal
 
 pub returns-in-Ok : goal.returns-in-Ok

@@ -1,5 +1,5 @@
 use Rattle.std.proofs.Common.{refl}
-use Rattle.odb_engine.specs.Cascade.{Reports}
+use Rattle.odb_command.specs.Cascade.{Reports}
 use Rattle.odb_engine.specs.Live.{IsLeastOfOpening}
 use Rattle.odb_ffi.specs.Live.Opening.{Opened, NotOpened}
 use Rattle.odb_ffi.specs.Live.OpeningBy.{Named}

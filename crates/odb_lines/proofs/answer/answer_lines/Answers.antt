@@ -4,8 +4,8 @@ use Rattle.std.proofs.lemmas.List.{nil_from_length}
 use Rattle.std.proofs.lemmas.Result.{err_from_is_err_and}
 use Rattle.std.proofs.KnownBytes.{Keeps-refl}
 use Rattle.std.specs.Io.KnownBytes.{IsAtEnd}
-use Rattle.odb_engine.specs.declared.ending.EngineFault.TheVariants as faults
-use Rattle.odb_engine.specs.Inputs.{most_read}
+use Rattle.odb_command.specs.declared.ending.EngineFault.TheVariants as faults
+use Rattle.odb_command.specs.Inputs.{most_read}
 use Rattle.odb_lines.specs.Answers.{both}
 use Rattle.odb_lines.specs.Sources.{left}
 use Rattle.odb_lines.proofs.ByteLemmas.{length-cut}

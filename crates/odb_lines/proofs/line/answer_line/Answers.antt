@@ -1,7 +1,7 @@
 use Rattle.std.proofs.Common.{◌≡◌, ◌∙◌, [], ◌++◌, min, take, length, sym, ap, subst, arith}
 use Rattle.std.proofs.lemmas.Bool.Decides.{nat_tests}
 use Rattle.std.proofs.lemmas.List.{take_min, nil_from_length}
-use Rattle.odb_engine.specs.Inputs.{most_read}
+use Rattle.odb_command.specs.Inputs.{most_read}
 use Rattle.odb_lines.specs.Steps.{EndsAnswer, cut}
 use Rattle.odb_lines.proofs.line.answer_line.Goals as goal
 

@@ -1,6 +1,6 @@
 use Rattle.std.proofs.Common.{rules, ◌≡◌, ◌∙◌, ℕ, List, ◌-◌, min, length, cond, Result, Ok, Err, OnOk}
 use Rattle.std.specs.Result.{is_ok}
-use Rattle.odb_engine.specs.Inputs.{most_read}
+use Rattle.odb_command.specs.Inputs.{most_read}
 use Rattle.odb_lines.proofs.ByteLemmas.{hold-cut}
 use Rattle.odb_lines.proofs.line.hold.Goals as goal
 

@@ -1,6 +1,6 @@
 use Rattle.std.proofs.Common.{subst}
-use Rattle.odb_engine.specs.Cascade.{Answers}
-use Rattle.odb_engine.specs.Halts.{Found}
+use Rattle.odb_command.specs.Cascade.{Answers}
+use Rattle.odb_command.specs.Halts.{Found}
 use Rattle.odb_engine.specs.Live.{Shows}
 use Rattle.odb_ffi.proofs.AnswerLemmas.{answer-written}
 use Rattle.odb_ffi.proofs.session.Session.response.Goals as goal

@@ -1,0 +1,6 @@
+mod ReadLemmas
+pub mod EngineLemmas
+pub mod MemoryLemmas
+pub mod AnswerLemmas
+pub mod PhaseLemmas
+mod SendLemmas

@@ -1,0 +1,2 @@
+-- What public clauses cite: it has to be believed.
+pub mod Drawings

@@ -1,6 +1,0 @@
-use Rattle.std.proofs.Common.{arith}
-use Rattle.std.proofs.lemmas.Grind.{common_steps}
-use Rattle.odb_engine.proofs.plan_json.push_group.Goals as goal
-
-pub returns-in_ok-push_quoted-in-Some : goal.returns-in_ok-push_quoted-in-Some
-returns-in_ok-push_quoted-in-Some c = grind (arith, common_steps)

@@ -1,0 +1,3 @@
+mod TraceLemmas
+mod ResultLemmas
+mod PlanLemmas

@@ -1,0 +1,45 @@
+-- The lines that are printed.
+use Rattle.std.specs.Prelude.{ℕ, List, [], ◌∷◌, ◌++◌, codes}
+use Rattle.std.specs.Fmt.{decimal}
+use Rattle.odb_check.specs.Texts.{newline}
+use Rattle.odb_sched.specs.run.State.{State}
+use Rattle.odb_reply.specs.Responses.{response_text}
+use Rattle.odb_doc.specs.batch.Records.{Record}
+use Rattle.odb_doc.specs.declared.fault.Place.{Place}
+use Rattle.odb_doc.specs.declared.fault.Place.TheVariants.{Batch, Request, Outcomes, Outcome, Responses, Response, Events, Event}
+
+abbrev pub place_text : Place → List ℕ
+place_text Batch = codes "batch"
+place_text (Request at) = codes "/requests/" ++ decimal at
+place_text Outcomes = codes "outcomes"
+place_text (Outcome at) = codes "/outcomes/" ++ decimal at
+place_text Responses = codes "responses"
+place_text (Response at) = codes "/responses/" ++ decimal at
+place_text Events = codes "events"
+place_text (Event at) = codes "/events/" ++ decimal at
+
+-- `fault CODE NAME PLACE`
+abbrev pub fault_line : List ℕ → List ℕ → Place → List ℕ
+fault_line code name place = codes "fault " ++ code ++ codes " " ++ name ++ codes " " ++ place_text place ++ newline ∷ []
+
+-- `ok N requests M groups`
+abbrev pub accepted_line : ℕ → ℕ → List ℕ
+accepted_line requests groups = codes "ok " ++ decimal requests ++ codes " requests " ++ decimal groups ++ codes " groups" ++ newline ∷ []
+
+-- `ok N responses`
+abbrev pub fit_line : ℕ → List ℕ
+fit_line responses = codes "ok " ++ decimal responses ++ codes " responses" ++ newline ∷ []
+
+-- `ID STATUS`
+abbrev pub status_line : List ℕ → ℕ → List ℕ
+status_line id status = id ++ codes " " ++ decimal status ++ newline ∷ []
+
+-- a line for each request, with the status of its response
+abbrev pub status_lines : List Record → List ℕ → List ℕ
+status_lines [] statuses = []
+status_lines (r ∷ rs) [] = []
+status_lines (r ∷ rs) (status ∷ statuses) = status_line r.id status ++ status_lines rs statuses
+
+-- the response as a line
+abbrev pub response_line : State → List ℕ
+response_line state = response_text state ++ newline ∷ []
