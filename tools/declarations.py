@@ -16,7 +16,8 @@ import sys
 
 ROOT = os.path.dirname(os.path.dirname(os.path.realpath(__file__)))
 HEADER = "include/odb_batch.h"
-SOURCES = "crates/odb_ffi/src"
+EXPORTS = "crates/odb_ffi/src"
+CALLS = "crates/odb_calls/src"
 NAME = "libodb_batch.so.0"
 MOST_BYTES = 600_000
 
@@ -71,16 +72,16 @@ def text_of(path):
         return file.read()
 
 
-def source():
-    """The text of the crate."""
-    return "\n".join(text_of(f"{SOURCES}/{name}") for name in sorted(os.listdir(os.path.join(ROOT, SOURCES))))
+def source(folder):
+    """The text of a crate."""
+    return "\n".join(text_of(f"{folder}/{name}") for name in sorted(os.listdir(os.path.join(ROOT, folder))))
 
 
 def exports():
     """The declarations that follow from the source, by name."""
     found = {}
     pattern = r'#\[unsafe\(no_mangle\)\]\s*pub extern "C" fn (\w+)\((.*?)\)(?:\s*->\s*(\w+))?'
-    for name, parameters, result in re.findall(pattern, source(), re.DOTALL):
+    for name, parameters, result in re.findall(pattern, source(EXPORTS), re.DOTALL):
         parts = [it.split(":", 1) for it in parameters.split(",") if it.strip()]
         places = [form.format(word.strip()) for word, kind in parts for form in TYPES[kind.strip()]]
         found[name] = TYPES[result][0].format(f"{name}({', '.join(places) or 'void'})")
@@ -107,9 +108,9 @@ def differences():
     for name in sorted({*wanted, *found}):
         if wanted.get(name) != found.get(name):
             yield f"{name}: the header declares {found.get(name)}, and the source exports {wanted.get(name)}"
-    header, code = text_of(HEADER), source()
+    header, calls = text_of(HEADER), source(CALLS)
     for name, pattern in NUMBERS.items():
-        if one(rf"\b{name} = (\d+)", header, HEADER) != one(pattern, code, SOURCES):
+        if one(rf"\b{name} = (\d+)", header, HEADER) != one(pattern, calls, CALLS):
             yield f"{name}: the header and the source have different numbers"
     for name, path in HANDLES.items():
         struct = rf"#\[repr\(C\)\](?:\s*#\[[^]]*\])*\s*pub struct {name} \{{([^}}]*\}}[^}}]*)\}}"

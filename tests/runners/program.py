@@ -13,7 +13,7 @@ CRATES = os.path.join(ROOT, "crates")
 PROGRAM = os.path.join(CRATES, "odb_batch", "out", "odb_batch")
 
 # The crates that the program does not consist of, as bin/odb_batch leaves them out.
-BESIDE = ("odb_tests", "odb_ffi")
+BESIDE = ("odb_tests", "odb_calls", "odb_ffi")
 
 
 def sources():

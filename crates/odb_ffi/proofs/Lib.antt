@@ -1,5 +1,1 @@
-mod ReturnLemmas
 mod AddressLemmas
-mod OutcomeLemmas
-mod AnswerLemmas
-mod PositionLemmas

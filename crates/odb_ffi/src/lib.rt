@@ -7,18 +7,10 @@
 #![tactic(auto)]
 
 mod address;
-mod answer;
 pub mod exports;
 mod filled;
 pub mod form_exports;
 pub mod handle;
 mod lent;
-mod options;
-mod outcome;
-mod over_one;
-mod over_two;
-mod positions;
 pub mod run_exports;
-pub mod session;
 pub mod slot;
-mod status;

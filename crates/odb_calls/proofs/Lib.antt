@@ -1,0 +1,4 @@
+pub mod AnswerLemmas
+mod OutcomeLemmas
+mod PositionLemmas
+pub mod ReturnLemmas
