@@ -8,7 +8,6 @@ pub mod devices;
 mod disposal;
 mod embedding;
 mod failures;
-mod reads;
 
 use odb_check::Seed;
 use odb_engine::{

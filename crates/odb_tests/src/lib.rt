@@ -6,9 +6,7 @@
 #![tactic(auto)]
 
 #[cfg(test)]
-mod checks;
-#[cfg(test)]
-mod documents;
+mod devices;
 #[cfg(test)]
 mod engines;
 #[cfg(test)]
@@ -20,10 +18,10 @@ mod lines;
 #[cfg(test)]
 mod messages;
 #[cfg(test)]
-mod names;
-#[cfg(test)]
 mod replies;
 #[cfg(test)]
 mod rows;
 #[cfg(test)]
 mod runs;
+#[cfg(test)]
+mod seeds;

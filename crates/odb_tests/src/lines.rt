@@ -8,7 +8,7 @@ ghost use Rattle.odb_engine.specs.LineTasks.{OfLine};
 
 use crate::engines::devices::{Narrow, Pace, Slow};
 use odb_engine::laws::one_line;
-use odb_engine::{Ended, EngineFault, Form, LineTask, Setup};
+use odb_engine::{Ended, EngineFault, LineTask, Setup};
 use odb_json::Output;
 use odb_lines::laws::one_text;
 use odb_lines::{EachLine, LineCommand, LineInput, answer_lines};
@@ -152,36 +152,6 @@ fn is_written_again(alloc: Global, log: &[u8], task: LineTask) -> bool {
 #[test]
 fn the_same_text_is_written_again(rt: HostRuntime) {
     assert!(rt; is_written_again(rt.alloc(), LOG.as_bytes(), LineTask::Check));
-}
-
-/// Whether a task writes this of these lines, in a form.
-fn is_done(alloc: Global, task: LineTask, form: Form, written: &str) -> bool {
-    let setup = Setup {
-        form,
-        ..Setup::plain()
-    };
-    let Ok(mut input) = LineInput::new(alloc, LOG.as_bytes()) else {
-        return false;
-    };
-    let mut output = Output::new(Vec::new(alloc));
-    let ended = answer_lines(
-        alloc,
-        &mut input,
-        &mut output,
-        &EachLine { task, setup },
-        false,
-    );
-    ended == Ok(Ended::Refused) && output.into_inner().as_slice() == written.as_bytes()
-}
-
-#[test]
-fn a_task_is_done_on_each_line(rt: HostRuntime) {
-    let lines = "ok 1 requests 0 groups\nfault F02 NotJson batch\nfault F13 BadId /requests/0\n";
-    let json = "{\"requests\":[{\"id\":\"1\",\"level\":0,\"needs\":[]}]}\n\
-        {\"fault\":{\"code\":\"F02\",\"name\":\"NotJson\",\"place\":\"batch\"}}\n\
-        {\"fault\":{\"code\":\"F13\",\"name\":\"BadId\",\"place\":\"/requests/0\"}}\n";
-    assert!(rt; is_done(rt.alloc(), LineTask::Check, Form::Lines, lines));
-    assert!(rt; is_done(rt.alloc(), LineTask::Plan, Form::Json, json));
 }
 
 /// How many bytes are read of `ab`, an empty line, `c` and `de`, and what is written of them.

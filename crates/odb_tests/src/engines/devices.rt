@@ -1,4 +1,4 @@
-//! Readers and writers that are slow, fail, or have no end, and count their calls.
+//! Readers and writers that are slow or fail, and count their calls.
 
 use std::alloc::Global;
 use std::io;
@@ -43,20 +43,6 @@ impl Read for Slow<'_> {
         buffer[..count].copy_from_slice(given);
         self.left = left;
         Ok(count)
-    }
-}
-
-/// Gives spaces without an end, and counts them.
-#[derive(Drop)]
-pub struct Endless {
-    pub given: usize,
-}
-
-impl Read for Endless {
-    fn read(&mut self, buffer: &mut [u8]) -> io::Result<usize> {
-        buffer.fill(b' ');
-        self.given = self.given.saturating_add(buffer.len());
-        Ok(buffer.len())
     }
 }
 

@@ -1,11 +1,10 @@
 //! Recorded outcomes: each is given once, to the request whose id it names.
 
 use super::{OnPlan, THREE, holds_of};
-use crate::documents::records::{is_outcome, outcomes_in};
 use odb_check::Plan;
-use odb_doc::Outcomes;
+use odb_doc::{Outcome, OutcomeFault, Outcomes, parse};
 use odb_exec::{Recorded, Service, ServiceFault};
-use std::alloc::Global;
+use std::alloc::{AllocError, Global};
 
 const RECORD: &[u8] = br#"{"outcomes":[{"id":"s","status":201,"headers":{"Location":"S"}},
     {"id":"unknown","status":500},{"id":"r","status":200,"body":[1]}]}"#;
@@ -18,6 +17,28 @@ const ASKED: &[(u32, Option<&str>)] = &[
     (2, Some("201 {\"location\": \"S\"} -")),
     (2, None),
 ];
+
+/// The body as JSON, `-` where there is none.
+fn body_text(alloc: Global, outcome: &Outcome) -> Result<String, AllocError> {
+    match &outcome.body {
+        Some(value) => Ok(value.to_string(alloc)?),
+        None => String::from_str(alloc, "-"),
+    }
+}
+
+/// The status, the headers and the body of an outcome.
+fn outcome_text(alloc: Global, outcome: &Outcome) -> Result<String, AllocError> {
+    let body = body_text(alloc, outcome)?;
+    format!(in alloc; "{} {:?} {body}", outcome.status, outcome.headers)
+}
+
+/// Whether an outcome has this text.
+fn is_outcome(alloc: Global, outcome: &Outcome, text: &str) -> bool {
+    match outcome_text(alloc, outcome) {
+        Ok(found) => found.as_str() == text,
+        Err(_) => false,
+    }
+}
 
 /// Whether the recorded service gives an outcome with this text for a position, or has none.
 fn gives(
@@ -52,6 +73,14 @@ fn are_given(alloc: Global, plan: &Plan<'_>, outcomes: Outcomes) -> bool {
     match Recorded::new(alloc, plan, outcomes) {
         Ok(mut service) => gives_all(alloc, plan, &mut service),
         Err(_) => false,
+    }
+}
+
+/// Reads a document of outcomes.
+fn outcomes_in(alloc: Global, document: &[u8]) -> Result<Outcomes, OutcomeFault> {
+    match parse(alloc, document) {
+        Ok(value) => Outcomes::read(alloc, value),
+        Err(_) => Err(OutcomeFault::OutOfMemory),
     }
 }
 
