@@ -107,6 +107,12 @@ class Unusable(unittest.TestCase):
 
 
 class Interrupted(unittest.TestCase):
+    @classmethod
+    def setUpClass(cls):
+        # what a shell runs in the background ignores SIGINT, and so does all that it starts
+        before = signal.signal(signal.SIGINT, signal.default_int_handler)
+        cls.addClassCleanup(signal.signal, signal.SIGINT, before)
+
     def test_what_was_made_is_removed(self):
         # after batches, after requests, and after removals: whatever was under way
         for number, words, least in [
