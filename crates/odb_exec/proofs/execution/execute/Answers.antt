@@ -1,9 +1,11 @@
 -- An execution is what its steps make of the run.
-use Rattle.std.proofs.Common.{◌≡◌, ◌∙◌, inr, ap, sym, subst}
+use Rattle.std.proofs.Common.{◌≡◌, ◌∙◌, inl, inr, ap, refl, sym, subst}
 use Rattle.odb_sched.specs.run.State.{State, initial}
 use Rattle.odb_check.specs.Plans.{plan_records}
 use Rattle.odb_exec.specs.Calls.{IsBrokenOff, IsExecution, Behind}
+use Rattle.odb_exec.specs.Courses.{IsCausedBy, IsReportEnabled}
 use Rattle.odb_sched.specs.declared.policy.Policy.{Policy}
+use Rattle.odb_exec.specs.declared.execution.ExecFault.TheVariants.{OutOfMemory}
 use Rattle.odb_exec.proofs.CourseLemmas.{finished-within, finished-requests, finished-offered, same_error}
 use Rattle.odb_exec.proofs.PickLemmas.{unasked, cut-unasked}
 use Rattle.odb_exec.proofs.execution.execute.Goals as goal
@@ -54,3 +56,21 @@ returns-in_err-take_all-clause-broken_off g c =
     (Behind (λ z. (goal.Chooser-dyn g z).chooses z.1)) (λ z. (goal.Chooser-dyn g z).names z.1) (plan_records c.args.plan.now)
     (initial c.args.plan.now policy) c.args.service.now c.take_all.new.service c.args.chooser.now (c.args.chooser.now.0, c.take_all.new.chooser) in
     same_error c.from_residual-in_err-take_all.result (Is c.args.policy) c.in_err-take_all.field-0.0 c.from_residual-in_err-take_all.ensures.1 (subst (λ policy. Is policy c.in_err-take_all.field-0.0) same (inr c.in_err-take_all.ensures.cut_short))
+
+pub returns-in_err-scheduler-clause-unasked : goal.returns-in_err-scheduler-clause-unasked
+returns-in_err-scheduler-clause-unasked g c = λ named. refl
+
+pub returns-in_err-scheduler-clause-broken_off : goal.returns-in_err-scheduler-clause-broken_off
+returns-in_err-scheduler-clause-broken_off g c =
+    let Is = IsBrokenOff ((goal.Chooser-dyn g c.args.chooser.now).allows c.args.chooser.now.1) (g.S.Service.offers c.args.service.now) g.S.Service.performs
+    (Behind (λ z. (goal.Chooser-dyn g z).chooses z.1)) (λ z. (goal.Chooser-dyn g z).names z.1) (plan_records c.args.plan.now)
+    (initial c.args.plan.now c.args.policy) c.args.service.now c.args.service.now c.args.chooser.now c.args.chooser.now in
+    same_error c.from_residual.result Is OutOfMemory c.from_residual.ensures.1 (inl (refl, refl, refl))
+
+pub returns-in_err-take_all-clause-fault : goal.returns-in_err-take_all-clause-fault
+returns-in_err-take_all-clause-fault g c =
+    let allows = (goal.Chooser-dyn g c.args.chooser.now).allows c.args.chooser.now.1 in
+    let offers = g.S.Service.offers c.args.service.now in
+    let same : c.in_ok-scheduler.scheduler.policy ≡ c.args.policy = ap (λ (s : State). s.policy) c.in_ok-scheduler.ensures.first in
+    let Is = λ (policy : Policy). IsCausedBy offers (IsReportEnabled allows offers (initial c.args.plan.now policy)) in
+    same_error c.from_residual-in_err-take_all.result (Is c.args.policy) c.in_err-take_all.field-0.0 c.from_residual-in_err-take_all.ensures.1 (subst (λ policy. Is policy c.in_err-take_all.field-0.0) same c.in_err-take_all.ensures.fault)
