@@ -102,6 +102,41 @@ pub fn answer_batch<R: Runtime + AllocGlobal>(
     }
 }
 
+/// Performs a task on the batch in an input and the second document in another.
+fn answer_two<R: Runtime + AllocGlobal, I: Read, J: Read>(
+    rt: &R,
+    batch: &mut Input<I>,
+    second: &mut Input<J>,
+    task: PairTask,
+    setup: Setup,
+) -> Status
+    requires batch { IsFresh batch.old }
+    requires second { IsFresh second.old }
+{
+    let mut output = Output::new(io::writer(rt));
+    let ended = match task {
+        PairTask::Match => match_batch_with(rt.alloc(), batch, second, &mut output, setup),
+        PairTask::Replay {
+            policy,
+            mut order,
+            traced,
+        } => replay_batch_with(
+            rt.alloc(),
+            batch,
+            second,
+            &mut output,
+            policy,
+            &mut order,
+            traced,
+            setup,
+        ),
+        PairTask::Run { policy } => {
+            run_batch_with(rt.alloc(), batch, second, &mut output, policy, setup)
+        }
+    };
+    finish(rt, ended)
+}
+
 /// Performs a task on the batch in the first file and the second document in the other.
 pub fn answer_pair<R: Runtime + AllocGlobal>(
     rt: &R,
@@ -114,34 +149,8 @@ pub fn answer_pair<R: Runtime + AllocGlobal>(
         Ok(input) => input,
         Err(status) => return status,
     };
-    let mut second = match open(rt, environment, files.1) {
-        Ok(input) => input,
-        Err(status) => return status,
-    };
-    let mut output = Output::new(io::writer(rt));
-    let (alloc, setup) = (rt.alloc(), environment.setup(form));
-    let ended = match task {
-        PairTask::Match => match_batch_with(alloc, &mut batch, &mut second, &mut output, setup),
-        PairTask::Replay {
-            policy,
-            order,
-            traced,
-        } => {
-            let mut order = order;
-            replay_batch_with(
-                alloc,
-                &mut batch,
-                &mut second,
-                &mut output,
-                policy,
-                &mut order,
-                traced,
-                setup,
-            )
-        }
-        PairTask::Run { policy } => {
-            run_batch_with(alloc, &mut batch, &mut second, &mut output, policy, setup)
-        }
-    };
-    finish(rt, ended)
+    match open(rt, environment, files.1) {
+        Ok(mut second) => answer_two(rt, &mut batch, &mut second, task, environment.setup(form)),
+        Err(status) => status,
+    }
 }
