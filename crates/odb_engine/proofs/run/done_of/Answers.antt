@@ -1,5 +1,5 @@
 -- A run by recorded events.
-use Rattle.std.proofs.Common.{◌≡◌, ◌∙◌, Some, subst, refl, sym, ap, IfErr, rules}
+use Rattle.std.proofs.Common.{◌≡◌, ◌∙◌, Some, subst, refl, sym, ap, IfErr}
 use Rattle.serde_json.specs.Read.{read}
 use Rattle.odb_doc.specs.recorded.EventLists.{entries}
 use Rattle.odb_check.specs.Plans.{plan_records}
@@ -84,4 +84,4 @@ returns-clause-whole c =
     (whole-bodies policy batch (entries c.args.events) events c.in_ok-resolved.ensures.events c.len-count.ensures.well_formed)
 
 pub returns-clause-least : goal.returns-clause-least
-returns-clause-least c = search rules
+returns-clause-least c = tt
