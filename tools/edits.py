@@ -28,8 +28,8 @@ import tempfile
 
 ROOT = os.path.dirname(os.path.dirname(os.path.realpath(__file__)))
 
-# What `.ci/run` may spend on edits; and what one edit of a crate takes, beside other work. A crate without a number
-# counts as the dearest did.
+# What `.ci/run` may spend on edits, and what one edit of a crate takes, beside other work: each without the proof
+# of the crate that its edits are tried over. A crate without a number counts as the dearest did.
 MINUTES = 70
 SECONDS = {
     "odb_dense": 11, "odb_names": 13, "odb_json": 16, "odb_doc": 28, "odb_check": 26, "odb_sched": 26, "odb_exec": 30,
