@@ -10,8 +10,11 @@ use odb_sched::{MAX_WIDTH, Mode, Order, Policy};
 /// The options of a replay.
 #[derive(Clone, Copy)]
 pub struct ReplayOptions {
+    /// Whether the run stops at an error, and how many requests may run at once.
     pub policy: Policy,
+    /// The order of the steps.
     pub order: Order,
+    /// Whether the trace is written before the response.
     pub traced: bool,
 }
 

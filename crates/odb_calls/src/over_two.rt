@@ -19,7 +19,9 @@ use std::alloc::Global;
 /// A batch document, and the second document of a command.
 #[derive(Clone, Copy)]
 pub struct Documents<'d> {
+    /// The batch document.
     pub batch: &'d [u8],
+    /// The document of responses, outcomes or events.
     pub second: &'d [u8],
 }
 
