@@ -17,7 +17,7 @@ pub enum Order {
 }
 
 /// One end of a set of positions.
-#[derive(Clone, Copy)]
+#[derive(Clone, Copy, Debug)]
 pub(crate) enum End {
     Least,
     Greatest,
