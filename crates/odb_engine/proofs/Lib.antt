@@ -6,7 +6,6 @@ mod ReadAgainLemmas
 mod SecondLemmas
 mod CourseLemmas
 mod TextLemmas
-mod StatusLemmas
 mod MatchLemmas
 mod CanonLawLemmas
 mod MatchLawLemmas

@@ -11,7 +11,7 @@ use Rattle.odb_command.specs.declared.form.Form.{Form}
 use Rattle.odb_command.specs.declared.form.Form.TheVariants.{Lines, Json}
 use Rattle.odb_command.specs.Cascade.{Writes, Prints, Reports}
 use Rattle.odb_text.specs.Results.{json_line, counts_value, plan_value}
-use Rattle.odb_draw.specs.Drawings.{drawing_text}
+use Rattle.odb_text.specs.Drawings.{drawing_text}
 use Rattle.odb_text.specs.Lines.{accepted_line}
 
 -- how many requests and groups there are

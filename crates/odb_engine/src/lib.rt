@@ -27,7 +27,6 @@ mod match_responses;
 mod plan;
 mod replay;
 mod run;
-mod statuses;
 
 pub use canon::{canon_batch, canon_batch_with};
 pub use check::{check_batch, check_batch_with};

@@ -14,7 +14,6 @@ ghost use Rattle.odb_command.specs.Halts.{Found};
 ghost use Rattle.odb_command.specs.declared.form.Form.TheVariants.{Lines};
 ghost use Rattle.odb_engine.specs.Matches.{Matches, MatchesIn, MatchesValue, match_text};
 
-use crate::statuses::match_lines;
 use odb_check::Plan;
 use odb_command::{
     DropOrLeak, Ended, EngineFault, Form, Halt, PairCommand, Sent, Setup, answer_pair, print,
@@ -22,7 +21,7 @@ use odb_command::{
 use odb_doc::Place;
 use odb_json::{Input, Output};
 use odb_reply::{Responses, Table, match_responses};
-use odb_text::match_json;
+use odb_text::{match_json, match_lines};
 use serde_json::Value;
 use std::alloc::{AllocError, Global};
 use std::io::{Read, Write};

@@ -1,3 +1,5 @@
+mod DrawingLemmas
+mod StatusLemmas
 mod TraceLemmas
 mod ResultLemmas
 mod PlanLemmas

@@ -1,16 +1,21 @@
-//! The results of the commands as texts: lines of words, one line of compact JSON, and a trace.
+//! The results of the commands as texts: lines of words, one line of compact JSON, a trace, and the drawing of a
+//! plan.
 //!
 //! A text is a function of what it shows, a plan, the statuses of a match, the steps of an execution or a
 //! fault, and every call returns it whole, or an `AllocError`. Nothing is read or written here: when which
 //! text is written, `odb_command` and `odb_engine` decide.
 #![tactic(auto)]
 
+mod drawing;
 mod json;
 mod lines;
 mod plan;
+mod statuses;
 mod trace;
 
+pub use drawing::drawing_text;
 pub use json::{counts_json, fault_json, match_json};
 pub use lines::{accepted_line, fault_line, fit_line};
 pub use plan::plan_json;
+pub use statuses::match_lines;
 pub use trace::trace_part;

@@ -9,7 +9,7 @@ use Rattle.odb_check.specs.Levels.{level_at}
 use Rattle.odb_check.specs.Needs.{needs_at}
 use Rattle.odb_check.specs.PlanGraph.{PlanGraph, IsPlanGraphOf, IsSpan}
 use Rattle.odb_check.specs.Units.{unit_at}
-use Rattle.odb_draw.specs.Drawings.{arrow_line, cluster_line, first_of_unit, lines_at, node_line, rank_line, request_lines}
+use Rattle.odb_text.specs.Drawings.{arrow_line, cluster_line, first_of_unit, lines_at, node_line, rank_line, request_lines}
 
 -- a text that is shown with a precision of 40 and no width
 pub cut : (text : List ℕ) → padded (record { fill = 32; align = 0; plus = false; alternate = false; zero = false; width = 0; precision = 40 }) text ≡ take_chars 40 text

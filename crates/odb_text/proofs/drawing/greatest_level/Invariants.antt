@@ -1,7 +1,7 @@
 use Rattle.std.proofs.Common.{◌≡◌}
 use Rattle.odb_check.specs.Levels.{greatest_below, level_at}
 use Rattle.odb_check.specs.Plans.{plan_records}
-use Rattle.odb_draw.proofs.drawing.greatest_level.Given as goal
+use Rattle.odb_text.proofs.drawing.greatest_level.Given as goal
 
 -- the greatest level so far
 abbrev pub invariant-loop-i : goal.invariant-loop-i

@@ -1,7 +1,7 @@
 use Rattle.std.proofs.Common.{◌≡◌, ◌++◌, string_bytes}
 use Rattle.odb_check.specs.Firsts.{joined_below}
-use Rattle.odb_draw.specs.Drawings.{level_line}
-use Rattle.odb_draw.proofs.drawing.push_levels.Given as goal
+use Rattle.odb_text.specs.Drawings.{level_line}
+use Rattle.odb_text.proofs.drawing.push_levels.Given as goal
 
 -- the lines of the levels so far
 abbrev pub invariant-loop-level : goal.invariant-loop-level

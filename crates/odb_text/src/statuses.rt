@@ -1,13 +1,13 @@
-//! The statuses of a match as lines.
+//! The statuses of a match as lines. `json` has them as JSON.
 
 ghost use Rattle.std.specs.Prelude.{◌≡◌, ◌++◌, length, IfOk, OnOk, string_bytes};
 ghost use Rattle.odb_check.specs.Plans.{plan_records};
 ghost use Rattle.odb_reply.specs.Fits.{statuses};
 ghost use Rattle.odb_text.specs.Lines.{fit_line, status_line, status_lines};
 
+use crate::lines::fit_line;
 use odb_check::Plan;
 use odb_reply::Table;
-use odb_text::fit_line;
 use std::alloc::{AllocError, Global};
 
 /// Appends the line of a request.

@@ -1,6 +1,6 @@
 use Rattle.std.proofs.Common.{arith}
 use Rattle.std.proofs.lemmas.Grind.{common_steps}
-use Rattle.odb_draw.proofs.drawing.push_arrow.Goals as goal
+use Rattle.odb_text.proofs.drawing.push_arrow.Goals as goal
 
 pub returns : goal.returns
 returns c = grind (arith, common_steps)

@@ -1,8 +1,8 @@
 use Rattle.std.proofs.Common.{◌≡◌, ◌++◌, string_bytes}
 use Rattle.odb_check.specs.Firsts.{joined_below}
 use Rattle.odb_check.specs.Plans.{plan_records}
-use Rattle.odb_draw.specs.Drawings.{lines_at}
-use Rattle.odb_draw.proofs.drawing.push_requests.Given as goal
+use Rattle.odb_text.specs.Drawings.{lines_at}
+use Rattle.odb_text.proofs.drawing.push_requests.Given as goal
 
 -- the lines of the requests so far
 abbrev pub invariant-loop-i : goal.invariant-loop-i

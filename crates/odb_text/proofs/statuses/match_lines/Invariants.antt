@@ -2,8 +2,8 @@ use Rattle.std.proofs.Common.{◌≡◌, ◌++◌, length, string_bytes}
 use Rattle.odb_check.specs.Plans.{plan_records}
 use Rattle.odb_reply.specs.Fits.{statuses}
 use Rattle.odb_text.specs.Lines.{fit_line, status_lines}
-use Rattle.odb_engine.proofs.StatusLemmas.{lines_left}
-use Rattle.odb_engine.proofs.statuses.match_lines.Given as goal
+use Rattle.odb_text.proofs.StatusLemmas.{lines_left}
+use Rattle.odb_text.proofs.statuses.match_lines.Given as goal
 
 -- the text so far, and then the remaining lines, are the whole
 abbrev pub invariant-loop-i : goal.invariant-loop-i

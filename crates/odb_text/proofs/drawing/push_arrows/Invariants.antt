@@ -1,8 +1,8 @@
 use Rattle.std.proofs.Common.{◌≡◌, ◌++◌, take, string_bytes}
 use Rattle.std.specs.List.{flat_map}
 use Rattle.odb_check.specs.Plans.{plan_records}
-use Rattle.odb_draw.specs.Drawings.{arrow_line}
-use Rattle.odb_draw.proofs.drawing.push_arrows.Given as goal
+use Rattle.odb_text.specs.Drawings.{arrow_line}
+use Rattle.odb_text.proofs.drawing.push_arrows.Given as goal
 
 -- the arrows so far
 abbrev pub invariant-loop-need : goal.invariant-loop-need

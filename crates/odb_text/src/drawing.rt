@@ -8,7 +8,7 @@ ghost use Rattle.odb_check.specs.Firsts.{joined_below};
 ghost use Rattle.odb_check.specs.Levels.{greatest_below, level_at};
 ghost use Rattle.odb_check.specs.PlanGraph.{IsNeed};
 ghost use Rattle.odb_check.specs.Plans.{plan_records, plan_graph};
-ghost use Rattle.odb_draw.specs.Drawings as drawings;
+ghost use Rattle.odb_text.specs.Drawings as drawings;
 
 use odb_check::laws::every_plan;
 use odb_check::{Need, Plan};

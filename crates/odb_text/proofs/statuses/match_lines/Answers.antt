@@ -3,8 +3,8 @@ use Rattle.odb_check.specs.Plans.{plan_records}
 use Rattle.odb_reply.specs.Fits.{statuses}
 use Rattle.odb_doc.specs.batch.Records.{record_of}
 use Rattle.odb_text.specs.Lines.{fit_line, status_line}
-use Rattle.odb_engine.proofs.StatusLemmas.{lines_left, lines_left-first, lines_left-next, lines_left-none}
-use Rattle.odb_engine.proofs.statuses.match_lines.Goals as goal
+use Rattle.odb_text.proofs.StatusLemmas.{lines_left, lines_left-first, lines_left-next, lines_left-none}
+use Rattle.odb_text.proofs.statuses.match_lines.Goals as goal
 
 pub loop-i-init : goal.loop-i-init
 loop-i-init c =

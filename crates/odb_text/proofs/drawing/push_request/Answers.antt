@@ -5,9 +5,9 @@ use Rattle.odb_check.specs.Levels.{level_at}
 use Rattle.odb_check.specs.Needs.{needs_at}
 use Rattle.odb_check.specs.Plans.{plan_records}
 use Rattle.odb_check.specs.Units.{unit_at}
-use Rattle.odb_draw.specs.Drawings.{arrow_line, cluster_line, node_line, rank_line}
-use Rattle.odb_draw.proofs.DrawingLemmas.{four_parts, request_parts}
-use Rattle.odb_draw.proofs.drawing.push_request.Goals as goal
+use Rattle.odb_text.specs.Drawings.{arrow_line, cluster_line, node_line, rank_line}
+use Rattle.odb_text.proofs.DrawingLemmas.{four_parts, request_parts}
+use Rattle.odb_text.proofs.drawing.push_request.Goals as goal
 
 pub returns : goal.returns
 returns c =

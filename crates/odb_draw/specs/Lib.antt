@@ -1,2 +1,0 @@
--- What public clauses cite: it has to be believed.
-pub mod Drawings

@@ -1,8 +1,0 @@
-//! The drawing of a plan, in the language DOT of Graphviz.
-//!
-//! [`drawing_text`] returns it whole. When it is written, `odb_engine` decides.
-#![tactic(auto)]
-
-mod drawing;
-
-pub use drawing::drawing_text;
