@@ -1,6 +1,6 @@
 //! The commands over documents: each opens its files and calls its engine.
 ghost use Rattle.std.specs.Prelude.{IfOk};
-ghost use Rattle.odb_command.specs.Inputs.{IsFresh};
+ghost use Rattle.odb_engine.specs.Inputs.{IsFresh};
 
 use crate::command_line::{BatchTask, PairTask};
 use crate::ending::{Status, failed, finish};

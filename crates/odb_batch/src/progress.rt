@@ -1,11 +1,11 @@
 //! Shows the progress of a log on standard error.
 
-ghost use Rattle.odb_command.specs.Forms.{InForm};
+ghost use Rattle.odb_engine.specs.Forms.{InForm};
 ghost use Rattle.odb_engine.specs.LineTasks as tasks;
 
 use odb_engine::{Ended, EngineFault};
 use odb_json::Output;
-use odb_lines::{EachLine, LineCommand};
+use odb_engine::{EachLine, LineCommand};
 use std::alloc::Global;
 use std::cell::Cell;
 use std::io;

@@ -5,7 +5,7 @@ use Rattle.odb_doc.specs.declared.fault.TextFault.TheVariants.{NotWhole}
 use Rattle.odb_doc.specs.canonical.Canonical.{HasWholeBodies, IsFirstNotWhole}
 use Rattle.odb_doc.specs.batch.Records.{Record}
 use Rattle.odb_doc.specs.Refusals.{Printed}
-use Rattle.odb_command.specs.Cascade.{line_of, IsOne}
+use Rattle.odb_engine.specs.Cascade.{line_of, IsOne}
 use Rattle.odb_engine.specs.Commands.{Canonical, IsNotWhole}
 use Rattle.odb_doc.specs.Faults.{text_row}
 use Rattle.std.proofs.lemmas.Option.{same_Some}

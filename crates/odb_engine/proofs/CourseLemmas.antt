@@ -15,8 +15,8 @@ use Rattle.odb_exec.specs.Faults.{exec_row}
 use Rattle.odb_sched.specs.run.Choosing.{AllowsOrder}
 use Rattle.odb_exec.specs.Recordings.{Faults, HasOneCourse, HasOneFault, FaultsOrFinishes, recorded_for}
 use Rattle.odb_sched.specs.run.State.{State, first_state}
-use Rattle.odb_command.specs.declared.ending.Ended.{Ended}
-use Rattle.odb_command.specs.Cascade.{line_of, IsOne}
+use Rattle.odb_engine.specs.declared.ending.Ended.{Ended}
+use Rattle.odb_engine.specs.Cascade.{line_of, IsOne}
 use Rattle.odb_engine.specs.Replays.{Replays, ReplaysBatch, ReplaysEntries, ReplaysValue, LacksOutcome, result_text}
 use Rattle.odb_engine.proofs.LawLemmas.{document_one}
 use Rattle.odb_engine.proofs.SecondLemmas.{IsOneKind, reading_one, some_document_one}

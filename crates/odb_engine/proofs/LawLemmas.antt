@@ -15,10 +15,10 @@ use Rattle.odb_doc.specs.batch.Records.{Record, IsBatchOf}
 use Rattle.odb_check.specs.declared.fault.CheckFault.{CheckFault}
 use Rattle.odb_check.specs.FaultTable.{check_row}
 use Rattle.odb_check.specs.LeastNameFault.{HasGoodNames, RefusesNames}
-use Rattle.odb_command.specs.declared.ending.Ended.{Ended}
-use Rattle.odb_command.specs.Cascade.{IsOne, Writes, line_of, RefusesBytes, Accepts, AcceptsValue, Answers, AnswersValue, HasValue, IsLeastOfBatch, OfDocument, at_place}
+use Rattle.odb_engine.specs.declared.ending.Ended.{Ended}
+use Rattle.odb_engine.specs.Cascade.{IsOne, Writes, line_of, RefusesBytes, Accepts, AcceptsValue, Answers, AnswersValue, HasValue, IsLeastOfBatch, OfDocument, at_place}
 use Rattle.odb_doc.specs.Refusals.{Printed}
-use Rattle.odb_command.proofs.MemoryLemmas.{one_value}
+use Rattle.odb_engine.proofs.MemoryLemmas.{one_value}
 
 -- the laws of the lower crates on their own relations
 pub record AreFunctional : Type 0 where

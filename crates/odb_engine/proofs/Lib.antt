@@ -1,3 +1,9 @@
+mod ReadLemmas
+pub mod EngineLemmas
+pub mod MemoryLemmas
+pub mod AnswerLemmas
+pub mod PhaseLemmas
+mod SendLemmas
 mod ReplayLemmas
 mod RunLemmas
 mod RunLawLemmas
@@ -13,3 +19,7 @@ mod LiveLemmas
 mod IdLemmas
 mod LiveLawLemmas
 mod LineLawLemmas
+mod ByteLemmas
+mod LineLemmas
+mod EachLineLemmas
+mod EachLineLawLemmas

@@ -8,10 +8,10 @@ use Rattle.odb_check.specs.LeastNameFault.{HasGoodNames}
 use Rattle.odb_sched.specs.declared.order.Order.{Order}
 use Rattle.odb_sched.specs.run.Choosing.{AllowsOrder}
 use Rattle.odb_sched.specs.run.State.{State}
-use Rattle.odb_command.specs.declared.form.Form.{Form}
+use Rattle.odb_engine.specs.declared.form.Form.{Form}
 use Rattle.odb_engine.specs.declared.line.LineTask.{LineTask}
 use Rattle.odb_engine.specs.declared.line.LineTask.TheVariants as tasks
-use Rattle.odb_command.specs.Cascade.{AnswersValue, IsOne, Writes, line_of}
+use Rattle.odb_engine.specs.Cascade.{AnswersValue, IsOne, Writes, line_of}
 use Rattle.odb_engine.specs.Commands.{Canonical, CountsIn, PlansIn}
 use Rattle.odb_engine.specs.LineTasks.{AnswersPair, OfLine, OfPair}
 use Rattle.odb_engine.specs.Matches.{MatchesValue}

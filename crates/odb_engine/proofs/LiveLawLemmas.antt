@@ -24,10 +24,10 @@ use Rattle.odb_sched.specs.run.Runs.{IsRunFrom, event_position}
 use Rattle.odb_sched.specs.run.State.{State, after, first_state, size, with_requests, without_requests}
 use Rattle.odb_sched.specs.run.Steps.{is_finished, may_come}
 use Rattle.odb_reply.specs.NotWhole.{HasWholeBodies}
-use Rattle.odb_command.specs.declared.ending.Ended.{Ended}
-use Rattle.odb_command.specs.declared.ending.Ended.TheVariants.{Done}
+use Rattle.odb_engine.specs.declared.ending.Ended.{Ended}
+use Rattle.odb_engine.specs.declared.ending.Ended.TheVariants.{Done}
 use Rattle.odb_doc.specs.Refusals.{Printed}
-use Rattle.odb_command.specs.Cascade.{Accepts, Answers}
+use Rattle.odb_engine.specs.Cascade.{Accepts, Answers}
 use Rattle.odb_text.specs.Lines.{response_line}
 use Rattle.odb_engine.specs.Live.{IsAfter, IsLeastOfState, Opens, RecordsOneMore, Shows, ShowsState}
 use Rattle.odb_engine.specs.Live.IsLeastOfState.{OfBody, OfEnd as AtEnd}
@@ -39,7 +39,7 @@ use Rattle.odb_engine.proofs.RunLemmas.{whole-bodies}
 use Rattle.odb_engine.proofs.SecondLemmas.{one_document}
 use Rattle.odb_engine.proofs.SecondLemmas as second
 use Rattle.odb_sched.proofs.RunLemmas.{requests-after_all, joined, after_all-push}
-use Rattle.odb_command.proofs.MemoryLemmas.{whole-document, one_value}
+use Rattle.odb_engine.proofs.MemoryLemmas.{whole-document, one_value}
 
 -- ---- the bodies of a document of events hold whole numbers alone
 

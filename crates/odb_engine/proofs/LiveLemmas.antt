@@ -24,16 +24,16 @@ use Rattle.odb_sched.specs.run.Runs.{Refuses}
 use Rattle.odb_sched.specs.run.State.{State, first_state}
 use Rattle.odb_sched.specs.run.Steps.{is_finished}
 use Rattle.odb_reply.specs.NotWhole.{IsFirstNotWhole}
-use Rattle.odb_command.specs.declared.ending.Ended.TheVariants.{Refused}
-use Rattle.odb_command.specs.declared.halt.Halt.{Halt}
-use Rattle.odb_command.specs.Cascade.{Accepts, IsLeast, line_of}
-use Rattle.odb_command.specs.Halts.{Found, Halted, RefusesNamesOf}
+use Rattle.odb_engine.specs.declared.ending.Ended.TheVariants.{Refused}
+use Rattle.odb_engine.specs.declared.halt.Halt.{Halt}
+use Rattle.odb_engine.specs.Cascade.{Accepts, IsLeast, line_of}
+use Rattle.odb_engine.specs.Halts.{Found, Halted, RefusesNamesOf}
 use Rattle.odb_text.specs.Lines.{response_line}
 use Rattle.odb_engine.specs.Live.{IsLeastAfter, IsLeastOfState, ShowsState}
 use Rattle.odb_engine.specs.Live.IsLeastAfter.{OfIds, OfEvent}
 use Rattle.odb_engine.specs.Live.IsLeastOfState.{OfBody}
 use Rattle.odb_engine.specs.Runs.{AreEventsIn, AreResolved}
-use Rattle.odb_command.proofs.EngineLemmas.{Halted-weaker, accepted-value, reports}
+use Rattle.odb_engine.proofs.EngineLemmas.{Halted-weaker, accepted-value, reports}
 
 -- an event that names no request
 pub unknown-after : (policy : Policy) (batch : List Record) (bytes : List ℕ) (named : List EventValue) → AreEventsIn bytes named → (cause : ResolveFault) → RefusesNamed cause batch named

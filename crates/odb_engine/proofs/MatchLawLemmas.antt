@@ -13,10 +13,10 @@ use Rattle.odb_reply.specs.MatchFaults as match_faults
 use Rattle.odb_reply.specs.ResponseDocuments.{Entry, IsResponseDocument, RefusesResponses, ReadsAs, responses_in}
 use Rattle.odb_reply.specs.ResponseDocuments as response_documents
 use Rattle.odb_doc.specs.Refusals.{Printed}
-use Rattle.odb_command.specs.Cascade.{line_of, IsOne}
+use Rattle.odb_engine.specs.Cascade.{line_of, IsOne}
 use Rattle.odb_engine.specs.Matches.{MatchesIn, MatchesEntries, MatchesValue, Misfits, match_text}
-use Rattle.odb_command.specs.Inputs.{BySecond}
-use Rattle.odb_command.specs.declared.form.Form.{Form}
+use Rattle.odb_engine.specs.Inputs.{BySecond}
+use Rattle.odb_engine.specs.declared.form.Form.{Form}
 use Rattle.odb_engine.proofs.LawLemmas.{document_one}
 use Rattle.odb_engine.proofs.SecondLemmas.{reading_one, some_document_one}
 

@@ -8,13 +8,13 @@ use Rattle.odb_reply.specs.LeastMatchFault.{RefusesMatch}
 use Rattle.odb_reply.specs.MatchFaults as match_faults
 use Rattle.odb_reply.specs.ResponseDocuments.{Entry, RefusesResponses}
 use Rattle.odb_reply.specs.ResponseDocuments as response_documents
-use Rattle.odb_command.specs.declared.ending.Ended.TheVariants.{Refused}
-use Rattle.odb_command.specs.declared.form.Form.{Form}
-use Rattle.odb_command.specs.declared.halt.Halt.{Halt}
-use Rattle.odb_command.specs.Cascade.{line_of}
-use Rattle.odb_command.specs.Halts.{Refuses, HaltsBy}
+use Rattle.odb_engine.specs.declared.ending.Ended.TheVariants.{Refused}
+use Rattle.odb_engine.specs.declared.form.Form.{Form}
+use Rattle.odb_engine.specs.declared.halt.Halt.{Halt}
+use Rattle.odb_engine.specs.Cascade.{line_of}
+use Rattle.odb_engine.specs.Halts.{Refuses, HaltsBy}
 use Rattle.odb_engine.specs.Matches.{IsFaultOfResponses, Lists, MatchesValue, Misfits}
-use Rattle.odb_command.proofs.EngineLemmas.{reports, halted-by, halt-fault}
+use Rattle.odb_engine.proofs.EngineLemmas.{reports, halted-by, halt-fault}
 
 -- the response document has a fault
 pub halt-responses : (form : Form) (batch : List Record) (value : Data) (fault : ResponseFault) → RefusesResponses fault value → (halt : Halt) → HaltsBy (response_documents.responses_row fault) halt → Refuses (MatchesValue form batch value) halt

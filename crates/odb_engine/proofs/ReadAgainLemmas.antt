@@ -10,8 +10,8 @@ use Rattle.odb_doc.specs.batch.Records.{Record}
 use Rattle.odb_sched.specs.declared.order.Order.{Order}
 use Rattle.odb_sched.specs.declared.policy.Policy.{Policy}
 use Rattle.odb_sched.specs.run.Choosing.{AllowsOrder}
-use Rattle.odb_command.specs.declared.ending.Ended.TheVariants.{Done}
-use Rattle.odb_command.specs.Cascade.{Writes, Accepts, AcceptsValue, Answers, AnswersValue}
+use Rattle.odb_engine.specs.declared.ending.Ended.TheVariants.{Done}
+use Rattle.odb_engine.specs.Cascade.{Writes, Accepts, AcceptsValue, Answers, AnswersValue}
 use Rattle.odb_engine.specs.ReadAgain.{IsReadAgain}
 use Rattle.odb_engine.specs.Replays.{Replays, ReplaysValue}
 use Rattle.odb_engine.specs.Runs.{Runs, RunsValue}

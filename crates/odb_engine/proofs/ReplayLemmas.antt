@@ -27,8 +27,8 @@ use Rattle.odb_doc.specs.Statuses.{is_status, is_success}
 use Rattle.odb_sched.specs.run.Steps.{unit_succeeded}
 use Rattle.odb_reply.specs.NotWhole.{HasWholeBody, HasWholeBodies}
 use Rattle.odb_reply.specs.Readable.{AnswersBy, IsReadable}
-use Rattle.odb_command.specs.declared.ending.Ended.TheVariants.{Refused}
-use Rattle.odb_command.specs.Cascade.{line_of}
+use Rattle.odb_engine.specs.declared.ending.Ended.TheVariants.{Refused}
+use Rattle.odb_engine.specs.Cascade.{line_of}
 use Rattle.odb_engine.specs.Replays.{LacksOutcome, offers_of}
 
 -- what is recorded for an id is in an entry

@@ -23,9 +23,9 @@ use Rattle.odb_sched.specs.run.Resolving.{IsFirstUnknown, IsKnown, IsResolved, R
 use Rattle.odb_sched.specs.run.Runs.{IsRunFrom, RefusesEvent, Refuses, StopsAt, after_all}
 use Rattle.odb_sched.specs.run.State.{State, after, first_state}
 use Rattle.odb_sched.specs.run.Steps.{is_finished, may_come}
-use Rattle.odb_command.specs.declared.ending.Ended.{Ended}
+use Rattle.odb_engine.specs.declared.ending.Ended.{Ended}
 use Rattle.odb_doc.specs.Refusals.{Printed}
-use Rattle.odb_command.specs.Cascade.{line_of, IsOne}
+use Rattle.odb_engine.specs.Cascade.{line_of, IsOne}
 use Rattle.odb_text.specs.Lines.{response_line}
 use Rattle.odb_engine.specs.Runs.{AreResolved, IsLeastOfRun, IsResult, Runs, RunsBatch, RunsEvents, RunsValue, end_of}
 use Rattle.odb_engine.specs.Runs.IsLeastOfRun.{OfIds, OfEvent, OfEnd}

@@ -5,9 +5,9 @@ use Rattle.std.proofs.lemmas.Option.{same_Some}
 use Rattle.std.proofs.Math.Seq.{take-append_seam}
 use Rattle.serde_json.specs.Data.{Data}
 use Rattle.odb_doc.specs.Refusals.{Printed}
-use Rattle.odb_command.specs.Cascade.{Writes, HasFault, HasValue, Reports, line_of, IsOne}
-use Rattle.odb_command.specs.Inputs.{IsDocumentOf, SomeDocument}
-use Rattle.odb_command.proofs.MemoryLemmas.{one_value}
+use Rattle.odb_engine.specs.Cascade.{Writes, HasFault, HasValue, Reports, line_of, IsOne}
+use Rattle.odb_engine.specs.Inputs.{IsDocumentOf, SomeDocument}
+use Rattle.odb_engine.proofs.MemoryLemmas.{one_value}
 
 -- ---- one document of a reader
 

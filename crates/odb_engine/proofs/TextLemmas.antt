@@ -5,12 +5,12 @@ use Rattle.odb_doc.specs.declared.fault.TextFault.TheVariants.{NotWhole, OutOfMe
 use Rattle.odb_doc.specs.canonical.Canonical.{IsFirstNotWhole}
 use Rattle.odb_doc.specs.batch.Records.{Record}
 use Rattle.odb_doc.specs.Faults.{text_row}
-use Rattle.odb_command.specs.declared.ending.Ended.TheVariants.{Refused}
-use Rattle.odb_command.specs.declared.halt.Halt.{Halt}
-use Rattle.odb_command.specs.Cascade.{line_of}
+use Rattle.odb_engine.specs.declared.ending.Ended.TheVariants.{Refused}
+use Rattle.odb_engine.specs.declared.halt.Halt.{Halt}
+use Rattle.odb_engine.specs.Cascade.{line_of}
 use Rattle.odb_engine.specs.Commands.{Canonical, IsNotWhole}
-use Rattle.odb_command.specs.Halts.{Refuses, HaltsBy}
-use Rattle.odb_command.proofs.EngineLemmas.{reports, halted-by}
+use Rattle.odb_engine.specs.Halts.{Refuses, HaltsBy}
+use Rattle.odb_engine.proofs.EngineLemmas.{reports, halted-by}
 
 -- a body holds a number that is not whole
 pub halt-text : (batch : List Record) (fault : TextFault) → ((at : ℕ) → fault ≡ NotWhole at → IsFirstNotWhole batch at)

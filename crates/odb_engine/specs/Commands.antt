@@ -7,9 +7,9 @@ use Rattle.odb_doc.specs.Faults.{text_row}
 use Rattle.odb_check.specs.Units.{groups_of}
 use Rattle.odb_check.specs.Texts.{plan_text, newline}
 use Rattle.odb_doc.specs.Refusals.{Printed}
-use Rattle.odb_command.specs.declared.form.Form.{Form}
-use Rattle.odb_command.specs.declared.form.Form.TheVariants.{Lines, Json}
-use Rattle.odb_command.specs.Cascade.{Writes, Prints, Reports}
+use Rattle.odb_engine.specs.declared.form.Form.{Form}
+use Rattle.odb_engine.specs.declared.form.Form.TheVariants.{Lines, Json}
+use Rattle.odb_engine.specs.Cascade.{Writes, Prints, Reports}
 use Rattle.odb_text.specs.Results.{json_line, counts_value, plan_value}
 use Rattle.odb_text.specs.Drawings.{drawing_text}
 use Rattle.odb_text.specs.Lines.{accepted_line}

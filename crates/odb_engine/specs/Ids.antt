@@ -3,7 +3,7 @@ use Rattle.std.specs.Prelude.{◌≡◌, ℕ, List, Option}
 use Rattle.std.specs.BTreeMap.{get_by_text}
 use Rattle.odb_doc.specs.batch.Records.{Record}
 use Rattle.odb_check.specs.Units.{position_of}
-use Rattle.odb_command.specs.Cascade.{Accepts}
+use Rattle.odb_engine.specs.Cascade.{Accepts}
 use Rattle.odb_engine.specs.declared.ids.Ids.{Ids}
 
 -- the position at an id

@@ -1,4 +1,9 @@
 -- What public clauses cite: it has to be believed.
+pub mod Cascade
+pub mod Inputs
+pub mod Engines
+pub mod Forms
+pub mod Halts
 pub mod Commands
 pub mod ReadAgain
 pub mod Replays
@@ -7,3 +12,4 @@ pub mod Matches
 pub mod LineTasks
 pub mod Ids
 pub mod Live
+pub mod lines

@@ -5,11 +5,11 @@ use Rattle.odb_doc.specs.declared.fault.Place.TheVariants.{Batch}
 use Rattle.odb_doc.specs.batch.Records.{Record}
 use Rattle.odb_doc.specs.Refusals.{Printed}
 use Rattle.odb_sched.specs.run.Choosing.{AllowsOrder}
-use Rattle.odb_command.specs.declared.ending.Ended.{Ended}
-use Rattle.odb_command.specs.declared.form.Form.{Form}
+use Rattle.odb_engine.specs.declared.ending.Ended.{Ended}
+use Rattle.odb_engine.specs.declared.form.Form.{Form}
 use Rattle.odb_engine.specs.declared.line.LineTask.{LineTask}
 use Rattle.odb_engine.specs.declared.line.LineTask.TheVariants as tasks
-use Rattle.odb_command.specs.Cascade.{Writes, Answers, AnswersValue, OfDocument, Reports}
+use Rattle.odb_engine.specs.Cascade.{Writes, Answers, AnswersValue, OfDocument, Reports}
 use Rattle.odb_engine.specs.Commands.{Canonical, CountsIn, PlansIn}
 use Rattle.odb_engine.specs.Matches.{MatchesValue}
 use Rattle.odb_engine.specs.Replays.{ReplaysValue}

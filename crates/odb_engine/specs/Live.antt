@@ -15,7 +15,7 @@ use Rattle.odb_sched.specs.run.Runs.{IsRunFrom, StopsAt}
 use Rattle.odb_sched.specs.run.State.{State, first_state, with_requests, without_requests}
 use Rattle.odb_sched.specs.run.Steps.{is_finished}
 use Rattle.odb_reply.specs.NotWhole.{IsFirstNotWhole}
-use Rattle.odb_command.specs.Cascade.{Writes, Prints, Reports, IsLeast, Accepts}
+use Rattle.odb_engine.specs.Cascade.{Writes, Prints, Reports, IsLeast, Accepts}
 use Rattle.odb_text.specs.Lines.{response_line}
 use Rattle.odb_engine.specs.Runs.{AreEventsIn, AreResolved, IsLeastOfEvents, end_of, unfinished}
 

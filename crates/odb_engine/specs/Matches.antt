@@ -9,11 +9,11 @@ use Rattle.odb_reply.specs.Fits.{Fits, IsTableOf}
 use Rattle.odb_reply.specs.LeastMatchFault.{RefusesMatch}
 use Rattle.odb_reply.specs.MatchFaults.{match_row}
 use Rattle.odb_reply.specs.ResponseDocuments.{Entry, IsResponseDocument, RefusesResponses, ReadsAs, responses_in, responses_row}
-use Rattle.odb_command.specs.declared.ending.Ended.{Ended}
-use Rattle.odb_command.specs.declared.form.Form.{Form}
-use Rattle.odb_command.specs.declared.form.Form.TheVariants.{Lines, Json}
+use Rattle.odb_engine.specs.declared.ending.Ended.{Ended}
+use Rattle.odb_engine.specs.declared.form.Form.{Form}
+use Rattle.odb_engine.specs.declared.form.Form.TheVariants.{Lines, Json}
 use Rattle.odb_doc.specs.Refusals.{Printed}
-use Rattle.odb_command.specs.Cascade.{Writes, Prints, Reports, HasFault, OfDocument}
+use Rattle.odb_engine.specs.Cascade.{Writes, Prints, Reports, HasFault, OfDocument}
 use Rattle.odb_text.specs.Lines.{fit_line, status_lines}
 use Rattle.odb_text.specs.Results.{json_line, match_value}
 

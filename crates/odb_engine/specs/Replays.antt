@@ -17,13 +17,13 @@ use Rattle.odb_exec.specs.Recordings.{recorded_for, OffersRecorded}
 use Rattle.odb_reply.specs.Responses.{response_value}
 use Rattle.odb_reply.specs.OnePerId.{HasOnePerId}
 use Rattle.odb_sched.specs.run.Laws.{StartsAfterDependencies}
-use Rattle.odb_command.specs.declared.ending.Ended.{Ended}
-use Rattle.odb_command.specs.declared.ending.Ended.TheVariants.{Done, Refused}
+use Rattle.odb_engine.specs.declared.ending.Ended.{Ended}
+use Rattle.odb_engine.specs.declared.ending.Ended.TheVariants.{Done, Refused}
 use Rattle.odb_text.specs.Lines.{response_line}
 use Rattle.odb_text.specs.Traces.{trace_part}
 use Rattle.odb_doc.specs.Refusals.{Printed}
-use Rattle.odb_command.specs.Cascade.{Writes, line_of, Reports, HasFault, OfDocument}
-use Rattle.odb_command.specs.Inputs.{BySecond}
+use Rattle.odb_engine.specs.Cascade.{Writes, line_of, Reports, HasFault, OfDocument}
+use Rattle.odb_engine.specs.Inputs.{BySecond}
 use Rattle.odb_engine.specs.ReadAgain.{IsReadAgain}
 
 -- the response as a line, after the trace if one is wanted

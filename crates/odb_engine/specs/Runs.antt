@@ -19,11 +19,11 @@ use Rattle.odb_sched.specs.run.State.{State, first_state}
 use Rattle.odb_sched.specs.run.Steps.{is_finished}
 use Rattle.odb_reply.specs.OnePerId.{HasOnePerId}
 use Rattle.odb_reply.specs.Responses.{response_value}
-use Rattle.odb_command.specs.declared.ending.Ended.{Ended}
-use Rattle.odb_command.specs.declared.ending.Ended.TheVariants.{Done}
+use Rattle.odb_engine.specs.declared.ending.Ended.{Ended}
+use Rattle.odb_engine.specs.declared.ending.Ended.TheVariants.{Done}
 use Rattle.odb_doc.specs.Refusals.{Printed}
-use Rattle.odb_command.specs.Cascade.{Writes, Reports, HasFault, HasValue, IsLeastOf, OfDocument}
-use Rattle.odb_command.specs.Inputs.{BySecond}
+use Rattle.odb_engine.specs.Cascade.{Writes, Reports, HasFault, HasValue, IsLeastOf, OfDocument}
+use Rattle.odb_engine.specs.Inputs.{BySecond}
 use Rattle.odb_engine.specs.ReadAgain.{IsReadAgain}
 use Rattle.odb_text.specs.Lines.{response_line}
 

@@ -1,14 +1,18 @@
 //! The command `check`: whether a batch is accepted.
 
 ghost use Rattle.std.specs.Prelude.{◌≡◌, false, Err, IsTrue};
-ghost use Rattle.odb_command.specs.Inputs.{IsFresh, ReadsFew, SomeDocument};
-ghost use Rattle.odb_command.specs.Cascade.{Answers};
-ghost use Rattle.odb_command.specs.Engines.{Ends};
-ghost use Rattle.odb_command.specs.Forms.{InForm};
+ghost use Rattle.odb_engine.specs.Inputs.{IsFresh, ReadsFew, SomeDocument};
+ghost use Rattle.odb_engine.specs.Cascade.{Answers};
+ghost use Rattle.odb_engine.specs.Engines.{Ends};
+ghost use Rattle.odb_engine.specs.Forms.{InForm};
 ghost use Rattle.odb_engine.specs.Commands as commands;
 
+use crate::command::{Command, answer_batch};
+use crate::ending::{Ended, EngineFault};
+use crate::form::Form;
+use crate::halt::Halt;
+use crate::setup::Setup;
 use odb_check::Plan;
-use odb_command::{Command, Ended, EngineFault, Form, Halt, Setup, answer_batch};
 use odb_doc::Batch;
 use odb_json::{Input, Output};
 use odb_text::{accepted_line, counts_json};

@@ -4,24 +4,28 @@
 ghost use Rattle.std.specs.Prelude.{◌≡◌, ◌≢◌, false, None, Err, IfOk, IfSome};
 ghost use Rattle.serde_json.specs.Data.{Data};
 ghost use Rattle.serde_json.specs.View.{view};
-ghost use Rattle.odb_command.specs.declared.halt.Halt.TheVariants as halts;
-ghost use Rattle.odb_command.specs.Cascade.{Answers, AnswersValue};
-ghost use Rattle.odb_command.specs.Forms.{InForm};
-ghost use Rattle.odb_command.specs.Halts.{Found, Sent};
+ghost use Rattle.odb_engine.specs.declared.halt.Halt.TheVariants as halts;
+ghost use Rattle.odb_engine.specs.Cascade.{Answers, AnswersValue};
+ghost use Rattle.odb_engine.specs.Forms.{InForm};
+ghost use Rattle.odb_engine.specs.Halts.{Found, Sent};
 ghost use Rattle.odb_engine.specs.LineTasks.{IsPair, OfLine, OfPair};
 ghost use Rattle.odb_engine.specs.Replays.{ReplaysValue};
 ghost use Rattle.odb_sched.specs.run.Choosing.{AllowsOrder};
 
+use crate::answer::Answer;
 use crate::canon::Canonical;
 use crate::check::Counts;
+use crate::command::{Command, plan_of, text_in};
+use crate::disposal::DropOrLeak;
+use crate::ending::{Sent, conclude};
+use crate::halt::Halt;
+use crate::input::value_in;
 use crate::match_responses::Match;
+use crate::pair::PairCommand;
 use crate::plan::Plans;
 use crate::replay::Replay;
 use crate::run::Run;
-use odb_command::{
-    Answer, Command, DropOrLeak, Halt, PairCommand, Sent, Setup, conclude, plan_of, text_in,
-    value_in,
-};
+use crate::setup::Setup;
 use odb_doc::{Batch, Place, Refusal};
 use odb_exec::{Chooser, First, Last, Wide};
 use odb_json::Output;

@@ -5,19 +5,23 @@ ghost use Rattle.serde_json.specs.View.{view};
 ghost use Rattle.odb_doc.specs.declared.fault.Place.TheVariants as places;
 ghost use Rattle.odb_check.specs.Plans.{plan_records};
 ghost use Rattle.odb_reply.specs.Fits.{statuses};
-ghost use Rattle.odb_command.specs.declared.halt.Halt.TheVariants as halts;
-ghost use Rattle.odb_command.specs.Cascade.{Answers};
-ghost use Rattle.odb_command.specs.Inputs.{AskedFor, BySecond, IsFresh, ReadsFew, SomeDocument};
-ghost use Rattle.odb_command.specs.Engines.{Ends};
-ghost use Rattle.odb_command.specs.Forms.{InForm};
-ghost use Rattle.odb_command.specs.Halts.{Found};
-ghost use Rattle.odb_command.specs.declared.form.Form.TheVariants.{Lines};
+ghost use Rattle.odb_engine.specs.declared.halt.Halt.TheVariants as halts;
+ghost use Rattle.odb_engine.specs.Cascade.{Answers};
+ghost use Rattle.odb_engine.specs.Inputs.{AskedFor, BySecond, IsFresh, ReadsFew, SomeDocument};
+ghost use Rattle.odb_engine.specs.Engines.{Ends};
+ghost use Rattle.odb_engine.specs.Forms.{InForm};
+ghost use Rattle.odb_engine.specs.Halts.{Found};
+ghost use Rattle.odb_engine.specs.declared.form.Form.TheVariants.{Lines};
 ghost use Rattle.odb_engine.specs.Matches.{Matches, MatchesIn, MatchesValue, match_text};
 
+use crate::disposal::DropOrLeak;
+use crate::ending::{Ended, EngineFault, Sent};
+use crate::form::Form;
+use crate::halt::Halt;
+use crate::output::print;
+use crate::pair::{PairCommand, answer_pair};
+use crate::setup::Setup;
 use odb_check::Plan;
-use odb_command::{
-    DropOrLeak, Ended, EngineFault, Form, Halt, PairCommand, Sent, Setup, answer_pair, print,
-};
 use odb_doc::Place;
 use odb_json::{Input, Output};
 use odb_reply::{Responses, Table, match_responses};

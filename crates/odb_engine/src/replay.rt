@@ -8,19 +8,22 @@ ghost use Rattle.odb_check.specs.Plans.{plan_records};
 ghost use Rattle.odb_sched.specs.run.State.{size};
 ghost use Rattle.odb_sched.specs.run.Choosing.{position_in};
 ghost use Rattle.odb_reply.specs.NotWhole.{HasWholeBodies};
-ghost use Rattle.odb_command.specs.declared.ending.Ended.TheVariants.{Done};
-ghost use Rattle.odb_command.specs.declared.halt.Halt.TheVariants as halts;
-ghost use Rattle.odb_command.specs.Cascade.{Answers};
-ghost use Rattle.odb_command.specs.Engines.{Ends};
-ghost use Rattle.odb_command.specs.Forms.{InForm};
-ghost use Rattle.odb_command.specs.Inputs.{AskedFor, IsFresh, ReadsFew, SomeDocument};
+ghost use Rattle.odb_engine.specs.declared.ending.Ended.TheVariants.{Done};
+ghost use Rattle.odb_engine.specs.declared.halt.Halt.TheVariants as halts;
+ghost use Rattle.odb_engine.specs.Cascade.{Answers};
+ghost use Rattle.odb_engine.specs.Engines.{Ends};
+ghost use Rattle.odb_engine.specs.Forms.{InForm};
+ghost use Rattle.odb_engine.specs.Inputs.{AskedFor, IsFresh, ReadsFew, SomeDocument};
 ghost use Rattle.odb_engine.specs.Replays as replays;
-ghost use Rattle.odb_command.specs.Halts.{Refuses, Halted};
+ghost use Rattle.odb_engine.specs.Halts.{Refuses, Halted};
 
+use crate::disposal::{Disposal, DropOrLeak};
+use crate::ending::{Ended, EngineFault, Sent};
+use crate::halt::Halt;
+use crate::output::send;
+use crate::pair::{PairCommand, answer_pair};
+use crate::setup::Setup;
 use odb_check::Plan;
-use odb_command::{
-    Disposal, DropOrLeak, Ended, EngineFault, Halt, PairCommand, Sent, Setup, answer_pair, send,
-};
 use odb_doc::{Outcomes, Place};
 use odb_exec::{Chooser, Recorded, Trace, execute};
 use odb_json::{Input, Output};

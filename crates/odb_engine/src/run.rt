@@ -6,20 +6,23 @@ ghost use Rattle.odb_doc.specs.declared.fault.Place.TheVariants as places;
 ghost use Rattle.odb_doc.specs.recorded.EventLists.{entries};
 ghost use Rattle.odb_check.specs.Plans.{plan_records};
 ghost use Rattle.odb_reply.specs.NotWhole.{HasWholeBodies};
-ghost use Rattle.odb_command.specs.declared.ending.Ended.TheVariants as ends;
-ghost use Rattle.odb_command.specs.declared.halt.Halt.TheVariants as halts;
-ghost use Rattle.odb_command.specs.Cascade.{Answers};
-ghost use Rattle.odb_command.specs.Engines.{Ends};
-ghost use Rattle.odb_command.specs.Forms.{InForm};
-ghost use Rattle.odb_command.specs.Inputs.{AskedFor, IsFresh, ReadsFew, SomeDocument};
+ghost use Rattle.odb_engine.specs.declared.ending.Ended.TheVariants as ends;
+ghost use Rattle.odb_engine.specs.declared.halt.Halt.TheVariants as halts;
+ghost use Rattle.odb_engine.specs.Cascade.{Answers};
+ghost use Rattle.odb_engine.specs.Engines.{Ends};
+ghost use Rattle.odb_engine.specs.Forms.{InForm};
+ghost use Rattle.odb_engine.specs.Inputs.{AskedFor, IsFresh, ReadsFew, SomeDocument};
 ghost use Rattle.odb_text.specs.Lines.{response_line};
 ghost use Rattle.odb_engine.specs.Runs as runs;
-ghost use Rattle.odb_command.specs.Halts.{Halted};
+ghost use Rattle.odb_engine.specs.Halts.{Halted};
 
+use crate::disposal::{Disposal, DropOrLeak};
+use crate::ending::{Ended, EngineFault, Sent};
+use crate::halt::Halt;
+use crate::output::send;
+use crate::pair::{PairCommand, answer_pair};
+use crate::setup::Setup;
 use odb_check::Plan;
-use odb_command::{
-    Disposal, DropOrLeak, Ended, EngineFault, Halt, PairCommand, Sent, Setup, answer_pair, send,
-};
 use odb_doc::{Events, Place, Refusal};
 use odb_json::{Input, Output};
 use odb_reply::laws::every_response;

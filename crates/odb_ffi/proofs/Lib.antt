@@ -1,1 +1,5 @@
 mod AddressLemmas
+mod AnswerLemmas
+mod OutcomeLemmas
+mod PositionLemmas
+mod ReturnLemmas

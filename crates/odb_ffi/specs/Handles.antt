@@ -1,5 +1,5 @@
 -- A handle whose session changes.
-use Rattle.odb_calls.specs.declared.session.Session.{Session}
+use Rattle.odb_ffi.specs.declared.session.Session.{Session}
 use Rattle.odb_ffi.specs.declared.handle.Handle.{Handle}
 
 -- the handle with another session at its address

@@ -1,4 +1,8 @@
 -- What public clauses cite: it has to be believed.
+pub mod Returns
+pub mod Options
+pub mod Positions
+pub mod Live
 pub mod Handles
 -- What a slot owns.
 pub mod Owned

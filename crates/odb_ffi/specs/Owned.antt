@@ -5,8 +5,8 @@ use Rattle.std.specs.Prelude.{Option, None, Some}
 use Rattle.std.specs.Box.Ownership.{box_owns}
 use Rattle.std.specs.declared.alloc.Global.{Global}
 use Rattle.std.specs.contracts.impls.GlobalAllocator.TheImpl.{ghosts}
-use Rattle.odb_calls.specs.declared.session.Session.{Session}
-use Rattle.odb_calls.specs.contracts.session.Session.{the_row}
+use Rattle.odb_ffi.specs.declared.session.Session.{Session}
+use Rattle.odb_ffi.specs.contracts.session.Session.{the_row}
 
 -- the box of the session at an address, if there is one
 abbrev pub owns_box : Global → Ptr → Option Session → Fml

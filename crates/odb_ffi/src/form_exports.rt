@@ -6,16 +6,18 @@
 
 ghost use Rattle.std.specs.Prelude.{Some};
 ghost use Rattle.odb_sched.specs.run.Choosing.{AllowsOrder};
-ghost use Rattle.odb_command.specs.Inputs.{BySecond};
+ghost use Rattle.odb_engine.specs.Inputs.{BySecond};
 ghost use Rattle.odb_engine.specs.Commands as commands;
 ghost use Rattle.odb_engine.specs.Matches.{MatchesIn};
 ghost use Rattle.odb_engine.specs.Replays.{Replays};
 ghost use Rattle.odb_engine.specs.Runs.{Runs};
-ghost use Rattle.odb_calls.specs.Options as options;
-ghost use Rattle.odb_calls.specs.Returns.{AnswersIn, ReturnsBy, WritesOf};
+ghost use Rattle.odb_ffi.specs.Options as options;
+ghost use Rattle.odb_ffi.specs.Returns.{AnswersIn, ReturnsBy, WritesOf};
 
-use odb_calls::options::{form_of, policy_of, replay_options_of};
-use odb_calls::{Documents, answered, give, matched, ran, replayed, wrong_option};
+use crate::answer::{give, wrong_option};
+use crate::options::{form_of, policy_of, replay_options_of};
+use crate::over_one::answered;
+use crate::over_two::{Documents, matched, ran, replayed};
 use odb_engine::LineTask;
 use std::alloc::Global;
 

@@ -1,7 +1,7 @@
 //! A session as an address without a type, which C may hold.
 
-ghost use Rattle.odb_calls.specs.declared.session.Session.{Session};
-ghost use Rattle.odb_calls.specs.contracts.session.Session as session;
+ghost use Rattle.odb_ffi.specs.declared.session.Session.{Session};
+ghost use Rattle.odb_ffi.specs.contracts.session.Session as session;
 
 use std::alloc::Global;
 use std::marker::Model;
@@ -17,7 +17,7 @@ pub struct Handle {
 impl Model for Handle {
     ghost use Rattle.std.specs.Box.Ownership.{box_owns};
     ghost use Rattle.std.specs.contracts.impls.GlobalAllocator.TheImpl.{ghosts};
-    ghost use Rattle.odb_calls.specs.contracts.session.Session as session;
+    ghost use Rattle.odb_ffi.specs.contracts.session.Session as session;
 
     ghost also_owns = { λ h. box_owns (ghosts.dealloc_token h.alloc) session.the_row h.at h.value };
 }

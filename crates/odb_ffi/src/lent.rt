@@ -3,12 +3,12 @@
 ghost use Rattle.std.specs.Prelude.{◌≡◌};
 ghost use Rattle.std.specs.Borrow.{Lends, sem};
 ghost use Rattle.odb_ffi.specs.contracts.handle.Handle as handle;
-ghost use Rattle.odb_calls.specs.contracts.session.Session as session;
+ghost use Rattle.odb_ffi.specs.contracts.session.Session as session;
 ghost use Rattle.odb_ffi.specs.Handles.{with_session};
 
 use crate::address::Address;
 use crate::handle::Handle;
-use odb_calls::Session;
+use crate::session::Session;
 use std::alloc::Global;
 
 impl Handle {

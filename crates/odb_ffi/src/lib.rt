@@ -1,16 +1,29 @@
-//! The commands for programs in other languages: functions with the calling convention of C.
+//! The commands and live runs for programs in other languages: functions with the calling convention of C.
 //!
 //! A call takes documents as bytes and options as numbers, writes what its command prints to a buffer
 //! of the caller, and returns a status. Each export states this by the relation that the command's
-//! engine states. Nothing is kept between calls, so any number of threads may call at once.
+//! engine states. A call of a command keeps nothing; a live run is a handle that its caller closes.
 //! `include/odb_batch.h` declares the exports for C.
+//!
+//! [`exports`], [`form_exports`] and [`run_exports`] have the exports alone. What they do over slices and
+//! numbers is beside them: `options` and `status` name the numbers, `over_one` and `over_two` call the
+//! engines, `answer` copies a text to the caller's buffer, and a [`session::Session`] is a live run with its
+//! document. What needs a pointer is in `address`, [`handle`], `lent` and [`slot`].
 #![tactic(auto)]
 
 mod address;
+mod answer;
 pub mod exports;
 mod filled;
 pub mod form_exports;
 pub mod handle;
 mod lent;
+pub mod options;
+mod outcome;
+mod over_one;
+mod over_two;
+mod positions;
 pub mod run_exports;
+pub mod session;
 pub mod slot;
+pub mod status;

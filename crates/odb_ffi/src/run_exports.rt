@@ -4,21 +4,22 @@
 
 ghost use Rattle.std.specs.Prelude.{◌≡◌, IfOk, IfErr};
 ghost use Rattle.odb_dense.specs.Lists.{ListsOnce};
-ghost use Rattle.odb_command.specs.Cascade.{Answers};
-ghost use Rattle.odb_command.specs.Halts.{Halted};
+ghost use Rattle.odb_engine.specs.Cascade.{Answers};
+ghost use Rattle.odb_engine.specs.Halts.{Halted};
 ghost use Rattle.odb_engine.specs.Live as engines;
 ghost use Rattle.odb_sched.specs.run.State as state;
 ghost use Rattle.odb_sched.specs.run.Steps as steps;
-ghost use Rattle.odb_calls.specs.Live as live;
-ghost use Rattle.odb_calls.specs.Options as options;
-ghost use Rattle.odb_calls.specs.Positions.{GivesPositions};
-ghost use Rattle.odb_calls.specs.Returns.{Returns};
+ghost use Rattle.odb_ffi.specs.Live as live;
+ghost use Rattle.odb_ffi.specs.Options as options;
+ghost use Rattle.odb_ffi.specs.Positions.{GivesPositions};
+ghost use Rattle.odb_ffi.specs.Returns.{Returns};
 
+use crate::answer::{answer_of, give, wrong_option};
 use crate::handle::Handle;
+use crate::options::policy_of;
+use crate::session::Session;
 use crate::slot::Slot;
-use odb_calls::options::policy_of;
-use odb_calls::status::DONE;
-use odb_calls::{Session, answer_of, give, wrong_option};
+use crate::status::DONE;
 use odb_engine::Halt;
 use odb_sched::Policy;
 use std::alloc::Global;

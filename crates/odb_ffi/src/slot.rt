@@ -2,8 +2,8 @@
 
 ghost use Rattle.std.specs.Prelude.{Option};
 ghost use Rattle.std.specs.Coded.{coded_option};
-ghost use Rattle.odb_calls.specs.declared.session.Session.{Session};
-ghost use Rattle.odb_calls.specs.contracts.session.Session as session;
+ghost use Rattle.odb_ffi.specs.declared.session.Session.{Session};
+ghost use Rattle.odb_ffi.specs.contracts.session.Session as session;
 
 use std::alloc::Global;
 use std::marker::Model;

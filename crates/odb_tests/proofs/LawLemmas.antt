@@ -7,13 +7,13 @@ use Rattle.odb_doc.specs.recorded.Events as named
 use Rattle.odb_check.specs.Laws.{HasPositions}
 use Rattle.odb_check.specs.Positions.{id_at}
 use Rattle.odb_check.specs.Units.{position_of}
-use Rattle.odb_command.specs.declared.ending.Ended.{Ended}
-use Rattle.odb_command.specs.declared.ending.Ended.TheVariants.{Done}
+use Rattle.odb_engine.specs.declared.ending.Ended.{Ended}
+use Rattle.odb_engine.specs.declared.ending.Ended.TheVariants.{Done}
 use Rattle.serde_json.specs.Data.{Data}
-use Rattle.odb_command.specs.Cascade.{Writes, HasValue, IsOne}
-use Rattle.odb_command.specs.Inputs.{IsDocumentOf, SomeDocument}
+use Rattle.odb_engine.specs.Cascade.{Writes, HasValue, IsOne}
+use Rattle.odb_engine.specs.Inputs.{IsDocumentOf, SomeDocument}
 use Rattle.odb_tests.specs.Readings.{IsReading, IsSame}
-use Rattle.odb_command.proofs.MemoryLemmas.{one_value}
+use Rattle.odb_engine.proofs.MemoryLemmas.{one_value}
 
 -- ---- one text
 

@@ -2,9 +2,9 @@
 use Rattle.std.specs.Prelude.{◌≡◌, ◌==◌, ◌++◌, ◌∷◌, [], ℕ, List, length, if◌then◌else◌}
 use Rattle.std.specs.Fmt.{decimal}
 use Rattle.odb_check.specs.Texts.{newline}
-use Rattle.odb_command.specs.declared.ending.Ended.{Ended}
-use Rattle.odb_command.specs.declared.ending.Ended.TheVariants.{Done, Refused}
-use Rattle.odb_command.specs.Cascade.{Writes}
+use Rattle.odb_engine.specs.declared.ending.Ended.{Ended}
+use Rattle.odb_engine.specs.declared.ending.Ended.TheVariants.{Done, Refused}
+use Rattle.odb_engine.specs.Cascade.{Writes}
 
 -- an empty line is refused
 abbrev pub end_of : List ℕ → Ended

@@ -2,7 +2,7 @@
 //! that fail. What the engines print is shown on the built program, in tests/cases/.
 
 ghost use Rattle.std.specs.Prelude.{◌≡◌, false};
-ghost use Rattle.odb_command.specs.Inputs.{IsFresh};
+ghost use Rattle.odb_engine.specs.Inputs.{IsFresh};
 
 pub mod devices;
 mod disposal;

@@ -1,17 +1,17 @@
 //! The lines of an input that comes in pieces, answered by a command that writes how long each is.
 
 ghost use Rattle.std.specs.Prelude.{◌≡◌, IfSome};
-ghost use Rattle.odb_lines.specs.Answers.{AnswersEach, OfAnyLine};
-ghost use Rattle.odb_lines.specs.Lines.{lines_of};
-ghost use Rattle.odb_command.specs.declared.form.Form.TheVariants.{Lines};
+ghost use Rattle.odb_engine.specs.lines.Answers.{AnswersEach, OfAnyLine};
+ghost use Rattle.odb_engine.specs.lines.Lines.{lines_of};
+ghost use Rattle.odb_engine.specs.declared.form.Form.TheVariants.{Lines};
 ghost use Rattle.odb_engine.specs.LineTasks.{OfLine};
 
 use crate::engines::devices::{Narrow, Pace, Slow};
 use odb_engine::laws::one_line;
 use odb_engine::{Ended, EngineFault, LineTask, Setup};
 use odb_json::Output;
-use odb_lines::laws::one_text;
-use odb_lines::{EachLine, LineCommand, LineInput, answer_lines};
+use odb_engine::lines::laws::one_text;
+use odb_engine::{EachLine, LineCommand, LineInput, answer_lines};
 use std::alloc::{AllocError, Global};
 use std::cell::Cell;
 use std::io::{self, Read, Write, repeat};

@@ -3,7 +3,7 @@
 //!
 //! A text is a function of what it shows, a plan, the statuses of a match, the steps of an execution or a
 //! fault, and every call returns it whole, or an `AllocError`. Nothing is read or written here: when which
-//! text is written, `odb_command` and `odb_engine` decide.
+//! text is written, `odb_engine` decides.
 #![tactic(auto)]
 
 mod drawing;

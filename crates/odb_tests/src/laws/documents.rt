@@ -24,7 +24,7 @@ ghost use Rattle.odb_doc.specs.recorded.OutcomeFaults as outcome_faults;
 ghost use Rattle.odb_doc.specs.recorded.OutcomeLists as outcome_lists;
 ghost use Rattle.odb_doc.specs.batch.MediaTypes.{is_in_type};
 ghost use Rattle.odb_doc.specs.recorded.Outcomes.{AreOutcomesOf};
-ghost use Rattle.odb_command.specs.Cascade.{HasValue};
+ghost use Rattle.odb_engine.specs.Cascade.{HasValue};
 ghost use Rattle.odb_tests.specs.Readings.{IsReading, IsSame};
 
 use odb_doc::laws::{every_value, one_batch, one_fault, one_history, one_record, one_text};

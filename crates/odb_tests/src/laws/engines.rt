@@ -4,11 +4,11 @@
 ghost use Rattle.std.specs.Prelude.{◌≡◌, true, false, Some, IfSome};
 ghost use Rattle.odb_sched.specs.run.Choosing.{AllowsOrder};
 ghost use Rattle.odb_sched.specs.declared.order.Order.TheVariants as orders;
-ghost use Rattle.odb_command.specs.declared.ending.Ended.TheVariants.{Done};
-ghost use Rattle.odb_command.specs.Cascade.{Accepts, Answers};
+ghost use Rattle.odb_engine.specs.declared.ending.Ended.TheVariants.{Done};
+ghost use Rattle.odb_engine.specs.Cascade.{Accepts, Answers};
 ghost use Rattle.odb_engine.specs.Commands.{Canonical, Counts, Plans, Drawings};
-ghost use Rattle.odb_command.specs.Inputs.{BySecond, SomeDocument};
-ghost use Rattle.odb_command.specs.declared.form.Form.TheVariants.{Lines};
+ghost use Rattle.odb_engine.specs.Inputs.{BySecond, SomeDocument};
+ghost use Rattle.odb_engine.specs.declared.form.Form.TheVariants.{Lines};
 ghost use Rattle.odb_engine.specs.LineTasks.{OfLine};
 ghost use Rattle.odb_engine.specs.Matches.{Matches};
 ghost use Rattle.odb_engine.specs.ReadAgain.{IsReadAgain};

@@ -1,6 +1,6 @@
 use Rattle.std.proofs.Common.{◌∙◌, Some, sym}
 use Rattle.odb_engine.specs.Commands.{Canonical, CountsIn, PlansIn, Drawings}
-use Rattle.odb_command.specs.Inputs.{BySecond}
+use Rattle.odb_engine.specs.Inputs.{BySecond}
 use Rattle.odb_engine.specs.Matches.{MatchesIn}
 use Rattle.odb_engine.proofs.CanonLawLemmas.{canonical_one}
 use Rattle.odb_engine.proofs.LawLemmas.{AreFunctional, answers_one}

@@ -1,5 +1,5 @@
-use Rattle.odb_command.specs.Cascade.{Answers}
-use Rattle.odb_command.proofs.AnswerLemmas.{answered-in}
+use Rattle.odb_engine.specs.Cascade.{Answers}
+use Rattle.odb_engine.proofs.AnswerLemmas.{answered-in}
 use Rattle.odb_engine.proofs.line.answer.Goals as goal
 
 pub returns : goal.returns

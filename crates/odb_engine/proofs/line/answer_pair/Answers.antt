@@ -1,11 +1,11 @@
 use Rattle.std.proofs.Common.{◌≡◌, ℕ, List, Option, Some, Vec, Global, Err, IfErr, refl, subst}
-use Rattle.odb_command.specs.declared.halt.Halt.TheVariants as halts
-use Rattle.odb_command.specs.Engines.{Ends}
-use Rattle.odb_command.specs.Forms.{InForm}
-use Rattle.odb_command.specs.Halts.{text_found}
+use Rattle.odb_engine.specs.declared.halt.Halt.TheVariants as halts
+use Rattle.odb_engine.specs.Engines.{Ends}
+use Rattle.odb_engine.specs.Forms.{InForm}
+use Rattle.odb_engine.specs.Halts.{text_found}
 use Rattle.odb_engine.specs.LineTasks.{OfPair}
-use Rattle.odb_command.proofs.AnswerLemmas.{text-held}
-use Rattle.odb_command.proofs.PhaseLemmas.{Ends-concluded, Sent-works, read-by-halt}
+use Rattle.odb_engine.proofs.AnswerLemmas.{text-held}
+use Rattle.odb_engine.proofs.PhaseLemmas.{Ends-concluded, Sent-works, read-by-halt}
 use Rattle.odb_engine.proofs.line.answer_pair.Goals as goal
 
 abbrev held : Vec ℕ Global → Option (List ℕ)

@@ -2,11 +2,11 @@
 use Rattle.std.proofs.Common.{inr, refl}
 use Rattle.serde_json.specs.View.{view}
 use Rattle.odb_doc.specs.declared.fault.Place.TheVariants.{Batch}
-use Rattle.odb_command.specs.Cascade.{AnswersValue}
-use Rattle.odb_command.specs.Halts.{Sent}
+use Rattle.odb_engine.specs.Cascade.{AnswersValue}
+use Rattle.odb_engine.specs.Halts.{Sent}
 use Rattle.odb_engine.specs.LineTasks.{AnswersPair, OfPair}
-use Rattle.odb_command.proofs.EngineLemmas.{exit-error, halt-document}
-use Rattle.odb_command.proofs.PhaseLemmas.{Sent-weaker}
+use Rattle.odb_engine.proofs.EngineLemmas.{exit-error, halt-document}
+use Rattle.odb_engine.proofs.PhaseLemmas.{Sent-weaker}
 use Rattle.odb_engine.proofs.line.perform.Goals as goal
 
 pub returns-in_err-value_in-clause-sent : goal.returns-in_err-value_in-clause-sent

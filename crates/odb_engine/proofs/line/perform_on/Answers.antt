@@ -2,10 +2,10 @@
 use Rattle.std.proofs.Common.{inr, refl}
 use Rattle.serde_json.specs.View.{view}
 use Rattle.odb_check.specs.Plans.{plan_records}
-use Rattle.odb_command.specs.Cascade.{AnswersValue}
-use Rattle.odb_command.specs.Halts.{Sent}
-use Rattle.odb_command.proofs.EngineLemmas.{accepted-value, at-exit, exit-error, halt-shape, halt-names}
-use Rattle.odb_command.proofs.PhaseLemmas.{Sent-weaker}
+use Rattle.odb_engine.specs.Cascade.{AnswersValue}
+use Rattle.odb_engine.specs.Halts.{Sent}
+use Rattle.odb_engine.proofs.EngineLemmas.{accepted-value, at-exit, exit-error, halt-shape, halt-names}
+use Rattle.odb_engine.proofs.PhaseLemmas.{Sent-weaker}
 use Rattle.odb_engine.proofs.line.perform_on.Goals as goal
 
 pub returns-in_err-read-clause-sent : goal.returns-in_err-read-clause-sent

@@ -1,8 +1,8 @@
 use Rattle.serde_json.specs.View.{view}
 use Rattle.odb_doc.specs.declared.fault.Place.TheVariants.{Batch}
-use Rattle.odb_command.specs.Cascade.{Answers, AnswersValue}
-use Rattle.odb_command.specs.Halts.{Found}
-use Rattle.odb_command.proofs.EngineLemmas.{exit-error, found-weaker, halt-document, of-value}
+use Rattle.odb_engine.specs.Cascade.{Answers, AnswersValue}
+use Rattle.odb_engine.specs.Halts.{Found}
+use Rattle.odb_engine.proofs.EngineLemmas.{exit-error, found-weaker, halt-document, of-value}
 use Rattle.odb_engine.proofs.line.text_of.Goals as goal
 
 pub returns-in_err-value_in-clause-found : goal.returns-in_err-value_in-clause-found

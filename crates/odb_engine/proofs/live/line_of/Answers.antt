@@ -1,7 +1,7 @@
 use Rattle.std.proofs.Common.{IfErr, Err, ap}
-use Rattle.odb_command.specs.Halts.{Halted}
+use Rattle.odb_engine.specs.Halts.{Halted}
 use Rattle.odb_engine.specs.Live.{IsLeastOfState}
-use Rattle.odb_command.proofs.EngineLemmas.{at-exit, halted-by}
+use Rattle.odb_engine.proofs.EngineLemmas.{at-exit, halted-by}
 use Rattle.odb_engine.proofs.LiveLemmas.{not-whole}
 use Rattle.odb_engine.proofs.live.line_of.Goals as goal
 

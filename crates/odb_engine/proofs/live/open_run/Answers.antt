@@ -4,11 +4,11 @@ use Rattle.std.proofs.lemmas.Result.{IfErr-weaker, IfOk-weaker}
 use Rattle.odb_doc.specs.declared.fault.Place.TheVariants.{Batch}
 use Rattle.odb_doc.specs.batch.Batches.{records}
 use Rattle.odb_check.specs.Plans.{plan_records}
-use Rattle.odb_command.specs.Cascade.{RefusesBytes}
-use Rattle.odb_command.specs.Halts.{Halted, RefusesNamesOf}
+use Rattle.odb_engine.specs.Cascade.{RefusesBytes}
+use Rattle.odb_engine.specs.Halts.{Halted, RefusesNamesOf}
 use Rattle.odb_engine.specs.Ids.{AreIdsIn, AreIdsOf}
 use Rattle.odb_engine.specs.Live.{IsAfter, IsLeastAfter, IsLeastOfOpening, Opens}
-use Rattle.odb_command.proofs.EngineLemmas.{at-exit, exit-error, halted-by, Halted-weaker}
+use Rattle.odb_engine.proofs.EngineLemmas.{at-exit, exit-error, halted-by, Halted-weaker}
 use Rattle.odb_engine.proofs.LiveLemmas.{accepted, least-shape, least-names}
 use Rattle.odb_engine.proofs.live.open_run.Goals as goal
 

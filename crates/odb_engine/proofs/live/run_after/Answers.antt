@@ -3,12 +3,12 @@ use Rattle.std.proofs.Common.{IfErr, inl, inr}
 use Rattle.odb_doc.specs.declared.fault.Place.TheVariants.{Events}
 use Rattle.odb_doc.specs.recorded.EventLists.{entries}
 use Rattle.odb_check.specs.Plans.{plan_records}
-use Rattle.odb_command.specs.Cascade.{RefusesBytes}
-use Rattle.odb_command.specs.Halts.{Halted}
+use Rattle.odb_engine.specs.Cascade.{RefusesBytes}
+use Rattle.odb_engine.specs.Halts.{Halted}
 use Rattle.odb_engine.specs.Live.{IsLeastAfter}
 use Rattle.odb_engine.specs.Live.IsLeastAfter.{OfDocument}
 use Rattle.odb_engine.specs.Runs.{AreEventsIn}
-use Rattle.odb_command.proofs.EngineLemmas.{at-exit, exit-error, halted-by, Halted-weaker}
+use Rattle.odb_engine.proofs.EngineLemmas.{at-exit, exit-error, halted-by, Halted-weaker}
 use Rattle.odb_engine.proofs.LiveLemmas.{unknown-after, barred-after}
 use Rattle.odb_engine.proofs.live.run_after.Goals as goal
 

@@ -1,7 +1,7 @@
 use Rattle.std.proofs.Common.{◌∙◌, inl, refl, sym, subst, ap}
 use Rattle.odb_sched.specs.run.State.{State}
 use Rattle.odb_sched.specs.run.Steps.{is_finished}
-use Rattle.odb_command.specs.Halts.{Found}
+use Rattle.odb_engine.specs.Halts.{Found}
 use Rattle.odb_engine.specs.Live.{ShowsState}
 use Rattle.odb_engine.specs.Live.IsLeastOfState.{OfEnd}
 use Rattle.odb_engine.specs.Runs.{unfinished}

@@ -4,10 +4,10 @@ use Rattle.serde_json.specs.View.{view}
 use Rattle.odb_check.specs.Plans.{plan_records}
 use Rattle.odb_doc.specs.declared.fault.Place.TheVariants.{Batch}
 use Rattle.odb_sched.specs.run.State.{with_requests}
-use Rattle.odb_command.specs.Cascade.{Answers, AnswersValue}
-use Rattle.odb_command.specs.Halts.{Found}
+use Rattle.odb_engine.specs.Cascade.{Answers, AnswersValue}
+use Rattle.odb_engine.specs.Halts.{Found}
 use Rattle.odb_engine.specs.Live.{Shows, ShowsState}
-use Rattle.odb_command.proofs.EngineLemmas.{Refuses-weaker, accepted-value, at-exit, exit-error, found-weaker, halt-document, halt-shape, halt-names, of-value}
+use Rattle.odb_engine.proofs.EngineLemmas.{Refuses-weaker, accepted-value, at-exit, exit-error, found-weaker, halt-document, halt-shape, halt-names, of-value}
 use Rattle.odb_engine.proofs.live.text_of_run.Goals as goal
 
 pub returns-in_err-value-clause-found : goal.returns-in_err-value-clause-found

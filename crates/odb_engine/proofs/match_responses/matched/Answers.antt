@@ -1,9 +1,9 @@
 use Rattle.serde_json.specs.View.{view}
 use Rattle.odb_check.specs.Plans.{plan_records}
 use Rattle.odb_reply.specs.ResponseDocuments.{entries}
-use Rattle.odb_command.specs.Halts.{Found}
+use Rattle.odb_engine.specs.Halts.{Found}
 use Rattle.odb_engine.specs.Matches.{MatchesValue}
-use Rattle.odb_command.proofs.EngineLemmas.{at-exit}
+use Rattle.odb_engine.proofs.EngineLemmas.{at-exit}
 use Rattle.odb_engine.proofs.MatchLemmas.{halt-match, halt-responses}
 use Rattle.odb_engine.proofs.match_responses.matched.Goals as goal
 

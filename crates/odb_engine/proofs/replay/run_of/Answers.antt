@@ -11,11 +11,11 @@ use Rattle.odb_sched.specs.run.State.{first_state}
 use Rattle.odb_reply.specs.Fits.{ListsFit}
 use Rattle.odb_reply.specs.OnePerId.{HasOnePerId}
 use Rattle.odb_reply.specs.Responses.{response_value}
-use Rattle.odb_command.specs.declared.ending.Ended.TheVariants.{Refused}
-use Rattle.odb_command.specs.Cascade.{line_of}
-use Rattle.odb_command.specs.Halts.{Refuses}
+use Rattle.odb_engine.specs.declared.ending.Ended.TheVariants.{Refused}
+use Rattle.odb_engine.specs.Cascade.{line_of}
+use Rattle.odb_engine.specs.Halts.{Refuses}
 use Rattle.odb_engine.specs.Replays.{LacksOutcome}
-use Rattle.odb_command.proofs.EngineLemmas.{at-exit, halted-by}
+use Rattle.odb_engine.proofs.EngineLemmas.{at-exit, halted-by}
 use Rattle.odb_engine.proofs.ReplayLemmas.{readable-answers, whole-bodies, lacks-outcome}
 use Rattle.odb_engine.proofs.replay.run_of.Goals as goal
 

@@ -11,11 +11,11 @@ use Rattle.odb_reply.specs.OnePerId.{HasOnePerId}
 use Rattle.odb_reply.specs.Readable.{AnswersBy, IsReadable}
 use Rattle.odb_reply.specs.ResponseDocuments.{IsResponseDocument}
 use Rattle.odb_reply.specs.Responses.{response_value}
-use Rattle.odb_command.specs.Halts.{Halted}
+use Rattle.odb_engine.specs.Halts.{Halted}
 use Rattle.odb_text.specs.Lines.{response_line}
 use Rattle.odb_engine.specs.Runs.{IsLeastOfRun, end_of}
 use Rattle.odb_engine.specs.Runs.IsLeastOfRun.{OfEnd}
-use Rattle.odb_command.proofs.EngineLemmas.{at-exit, halted-by}
+use Rattle.odb_engine.proofs.EngineLemmas.{at-exit, halted-by}
 use Rattle.odb_engine.proofs.RunLemmas.{unknown-event, barred-event, readable-answers, whole-bodies}
 use Rattle.odb_sched.proofs.RunLemmas.{requests-after_all}
 use Rattle.odb_engine.proofs.run.done_of.Goals as goal

@@ -1,8 +1,8 @@
 use Rattle.std.proofs.Common.{IfErr}
 use Rattle.serde_json.specs.View.{view}
-use Rattle.odb_command.specs.Halts.{Halted}
+use Rattle.odb_engine.specs.Halts.{Halted}
 use Rattle.odb_engine.specs.Runs.{IsFaultOfEvents}
-use Rattle.odb_command.proofs.EngineLemmas.{at-exit, halted-by}
+use Rattle.odb_engine.proofs.EngineLemmas.{at-exit, halted-by}
 use Rattle.odb_engine.proofs.run.events_of.Goals as goal
 
 pub returns-in_err-events-clause-least : goal.returns-in_err-events-clause-least

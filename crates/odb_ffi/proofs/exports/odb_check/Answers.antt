@@ -1,6 +1,6 @@
-use Rattle.odb_command.specs.Cascade.{Answers}
+use Rattle.odb_engine.specs.Cascade.{Answers}
 use Rattle.odb_engine.specs.Commands.{Counts}
-use Rattle.odb_calls.proofs.ReturnLemmas.{returned}
+use Rattle.odb_ffi.proofs.ReturnLemmas.{returned}
 use Rattle.odb_ffi.proofs.exports.odb_check.Goals as goal
 
 pub returns : goal.returns

@@ -1,9 +1,9 @@
 use Rattle.std.proofs.Common.{Some}
-use Rattle.odb_command.specs.Cascade.{Answers}
+use Rattle.odb_engine.specs.Cascade.{Answers}
 use Rattle.odb_engine.specs.Runs.{Runs}
-use Rattle.odb_calls.specs.Returns.{WritesOf}
-use Rattle.odb_calls.specs.Returns.ReturnsBy.{Named}
-use Rattle.odb_calls.proofs.ReturnLemmas.{returned}
+use Rattle.odb_ffi.specs.Returns.{WritesOf}
+use Rattle.odb_ffi.specs.Returns.ReturnsBy.{Named}
+use Rattle.odb_ffi.proofs.ReturnLemmas.{returned}
 use Rattle.odb_ffi.proofs.exports.odb_run.Goals as goal
 
 pub returns-in-Some : goal.returns-in-Some

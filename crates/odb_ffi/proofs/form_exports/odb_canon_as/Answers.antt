@@ -1,7 +1,7 @@
 use Rattle.odb_engine.specs.Commands.{Canonical}
-use Rattle.odb_calls.specs.Returns.{AnswersIn}
-use Rattle.odb_calls.specs.Returns.ReturnsBy.{Named}
-use Rattle.odb_calls.proofs.ReturnLemmas.{returned}
+use Rattle.odb_ffi.specs.Returns.{AnswersIn}
+use Rattle.odb_ffi.specs.Returns.ReturnsBy.{Named}
+use Rattle.odb_ffi.proofs.ReturnLemmas.{returned}
 use Rattle.odb_ffi.proofs.form_exports.odb_canon_as.Goals as goal
 
 pub returns-in-Some : goal.returns-in-Some

@@ -1,9 +1,9 @@
 use Rattle.std.proofs.Common.{Some}
-use Rattle.odb_command.specs.Inputs.{BySecond}
+use Rattle.odb_engine.specs.Inputs.{BySecond}
 use Rattle.odb_engine.specs.Matches.{MatchesIn}
-use Rattle.odb_calls.specs.Returns.{AnswersIn, WritesOf}
-use Rattle.odb_calls.specs.Returns.ReturnsBy.{Named}
-use Rattle.odb_calls.proofs.ReturnLemmas.{returned}
+use Rattle.odb_ffi.specs.Returns.{AnswersIn, WritesOf}
+use Rattle.odb_ffi.specs.Returns.ReturnsBy.{Named}
+use Rattle.odb_ffi.proofs.ReturnLemmas.{returned}
 use Rattle.odb_ffi.proofs.form_exports.odb_match_as.Goals as goal
 
 pub returns-in-Some : goal.returns-in-Some

@@ -1,9 +1,9 @@
 use Rattle.std.proofs.Common.{Some}
 use Rattle.odb_sched.specs.run.Choosing.{AllowsOrder}
 use Rattle.odb_engine.specs.Replays.{Replays}
-use Rattle.odb_calls.specs.Returns.{AnswersIn, WritesOf}
-use Rattle.odb_calls.specs.Returns.ReturnsBy.{Named}
-use Rattle.odb_calls.proofs.ReturnLemmas.{returned}
+use Rattle.odb_ffi.specs.Returns.{AnswersIn, WritesOf}
+use Rattle.odb_ffi.specs.Returns.ReturnsBy.{Named}
+use Rattle.odb_ffi.proofs.ReturnLemmas.{returned}
 use Rattle.odb_ffi.proofs.form_exports.odb_replay_as.Goals as goal
 
 pub returns-in-Some-replay_options_of : goal.returns-in-Some-replay_options_of

@@ -1,8 +1,8 @@
 use Rattle.std.proofs.Common.{Some}
 use Rattle.odb_engine.specs.Runs.{Runs}
-use Rattle.odb_calls.specs.Returns.{AnswersIn, WritesOf}
-use Rattle.odb_calls.specs.Returns.ReturnsBy.{Named}
-use Rattle.odb_calls.proofs.ReturnLemmas.{returned}
+use Rattle.odb_ffi.specs.Returns.{AnswersIn, WritesOf}
+use Rattle.odb_ffi.specs.Returns.ReturnsBy.{Named}
+use Rattle.odb_ffi.proofs.ReturnLemmas.{returned}
 use Rattle.odb_ffi.proofs.form_exports.odb_run_as.Goals as goal
 
 pub returns-in-Some-policy_of : goal.returns-in-Some-policy_of

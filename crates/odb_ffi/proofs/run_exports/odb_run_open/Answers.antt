@@ -1,10 +1,10 @@
 use Rattle.std.proofs.Common.{refl}
-use Rattle.odb_command.specs.Cascade.{Reports}
+use Rattle.odb_engine.specs.Cascade.{Reports}
 use Rattle.odb_engine.specs.Live.{IsLeastOfOpening}
-use Rattle.odb_calls.specs.Live.Opening.{Opened, NotOpened}
-use Rattle.odb_calls.specs.Live.OpeningBy.{Named}
-use Rattle.odb_calls.proofs.AnswerLemmas.{answer-reported}
-use Rattle.odb_calls.proofs.ReturnLemmas.{returned}
+use Rattle.odb_ffi.specs.Live.Opening.{Opened, NotOpened}
+use Rattle.odb_ffi.specs.Live.OpeningBy.{Named}
+use Rattle.odb_ffi.proofs.AnswerLemmas.{answer-reported}
+use Rattle.odb_ffi.proofs.ReturnLemmas.{returned}
 use Rattle.odb_ffi.proofs.run_exports.odb_run_open.Goals as goal
 
 pub returns-in-Ok : goal.returns-in-Ok

@@ -1,12 +1,12 @@
 use Rattle.std.proofs.Common.{subst}
-use Rattle.odb_command.specs.declared.form.Form.{Form}
-use Rattle.odb_command.specs.declared.form.Form.TheVariants.{Lines}
+use Rattle.odb_engine.specs.declared.form.Form.{Form}
+use Rattle.odb_engine.specs.declared.form.Form.TheVariants.{Lines}
 use Rattle.odb_engine.specs.declared.line.LineTask.{LineTask}
-use Rattle.odb_command.specs.Cascade.{Writes, IsOne}
-use Rattle.odb_command.specs.Forms.{InForm}
+use Rattle.odb_engine.specs.Cascade.{Writes, IsOne}
+use Rattle.odb_engine.specs.Forms.{InForm}
 use Rattle.odb_engine.specs.LineTasks.{OfLine}
-use Rattle.odb_lines.specs.Answers.{AnswersEach, OfAnyLine}
-use Rattle.odb_lines.specs.Lines.{lines_of}
+use Rattle.odb_engine.specs.lines.Answers.{AnswersEach, OfAnyLine}
+use Rattle.odb_engine.specs.lines.Lines.{lines_of}
 use Rattle.odb_tests.proofs.LawLemmas.{one_of}
 use Rattle.odb_tests.proofs.lines.written_twice.Goals as goal
 

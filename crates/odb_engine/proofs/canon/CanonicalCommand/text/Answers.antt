@@ -1,8 +1,8 @@
 use Rattle.std.proofs.Common.{Err, ap, subst, rules}
 use Rattle.odb_doc.specs.batch.Batches.{records}
 use Rattle.odb_engine.specs.Commands.{Canonical}
-use Rattle.odb_command.specs.Halts.{Found}
-use Rattle.odb_command.proofs.EngineLemmas.{at-exit}
+use Rattle.odb_engine.specs.Halts.{Found}
+use Rattle.odb_engine.proofs.EngineLemmas.{at-exit}
 use Rattle.odb_engine.proofs.TextLemmas.{halt-text}
 use Rattle.odb_engine.proofs.canon.CanonicalCommand.text.Goals as goal
 

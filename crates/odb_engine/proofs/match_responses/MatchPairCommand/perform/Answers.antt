@@ -1,11 +1,11 @@
 use Rattle.std.proofs.Common.{subst, sym}
 use Rattle.serde_json.specs.View.{view}
 use Rattle.odb_check.specs.Plans.{plan_records}
-use Rattle.odb_command.specs.declared.ending.Ended.TheVariants.{Done}
-use Rattle.odb_command.specs.Cascade.{Prints}
-use Rattle.odb_command.specs.Forms.{InForm}
+use Rattle.odb_engine.specs.declared.ending.Ended.TheVariants.{Done}
+use Rattle.odb_engine.specs.Cascade.{Prints}
+use Rattle.odb_engine.specs.Forms.{InForm}
 use Rattle.odb_engine.specs.Matches.{MatchesValue}
-use Rattle.odb_command.proofs.EngineLemmas.{Ends-weaker, done_in, printed}
+use Rattle.odb_engine.proofs.EngineLemmas.{Ends-weaker, done_in, printed}
 use Rattle.odb_engine.proofs.match_responses.MatchPairCommand.perform.Goals as goal
 
 pub returns-clause-sent : goal.returns-clause-sent

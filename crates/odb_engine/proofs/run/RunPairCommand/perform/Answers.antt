@@ -2,13 +2,13 @@ use Rattle.std.proofs.Common.{refl, inl, inr}
 use Rattle.serde_json.specs.View.{view}
 use Rattle.odb_doc.specs.recorded.EventLists.{entries}
 use Rattle.odb_check.specs.Plans.{plan_records}
-use Rattle.odb_command.specs.declared.ending.Ended.TheVariants.{Refused}
-use Rattle.odb_command.specs.Cascade.{Prints, line_of}
-use Rattle.odb_command.specs.Forms.{InForm}
-use Rattle.odb_command.specs.Halts.{Sent}
+use Rattle.odb_engine.specs.declared.ending.Ended.TheVariants.{Refused}
+use Rattle.odb_engine.specs.Cascade.{Prints, line_of}
+use Rattle.odb_engine.specs.Forms.{InForm}
+use Rattle.odb_engine.specs.Halts.{Sent}
 use Rattle.odb_text.specs.Lines.{response_line}
 use Rattle.odb_engine.specs.Runs.{IsFaultOfEvents, IsLeastOfRun, RunsValue}
-use Rattle.odb_command.proofs.EngineLemmas.{exit-error, Ends-weaker, Halted-weaker, done_in, printed, reports}
+use Rattle.odb_engine.proofs.EngineLemmas.{exit-error, Ends-weaker, Halted-weaker, done_in, printed, reports}
 use Rattle.odb_engine.proofs.run.RunPairCommand.perform.Goals as goal
 
 pub returns-in_err-events-clause-sent : goal.returns-in_err-events-clause-sent

@@ -26,13 +26,13 @@ use Rattle.std.proofs.raw_atomic.Walks.{proved}
 use Rattle.std.proofs.VecSteps.Shapes.{after}
 use Rattle.std.specs.contracts.alloc.Global as global
 use Rattle.std.proofs.alloc.Global.TheLaws as global_laws
-use Rattle.odb_calls.specs.declared.session.Session.{Session}
+use Rattle.odb_ffi.specs.declared.session.Session.{Session}
 use Rattle.odb_ffi.specs.declared.handle.Handle.{Handle}
 use Rattle.odb_ffi.specs.Handles.{with_session}
 use Rattle.odb_ffi.proofs.AddressLemmas.{word, apart, together}
 use Rattle.std.specs.contracts.impls.GlobalAllocator.TheImpl.{ghosts}
 use Rattle.odb_ffi.specs.contracts.handle.Handle as handle
-use Rattle.odb_calls.specs.contracts.session.Session as session
+use Rattle.odb_ffi.specs.contracts.session.Session as session
 use Rattle.odb_ffi.specs.contracts.handle.Handle.session.{ended, clauses}
 use Rattle.odb_ffi.specs.contracts.handle.Handle.session.Key.{name as #self}
 use Rattle.odb_ffi.proofs.handle.Handle.session.Statement.{statement}

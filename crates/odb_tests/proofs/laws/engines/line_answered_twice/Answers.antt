@@ -1,4 +1,4 @@
-use Rattle.odb_command.specs.declared.form.Form.TheVariants.{Lines}
+use Rattle.odb_engine.specs.declared.form.Form.TheVariants.{Lines}
 use Rattle.odb_engine.specs.LineTasks.{OfLine}
 use Rattle.odb_tests.proofs.LawLemmas.{one_of}
 use Rattle.odb_tests.proofs.laws.engines.line_answered_twice.Goals as goal

@@ -1,4 +1,4 @@
-use Rattle.odb_command.specs.Cascade.{Answers}
+use Rattle.odb_engine.specs.Cascade.{Answers}
 use Rattle.odb_engine.specs.Commands.{Canonical}
 use Rattle.odb_tests.proofs.LawLemmas.{one_written}
 use Rattle.odb_tests.proofs.laws.engines.made_canonical_twice.Goals as goal

@@ -1,7 +1,7 @@
 use Rattle.std.proofs.Common.{Some}
-use Rattle.odb_command.specs.declared.form.Form.TheVariants as forms
-use Rattle.odb_command.specs.Cascade.{Answers}
-use Rattle.odb_command.specs.Inputs.{BySecond}
+use Rattle.odb_engine.specs.declared.form.Form.TheVariants as forms
+use Rattle.odb_engine.specs.Cascade.{Answers}
+use Rattle.odb_engine.specs.Inputs.{BySecond}
 use Rattle.odb_engine.specs.Matches.{Matches}
 use Rattle.odb_tests.proofs.LawLemmas.{one_written}
 use Rattle.odb_tests.proofs.laws.engines.matched_twice.Goals as goal

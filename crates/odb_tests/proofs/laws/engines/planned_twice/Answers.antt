@@ -1,5 +1,5 @@
-use Rattle.odb_command.specs.declared.form.Form.TheVariants as forms
-use Rattle.odb_command.specs.Cascade.{Answers}
+use Rattle.odb_engine.specs.declared.form.Form.TheVariants as forms
+use Rattle.odb_engine.specs.Cascade.{Answers}
 use Rattle.odb_engine.specs.Commands.{Plans}
 use Rattle.odb_tests.proofs.LawLemmas.{one_written}
 use Rattle.odb_tests.proofs.laws.engines.planned_twice.Goals as goal

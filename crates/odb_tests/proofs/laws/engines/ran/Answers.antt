@@ -1,8 +1,8 @@
 use Rattle.std.proofs.Common.{ℕ, List, Some, Bor, subst}
 use Rattle.odb_json.specs.Devices.{Reading}
-use Rattle.odb_command.specs.Cascade.{Answers}
+use Rattle.odb_engine.specs.Cascade.{Answers}
 use Rattle.odb_engine.specs.Runs.{Runs}
-use Rattle.odb_command.proofs.MemoryLemmas.{document-of, text-in}
+use Rattle.odb_engine.proofs.MemoryLemmas.{document-of, text-in}
 use Rattle.odb_tests.proofs.laws.engines.ran.Goals as goal
 
 pub returns-in-Ok : goal.returns-in-Ok

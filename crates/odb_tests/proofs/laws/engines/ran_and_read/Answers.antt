@@ -1,5 +1,5 @@
 use Rattle.std.proofs.Common.{Some}
-use Rattle.odb_command.specs.Cascade.{Accepts, Answers}
+use Rattle.odb_engine.specs.Cascade.{Accepts, Answers}
 use Rattle.odb_engine.specs.ReadAgain.{IsReadAgain}
 use Rattle.odb_engine.specs.Runs.{Runs}
 use Rattle.odb_tests.proofs.LawLemmas.{done_written}

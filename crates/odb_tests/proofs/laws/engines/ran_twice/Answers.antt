@@ -1,5 +1,5 @@
 use Rattle.std.proofs.Common.{Some}
-use Rattle.odb_command.specs.Cascade.{Answers}
+use Rattle.odb_engine.specs.Cascade.{Answers}
 use Rattle.odb_engine.specs.Runs.{Runs}
 use Rattle.odb_tests.proofs.LawLemmas.{one_written}
 use Rattle.odb_tests.proofs.laws.engines.ran_twice.Goals as goal

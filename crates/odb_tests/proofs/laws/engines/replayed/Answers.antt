@@ -2,9 +2,9 @@ use Rattle.std.proofs.Common.{ℕ, List, Some, Bor, subst}
 use Rattle.odb_json.specs.Devices.{Reading}
 use Rattle.odb_sched.specs.declared.order.Order.TheVariants as orders
 use Rattle.odb_sched.specs.run.Choosing.{AllowsOrder}
-use Rattle.odb_command.specs.Cascade.{Answers}
+use Rattle.odb_engine.specs.Cascade.{Answers}
 use Rattle.odb_engine.specs.Replays.{Replays}
-use Rattle.odb_command.proofs.MemoryLemmas.{document-of, text-in}
+use Rattle.odb_engine.proofs.MemoryLemmas.{document-of, text-in}
 use Rattle.odb_tests.proofs.laws.engines.replayed.Goals as goal
 
 pub returns-in-Ok : goal.returns-in-Ok

@@ -1,7 +1,7 @@
 use Rattle.std.proofs.Common.{false, Some}
 use Rattle.odb_sched.specs.run.Choosing.{AllowsOrder}
 use Rattle.odb_sched.specs.declared.order.Order.TheVariants as orders
-use Rattle.odb_command.specs.Cascade.{Accepts, Answers}
+use Rattle.odb_engine.specs.Cascade.{Accepts, Answers}
 use Rattle.odb_engine.specs.ReadAgain.{IsReadAgain}
 use Rattle.odb_engine.specs.Replays.{Replays}
 use Rattle.odb_tests.proofs.LawLemmas.{done_written}

@@ -1,7 +1,7 @@
 use Rattle.std.proofs.Common.{true, Some}
 use Rattle.odb_sched.specs.run.Choosing.{AllowsOrder}
 use Rattle.odb_sched.specs.declared.order.Order.TheVariants as orders
-use Rattle.odb_command.specs.Cascade.{Answers}
+use Rattle.odb_engine.specs.Cascade.{Answers}
 use Rattle.odb_engine.specs.Replays.{Replays}
 use Rattle.odb_tests.proofs.LawLemmas.{one_written}
 use Rattle.odb_tests.proofs.laws.engines.replayed_twice.Goals as goal

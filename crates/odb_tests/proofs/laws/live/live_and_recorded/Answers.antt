@@ -1,8 +1,8 @@
 use Rattle.std.proofs.Common.{Some, string_bytes, subst, sym}
-use Rattle.odb_command.specs.declared.ending.Ended.TheVariants.{Done}
-use Rattle.odb_command.specs.Cascade.{Answers}
+use Rattle.odb_engine.specs.declared.ending.Ended.TheVariants.{Done}
+use Rattle.odb_engine.specs.Cascade.{Answers}
 use Rattle.odb_engine.specs.Runs.{Runs}
-use Rattle.odb_command.proofs.MemoryLemmas.{whole-document}
+use Rattle.odb_engine.proofs.MemoryLemmas.{whole-document}
 use Rattle.odb_tests.proofs.laws.live.live_and_recorded.Goals as goal
 
 pub returns : goal.returns

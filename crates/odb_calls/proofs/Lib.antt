@@ -1,4 +1,0 @@
-pub mod AnswerLemmas
-mod OutcomeLemmas
-mod PositionLemmas
-pub mod ReturnLemmas

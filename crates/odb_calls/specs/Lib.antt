@@ -1,5 +1,0 @@
--- What public clauses cite: it has to be believed.
-pub mod Returns
-pub mod Options
-pub mod Positions
-pub mod Live

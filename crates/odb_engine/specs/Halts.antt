@@ -1,0 +1,67 @@
+-- Why an engine halts before it writes, and what it writes of what it found.
+use Rattle.std.specs.Prelude.{◌≡◌, ◌≢◌, ◌↔◌, List, ℕ, Option, Some, None, Result, Ok, Err, IsTrue, OnOk, OnErr, String, string_bytes}
+use Rattle.std.specs.declared.alloc.Global.{Global}
+use Rattle.std.specs.Io.KnownBytes.{Appends}
+use Rattle.odb_json.specs.Devices.{AppendsPrefix, Writing}
+use Rattle.odb_doc.specs.batch.Records.{Record}
+use Rattle.odb_check.specs.declared.fault.CheckFault.{CheckFault}
+use Rattle.odb_check.specs.FaultTable.{check_row}
+use Rattle.odb_check.specs.LeastNameFault.{RefusesNames}
+use Rattle.odb_engine.specs.declared.ending.Ended.{Ended}
+use Rattle.odb_engine.specs.declared.ending.Ended.TheVariants.{Done, Refused}
+use Rattle.odb_engine.specs.declared.ending.EngineFault.{EngineFault}
+use Rattle.odb_engine.specs.declared.ending.EngineFault.TheVariants as faults
+use Rattle.odb_engine.specs.declared.halt.Halt.{Halt}
+use Rattle.odb_engine.specs.declared.halt.Halt.TheVariants as halts
+use Rattle.odb_engine.specs.declared.form.Form.{Form}
+use Rattle.odb_doc.specs.Refusals.{Printed}
+use Rattle.odb_doc.specs.Refusals as refusals
+use Rattle.odb_engine.specs.Cascade.{Writes, Prints, line_of}
+use Rattle.odb_engine.specs.Engines.{Ends}
+use Rattle.odb_engine.specs.Forms.{InForm, fault_text}
+
+-- a halt by a fault is one by such a fault
+abbrev pub Halted : (Printed → Type 0) → Halt → Type 0
+Halted Is (halts.Refused refusal) = Is (refusals.printed refusal)
+Halted Is halts.Read = Unit {0}
+Halted Is halts.OutOfMemory = Unit {0}
+
+-- a halt by a fault is one whose line may be written
+abbrev pub Refuses : Writes → Halt → Type 0
+Refuses P halt = Halted (λ refusal. P Refused (line_of refusal)) halt
+
+-- what was found may be written this way
+abbrev pub Found : Writes → Result (String Global) Halt → Type 0
+Found P (Ok text) = P Done (string_bytes text)
+Found P (Err halt) = Refuses P halt
+
+-- what a phase of an engine that writes its result itself returns: how it ended, or why nothing was written
+abbrev pub Sent : {W : Type 0} → (W → Option (List ℕ)) → Form → Writes → Type 0 → Writing W → Writing W → Result (Result Ended EngineFault) Halt → Type 0
+Sent contents form P ReadFailed old new (Ok result) = Ends contents (InForm form P) ReadFailed old new result
+Sent contents form P ReadFailed old new (Err halt) = (new ≡ old) × Refuses P halt
+
+-- The writer has received the text, or a prefix of it. Write means exactly that the output failed, and no input did.
+pub record Sends {W : Type 0} (contents : W → Option (List ℕ)) (text : List ℕ) (old new : Writing W) (result : Result (Unit {0}) EngineFault) : Type 0 where
+  pub whole : OnOk result (Appends (contents old.writer) (contents new.writer) text)
+  pub part : OnErr result (AppendsPrefix (contents old.writer) (contents new.writer) text)
+  pub write : (result ≡ Err faults.Write) ↔ IsTrue new.failed
+  pub unread : result ≢ Err faults.Read
+
+-- what is written of what was found
+abbrev pub text_found : Form → Result (String Global) Halt → Writes
+text_found form (Ok found) ended text = Prints (string_bytes found) ended text
+text_found form (Err (halts.Refused refusal)) ended text = (ended ≡ Refused) × (text ≡ fault_text form (refusals.printed refusal))
+text_found form (Err halts.Read) ended text = ⊥
+text_found form (Err halts.OutOfMemory) ended text = ⊥
+
+-- the halt of a fault with this row: it is refused if it has one, and else out of memory
+abbrev pub HaltsBy : Option Printed → Halt → Type 0
+HaltsBy row (halts.Refused refusal) = row ≡ Some (refusals.printed refusal)
+HaltsBy row halts.Read = ⊥
+HaltsBy row halts.OutOfMemory = row ≡ None
+
+-- the names of these requests have a fault
+pub record RefusesNamesOf (batch : List Record) (refusal : Printed) : Type 0 where
+  pub fault : CheckFault
+  pub refuses : RefusesNames fault batch
+  pub is : check_row fault ≡ Some refusal

@@ -1,0 +1,32 @@
+-- For private clauses: one step of the way through the lines.
+use Rattle.std.specs.Prelude.{◌≡◌, ◌≢◌, ℕ, List, [], ◌∷◌, ◌++◌, All, Option, Result, Ok, Err, OnOk, take}
+use Rattle.std.specs.Io.KnownBytes.{Consumes}
+use Rattle.odb_check.specs.Texts.{newline}
+use Rattle.odb_json.specs.Devices.{Writing}
+use Rattle.odb_engine.specs.declared.ending.Ended.{Ended}
+use Rattle.odb_engine.specs.declared.ending.Ended.TheVariants.{Done}
+use Rattle.odb_engine.specs.declared.ending.EngineFault.{EngineFault}
+use Rattle.odb_engine.specs.declared.ending.EngineFault.TheVariants as faults
+use Rattle.odb_engine.specs.Cascade.{Writes}
+use Rattle.odb_engine.specs.Engines.{Ends}
+use Rattle.odb_engine.specs.Inputs.{most_read}
+
+-- no newline is in it
+abbrev pub IsOpen : List ℕ → Type 0
+IsOpen bytes = All (λ byte. byte ≢ newline) bytes
+
+-- the part of a line that is kept
+abbrev pub cut : List ℕ → List ℕ
+cut line = take most_read line
+
+-- a command over a line ends as this is written, and out of memory it has written nothing
+pub record EndsAnswer {W : Type 0} (contents : W → Option (List ℕ)) (P : Writes) (old new : Writing W) (result : Result Ended EngineFault) : Type 0 where
+  pub ends : Ends contents P ⊥ old new result
+  pub memory : result ≡ Err faults.OutOfMemory → new ≡ old
+
+-- What is held of a line and a piece of the input: the piece is held too, or its newline ends the line, which is answered.
+pub data Advances {W : Type 0} (contents : W → Option (List ℕ)) (P : List ℕ → Writes) (left rest : Option (List ℕ)) (held kept : List ℕ) (old new : Writing W) (result : Result Ended EngineFault) : Type 0 where
+  Holds : (piece : List ℕ) → IsOpen piece → Consumes left rest piece → new ≡ old → kept ≡ cut (held ++ piece) → result ≡ Ok Done → Advances contents P left rest held kept old new result
+  Lacks : (piece : List ℕ) → IsOpen piece → Consumes left rest piece → new ≡ old → result ≡ Err faults.OutOfMemory → Advances contents P left rest held kept old new result
+  Answers : (piece : List ℕ) → IsOpen piece → Consumes left rest (piece ++ newline ∷ []) → EndsAnswer contents (P (cut (held ++ piece))) old new result → OnOk result (kept ≡ [])
+      → Advances contents P left rest held kept old new result

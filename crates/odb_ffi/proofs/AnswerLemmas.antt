@@ -1,0 +1,35 @@
+-- What is given to the caller is what an engine has found.
+use Rattle.std.proofs.Common.{ℕ, List, Option, Some, None, IfSome, Result, Ok, Err, String, sym, subst}
+use Rattle.std.specs.declared.alloc.Global.{Global}
+use Rattle.odb_doc.specs.Refusals.{Printed, printed}
+use Rattle.odb_engine.specs.declared.ending.Ended.{Ended}
+use Rattle.odb_engine.specs.declared.ending.Ended.TheVariants.{Done, Refused}
+use Rattle.odb_engine.specs.declared.halt.Halt.{Halt}
+use Rattle.odb_engine.specs.declared.form.Form.TheVariants as forms
+use Rattle.odb_engine.specs.declared.halt.Halt.TheVariants as halts
+use Rattle.odb_engine.specs.Cascade.{Reports, Writes}
+use Rattle.odb_engine.specs.Halts.{Found, Halted, text_found}
+use Rattle.odb_engine.specs.declared.answer.Answer.{Answer}
+
+written : (P : Writes) (found : Result (String Global) Halt) (ended : Ended) (text : List ℕ) → Found P found → text_found forms.Lines found ended text → P ended text
+written P (Ok line) ended text so (ends, same) = subst (λ e. P e text) (sym ends) (subst (P Done) (sym same) so)
+written P (Err (halts.Refused refusal)) ended text so (ends, same) = subst (λ e. P e text) (sym ends) (subst (P Refused) (sym same) so)
+written P (Err halts.Read) ended text so none = absurd none
+written P (Err halts.OutOfMemory) ended text so none = absurd none
+
+reported : (Is : Printed → Type 0) (halt : Halt) (ended : Ended) (text : List ℕ) → Halted Is halt → text_found forms.Lines (Err halt) ended text → Reports Is ended text
+reported Is (halts.Refused refusal) ended text is (ends, line) = record { refusal = printed refusal; is = is; ends = ends; line = line }
+reported Is halts.Read ended text is none = absurd none
+reported Is halts.OutOfMemory ended text is none = absurd none
+
+-- what is written of what was found
+pub answer-written : (P : Writes) (found : Result (String Global) Halt) (answer : Option Answer) → Found P found → IfSome answer (λ a. text_found forms.Lines found a.ended a.text.items)
+    → IfSome answer (λ a. P a.ended a.text.items)
+answer-written P found None so is = tt
+answer-written P found (Some a) so is = written P found a.ended a.text.items so is
+
+-- the line of a fault
+pub answer-reported : (Is : Printed → Type 0) (halt : Halt) (answer : Option Answer) → Halted Is halt → IfSome answer (λ a. text_found forms.Lines (Err halt) a.ended a.text.items)
+    → IfSome answer (λ a. Reports Is a.ended a.text.items)
+answer-reported Is halt None is so = tt
+answer-reported Is halt (Some a) is so = reported Is halt a.ended a.text.items is so

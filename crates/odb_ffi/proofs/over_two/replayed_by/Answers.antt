@@ -1,0 +1,19 @@
+use Rattle.std.proofs.Common.{ℕ, List, Some, Bor, subst}
+use Rattle.odb_json.specs.Devices.{Reading}
+use Rattle.odb_engine.specs.Replays.{Replays}
+use Rattle.odb_ffi.specs.Returns.{AnswersIn}
+use Rattle.odb_engine.proofs.MemoryLemmas.{document-of, text-in}
+use Rattle.odb_ffi.proofs.over_two.replayed_by.Goals as goal
+
+pub returns-in-Ok : goal.returns-in-Ok
+returns-in-Ok g c =
+    let allows = (goal.Chooser-dyn g c.args.chooser.now).allows c.args.chooser.now.1 in
+    let replay = c.args.replay in
+    let form = c.args.setup.form in
+    let e = c.in-Ok.ensures.ends in
+    let Is : Reading (Bor (List ℕ)) → List ℕ → Type 0 = λ r. AnswersIn form (Replays allows replay.policy replay.traced (Some r.reader.now)) e.0 c.in-Ok.ended in (
+      e.0,
+      document-of c.args.documents.batch c.new-2.result e.0 c.new-2.ensures e.1,
+      subst (λ (r : Reading (Bor (List ℕ))). Is r c.into_inner.result.items) c.new-3.ensures
+          (text-in (Is c.new-3.result) c.new.result c.into_inner.result c.new-output.result c.replay_batch_with.new.output c.new.ensures.items c.new-output.ensures c.into_inner.ensures e.2.0.ended),
+    )

@@ -1,0 +1,77 @@
+-- The options of a call from C, by their numbers.
+use Rattle.std.specs.Prelude.{◌≡◌, ◌<◌, ◌≤◌, ◌⊎◌, ℕ, Bool, true, false}
+use Rattle.odb_sched.specs.declared.order.Order.{Order}
+use Rattle.odb_sched.specs.declared.order.Order.TheVariants.{First, Last, Wide}
+use Rattle.odb_sched.specs.declared.policy.Mode.{Mode}
+use Rattle.odb_sched.specs.declared.policy.Mode.TheVariants.{Continue, Stop}
+use Rattle.odb_sched.specs.declared.policy.Policy.{Policy}
+use Rattle.odb_engine.specs.declared.form.Form.{Form}
+use Rattle.odb_engine.specs.declared.form.Form.TheVariants.{Lines, Json}
+use Rattle.odb_ffi.specs.declared.options.ReplayOptions.{ReplayOptions}
+
+abbrev pub mode_number : Mode → ℕ
+mode_number Continue = 0
+mode_number Stop = 1
+
+abbrev pub order_number : Order → ℕ
+order_number First = 0
+order_number Last = 1
+order_number Wide = 2
+
+abbrev pub flag_number : Bool → ℕ
+flag_number false = 0
+flag_number true = 1
+
+abbrev pub form_number : Form → ℕ
+form_number Lines = 0
+form_number Json = 1
+
+-- the number names the form
+abbrev pub IsForm : ℕ → Form → Type 0
+IsForm number form = number ≡ form_number form
+
+-- the number names no form
+abbrev pub NamesNoForm : ℕ → Type 0
+NamesNoForm number = 1 < number
+
+-- these numbers name the policy
+pub record IsPolicy (mode width : ℕ) (policy : Policy) : Type 0 where
+  pub of_mode : mode ≡ mode_number policy.mode
+  pub of_width : width ≡ policy.width
+  pub most : width ≤ 10000
+
+-- these numbers name no policy
+abbrev pub NamesNoPolicy : ℕ → ℕ → Type 0
+NamesNoPolicy mode width = (1 < mode) ⊎ ((width ≡ 0) ⊎ (10000 < width))
+
+abbrev pub NamesNoOrder : ℕ → Type 0
+NamesNoOrder order = 2 < order
+
+abbrev pub NamesNoFlag : ℕ → Type 0
+NamesNoFlag flag = 1 < flag
+
+-- these numbers name the options of a replay
+pub record IsReplay (mode width order trace : ℕ) (replay : ReplayOptions) : Type 0 where
+  pub of_policy : IsPolicy mode width replay.policy
+  pub of_order : order ≡ order_number replay.order
+  pub of_trace : trace ≡ flag_number replay.traced
+
+-- one of these numbers names no option of a replay
+abbrev pub NamesNoReplay : ℕ → ℕ → ℕ → ℕ → Type 0
+NamesNoReplay mode width order trace = NamesNoPolicy mode width ⊎ (NamesNoOrder order ⊎ NamesNoFlag trace)
+
+-- these numbers name the policy and the form
+abbrev pub IsRunIn : ℕ → ℕ → ℕ → Policy × Form → Type 0
+IsRunIn mode width form run = IsPolicy mode width run.0 × IsForm form run.1
+
+-- one of these numbers names no policy, or no form
+abbrev pub NamesNoRunIn : ℕ → ℕ → ℕ → Type 0
+NamesNoRunIn mode width form = NamesNoPolicy mode width ⊎ NamesNoForm form
+
+-- these numbers name the options of a replay and the form
+abbrev pub IsReplayIn : ℕ → ℕ → ℕ → ℕ → ℕ → ReplayOptions × Form → Type 0
+IsReplayIn mode width order trace form replay = IsReplay mode width order trace replay.0 × IsForm form replay.1
+
+-- one of these numbers names no option of a replay, or no form
+abbrev pub NamesNoReplayIn : ℕ → ℕ → ℕ → ℕ → ℕ → Type 0
+NamesNoReplayIn mode width order trace form = NamesNoReplay mode width order trace ⊎ NamesNoForm form

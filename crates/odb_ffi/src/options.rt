@@ -1,0 +1,96 @@
+//! Options as numbers.
+
+ghost use Rattle.std.specs.Prelude.{◌≡◌, ◌≢◌, Some, None, IfSome};
+ghost use Rattle.odb_ffi.specs.Options as options;
+
+use odb_check::Seed;
+use odb_engine::Form;
+use odb_sched::{MAX_WIDTH, Mode, Order, Policy};
+
+/// The options of a replay.
+#[derive(Clone, Copy)]
+pub struct ReplayOptions {
+    /// Whether the run stops at an error, and how many requests may run at once.
+    pub policy: Policy,
+    /// The order of the steps.
+    pub order: Order,
+    /// Whether the trace is written before the response.
+    pub traced: bool,
+}
+
+/// Returns the seed that a number is. 0 is no seed.
+pub fn seed_of(seed: u64) -> Seed
+    ensures none { seed ≡ 0 → result.number ≡ None }
+    ensures some { seed ≢ 0 → result.number ≡ Some seed }
+{
+    if seed == 0 {
+        Seed::none()
+    } else {
+        Seed::new(seed)
+    }
+}
+
+/// Returns the policy that two numbers name, or `None` if one of them may not be.
+pub fn policy_of(mode: u32, width: u32) -> Option<Policy>
+    ensures some { IfSome result (options.IsPolicy mode width) }
+    ensures none { result ≡ None → options.NamesNoPolicy mode width }
+{
+    let mode = match mode {
+        0 => Mode::Continue,
+        1 => Mode::Stop,
+        _ => return None,
+    };
+    if width > MAX_WIDTH {
+        return None;
+    }
+    Policy::new(mode, width)
+}
+
+/// Returns the form that a number names, or `None` if it may not be.
+pub fn form_of(form: u32) -> Option<Form>
+    ensures some { IfSome result (options.IsForm form) }
+    ensures none { result ≡ None → options.NamesNoForm form }
+{
+    match form {
+        0 => Some(Form::Lines),
+        1 => Some(Form::Json),
+        _ => None,
+    }
+}
+
+/// Returns the order that a number names, or `None` if it may not be.
+fn order_of(order: u32) -> Option<Order>
+    ensures some { IfSome result (λ named. order ≡ options.order_number named) }
+    ensures none { result ≡ None → options.NamesNoOrder order }
+{
+    match order {
+        0 => Some(Order::First),
+        1 => Some(Order::Last),
+        2 => Some(Order::Wide),
+        _ => None,
+    }
+}
+
+/// Returns the answer that a number is, 0 for no and 1 for yes, or `None` if it may not be.
+fn flag_of(number: u32) -> Option<bool>
+    ensures some { IfSome result (λ named. number ≡ options.flag_number named) }
+    ensures none { result ≡ None → options.NamesNoFlag number }
+{
+    match number {
+        0 => Some(false),
+        1 => Some(true),
+        _ => None,
+    }
+}
+
+/// Returns the options of a replay that four numbers name, or `None` if one of them may not be.
+pub fn replay_options_of(mode: u32, width: u32, order: u32, trace: u32) -> Option<ReplayOptions>
+    ensures some { IfSome result (options.IsReplay mode width order trace) }
+    ensures none { result ≡ None → options.NamesNoReplay mode width order trace }
+{
+    Some(ReplayOptions {
+        policy: policy_of(mode, width)?,
+        order: order_of(order)?,
+        traced: flag_of(trace)?,
+    })
+}

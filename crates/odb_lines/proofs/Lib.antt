@@ -1,4 +1,0 @@
-mod ByteLemmas
-mod LineLemmas
-mod AnswerLemmas
-mod LawLemmas

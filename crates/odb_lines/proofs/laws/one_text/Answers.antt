@@ -1,8 +1,0 @@
-use Rattle.odb_lines.specs.Answers.{OfAnyLine}
-use Rattle.odb_lines.proofs.LawLemmas.{OfAnyLine-one, answers-one}
-use Rattle.odb_lines.proofs.laws.one_text.Goals as goal
-
-pub returns : goal.returns
-returns g c =
-    let P = g.C.LineCommand.writes c.args.command.now in
-    answers-one (OfAnyLine P) (OfAnyLine-one P c.requires)
