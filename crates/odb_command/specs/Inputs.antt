@@ -1,6 +1,6 @@
 -- The document that a reader returns, and when a second one is read.
 use Rattle.std.specs.Prelude.{◌≡◌, ◌≤◌, ◌<◌, ◌+◌, ℕ, List, [], ◌++◌, ◌⊎◌, length, Option, Some, None, false}
-use Rattle.odb_json.specs.Devices.{Reading}
+use Rattle.odb_io.specs.Devices.{Reading}
 use Rattle.std.specs.Io.KnownBytes.{Consumes}
 use Rattle.odb_doc.specs.batch.Records.{Record}
 use Rattle.odb_command.specs.Cascade.{Accepts, Writes}

@@ -11,7 +11,7 @@ use odb_check::Plan;
 use odb_command::{Command, Ended, EngineFault, Halt, Setup, answer_batch};
 use odb_doc::Batch;
 use odb_draw::drawing_text;
-use odb_json::{Input, Output};
+use odb_io::{Input, Output};
 use std::alloc::Global;
 use std::io::{Read, Write};
 

@@ -24,7 +24,7 @@ use odb_command::{
 };
 use odb_doc::{Batch, Place, Refusal};
 use odb_exec::{Chooser, First, Last, Wide};
-use odb_json::Output;
+use odb_io::Output;
 use odb_sched::{Order, Policy};
 use serde_json::Value;
 use std::alloc::{AllocError, Global};

@@ -20,7 +20,7 @@ use odb_command::{
     DropOrLeak, Ended, EngineFault, Form, Halt, PairCommand, Sent, Setup, answer_pair, print,
 };
 use odb_doc::Place;
-use odb_json::{Input, Output};
+use odb_io::{Input, Output};
 use odb_reply::{Responses, Table, match_responses};
 use odb_text::match_json;
 use serde_json::Value;

@@ -10,7 +10,7 @@ ghost use Rattle.odb_engine.specs.Commands as commands;
 use odb_check::Plan;
 use odb_command::{Command, Ended, EngineFault, Form, Halt, Setup, answer_batch};
 use odb_doc::Batch;
-use odb_json::{Input, Output};
+use odb_io::{Input, Output};
 use odb_text::plan_json;
 use std::alloc::Global;
 use std::io::{Read, Write};

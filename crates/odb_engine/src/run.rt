@@ -21,7 +21,7 @@ use odb_command::{
     Disposal, DropOrLeak, Ended, EngineFault, Halt, PairCommand, Sent, Setup, answer_pair, send,
 };
 use odb_doc::{Events, Place, Refusal};
-use odb_json::{Input, Output};
+use odb_io::{Input, Output};
 use odb_reply::laws::every_response;
 use odb_sched::{Done, Policy, resolve, run};
 use serde_json::Value;

@@ -6,7 +6,7 @@ use Rattle.std.proofs.lemmas.List.Elements.{All-nil, All-append, All-cons}
 use Rattle.std.specs.Io.KnownBytes.{Consumes, Appends, IsAtEnd, Keeps}
 use Rattle.std.proofs.KnownBytes.{Consumes-nil, Consumes-trans, Consumes-kept, Consumes-whole, Appends-nil, Appends-trans, Appends-kept}
 use Rattle.std.proofs.lemmas.Bool.{both_ways}
-use Rattle.odb_json.specs.Devices.{Writing}
+use Rattle.odb_io.specs.Devices.{Writing}
 use Rattle.odb_check.specs.Texts.{newline}
 use Rattle.odb_command.specs.declared.ending.Ended.{Ended}
 use Rattle.odb_command.specs.declared.ending.Ended.TheVariants.{Done, Refused}
@@ -22,7 +22,7 @@ use Rattle.odb_lines.specs.Steps.{IsOpen, cut, EndsAnswer, Advances}
 use Rattle.odb_lines.specs.Steps.Advances.{Holds, Lacks, Answers}
 use Rattle.odb_lines.proofs.ByteLemmas.{cut-append, cut-nil, IsDocumentOf-cut}
 use Rattle.odb_lines.proofs.LineLemmas.{joined, with_end, last_line, joined-more, lines-joined, ended-joined, take-joined, last_line-some}
-use Rattle.odb_json.proofs.WriteLemmas.{AppendsPrefix-append, AppendsPrefix-whole}
+use Rattle.odb_io.proofs.WriteLemmas.{AppendsPrefix-append, AppendsPrefix-whole}
 
 pub both-done : (ended : Ended) → both ended Done ≡ ended
 both-done Done = refl

@@ -13,7 +13,7 @@ use crate::input::LineInput;
 use crate::line::{answer_line, hold};
 use memchr::memchr;
 use odb_engine::{Ended, EngineFault};
-use odb_json::Output;
+use odb_io::Output;
 use std::alloc::Global;
 use std::io::{Read, Write};
 

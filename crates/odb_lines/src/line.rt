@@ -7,7 +7,7 @@ ghost use Rattle.odb_lines.specs.Steps.{EndsAnswer, cut};
 use crate::command::LineCommand;
 use odb_doc::MAX_DOCUMENT_BYTES;
 use odb_engine::{Ended, EngineFault};
-use odb_json::Output;
+use odb_io::Output;
 use std::alloc::{AllocError, Global};
 use std::io::Write;
 

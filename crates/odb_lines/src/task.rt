@@ -2,7 +2,7 @@
 
 use crate::command::LineCommand;
 use odb_engine::{Ended, EngineFault, LineTask, Setup, answer_line};
-use odb_json::Output;
+use odb_io::Output;
 use std::alloc::Global;
 use std::io::Write;
 
