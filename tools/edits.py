@@ -32,7 +32,7 @@ ROOT = os.path.dirname(os.path.dirname(os.path.realpath(__file__)))
 # of the crate that its edits are tried over. A crate without a number counts as the dearest did.
 MINUTES = 70
 SECONDS = {
-    "odb_dense": 11, "odb_names": 13, "odb_json": 16, "odb_doc": 28, "odb_check": 26, "odb_sched": 26, "odb_exec": 30,
+    "odb_dense": 11, "odb_names": 13, "odb_io": 16, "odb_doc": 28, "odb_check": 26, "odb_sched": 26, "odb_exec": 30,
     "odb_reply": 24, "odb_draw": 60, "odb_command": 28, "odb_engine": 40, "odb_lines": 26,
 }  # fmt: skip
 OTHER = 70

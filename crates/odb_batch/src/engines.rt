@@ -9,7 +9,7 @@ use odb_engine::{
     Disposal, Form, Setup, canon_batch_with, check_batch_with, draw_batch_with, match_batch_with,
     plan_batch_with, replay_batch_with, run_batch_with,
 };
-use odb_json::{Input, Output};
+use odb_io::{Input, Output};
 use std::io::Read;
 use std::rt::Runtime;
 use std::{fs, io};

@@ -7,7 +7,7 @@ use crate::explain::{add_explanations, add_table};
 use crate::man::add_page;
 use crate::page::Page;
 use odb_engine::{Ended, EngineFault};
-use odb_json::Output;
+use odb_io::Output;
 use std::io;
 use std::rt::Runtime;
 

@@ -10,7 +10,7 @@ use Rattle.std.proofs.lemmas.List.Folds.{list_any-append}
 use Rattle.std.proofs.lemmas.Bool.{cases_Bool, false≢true}
 use Rattle.std.proofs.lemmas.Bool.Decides.{Decides-by_or, Decides-like, not_from_Decides}
 use Rattle.std.proofs.lemmas.Slice.Eq.{bytes_eq-Decides}
-use Rattle.odb_json.proofs.ElementLemmas.{Contains-head, Contains-tail, Contains-cases}
+use Rattle.odb_doc.proofs.ElementLemmas.{Contains-head, Contains-tail, Contains-cases}
 
 pub Decides-none : {P : Type 0} → ¬ P → Decides false P
 Decides-none never = (λ e. absurd (false≢true e), λ p. absurd (never p))

@@ -10,7 +10,7 @@ use Rattle.std.proofs.lemmas.List.Elements.{filter_map-append}
 use Rattle.std.proofs.lemmas.List.Sums.{fold-append}
 use Rattle.std.proofs.lemmas.Option.{slice_get_cases}
 use Rattle.std.proofs.lemmas.Slice.Eq.{bytes_eq-Decides}
-use Rattle.odb_json.specs.Names.{distinct, with_name}
+use Rattle.odb_doc.specs.Names.{distinct, with_name}
 use Rattle.odb_doc.specs.batch.Records.{Record}
 use Rattle.odb_check.specs.Firsts.{or_else, is_text}
 use Rattle.odb_check.specs.Units.{groups_of, first_in_group}

@@ -12,7 +12,7 @@ use Rattle.odb_check.specs.Levels.{greatest_of, greatest_below, unit_level, leve
 use Rattle.odb_check.specs.Needs.{needs_at}
 use Rattle.odb_check.specs.PlanGraph.{IsNeedAmong}
 use Rattle.odb_check.specs.Units.{unit_at, unit_count}
-use Rattle.odb_json.proofs.ElementLemmas.{Contains-head, Contains-tail}
+use Rattle.odb_doc.proofs.ElementLemmas.{Contains-head, Contains-tail}
 use Rattle.odb_check.proofs.BelowLemmas.{set_cases}
 use Rattle.odb_check.proofs.UnitLemmas.{unit_before}
 

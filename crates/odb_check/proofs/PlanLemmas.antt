@@ -33,7 +33,7 @@ use Rattle.odb_check.proofs.NameLemmas.{later_unit}
 use Rattle.odb_check.proofs.NeedLemmas.{IsMeant, is_meant, need_within, position_is, id_need, group_need}
 use Rattle.odb_check.proofs.PositionLemmas.{group_within, reference_within, position_first}
 use Rattle.odb_check.proofs.UnitLemmas.{IsUnitOf, unit_before, same_group, one_unit, has_units, in_group, in_unit, in_order, unit_at_begin, unit_at_start}
-use Rattle.odb_json.proofs.ElementLemmas.{Contains-head, Contains-cases}
+use Rattle.odb_doc.proofs.ElementLemmas.{Contains-head, Contains-cases}
 
 pub good_ids : (rs : List Record) → HasGoodNames rs → HasValidIds rs
 good_ids rs good rule i broken = good rule i broken.1

@@ -3,7 +3,7 @@ use Rattle.std.specs.Prelude.{◌≡◌, ◌≤◌, ◌<◌, ℕ, zero, suc, tru
 use Rattle.std.specs.List.{IsDistinct}
 use Rattle.std.specs.BTreeMap.{get_by_text, btree_map_len}
 use Rattle.indexmap.specs.IndexMap.{get_by, index_map_len}
-use Rattle.odb_json.specs.Names.{with_name}
+use Rattle.odb_doc.specs.Names.{with_name}
 use Rattle.odb_doc.specs.batch.Records.{Record}
 use Rattle.odb_check.specs.declared.table.Table.{Table}
 use Rattle.odb_check.specs.declared.table.Table.TheVariants as tables

@@ -2,7 +2,7 @@
 -- section 19.1, `atomicityGroup`).
 use Rattle.std.specs.Prelude.{ℕ, Bool, true, not, is_some, List, Option, Some, None, option_map, unwrap_or, length}
 use Rattle.std.specs.List.{filter_map}
-use Rattle.odb_json.specs.Names.{distinct}
+use Rattle.odb_doc.specs.Names.{distinct}
 use Rattle.odb_doc.specs.batch.Records.{Record}
 use Rattle.odb_check.specs.Positions.{id_at, group_at}
 use Rattle.odb_check.specs.Firsts.{first_below, count_below, is_text}

@@ -4,7 +4,7 @@ ghost use Rattle.std.specs.Prelude.{◌≡◌, ◌≤◌, ◌<◌, ◌==◌, ◌
 ghost use Rattle.std.proofs.Props.{props};
 ghost use Rattle.odb_doc.specs.batch.Records.{IsWellFormedRecord, record_of};
 ghost use Rattle.odb_doc.specs.batch.Batches.{records};
-ghost use Rattle.odb_json.specs.Names.{texts_in};
+ghost use Rattle.odb_doc.specs.Names.{texts_in};
 ghost use Rattle.odb_check.specs.Firsts.{or_else, is_text};
 ghost use Rattle.odb_check.specs.Starts.{start_of, table_start};
 ghost use Rattle.odb_check.specs.Tables.{AreIdsDistinct, AreTablesOf, IsStartOf, at_text, more_with, table_len, unit_among};

@@ -1,7 +1,7 @@
 //! The walk over all requests that looks up what each names, and stops at the first fault.
 
 ghost use Rattle.std.specs.Prelude.{◌≡◌, ◌<◌, ◌+◌, ◌++◌, length, OnOk, IfOk, IfErr};
-ghost use Rattle.odb_json.specs.Names.{texts_in};
+ghost use Rattle.odb_doc.specs.Names.{texts_in};
 ghost use Rattle.odb_check.specs.LeastNameFault.{HasGoodNames, RefusesNames};
 ghost use Rattle.odb_check.specs.Marks.{AreMarksOf, AreUpTo};
 ghost use Rattle.odb_check.specs.NameFaults.{IsBrokenAt};

@@ -7,7 +7,7 @@ use Rattle.odb_names.specs.Fronts.{FrontForm, HasFront, reference}
 use Rattle.odb_names.specs.Methods.{Names}
 use Rattle.odb_names.specs.declared.method.Method.{Method}
 use Rattle.odb_doc.specs.Headers.{Header}
-use Rattle.odb_json.specs.Members.{given}
+use Rattle.odb_doc.specs.Members.{given}
 use Rattle.odb_doc.proofs.OneLeast.{one_list}
 use Rattle.odb_doc.specs.batch.Records.{Record, ReadsAs}
 use Rattle.odb_doc.specs.batch.References.{RefersTo}

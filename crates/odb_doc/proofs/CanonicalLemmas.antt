@@ -12,7 +12,7 @@ use Rattle.odb_doc.specs.canonical.Canonical.{with_some, names_value, headers_va
 use Rattle.odb_doc.specs.canonical.CanonicalParts.{end_part, requests_left}
 use Rattle.odb_doc.specs.Texts.{member_part}
 use Rattle.odb_doc.specs.batch.Records.{Record}
-use Rattle.odb_json.proofs.ElementLemmas.{drop_at}
+use Rattle.odb_doc.proofs.ElementLemmas.{drop_at}
 
 -- three pieces that were appended one by one, the last one if it was taken
 pub pushed : {A E : Type 0} (r : Result A E) (old first second third mid new : List ℕ) → mid ≡ (old ++ first) ++ second → new ≡ (if is_ok r then mid ++ third else mid) → OnOk r (new ≡ old ++ (first ++ (second ++ third)))

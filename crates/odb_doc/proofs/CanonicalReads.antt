@@ -15,7 +15,7 @@ use Rattle.odb_names.specs.Methods.{method_name}
 use Rattle.odb_doc.specs.canonical.Canonical.{HasWholeBodies, HasHeldBodies, body_at, names_value, headers_value, request_members, request_value, canonical_value}
 use Rattle.odb_doc.specs.canonical.HeldValues.{IsHeld, AreItemsHeld, AreMembersHeld}
 use Rattle.odb_doc.specs.batch.Bodies.{body_of}
-use Rattle.odb_json.specs.Members.{elements_at, list_of, given}
+use Rattle.odb_doc.specs.Members.{elements_at, list_of, given}
 use Rattle.odb_doc.specs.batch.Records.{Record, ReadsAs, IsBatchOf}
 use Rattle.odb_doc.specs.batch.Shapes.{elements}
 use Rattle.odb_doc.proofs.ReadBackLemmas.{by_order}

@@ -22,7 +22,7 @@ use Rattle.odb_names.specs.declared.method.Method.TheVariants.{Delete, Get, Patc
 use Rattle.odb_doc.specs.declared.fault.DocumentRule.TheVariants as document
 use Rattle.odb_doc.specs.declared.fault.RequestRule.{RequestRule}
 use Rattle.odb_doc.specs.declared.fault.RequestRule.TheVariants as rules
-use Rattle.odb_json.specs.declared.member.Object.TheVariants.{Request}
+use Rattle.odb_doc.specs.declared.member.Object.TheVariants.{Request}
 use Rattle.odb_doc.specs.batch.Bodies.{content_type}
 use Rattle.odb_doc.specs.batch.MediaTypes.{AllowsBody}
 use Rattle.odb_doc.specs.canonical.Canonical.{names_value, header_members, headers_value, with_some, request_value, canonical_value}
@@ -30,15 +30,15 @@ use Rattle.odb_doc.specs.Headers.{Header, folded, text_members, listed_in, HasHe
 use Rattle.odb_doc.specs.batch.LeastFault.{IsBatchObject, IsWellShaped, BreaksRequestAt}
 use Rattle.odb_doc.specs.BrokenRules.{IsRequestObject}
 use Rattle.odb_doc.specs.LeastRules.{NoneBroken}
-use Rattle.odb_json.specs.Members.{given, members_of, names_in, is_unknown}
-use Rattle.odb_json.specs.Names.{distinct}
+use Rattle.odb_doc.specs.Members.{given, members_of, names_in, is_unknown}
+use Rattle.odb_doc.specs.Names.{distinct}
 use Rattle.odb_doc.specs.batch.Records.{Record, ReadsAs, IsBatchOf}
 use Rattle.odb_doc.specs.batch.Shapes.{HasGroup, elements, listed_names, texts_of, texts_or_none}
 use Rattle.odb_doc.proofs.BatchLemmas.{AreOneReading, one_method}
-use Rattle.odb_json.proofs.DistinctLemmas.{IsDistinct-listed}
-use Rattle.odb_json.proofs.ElementLemmas.{list_of-items_of}
+use Rattle.odb_doc.proofs.DistinctLemmas.{IsDistinct-listed}
+use Rattle.odb_doc.proofs.ElementLemmas.{list_of-items_of}
 use Rattle.odb_doc.proofs.OneHeaders.{one_headers}
-use Rattle.odb_json.proofs.RepeatLemmas.{distinct_same}
+use Rattle.odb_doc.proofs.RepeatLemmas.{distinct_same}
 use Rattle.odb_doc.proofs.RuleLemmas.{HoldsHeaders-apart}
 
 -- ---- the values at the members of a request's value

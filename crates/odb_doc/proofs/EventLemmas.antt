@@ -3,10 +3,10 @@ use Rattle.std.proofs.Common.{◌≡◌, List, Option, None, Some, IsSome, Match
 use Rattle.std.specs.declared.alloc.Global.{Global}
 use Rattle.serde_json.specs.Data.{Data}
 use Rattle.odb_doc.specs.declared.recorded.event_fault.EventRule.{EventRule}
-use Rattle.odb_json.specs.declared.member.Object.TheVariants as objects
+use Rattle.odb_doc.specs.declared.member.Object.TheVariants as objects
 use Rattle.odb_doc.specs.recorded.Events.{IsStart}
 use Rattle.odb_doc.specs.recorded.LeastEventFault.{BreaksEvent}
-use Rattle.odb_json.specs.Members.{HasOther, text_at}
+use Rattle.odb_doc.specs.Members.{HasOther, text_at}
 
 -- what an event breaks, whatever is before it
 abbrev pub Breaks : EventRule → List Data → Data → Type 0

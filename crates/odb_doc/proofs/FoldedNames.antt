@@ -5,7 +5,7 @@ use Rattle.std.specs.Map.{keys_of}
 use Rattle.serde_json.specs.Data.{Data, null, boolean, number, string, array, object, Members, no_members, member}
 use Rattle.serde_json.specs.Find.{as_str}
 use Rattle.odb_doc.specs.Headers.{Header, folded, text_members, text_members_in}
-use Rattle.odb_json.specs.Members.{names_of, names_in, given}
+use Rattle.odb_doc.specs.Members.{names_of, names_in, given}
 
 names_step : (name : List ℕ) (names : List (List ℕ)) (text : Option (List ℕ)) (rest : Option (List Header)) (headers : List Header)
     → ((more : List Header) → rest ≡ Some more → names ≡ keys_of (map folded more))

@@ -18,11 +18,11 @@ use Rattle.serde_json.specs.Find.{get_member}
 use Rattle.serde_json.specs.View.{view, members_view}
 use Rattle.serde_json.specs.declared.value.Value.{Value}
 use Rattle.odb_doc.specs.HeaderMaps.{Entry}
-use Rattle.odb_json.specs.Members.{names_of, is_unknown, members_of}
-use Rattle.odb_json.specs.declared.member.Object.TheVariants as objects
+use Rattle.odb_doc.specs.Members.{names_of, is_unknown, members_of}
+use Rattle.odb_doc.specs.declared.member.Object.TheVariants as objects
 use Rattle.odb_doc.specs.declared.batch.members.Members.{Members}
 use Rattle.odb_doc.specs.batch.MembersFound.{AreMembersOf, PutsMember, put_at, data_of}
-use Rattle.odb_json.proofs.DistinctLemmas.{all_at}
+use Rattle.odb_doc.proofs.DistinctLemmas.{all_at}
 
 -- ---- a look-up among members, and one member more
 

@@ -7,10 +7,10 @@ use Rattle.std.proofs.lemmas.Cmp.{nat_list_eq_equiv}
 use Rattle.serde_json.specs.Data.{Data, object}
 use Rattle.serde_json.specs.Find.{as_number, as_str, get_member}
 use Rattle.serde_json.specs.View.{view, members_view}
-use Rattle.odb_json.specs.declared.member.Object.{Object}
+use Rattle.odb_doc.specs.declared.member.Object.{Object}
 use Rattle.odb_doc.specs.declared.recorded.outcome.Parts.{Parts}
 use Rattle.odb_doc.specs.HeaderMaps.{Entry}
-use Rattle.odb_json.specs.Members.{is_other, members_of}
+use Rattle.odb_doc.specs.Members.{is_other, members_of}
 use Rattle.odb_doc.specs.recorded.RawOutcomes.{AreFoundIn, PutsPart}
 use Rattle.odb_doc.proofs.FoundLemmas.{IsNew, any-push, get_member-push, new_from_order}
 

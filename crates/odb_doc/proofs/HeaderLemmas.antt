@@ -24,9 +24,9 @@ use Rattle.odb_doc.specs.declared.broken.Broken.TheVariants.{Rule, OutOfMemory}
 use Rattle.odb_doc.specs.BrokenRules.{OnlyIf}
 use Rattle.odb_doc.specs.HeaderMaps.{Entry, Headers, HoldsMembers, AddsMember, RefusesMember}
 use Rattle.odb_doc.specs.Headers.{Header, folded, text_members, text_members_in, HoldsHeaders, header_of, headers_in}
-use Rattle.odb_json.specs.Members.{names_of, given}
+use Rattle.odb_doc.specs.Members.{names_of, given}
 use Rattle.odb_doc.proofs.FoldedNames.{names_of-text_members}
-use Rattle.odb_json.proofs.DistinctLemmas.{distinct_new}
+use Rattle.odb_doc.proofs.DistinctLemmas.{distinct_new}
 
 -- ---- a reason that follows from another
 

@@ -10,7 +10,7 @@ use Rattle.odb_doc.specs.declared.broken.Broken.{Broken}
 use Rattle.odb_doc.specs.declared.broken.Broken.TheVariants as broken
 use Rattle.odb_doc.specs.BrokenRules.{OnRule, OnPlace, broken_at}
 use Rattle.odb_doc.specs.LeastRules.{IsLeast, BreaksAt, NoneBroken, IsFirst}
-use Rattle.odb_json.proofs.ElementLemmas.{slice_get-seam}
+use Rattle.odb_doc.proofs.ElementLemmas.{slice_get-seam}
 
 -- ---- positions of a list, and of a prefix of it
 

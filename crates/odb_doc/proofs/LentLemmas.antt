@@ -25,10 +25,10 @@ use Rattle.odb_doc.specs.declared.fault.RequestRule.TheVariants as rules
 use Rattle.odb_doc.specs.BrokenRules.{BreaksNoneBefore, IsLeastRequestRule, OnRule, OnlyIf}
 use Rattle.odb_doc.specs.HeaderMaps.{Lent, HasUnordered, by_name, written}
 use Rattle.odb_doc.specs.Headers.{Header, HoldsHeaders, IsInOrder, folded, header_names, lent_header, listed_headers, listed_in, text_members_in}
-use Rattle.odb_json.specs.Members.{given}
+use Rattle.odb_doc.specs.Members.{given}
 use Rattle.odb_doc.proofs.FoldedNames.{names_in-text_members_in}
 use Rattle.odb_doc.proofs.RuleLemmas.{before_twice, listed_not_bad}
-use Rattle.odb_json.proofs.RepeatLemmas.{less_from}
+use Rattle.odb_doc.proofs.RepeatLemmas.{less_from}
 
 -- ---- names in order
 

@@ -1,3 +1,11 @@
+pub mod DistinctLemmas
+pub mod ElementLemmas
+mod LengthLemmas
+mod MemberLemmas
+pub mod NameLemmas
+pub mod PartLemmas
+pub mod RepeatLemmas
+pub mod SetLemmas
 mod ArrayLemmas
 mod BatchLemmas
 mod CanonicalLemmas

@@ -14,7 +14,7 @@ use Rattle.std.proofs.lemmas.Map.Keys.{sorted_tail}
 use Rattle.std.proofs.lemmas.Map.Views.{All-after_first}
 use Rattle.serde_json.specs.Data.{Data}
 use Rattle.odb_doc.specs.Headers.{Header, HasHeaders, folded}
-use Rattle.odb_json.proofs.ElementLemmas.{Contains-head, Contains-cases}
+use Rattle.odb_doc.proofs.ElementLemmas.{Contains-head, Contains-cases}
 
 Contains-key : (headers : List Header) (h : Header) → Contains headers h → Contains (keys_of headers) h.0
 Contains-key headers h among = (among.0, rw (length-map headers (λ (g : Header). g.0)) among.1, get_or-map (λ (g : Header). g.0) headers among.0 h h.0 among.1 ∙ ap (λ (g : Header). g.0) among.2)

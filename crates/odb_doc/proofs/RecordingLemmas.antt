@@ -21,7 +21,7 @@ use Rattle.odb_doc.specs.recorded.Events as recorded_events
 use Rattle.odb_doc.specs.Headers.{Header, HasHeaders}
 use Rattle.odb_doc.specs.recorded.LeastEventFault.{BreaksEventAt, IsEventsDocument, RefusesEvents}
 use Rattle.odb_doc.specs.recorded.LeastOutcomeFault.{BreaksOutcomeAt, IsOutcomesDocument, RefusesOutcomes}
-use Rattle.odb_json.specs.Members.{text_at}
+use Rattle.odb_doc.specs.Members.{text_at}
 use Rattle.odb_doc.proofs.OneLeast.{one_first, one_list}
 use Rattle.odb_doc.specs.recorded.OutcomeFaults as outcome_faults
 use Rattle.odb_doc.specs.recorded.Outcomes.{Recorded, AreOutcomesOf, ReadsAs}

@@ -12,7 +12,7 @@ use Rattle.std.specs.Ordering.{nat_cmp}
 use Rattle.std.specs.Str.{str_to_ascii_lowercase}
 use Rattle.serde_json.specs.Data.{Data, null, Members, no_members, member}
 use Rattle.serde_json.specs.Find.{get, as_str, as_object}
-use Rattle.odb_json.specs.Members.{names_in, given}
+use Rattle.odb_doc.specs.Members.{names_in, given}
 
 -- a name and a value
 abbrev pub Header : Type 0

@@ -6,6 +6,8 @@ pub mod Documents
 pub mod Faults
 pub mod Headers
 pub mod LeastRules
+pub mod Members
+pub mod Names
 pub mod Refusals
 pub mod Statuses
 pub mod Texts
@@ -14,3 +16,4 @@ pub mod WholeNumbers
 pub mod BrokenRules
 pub mod DataCodes
 pub mod HeaderMaps
+pub mod SameTexts

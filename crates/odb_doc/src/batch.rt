@@ -22,7 +22,7 @@ pub mod request;
 use crate::batch::request::Request;
 use crate::broken::Broken;
 use crate::fault::{DocFault, DocumentRule, RequestRule};
-use odb_json::member::{Object, array_at};
+use crate::member::{Object, array_at};
 use serde_json::Value;
 use std::alloc::Global;
 

@@ -8,7 +8,7 @@ ghost use Rattle.odb_doc.specs.HeaderMaps.{HoldsMembers, AreHeaders, AddsMember,
 ghost use Rattle.odb_doc.specs.Headers.{HoldsHeaders, IsHeaders, headers_in};
 
 use crate::broken::Broken;
-use odb_json::member::{into_members, text_of, unless_null};
+use crate::member::{into_members, text_of, unless_null};
 use serde_json::{Map, Value};
 use std::alloc::Global;
 use std::collections::BTreeMap;

@@ -9,7 +9,6 @@ ghost use Rattle.std.specs.Prelude.{◌≡◌, ◌≤◌, ◌↔◌, ◌++◌, �
 ghost use Rattle.serde_json.specs.Data.{Data, depth};
 ghost use Rattle.serde_json.specs.Read.{read};
 ghost use Rattle.serde_json.specs.Written.{compact_text};
-ghost use Rattle.odb_json.specs.declared.device.TheConstants.{MAX_READS};
 ghost use Rattle.odb_doc.specs.declared.document.TheConstants.{MAX_DOCUMENT_BYTES};
 ghost use Rattle.odb_doc.specs.declared.fault.DocFault.{DocFault};
 ghost use Rattle.odb_doc.specs.declared.recorded.event_fault.EventFault.{EventFault};
@@ -24,7 +23,7 @@ ghost use Rattle.odb_doc.specs.canonical.HeldValues.{IsHeld};
 ghost use Rattle.odb_doc.specs.recorded.LeastEventFault.{IsEventsDocument, RefusesEvents};
 ghost use Rattle.odb_doc.specs.batch.LeastFault.{IsLeastFault, IsWellShaped};
 ghost use Rattle.odb_doc.specs.recorded.LeastOutcomeFault.{IsOutcomesDocument, RefusesOutcomes};
-ghost use Rattle.odb_json.specs.Names.{distinct, with_name};
+ghost use Rattle.odb_doc.specs.Names.{distinct, with_name};
 ghost use Rattle.odb_doc.specs.recorded.OutcomeFaults as outcome_faults;
 ghost use Rattle.odb_doc.specs.recorded.OutcomeValues.{IsRecordable};
 ghost use Rattle.odb_doc.specs.recorded.Outcomes.{Recorded, AreOutcomesOf};
@@ -42,10 +41,9 @@ pub fn one_fault()
         → IsLeastFault fault value → ¬ IsWellShaped value }
 {}
 
-/// The limits by which callers read and refuse documents are those of the definitions.
+/// The limit by which callers refuse documents is that of the definitions.
 pub fn limits()
-    ensures bytes { MAX_DOCUMENT_BYTES ≡ 16777216 }
-    ensures reads { MAX_READS ≡ 16777217 }
+    ensures { MAX_DOCUMENT_BYTES ≡ 16777216 }
 {}
 
 /// Names that are appended one by one, each unless the list has it, are the names without repeats.

@@ -5,7 +5,7 @@ use Rattle.std.specs.Result.{IsErrAnd}
 use Rattle.std.proofs.lemmas.Result.{err_from_is_err_and, IfOk-weaker}
 use Rattle.std.specs.declared.alloc.Global.{Global}
 use Rattle.serde_json.specs.Data.{Data}
-use Rattle.odb_json.specs.Devices.{Writing}
+use Rattle.odb_io.specs.Devices.{Writing}
 use Rattle.odb_doc.specs.declared.fault.Place.{Place}
 use Rattle.odb_doc.specs.declared.fault.DocFault.{DocFault}
 use Rattle.odb_doc.specs.Documents.{IsDocument}

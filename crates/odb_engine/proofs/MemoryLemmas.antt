@@ -1,7 +1,7 @@
 -- Documents and texts in memory: what a reader over bytes gives, and what is written to a vector.
 use Rattle.std.proofs.Common.{◌≡◌, ◌∙◌, ℕ, List, [], ◌++◌, Bor, Global, Some, Vec, false, unwrap_or, refl, sym, ap, subst, append-nil, arith}
 use Rattle.serde_json.specs.Data.{Data}
-use Rattle.odb_json.specs.Devices.{Reading, Writing}
+use Rattle.odb_io.specs.Devices.{Reading, Writing}
 use Rattle.odb_doc.specs.Documents.{IsDocument}
 use Rattle.odb_engine.specs.Cascade.{HasValue}
 use Rattle.odb_engine.specs.Engines.{WritesText}

@@ -14,7 +14,7 @@ use crate::halt::Halt;
 use crate::setup::Setup;
 use odb_check::Plan;
 use odb_doc::Batch;
-use odb_json::{Input, Output};
+use odb_io::{Input, Output};
 use odb_text::{accepted_line, counts_json};
 use std::alloc::Global;
 use std::io::{Read, Write};

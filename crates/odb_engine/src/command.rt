@@ -20,7 +20,7 @@ use crate::input::value_of;
 use crate::setup::Setup;
 use odb_check::{Plan, check_with};
 use odb_doc::{Batch, Place};
-use odb_json::{Input, Output};
+use odb_io::{Input, Output};
 use serde_json::Value;
 use std::alloc::Global;
 use std::io::{Read, Write};

@@ -11,7 +11,7 @@ ghost use Rattle.odb_engine.specs.Halts.{text_found};
 use crate::form::Form;
 use crate::halt::Halt;
 use odb_doc::Refusal;
-use odb_json::{DeviceFault, Output};
+use odb_io::{DeviceFault, Output};
 use odb_text::{fault_json, fault_line};
 use std::alloc::{AllocError, Global};
 use std::io::Write;

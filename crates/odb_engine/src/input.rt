@@ -11,7 +11,7 @@ ghost use Rattle.odb_engine.specs.declared.halt.Halt.TheVariants as halts;
 
 use crate::halt::Halt;
 use odb_doc::{DocFault, Fault, MAX_DOCUMENT_BYTES, Place, Refusal, parse};
-use odb_json::Input;
+use odb_io::Input;
 use serde_json::Value;
 use std::alloc::Global;
 use std::io::Read;

@@ -28,7 +28,7 @@ use crate::run::Run;
 use crate::setup::Setup;
 use odb_doc::{Batch, Place, Refusal};
 use odb_exec::{Chooser, First, Last, Wide};
-use odb_json::Output;
+use odb_io::Output;
 use odb_sched::{Order, Policy};
 use serde_json::Value;
 use std::alloc::{AllocError, Global};

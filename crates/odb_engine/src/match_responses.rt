@@ -23,7 +23,7 @@ use crate::pair::{PairCommand, answer_pair};
 use crate::setup::Setup;
 use odb_check::Plan;
 use odb_doc::Place;
-use odb_json::{Input, Output};
+use odb_io::{Input, Output};
 use odb_reply::{Responses, Table, match_responses};
 use odb_text::{match_json, match_lines};
 use serde_json::Value;

@@ -9,7 +9,7 @@ ghost use Rattle.odb_engine.specs.Halts.{Sends};
 ghost use Rattle.odb_text.specs.Lines.{response_line};
 
 use crate::ending::{Ended, EngineFault};
-use odb_json::Output;
+use odb_io::Output;
 use odb_reply::{ReplyFault, write_responses};
 use odb_sched::Done;
 use std::alloc::Global;

@@ -26,7 +26,7 @@ use crate::setup::Setup;
 use odb_check::Plan;
 use odb_doc::{Outcomes, Place};
 use odb_exec::{Chooser, Recorded, Trace, execute};
-use odb_json::{Input, Output};
+use odb_io::{Input, Output};
 use odb_reply::laws::every_response;
 use odb_sched::Policy;
 use odb_text::trace_part;

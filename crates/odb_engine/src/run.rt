@@ -24,7 +24,7 @@ use crate::pair::{PairCommand, answer_pair};
 use crate::setup::Setup;
 use odb_check::Plan;
 use odb_doc::{Events, Place, Refusal};
-use odb_json::{Input, Output};
+use odb_io::{Input, Output};
 use odb_reply::laws::every_response;
 use odb_sched::{Done, Policy, resolve, run};
 use serde_json::Value;

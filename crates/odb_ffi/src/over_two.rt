@@ -12,7 +12,7 @@ ghost use Rattle.odb_ffi.specs.Returns.{AnswersIn, WritesOf};
 use crate::options::{ReplayOptions, seed_of};
 use odb_engine::{Answer, Form, Setup, match_batch_with, replay_batch_with, run_batch_with};
 use odb_exec::{Chooser, First, Last, Wide};
-use odb_json::{Input, Output};
+use odb_io::{Input, Output};
 use odb_sched::{Order, Policy};
 use std::alloc::Global;
 

@@ -4,7 +4,7 @@ use Rattle.std.specs.Option.{IsSomeAnd}
 use Rattle.std.proofs.lemmas.List.Sums.{sum_by-cons}
 use Rattle.std.proofs.lemmas.Slice.Eq.{bytes_eq-Decides}
 use Rattle.serde_json.specs.Data.{Data, string, number, unsigned, object, put, no_members}
-use Rattle.odb_json.specs.Members.{text_at}
+use Rattle.odb_doc.specs.Members.{text_at}
 use Rattle.odb_doc.specs.batch.Records.{Record}
 use Rattle.odb_doc.specs.declared.recorded.outcome.Outcome.{Outcome}
 use Rattle.odb_check.specs.Positions.{id_at, IsId}
@@ -15,7 +15,7 @@ use Rattle.odb_reply.specs.Responses.{answer_body, answer_headers, response, res
 use Rattle.odb_reply.specs.Places.{IsOnce}
 use Rattle.odb_reply.specs.OnePerId.{has_id, HasOnePerId}
 use Rattle.odb_reply.specs.ResponseDocuments.{Entry, ReadsAs, responses_in}
-use Rattle.odb_json.proofs.ElementLemmas.{list_of-items_of}
+use Rattle.odb_doc.proofs.ElementLemmas.{list_of-items_of}
 
 -- what a response says, whatever other members there are
 says_members : (group : Option (List ℕ)) (body headers : Option Data) (id : List ℕ) (status : ℕ)

@@ -13,7 +13,7 @@ use Rattle.odb_doc.specs.canonical.Canonical.{headers_value}
 use Rattle.odb_reply.specs.Responses.{response, response_text, answer_body, answer_headers}
 use Rattle.odb_reply.specs.Parts.{rest_text, end_part}
 use Rattle.odb_reply.proofs.PartLemmas.{response-parts}
-use Rattle.odb_json.proofs.ElementLemmas.{drop_at}
+use Rattle.odb_doc.proofs.ElementLemmas.{drop_at}
 
 -- the whole text is its start, and then the responses
 pub response_text-prefix : (state : State) → response_text state ≡ codes "{\"responses\":[" ++ rest_text state 0

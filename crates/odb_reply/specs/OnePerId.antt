@@ -1,7 +1,7 @@
 -- One response per id (OData JSON Format 4.01, section 19.5).
 use Rattle.std.specs.Prelude.{◌≡◌, ℕ, Bool, false, List, Some, option_map, unwrap_or, bytes_eq, codes, count_by, Contains, IsSomeAnd}
 use Rattle.serde_json.specs.Data.{Data}
-use Rattle.odb_json.specs.Members.{text_at}
+use Rattle.odb_doc.specs.Members.{text_at}
 use Rattle.odb_doc.specs.batch.Records.{Record}
 use Rattle.odb_check.specs.Positions.{id_at, IsId}
 use Rattle.odb_reply.specs.ResponseDocuments.{responses_in}

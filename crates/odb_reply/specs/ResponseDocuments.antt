@@ -5,7 +5,7 @@ use Rattle.serde_json.specs.Data.{Data, Num, unsigned, negative, float, string, 
 use Rattle.serde_json.specs.Find.{get, as_str}
 use Rattle.odb_doc.specs.Refusals.{Printed, fault_at}
 use Rattle.odb_doc.specs.declared.fault.Place.TheVariants as places
-use Rattle.odb_json.specs.Members.{array_at, elements_at, given}
+use Rattle.odb_doc.specs.Members.{array_at, elements_at, given}
 use Rattle.odb_doc.specs.recorded.Outcomes.{id_of, status_of}
 use Rattle.odb_reply.specs.declared.responses.Response.{Response}
 use Rattle.odb_reply.specs.declared.responses.Responses.{Responses}

@@ -7,7 +7,7 @@ ghost use Rattle.odb_reply.specs.declared.reply.ReplyFault.TheVariants as faults
 ghost use Rattle.odb_reply.specs.Fits.{ListsFit};
 ghost use Rattle.odb_reply.specs.NotWhole.{HasWholeBodies, IsFirstNotWhole, reply_row};
 ghost use Rattle.odb_reply.specs.OnePerId.{HasOnePerId};
-ghost use Rattle.odb_json.specs.Devices.{HasWritten, AppendsPrefix};
+ghost use Rattle.odb_io.specs.Devices.{HasWritten, AppendsPrefix};
 ghost use Rattle.odb_reply.specs.Parts.{rest_text};
 ghost use Rattle.odb_reply.specs.Readable.{HasShallowBodies};
 ghost use Rattle.odb_reply.specs.ResponseDocuments.{IsResponseDocument};
@@ -17,7 +17,7 @@ use crate::laws::every_response;
 use crate::parts::push_response;
 use crate::whole::first_not_whole;
 use odb_doc::{Fault, Refusal, TextFault};
-use odb_json::{DeviceFault, Output};
+use odb_io::{DeviceFault, Output};
 use odb_sched::Done;
 use std::alloc::{AllocError, Global};
 use std::io::Write;

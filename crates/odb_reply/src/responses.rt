@@ -10,7 +10,7 @@ ghost use Rattle.odb_reply.specs.declared.response_fault.ResponseFault.TheVarian
 ghost use Rattle.odb_reply.specs.ResponseDocuments as response_documents;
 
 use crate::response_fault::ResponseFault;
-use odb_json::member::{array_at, text_at};
+use odb_doc::{array_at, text_at};
 use serde_json::Value;
 use std::alloc::Global;
 

@@ -10,7 +10,7 @@ use Rattle.odb_dense.specs.declared.worklist.Mark.{Mark}
 use Rattle.odb_dense.specs.declared.worklist.Mark.TheVariants.{Unvisited}
 use Rattle.odb_dense.specs.Marks.{is_marked}
 use Rattle.odb_sched.specs.run.Failing.{unit_needed}
-use Rattle.odb_graph.specs.Dependents.{AreDependents, key_of}
+use Rattle.odb_sched.specs.invariants.Dependents.{AreDependents, key_of}
 use Rattle.odb_sched.specs.invariants.Propagation.{NeedsUnit, HaveMarked}
 
 -- what is counted is in the list

@@ -21,7 +21,7 @@ use Rattle.odb_sched.proofs.CountLemmas.{count_same, count_none}
 use Rattle.odb_sched.proofs.FailingLemmas.{Fails-from_fails}
 use Rattle.odb_sched.proofs.PhaseLemmas.{get_or-replicate_Unstarted}
 use Rattle.odb_check.proofs.BelowLemmas.{length-list_below, get_or-list_below}
-use Rattle.odb_graph.proofs.SpanLemmas.{known_needs}
+use Rattle.odb_sched.proofs.SpanLemmas.{known_needs}
 use Rattle.odb_sched.proofs.UnmetLemmas.{none_pending}
 
 -- if a test passes from one number up to another, so many are counted

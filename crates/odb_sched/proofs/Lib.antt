@@ -1,3 +1,6 @@
+pub mod SpanLemmas
+pub mod GraphLemmas
+pub mod NeedPairLemmas
 pub mod BelowLemmas
 pub mod FailingLemmas
 pub mod PlanLemmas

@@ -11,7 +11,7 @@ use Rattle.odb_sched.specs.declared.event.Event.{Event}
 use Rattle.odb_sched.specs.declared.event.Event.TheVariants as at
 use Rattle.odb_sched.specs.run.Resolving.{IsKnown, IsResolved, IsFirstUnknown}
 use Rattle.odb_sched.specs.run.Runs.{event_position}
-use Rattle.odb_json.proofs.ElementLemmas.{slice_get-seam}
+use Rattle.odb_doc.proofs.ElementLemmas.{slice_get-seam}
 
 -- the events before the rest are these by their positions
 pub record HasResolved (rs : List Record) (events rest : List EventValue) (found : List Event) : Type 0 where

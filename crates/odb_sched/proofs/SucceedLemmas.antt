@@ -6,7 +6,7 @@ use Rattle.odb_sched.specs.declared.phase.Phase.{Phase}
 use Rattle.odb_sched.specs.declared.phase.Phase.TheVariants.{Unstarted, Running}
 use Rattle.odb_sched.specs.run.State.{has_succeeded}
 use Rattle.odb_sched.specs.invariants.Counts.{AreUnmet, ArePending, unmet_in, satisfied_by_unit, pending_in}
-use Rattle.odb_graph.specs.Dependents.{need_count}
+use Rattle.odb_sched.specs.invariants.Dependents.{need_count}
 use Rattle.odb_sched.proofs.UnmetLemmas.{unmet_falls, pending_own, pending_other}
 
 -- the unit of the request has one pending member less, and each other unit as many as before

@@ -11,11 +11,11 @@ use Rattle.odb_sched.specs.declared.phase.Phase.{Phase}
 use Rattle.odb_sched.specs.declared.phase.Phase.TheVariants.{Unstarted, Running}
 use Rattle.odb_sched.specs.run.State.{has_succeeded}
 use Rattle.odb_sched.specs.run.Steps.{succeeded_in, satisfied_in}
-use Rattle.odb_graph.specs.Dependents.{AreDependents, key_of, need_count}
+use Rattle.odb_sched.specs.invariants.Dependents.{AreDependents, key_of, need_count}
 use Rattle.odb_sched.specs.invariants.Counts.{unmet_in, satisfied_by_unit, pending_in}
 use Rattle.odb_sched.proofs.CountLemmas.{count_same, count_less}
 use Rattle.odb_sched.proofs.SatisfiedLemmas.{member_succeeded}
-use Rattle.odb_graph.proofs.SpanLemmas.{known_needs}
+use Rattle.odb_sched.proofs.SpanLemmas.{known_needs}
 use Rattle.odb_dense.proofs.CountLemmas.{count_none}
 
 -- none is counted exactly when all pass the contrary test

@@ -1,4 +1,6 @@
 -- What invariants, private clauses and proofs cite: nothing to believe.
+pub mod Dependents
+pub mod Graphs
 pub mod Counts
 pub mod Propagation
 pub mod Kept

@@ -16,7 +16,7 @@ use crate::phase::Phase;
 use crate::policy::Policy;
 use odb_check::Need;
 use odb_dense::{MinMaxSet, Worklist};
-use odb_graph::Graph;
+use crate::graph::Graph;
 use std::alloc::{AllocError, Global};
 
 /// What is counted of a run beside the phases of its requests, which are read while it changes.

@@ -11,6 +11,7 @@
 mod counts;
 mod done;
 mod event;
+mod graph;
 pub mod laws;
 mod order;
 mod owned;

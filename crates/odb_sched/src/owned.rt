@@ -23,7 +23,7 @@ use crate::refusal::{ReportRefusal, StartRefusal};
 use odb_check::Plan;
 use odb_doc::Outcome;
 use odb_doc::status::is_status;
-use odb_graph::Graph;
+use crate::graph::Graph;
 use std::alloc::{AllocError, Global};
 use std::marker::Model;
 

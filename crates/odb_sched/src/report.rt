@@ -15,7 +15,7 @@ use crate::counts::{Counts, Progress};
 use crate::phase::Phase;
 use crate::policy::{Mode, Policy};
 use odb_doc::Outcome;
-use odb_graph::Graph;
+use crate::graph::Graph;
 
 /// Counts one need of a request as satisfied. The last one makes the request ready, unless it has
 /// started or its unit has failed.

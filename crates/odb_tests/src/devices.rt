@@ -1,6 +1,6 @@
 //! Devices that fail: what a take and a put return, and that each calls its device once.
 
-use odb_json::{DeviceFault, Input, Output};
+use odb_io::{DeviceFault, Input, Output};
 use std::io::{self, Error, ErrorKind, Read, Write};
 
 /// A reader that gives a byte a call and fails at its third call.

@@ -15,7 +15,7 @@ use odb_engine::{
     check_batch_with, match_batch, match_batch_with, plan_batch, plan_batch_with, replay_batch,
     replay_batch_with, run_batch, run_batch_with,
 };
-use odb_json::{Input, Output};
+use odb_io::{Input, Output};
 use odb_sched::{Mode, Order, Policy};
 use std::alloc::Global;
 use std::io::{Read, Write};

@@ -9,7 +9,7 @@ use crate::runs::{OnPlan, holds_of};
 use odb_check::Plan;
 use odb_doc::{Outcome, Request, TextFault};
 use odb_exec::{ExecFault, First, Service, ServiceFault, Trace, execute};
-use odb_json::Output;
+use odb_io::Output;
 use odb_reply::{ReplyFault, response_text, write_responses};
 use odb_sched::{Done, Mode, Policy};
 use serde_json::Value;

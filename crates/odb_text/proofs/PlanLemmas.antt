@@ -11,7 +11,7 @@ use Rattle.odb_check.specs.Levels.{level_at}
 use Rattle.odb_check.specs.Needs.{needs_at}
 use Rattle.odb_text.specs.Results.{json_line, need_values, plan_value, planned}
 use Rattle.odb_text.specs.ResultParts.{group_part, id_part, planned_left}
-use Rattle.odb_json.proofs.ElementLemmas.{drop_at}
+use Rattle.odb_doc.proofs.ElementLemmas.{drop_at}
 
 members_text_of : (group : Option (List ℕ)) (id : List ℕ) (level : ℕ) (needs : List Data)
     → compact_text (object (with_some (codes "group") (option_map string group) (put (codes "id") (string id) (put (codes "level") (number (unsigned level)) (put (codes "needs") (array (items_of needs)) no_members)))))

@@ -5,7 +5,7 @@ use Rattle.serde_json.specs.Data.{Data}
 use Rattle.serde_json.specs.Find.{get}
 use Rattle.odb_doc.specs.Headers.{Header, HasHeaders}
 use Rattle.odb_doc.specs.batch.MediaTypes.{AllowsBody}
-use Rattle.odb_json.specs.Members.{given}
+use Rattle.odb_doc.specs.Members.{given}
 
 -- the value at `body`, none if it is null
 abbrev pub body_of : Data → Option Data

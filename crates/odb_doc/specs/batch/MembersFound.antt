@@ -9,11 +9,11 @@ use Rattle.serde_json.specs.declared.value.Value.{Value}
 use Rattle.odb_names.specs.declared.method.Method.{Method}
 use Rattle.odb_doc.specs.declared.batch.members.Members.{Members}
 use Rattle.odb_doc.specs.declared.fault.RequestRule.TheVariants as rules
-use Rattle.odb_json.specs.declared.member.Object.TheVariants as objects
+use Rattle.odb_doc.specs.declared.member.Object.TheVariants as objects
 use Rattle.odb_doc.specs.BrokenRules.{BreaksNoneBefore}
 use Rattle.odb_doc.specs.Headers.{Header, HasHeaders}
 use Rattle.odb_doc.specs.batch.Shapes.{HasMethod}
-use Rattle.odb_json.specs.Members.{is_unknown, members_of, names_in}
+use Rattle.odb_doc.specs.Members.{is_unknown, members_of, names_in}
 
 -- the data at a place
 abbrev pub data_of : Option (Bor Value) → Option Data

@@ -8,7 +8,7 @@ use Rattle.odb_names.specs.declared.method.Method.{Method}
 use Rattle.odb_doc.specs.declared.batch.request.Request.{Request}
 use Rattle.odb_doc.specs.batch.Bodies.{body_of}
 use Rattle.odb_doc.specs.Headers.{Header, HasHeaders, lent_header}
-use Rattle.odb_json.specs.Names.{distinct, texts_in}
+use Rattle.odb_doc.specs.Names.{distinct, texts_in}
 use Rattle.odb_doc.specs.batch.References.{RefersTo}
 use Rattle.odb_doc.specs.batch.Shapes.{HasId, HasMethod, HasGroup, url_of, listed_names, elements}
 

@@ -12,10 +12,10 @@ use Rattle.odb_doc.specs.declared.fault.DocumentRule.{DocumentRule}
 use Rattle.odb_doc.specs.declared.fault.DocumentRule.TheVariants as document
 use Rattle.odb_doc.specs.declared.fault.RequestRule.{RequestRule}
 use Rattle.odb_doc.specs.declared.fault.RequestRule.TheVariants as request
-use Rattle.odb_json.specs.declared.member.Object.TheVariants.{Document, Request}
+use Rattle.odb_doc.specs.declared.member.Object.TheVariants.{Document, Request}
 use Rattle.odb_doc.specs.batch.Bodies.{body_of, HasBadBody}
 use Rattle.odb_doc.specs.Headers.{listed_headers, header_names}
-use Rattle.odb_json.specs.Members.{array_at, elements_at, text_at, given, HasUnknown}
+use Rattle.odb_doc.specs.Members.{array_at, elements_at, text_at, given, HasUnknown}
 
 -- the array at `requests`
 abbrev pub requests_in : Data → Option Items

@@ -7,11 +7,11 @@ use Rattle.serde_json.specs.Find.{get}
 use Rattle.odb_doc.specs.declared.recorded.event.NamedEvent.{NamedEvent}
 use Rattle.odb_doc.specs.declared.recorded.event.NamedEvent.TheVariants as named
 use Rattle.odb_doc.specs.declared.recorded.outcome.Outcome.{Outcome}
-use Rattle.odb_json.specs.declared.member.Object.TheVariants as objects
+use Rattle.odb_doc.specs.declared.member.Object.TheVariants as objects
 use Rattle.odb_doc.specs.batch.Bodies.{body_of}
 use Rattle.odb_doc.specs.Headers.{HasHeaders}
 use Rattle.odb_doc.specs.recorded.OutcomeValues.{IsRecordable}
-use Rattle.odb_json.specs.Members.{elements_at, text_at, HasOther, IsListObject}
+use Rattle.odb_doc.specs.Members.{elements_at, text_at, HasOther, IsListObject}
 use Rattle.odb_doc.specs.recorded.Outcomes.{HasOutcome, status_of}
 use Rattle.odb_doc.specs.WholeNumbers.{IsWhole}
 

@@ -5,12 +5,12 @@ use Rattle.std.specs.declared.alloc.Global.{Global}
 use Rattle.std.specs.List.{AllZip, filter_map}
 use Rattle.serde_json.specs.Data.{Data, Num, unsigned, negative, float}
 use Rattle.serde_json.specs.Find.{get, as_number}
-use Rattle.odb_json.specs.declared.member.Object.{Object}
-use Rattle.odb_json.specs.declared.member.Object.TheVariants as objects
+use Rattle.odb_doc.specs.declared.member.Object.{Object}
+use Rattle.odb_doc.specs.declared.member.Object.TheVariants as objects
 use Rattle.odb_doc.specs.declared.recorded.outcome.Outcome.{Outcome}
 use Rattle.odb_doc.specs.batch.Bodies.{body_of}
 use Rattle.odb_doc.specs.Headers.{HasHeaders, IsHeaders}
-use Rattle.odb_json.specs.Members.{elements_at, text_at, HasOther, IsListObject}
+use Rattle.odb_doc.specs.Members.{elements_at, text_at, HasOther, IsListObject}
 use Rattle.odb_doc.specs.Statuses.{is_status}
 use Rattle.odb_doc.specs.WholeNumbers.{IsWhole}
 

@@ -3,7 +3,7 @@ use Rattle.std.specs.Prelude.{◌≡◌, ◌⊎◌, ℕ, Option, IfSome}
 use Rattle.serde_json.specs.Data.{Data}
 use Rattle.odb_doc.specs.declared.recorded.outcome.Outcome.{Outcome}
 use Rattle.odb_doc.specs.Headers.{HoldsHeaders, IsHeaders}
-use Rattle.odb_json.specs.Members.{given}
+use Rattle.odb_doc.specs.Members.{given}
 use Rattle.odb_doc.specs.WholeNumbers.{IsWhole}
 
 -- The outcome has this status, these headers and this body, by the rules of a report: null is treated as absent, and the

@@ -9,8 +9,8 @@ use Rattle.serde_json.specs.Find.{as_number, as_str, get}
 use Rattle.serde_json.specs.View.{view, number_view}
 use Rattle.odb_doc.specs.declared.broken.Broken.{Broken}
 use Rattle.odb_doc.specs.declared.broken.Broken.TheVariants as broken
-use Rattle.odb_json.specs.declared.member.Object.{Object}
-use Rattle.odb_json.specs.declared.member.Object.TheVariants as objects
+use Rattle.odb_doc.specs.declared.member.Object.{Object}
+use Rattle.odb_doc.specs.declared.member.Object.TheVariants as objects
 use Rattle.odb_doc.specs.declared.recorded.outcome.Parts.{Parts}
 use Rattle.odb_doc.specs.declared.recorded.outcome.RawOutcome.{RawOutcome}
 use Rattle.odb_doc.specs.declared.recorded.event_fault.EventRule.{EventRule}
@@ -26,8 +26,8 @@ use Rattle.odb_doc.specs.recorded.EventFaults as event_table
 use Rattle.odb_doc.specs.recorded.LeastEventFault.{BreaksEvent}
 use Rattle.odb_doc.specs.recorded.LeastOutcomeFault.{BreaksOutcome}
 use Rattle.odb_doc.specs.LeastRules.{IsLeast}
-use Rattle.odb_json.specs.SameTexts.{AreSameTexts}
-use Rattle.odb_json.specs.Members.{HasOther, is_other, members_of, names_in, text_at}
+use Rattle.odb_doc.specs.SameTexts.{AreSameTexts}
+use Rattle.odb_doc.specs.Members.{HasOther, is_other, members_of, names_in, text_at}
 use Rattle.odb_doc.specs.recorded.OutcomeFaults.{rule_number}
 use Rattle.odb_doc.specs.recorded.Outcomes.{HasOutcome, status_of}
 

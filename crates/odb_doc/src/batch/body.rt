@@ -16,7 +16,7 @@ use crate::batch::media_type::BodyKind;
 use crate::batch::members::Members;
 use crate::broken::Broken;
 use crate::fault::RequestRule;
-use odb_json::member::given;
+use crate::member::given;
 use odb_names::{Method, is_base64url};
 use serde_json::Value;
 use std::alloc::{AllocError, Global};

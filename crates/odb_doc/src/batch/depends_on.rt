@@ -6,13 +6,13 @@ ghost use Rattle.serde_json.specs.View.{items_view};
 ghost use Rattle.odb_doc.specs.declared.fault.RequestRule.TheVariants as rules;
 ghost use Rattle.odb_doc.specs.BrokenRules.{OnRule, OnlyIf, BreaksNoneBefore, IsLeastRequestRule};
 ghost use Rattle.odb_doc.specs.batch.MembersFound.{AreMembersOf, data_of};
-ghost use Rattle.odb_json.specs.Names.{distinct, texts_in};
+ghost use Rattle.odb_doc.specs.Names.{distinct, texts_in};
 ghost use Rattle.odb_doc.specs.batch.Shapes.{texts_of, texts_or_none, listed_names};
 
 use crate::batch::members::Members;
 use crate::broken::Broken;
 use crate::fault::RequestRule;
-use odb_json::{Names, without_repeats};
+use crate::repeats::{Names, without_repeats};
 use serde_json::Value;
 use smallvec::SmallVec;
 use std::alloc::Global;

@@ -20,7 +20,7 @@ ghost use Rattle.odb_doc.specs.Headers.{HasHeaders, IsInOrder, lent_header, text
 use crate::batch::members::Members;
 use crate::broken::Broken;
 use crate::fault::RequestRule;
-use odb_json::member::given;
+use crate::member::given;
 use serde_json::{Map, Value};
 use std::alloc::Global;
 use std::cmp::Ordering;

@@ -11,7 +11,7 @@ ghost use Rattle.odb_doc.specs.batch.Shapes.{HasId, HasMethod, HasGroup};
 
 use crate::batch::members::Members;
 use crate::fault::RequestRule;
-use odb_json::member::{given, text_in};
+use crate::member::{given, text_in};
 use odb_names::{Method, is_request_id};
 use serde_json::Value;
 

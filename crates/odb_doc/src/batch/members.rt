@@ -4,7 +4,7 @@ ghost use Rattle.serde_json.specs.Data.{object, no_members};
 ghost use Rattle.serde_json.specs.View.{view, members_view};
 ghost use Rattle.odb_doc.specs.batch.MembersFound.{AreMembersOf, PutsMember};
 
-use odb_json::member::Object;
+use crate::member::Object;
 use serde_json::{Map, Value};
 
 /// The values at the names that a request may have, and whether its object has an unknown name.
@@ -23,7 +23,7 @@ pub(crate) struct Members<'a> {
 
 impl<'a> Members<'a> {
     /// Records the member in its place.
-    #[tactic(auto, unfolding(odb_json::specs::Members::is_unknown))]
+    #[tactic(auto, unfolding(crate::specs::Members::is_unknown))]
     fn put(&mut self, name: &str, value: &'a Value)
         ensures { PutsMember name.now (view value.now) self.old self.new }
     {

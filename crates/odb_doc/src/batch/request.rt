@@ -7,7 +7,7 @@ ghost use Rattle.std.proofs.Props.{props};
 ghost use Rattle.serde_json.specs.View.{view};
 ghost use Rattle.odb_names.specs.Identifiers.{IsRequestId};
 ghost use Rattle.odb_doc.specs.BrokenRules.{OnRule, IsRequestObject, IsLeastRequestRule};
-ghost use Rattle.odb_json.specs.Names.{texts_in};
+ghost use Rattle.odb_doc.specs.Names.{texts_in};
 
 use crate::batch::body::body_of;
 use crate::batch::depends_on::read_names;

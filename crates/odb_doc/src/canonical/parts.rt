@@ -8,7 +8,7 @@ ghost use Rattle.odb_doc.specs.canonical.Canonical.{HasWholeBodies, headers_valu
 ghost use Rattle.odb_doc.specs.Headers.{lent_header};
 ghost use Rattle.odb_doc.specs.canonical.CanonicalParts as canonical_parts;
 ghost use Rattle.odb_doc.specs.Texts.{member_part};
-ghost use Rattle.odb_json.specs.Names.{texts_in};
+ghost use Rattle.odb_doc.specs.Names.{texts_in};
 ghost use Rattle.odb_doc.specs.batch.Records.{record_of};
 ghost use Rattle.odb_doc.specs.WholeNumbers.{HasWholeBody};
 

@@ -9,14 +9,14 @@ ghost use Rattle.odb_doc.specs.BrokenRules.{OnRule};
 ghost use Rattle.odb_doc.specs.recorded.RawOutcomes.{IsReportOf, IsLeastBrokenEvent};
 ghost use Rattle.odb_doc.specs.recorded.Events.{IsReportedStatus, IsWellFormedEvent, IsStart, ReadsAs, event_value};
 ghost use Rattle.odb_doc.specs.recorded.LeastEventFault.{BreaksEvent};
-ghost use Rattle.odb_json.specs.Members as members;
+ghost use Rattle.odb_doc.specs.Members as members;
 ghost use Rattle.odb_doc.specs.WholeNumbers.{IsWhole};
 
 use crate::broken::Broken;
 use crate::recorded::event_fault::EventRule;
 use crate::recorded::outcome::{Outcome, RawOutcome, moved, raw_outcome_of};
 use crate::whole::has_whole_body;
-use odb_json::member::{Object, text_of};
+use crate::member::{Object, text_of};
 use serde_json::{Number, Value};
 use std::alloc::Global;
 

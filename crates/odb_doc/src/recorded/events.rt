@@ -14,7 +14,7 @@ use crate::broken::Broken;
 use crate::recorded::event::{NamedEvent, read_event};
 use crate::recorded::event_fault::{EventFault, EventRule};
 use crate::recorded::outcomes::Husk;
-use odb_json::member::Object;
+use crate::member::Object;
 use serde_json::Value;
 use std::alloc::Global;
 

@@ -4,7 +4,7 @@ ghost use Rattle.std.specs.Prelude.{◌≡◌, ℕ, List, false, bytes_eq, codes
 ghost use Rattle.std.specs.BTreeMap.{get_by_text};
 ghost use Rattle.serde_json.specs.Data.{object, no_members};
 ghost use Rattle.serde_json.specs.View.{view, members_view};
-ghost use Rattle.odb_json.specs.declared.member.Object.{Object};
+ghost use Rattle.odb_doc.specs.declared.member.Object.{Object};
 ghost use Rattle.odb_doc.specs.BrokenRules.{OnlyIf};
 ghost use Rattle.odb_doc.specs.Headers.{headers_in};
 ghost use Rattle.odb_doc.specs.recorded.Outcomes.{HasOutcome};
@@ -12,7 +12,7 @@ ghost use Rattle.odb_doc.specs.recorded.RawOutcomes.{AreFoundIn, ArePartsOf, Has
 
 use crate::broken::Broken;
 use crate::headers::headers_from;
-use odb_json::member::{Object, text_of, unless_null};
+use crate::member::{Object, text_of, unless_null};
 use serde_json::{Map, Number, Value};
 use std::alloc::Global;
 use std::collections::BTreeMap;

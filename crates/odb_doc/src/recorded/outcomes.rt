@@ -20,7 +20,7 @@ use crate::recorded::outcome_fault::{OutcomeFault, OutcomeRule};
 use crate::recorded::seen::SeenIds;
 use crate::status::is_status;
 use crate::whole::has_whole_body;
-use odb_json::member::Object;
+use crate::member::Object;
 use serde_json::{Number, Value};
 use std::alloc::Global;
 

@@ -9,7 +9,7 @@ use crate::headers::headers_from;
 use crate::recorded::event_fault::EventRule;
 use crate::recorded::outcome::Outcome;
 use crate::whole::has_whole_body;
-use odb_json::member::unless_null;
+use crate::member::unless_null;
 use serde_json::Value;
 use std::alloc::{AllocError, Global};
 

@@ -3,11 +3,11 @@
 ghost use Rattle.std.specs.Prelude.{◌≡◌, ◌<◌, ◌++◌, ◌∷◌, ℕ, List, [], length, map, false, not, bytes_eq, string_bytes, IfOk, OnOk, OnErr};
 ghost use Rattle.std.specs.List.{IsDistinct, list_any};
 ghost use Rattle.serde_json.specs.View.{view};
-ghost use Rattle.odb_json.specs.Names.{texts_in};
+ghost use Rattle.odb_doc.specs.Names.{texts_in};
 ghost use Rattle.odb_doc.specs.recorded.Outcomes.{ids};
 
-use odb_json::may_repeat;
-use odb_json::member::text_at;
+use crate::repeats::may_repeat;
+use crate::member::text_at;
 use serde_json::Value;
 use std::alloc::{AllocError, Global};
 use std::collections::BTreeSet;

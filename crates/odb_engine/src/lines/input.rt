@@ -4,7 +4,7 @@ ghost use Rattle.std.specs.Prelude.{◌≡◌, ◌+◌, ◌^◌, ◌<◌, ◌≤
 ghost use Rattle.std.specs.Io.KnownBytes.{Consumes, IsAtEnd, Keeps};
 ghost use Rattle.odb_engine.specs.lines.Sources.{ahead, left};
 
-use odb_json::DeviceFault;
+use odb_io::DeviceFault;
 use std::alloc::{AllocError, Global};
 use std::io::{BufRead, BufReader, Read};
 use std::marker::Model;

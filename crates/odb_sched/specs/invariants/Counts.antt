@@ -10,7 +10,7 @@ use Rattle.odb_sched.specs.declared.phase.Phase.TheVariants.{Unstarted}
 use Rattle.odb_sched.specs.declared.counts.Progress.{Progress}
 use Rattle.odb_sched.specs.run.State.{is_unstarted, is_running, has_succeeded}
 use Rattle.odb_sched.specs.run.Steps.{succeeded_in, satisfied_in, failed_in}
-use Rattle.odb_graph.specs.Dependents.{need_count}
+use Rattle.odb_sched.specs.invariants.Dependents.{need_count}
 
 -- how many needs of a request are not satisfied
 abbrev pub unmet_in : PlanGraph → List Phase → ℕ → ℕ

@@ -3,7 +3,7 @@
 
 use super::{EXAMPLES, Example, PAIR, called};
 use odb_engine::Disposal;
-use odb_json::{Input, Output};
+use odb_io::{Input, Output};
 use std::alloc::Global;
 use std::fs;
 

@@ -2,7 +2,7 @@
 
 use crate::fail::Fail;
 use odb_engine::check_batch;
-use odb_json::{Input, Output};
+use odb_io::{Input, Output};
 use std::alloc::Global;
 
 /// Returns what the check of a document writes: the line of its counts, or of its first fault.

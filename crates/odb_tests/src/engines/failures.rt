@@ -4,7 +4,7 @@
 use super::devices::{Narrow, Pace, Slow};
 use super::{EXAMPLES, Example, PAIR, called};
 use odb_engine::{Disposal, Ended, EngineFault};
-use odb_json::{Input, Output};
+use odb_io::{Input, Output};
 use std::alloc::Global;
 
 /// Turns of a byte, of three, of uneven numbers, and of more than a text has.

@@ -21,7 +21,7 @@ use odb_engine::{
     match_batch, plan_batch, replay_batch, run_batch,
 };
 use odb_exec::Last;
-use odb_json::{Input, Output};
+use odb_io::{Input, Output};
 use odb_sched::{Mode, Policy};
 use std::alloc::Global;
 

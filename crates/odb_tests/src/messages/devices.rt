@@ -3,7 +3,7 @@
 use super::compare;
 use odb_doc::TextFault;
 use odb_engine::EngineFault;
-use odb_json::DeviceFault;
+use odb_io::DeviceFault;
 use odb_reply::ReplyFault;
 use std::alloc::Global;
 use std::test::Fail;

@@ -1,5 +1,5 @@
 use Rattle.std.proofs.Common.{◌+◌, take}
-use Rattle.odb_json.specs.Names.{texts_in}
+use Rattle.odb_doc.specs.Names.{texts_in}
 use Rattle.odb_check.specs.Requests.{requests}
 use Rattle.odb_check.proofs.WalkLemmas.{AddsNames}
 use Rattle.odb_check.proofs.walk.add_names.Given as goal

@@ -1,4 +1,4 @@
-use Rattle.odb_json.proofs.NameLemmas.{fold-with_name-nil}
+use Rattle.odb_doc.proofs.NameLemmas.{fold-with_name-nil}
 use Rattle.odb_doc.proofs.laws.distinct_names.Goals as goal
 
 pub returns : goal.returns

@@ -1,5 +1,5 @@
 use Rattle.std.proofs.Common.{◌≡◌, ◌++◌, false, string_bytes}
-use Rattle.odb_json.specs.Devices.{HasWritten}
+use Rattle.odb_io.specs.Devices.{HasWritten}
 use Rattle.odb_reply.specs.Parts.{rest_text}
 use Rattle.odb_reply.proofs.reply.buffer_responses.Given as goal
 

@@ -1,7 +1,7 @@
 use Rattle.std.proofs.Common.{Result, Ok, Err, OnOk, refl}
 use Rattle.odb_reply.specs.Responses.{response_text}
 use Rattle.odb_reply.proofs.ReadableLemmas.{readable-from}
-use Rattle.odb_json.proofs.WriteLemmas.{AppendsPrefix-none}
+use Rattle.odb_io.proofs.WriteLemmas.{AppendsPrefix-none}
 use Rattle.odb_reply.proofs.reply.write_responses.Goals as goal
 
 pub returns-in-Some-clause-err : goal.returns-in-Some-clause-err

@@ -1,8 +1,8 @@
 use Rattle.std.proofs.Common.{rules, string_bytes, subst}
-use Rattle.odb_json.specs.Devices.{HasWritten, AppendsPrefix}
+use Rattle.odb_io.specs.Devices.{HasWritten, AppendsPrefix}
 use Rattle.odb_reply.specs.Responses.{response_text}
 use Rattle.odb_reply.proofs.RestLemmas.{response_text-begun}
-use Rattle.odb_json.proofs.WriteLemmas.{AppendsPrefix-none, AppendsPrefix-after, Appends-rest}
+use Rattle.odb_io.proofs.WriteLemmas.{AppendsPrefix-none, AppendsPrefix-after, Appends-rest}
 use Rattle.odb_reply.proofs.reply.write_whole.Goals as goal
 
 pub returns-in_err-buffer-clause-err : goal.returns-in_err-buffer-clause-err

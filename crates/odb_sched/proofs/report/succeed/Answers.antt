@@ -3,7 +3,7 @@ use Rattle.std.proofs.Common.{◌≡◌, ◌+◌, ◌-◌, ◌∙◌, suc, sym, 
 use Rattle.odb_check.specs.PlanGraph.{unit_of}
 use Rattle.odb_sched.specs.declared.counts.Progress.{Progress}
 use Rattle.odb_sched.specs.invariants.Counts.{ArePending, ArePropagated, unmet_in, satisfied_by_unit, pending_in}
-use Rattle.odb_graph.specs.Dependents.{need_count}
+use Rattle.odb_sched.specs.invariants.Dependents.{need_count}
 use Rattle.odb_sched.proofs.PhaseLemmas.{succeeded_idle, succeeded_not_failed}
 use Rattle.odb_sched.proofs.SameLemmas.{as_before, propagated_same, running_same}
 use Rattle.odb_sched.proofs.ReadyLemmas.{as_long}

@@ -2,7 +2,7 @@ use Rattle.std.proofs.Common.{◌≡◌, ◌∙◌, None, Some, IsSome, ap, map,
 use Rattle.serde_json.specs.View.{view}
 use Rattle.odb_doc.specs.batch.Bodies.{body_of}
 use Rattle.odb_doc.specs.Headers.{lent_header}
-use Rattle.odb_json.specs.Members.{given}
+use Rattle.odb_doc.specs.Members.{given}
 use Rattle.odb_doc.proofs.RuleLemmas.{before_fit, before_nested, body_allowed, body_fits}
 use Rattle.odb_doc.proofs.batch.body.body_of.Goals as goal
 

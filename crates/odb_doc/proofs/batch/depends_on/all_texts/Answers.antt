@@ -1,6 +1,6 @@
 use Rattle.std.proofs.Common.{◌≡◌, ◌∙◌, ◌+◌, ◌++◌, ◌∷◌, [], ℕ, List, Bor, drop, refl, sym, ap, rules}
 use Rattle.std.proofs.lemmas.List.{at_drop_all, map-append}
-use Rattle.odb_json.specs.Names.{texts_in}
+use Rattle.odb_doc.specs.Names.{texts_in}
 use Rattle.odb_doc.proofs.ArrayLemmas.{texts_on, texts_on-zero, texts_on-nil, texts_on-text, texts_on-other, texts_on-drop}
 use Rattle.odb_doc.proofs.batch.depends_on.all_texts.Goals as goal
 

@@ -1,6 +1,6 @@
 use Rattle.std.proofs.Common.{◌≡◌, drop}
 use Rattle.serde_json.specs.View.{items_view}
-use Rattle.odb_json.specs.Names.{texts_in}
+use Rattle.odb_doc.specs.Names.{texts_in}
 use Rattle.odb_doc.specs.batch.Shapes.{texts_of}
 use Rattle.odb_doc.proofs.ArrayLemmas.{texts_on}
 use Rattle.odb_doc.proofs.batch.depends_on.all_texts.Given as goal

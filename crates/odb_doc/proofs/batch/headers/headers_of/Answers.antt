@@ -2,7 +2,7 @@ use Rattle.std.proofs.Common.{◌∙◌, codes, map, ap, sym, option_and_then, r
 use Rattle.std.proofs.lemmas.Result.{IfErr-weaker, IfOk-weaker}
 use Rattle.serde_json.specs.Find.{get}
 use Rattle.odb_doc.specs.Headers.{lent_header, text_members, text_members_in}
-use Rattle.odb_json.specs.Members.{given}
+use Rattle.odb_doc.specs.Members.{given}
 use Rattle.odb_doc.proofs.LentLemmas.{HoldsHeaders-lent, HoldsHeaders-none, twice_least}
 use Rattle.odb_doc.proofs.RuleLemmas.{headers_sound}
 use Rattle.odb_doc.proofs.batch.headers.headers_of.Goals as goal

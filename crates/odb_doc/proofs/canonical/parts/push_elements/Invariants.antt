@@ -1,6 +1,6 @@
 use Rattle.std.proofs.Common.{◌≡◌, ◌++◌, false, nat_lt, drop, string_bytes}
 use Rattle.odb_doc.specs.canonical.CanonicalParts.{names_left}
-use Rattle.odb_json.specs.Names.{texts_in}
+use Rattle.odb_doc.specs.Names.{texts_in}
 use Rattle.odb_doc.proofs.canonical.parts.push_elements.Given as goal
 
 -- the text so far, and then the elements that are left, are the whole

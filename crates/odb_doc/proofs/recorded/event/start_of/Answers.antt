@@ -1,10 +1,10 @@
 use Rattle.std.proofs.Common.{◌≡◌, ◌∙◌, None, Some, codes, option_map, ap, sym, refl, rules}
 use Rattle.serde_json.specs.Find.{get, as_object}
 use Rattle.serde_json.specs.View.{view, members_view}
-use Rattle.odb_json.specs.declared.member.Object.TheVariants as objects
-use Rattle.odb_json.specs.Members.{HasOther}
+use Rattle.odb_doc.specs.declared.member.Object.TheVariants as objects
+use Rattle.odb_doc.specs.Members.{HasOther}
 use Rattle.odb_doc.proofs.EventLemmas.{start-from}
-use Rattle.odb_json.proofs.PartLemmas.{get-at}
+use Rattle.odb_doc.proofs.PartLemmas.{get-at}
 use Rattle.odb_doc.proofs.recorded.event.start_of.Goals as goal
 
 pub returns-in_err-moved : goal.returns-in_err-moved

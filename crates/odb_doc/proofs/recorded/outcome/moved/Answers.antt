@@ -1,5 +1,5 @@
 use Rattle.std.proofs.Common.{IsSome, rules}
-use Rattle.odb_json.proofs.PartLemmas.{at, at-writes}
+use Rattle.odb_doc.proofs.PartLemmas.{at, at-writes}
 use Rattle.odb_doc.proofs.recorded.outcome.moved.Goals as goal
 
 pub returns-clause-others : goal.returns-clause-others

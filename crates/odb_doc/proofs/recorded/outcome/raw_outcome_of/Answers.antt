@@ -2,7 +2,7 @@ use Rattle.std.proofs.Common.{◌≡◌, ◌∙◌, Some, codes, string_bytes, a
 use Rattle.serde_json.specs.Find.{get}
 use Rattle.serde_json.specs.View.{view, number_view}
 use Rattle.odb_doc.specs.Headers.{headers_in}
-use Rattle.odb_json.specs.Members.{given, text_at}
+use Rattle.odb_doc.specs.Members.{given, text_at}
 use Rattle.odb_doc.specs.recorded.Outcomes.{status_of}
 use Rattle.odb_doc.proofs.RuleLemmas.{IsHeaders-from}
 use Rattle.odb_doc.proofs.recorded.outcome.raw_outcome_of.Goals as goal

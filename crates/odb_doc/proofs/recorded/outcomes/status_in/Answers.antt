@@ -5,7 +5,7 @@ use Rattle.serde_json.specs.View.{view, number_view}
 use Rattle.odb_doc.specs.recorded.Outcomes.{IsStatus}
 use Rattle.odb_doc.specs.WholeNumbers.{IsWhole}
 use Rattle.odb_doc.proofs.OutcomeLemmas.{BreaksOutcome-twice, BreaksOutcome-not_twice, BreaksOutcome-status, BreaksOutcome-good_status, BreaksOutcome-not_whole, BreaksOutcome-whole, below_61, below_62, below_63, breaks_none}
-use Rattle.odb_json.proofs.SetLemmas.{any_when_old, none_when_new}
+use Rattle.odb_doc.proofs.SetLemmas.{any_when_old, none_when_new}
 use Rattle.odb_doc.proofs.recorded.outcomes.status_in.Goals as goal
 
 pub returns-then-not-branch-clause-first : goal.returns-then-not-branch-clause-first

@@ -1,6 +1,6 @@
 use Rattle.std.proofs.Common.{◌≡◌, drop, map}
 use Rattle.serde_json.specs.View.{view}
-use Rattle.odb_json.specs.Names.{texts_in}
+use Rattle.odb_doc.specs.Names.{texts_in}
 use Rattle.odb_doc.specs.recorded.Outcomes.{ids}
 use Rattle.odb_doc.proofs.WatchLemmas.{ids_on}
 use Rattle.odb_doc.proofs.recorded.seen.ids_of.Given as goal

@@ -1,5 +1,5 @@
 use Rattle.std.proofs.Common.{ℕ, List, Some, Bor, subst}
-use Rattle.odb_json.specs.Devices.{Reading}
+use Rattle.odb_io.specs.Devices.{Reading}
 use Rattle.odb_sched.specs.declared.order.Order.TheVariants as orders
 use Rattle.odb_sched.specs.run.Choosing.{AllowsOrder}
 use Rattle.odb_engine.specs.Cascade.{Answers}

@@ -2,10 +2,10 @@
 use Rattle.std.proofs.Common.{map, sym, rules}
 use Rattle.serde_json.specs.View.{view}
 use Rattle.odb_doc.specs.batch.MembersFound.{MayHaveBody}
-use Rattle.odb_json.specs.Names.{texts_in}
+use Rattle.odb_doc.specs.Names.{texts_in}
 use Rattle.odb_doc.specs.batch.Shapes.{listed_names}
 use Rattle.odb_doc.specs.Headers.{lent_header}
-use Rattle.odb_json.proofs.DistinctLemmas.{IsDistinct-listed}
+use Rattle.odb_doc.proofs.DistinctLemmas.{IsDistinct-listed}
 use Rattle.odb_doc.proofs.ReferenceLemmas.{none_broken}
 use Rattle.odb_doc.proofs.batch.request.Request.read.Goals as goal
 

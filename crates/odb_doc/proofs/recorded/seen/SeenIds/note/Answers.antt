@@ -1,8 +1,8 @@
 use Rattle.std.proofs.Common.{◌∙◌, not, map, ap, String, string_bytes}
 use Rattle.std.specs.declared.alloc.Global.{Global}
-use Rattle.odb_json.specs.SameTexts.{AreSameTexts}
-use Rattle.odb_json.proofs.SetLemmas.{any_at, same_texts_more}
-use Rattle.odb_json.proofs.DistinctLemmas.{distinct_new}
+use Rattle.odb_doc.specs.SameTexts.{AreSameTexts}
+use Rattle.odb_doc.proofs.SetLemmas.{any_at, same_texts_more}
+use Rattle.odb_doc.proofs.DistinctLemmas.{distinct_new}
 use Rattle.odb_doc.proofs.recorded.seen.SeenIds.note.Goals as goal
 
 pub returns-in_ok-insert-in-Some-clause-is_new : goal.returns-in_ok-insert-in-Some-clause-is_new

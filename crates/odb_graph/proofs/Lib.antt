@@ -1,3 +1,0 @@
-pub mod SpanLemmas
-pub mod GraphLemmas
-pub mod NeedPairLemmas
