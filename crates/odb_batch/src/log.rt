@@ -6,7 +6,7 @@ use crate::ending::{Status, failed, finish};
 use crate::engines::{Environment, not_opened};
 use crate::progress::Watched;
 use odb_engine::{Disposal, Ended, EngineFault, Form, LineTask, Setup};
-use odb_json::Output;
+use odb_io::Output;
 use odb_engine::{EachLine, LineCommand, LineInput, answer_lines};
 use std::alloc::Global;
 use std::io::{BufWriter, Read, Write};

@@ -1,7 +1,7 @@
 -- What a command writes to memory is the text of its answer.
 use Rattle.std.proofs.Common.{◌≡◌, ℕ, [], Some, Result, Ok, Err, IfOk, Vec, Global, false}
 use Rattle.std.proofs.lemmas.Result.{IfOk-at_ok}
-use Rattle.odb_json.specs.Devices.{Writing}
+use Rattle.odb_io.specs.Devices.{Writing}
 use Rattle.odb_engine.specs.declared.answer.Answer.{Answer}
 use Rattle.odb_engine.specs.declared.ending.Ended.{Ended}
 use Rattle.odb_engine.specs.declared.ending.EngineFault.{EngineFault}

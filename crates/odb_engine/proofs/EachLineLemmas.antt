@@ -22,7 +22,7 @@ use Rattle.odb_engine.specs.lines.Steps.{IsOpen, cut, EndsAnswer, Advances}
 use Rattle.odb_engine.specs.lines.Steps.Advances.{Holds, Lacks, Answers}
 use Rattle.odb_engine.proofs.ByteLemmas.{cut-append, cut-nil, IsDocumentOf-cut}
 use Rattle.odb_engine.proofs.LineLemmas.{joined, with_end, last_line, joined-more, lines-joined, ended-joined, take-joined, last_line-some}
-use Rattle.odb_json.proofs.WriteLemmas.{AppendsPrefix-append, AppendsPrefix-whole}
+use Rattle.odb_io.proofs.WriteLemmas.{AppendsPrefix-append, AppendsPrefix-whole}
 
 pub both-done : (ended : Ended) → both ended Done ≡ ended
 both-done Done = refl

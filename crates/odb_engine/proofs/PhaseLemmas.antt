@@ -1,7 +1,7 @@
 -- The two phases of an engine over two documents: the batch, and then the second document.
 use Rattle.std.proofs.Common.{◌≡◌, ◌⊎◌, ◌↔◌, Bool, false, List, ℕ, Option, Result, Ok, Err, IfOk, IfErr, OnOk, IsTrue, inl, inr, sym, subst, ap, ◌∙◌}
 use Rattle.std.proofs.lemmas.Bool.{both_ways}
-use Rattle.odb_json.specs.Devices.{Reading, Writing}
+use Rattle.odb_io.specs.Devices.{Reading, Writing}
 use Rattle.odb_engine.specs.declared.ending.Ended.{Ended}
 use Rattle.odb_engine.specs.declared.ending.EngineFault.{EngineFault}
 use Rattle.odb_engine.specs.declared.halt.Halt.{Halt}

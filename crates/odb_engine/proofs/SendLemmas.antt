@@ -2,10 +2,10 @@
 use Rattle.std.proofs.Common.{ℕ, List, ◌++◌, Option, Result, Ok, Err}
 use Rattle.std.proofs.KnownBytes.{Appends-trans}
 use Rattle.std.specs.Io.KnownBytes.{Appends}
-use Rattle.odb_json.specs.Devices.{Writing}
+use Rattle.odb_io.specs.Devices.{Writing}
 use Rattle.odb_engine.specs.declared.ending.EngineFault.{EngineFault}
 use Rattle.odb_engine.specs.Halts.{Sends}
-use Rattle.odb_json.proofs.WriteLemmas.{AppendsPrefix-part, AppendsPrefix-append}
+use Rattle.odb_io.proofs.WriteLemmas.{AppendsPrefix-part, AppendsPrefix-append}
 
 module _ {W : Type 0} (contents : W → Option (List ℕ)) where
   -- the first part failed

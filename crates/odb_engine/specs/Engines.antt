@@ -1,7 +1,7 @@
 -- How an engine ends, and what it has written then.
 use Rattle.std.specs.Prelude.{◌≡◌, ◌↔◌, ◌⊎◌, ℕ, List, Option, Result, Err, IsTrue, IfOk}
 use Rattle.std.specs.Io.KnownBytes.{Appends}
-use Rattle.odb_json.specs.Devices.{Writing, AppendsPrefix}
+use Rattle.odb_io.specs.Devices.{Writing, AppendsPrefix}
 use Rattle.odb_engine.specs.declared.ending.Ended.{Ended}
 use Rattle.odb_engine.specs.declared.ending.EngineFault.{EngineFault}
 use Rattle.odb_engine.specs.declared.ending.EngineFault.TheVariants as faults

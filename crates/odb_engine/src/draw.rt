@@ -13,7 +13,7 @@ use crate::halt::Halt;
 use crate::setup::Setup;
 use odb_check::Plan;
 use odb_doc::Batch;
-use odb_json::{Input, Output};
+use odb_io::{Input, Output};
 use odb_text::drawing_text;
 use std::alloc::Global;
 use std::io::{Read, Write};

@@ -9,7 +9,7 @@ ghost use Rattle.odb_engine.specs.LineTasks.{OfLine};
 use crate::engines::devices::{Narrow, Pace, Slow};
 use odb_engine::laws::one_line;
 use odb_engine::{Ended, EngineFault, LineTask, Setup};
-use odb_json::Output;
+use odb_io::Output;
 use odb_engine::lines::laws::one_text;
 use odb_engine::{EachLine, LineCommand, LineInput, answer_lines};
 use std::alloc::{AllocError, Global};

@@ -1,7 +1,7 @@
 -- What is written of the lines of an input.
 use Rattle.std.specs.Prelude.{◌≡◌, ◌↔◌, ℕ, List, [], ◌∷◌, ◌++◌, Option, Some, Result, Err, IfOk, IfSome, IsTrue, take}
 use Rattle.std.specs.Io.KnownBytes.{Consumes}
-use Rattle.odb_json.specs.Devices.{Writing}
+use Rattle.odb_io.specs.Devices.{Writing}
 use Rattle.odb_engine.specs.declared.ending.Ended.{Ended}
 use Rattle.odb_engine.specs.declared.ending.Ended.TheVariants.{Done, Refused}
 use Rattle.odb_engine.specs.declared.ending.EngineFault.{EngineFault}

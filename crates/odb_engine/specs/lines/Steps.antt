@@ -2,7 +2,7 @@
 use Rattle.std.specs.Prelude.{◌≡◌, ◌≢◌, ℕ, List, [], ◌∷◌, ◌++◌, All, Option, Result, Ok, Err, OnOk, take}
 use Rattle.std.specs.Io.KnownBytes.{Consumes}
 use Rattle.odb_check.specs.Texts.{newline}
-use Rattle.odb_json.specs.Devices.{Writing}
+use Rattle.odb_io.specs.Devices.{Writing}
 use Rattle.odb_engine.specs.declared.ending.Ended.{Ended}
 use Rattle.odb_engine.specs.declared.ending.Ended.TheVariants.{Done}
 use Rattle.odb_engine.specs.declared.ending.EngineFault.{EngineFault}

@@ -13,7 +13,7 @@ use crate::lines::command::LineCommand;
 use crate::lines::input::LineInput;
 use crate::lines::line::{answer_line, hold};
 use memchr::memchr;
-use odb_json::Output;
+use odb_io::Output;
 use std::alloc::Global;
 use std::io::{Read, Write};
 

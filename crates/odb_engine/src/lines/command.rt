@@ -1,7 +1,7 @@
 //! A command over the bytes of one line.
 
 use crate::ending::{Ended, EngineFault};
-use odb_json::Output;
+use odb_io::Output;
 use std::alloc::Global;
 use std::io::Write;
 

@@ -7,7 +7,7 @@ ghost use Rattle.odb_engine.specs.lines.Steps.{EndsAnswer, cut};
 use crate::ending::{Ended, EngineFault};
 use crate::lines::command::LineCommand;
 use odb_doc::MAX_DOCUMENT_BYTES;
-use odb_json::Output;
+use odb_io::Output;
 use std::alloc::{AllocError, Global};
 use std::io::Write;
 

@@ -4,7 +4,7 @@ use crate::ending::{Ended, EngineFault};
 use crate::line::{LineTask, answer_line};
 use crate::lines::command::LineCommand;
 use crate::setup::Setup;
-use odb_json::Output;
+use odb_io::Output;
 use std::alloc::Global;
 use std::io::Write;
 

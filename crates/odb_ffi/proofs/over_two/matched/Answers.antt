@@ -1,5 +1,5 @@
 use Rattle.std.proofs.Common.{ℕ, List, Some, Bor, subst}
-use Rattle.odb_json.specs.Devices.{Reading}
+use Rattle.odb_io.specs.Devices.{Reading}
 use Rattle.odb_engine.specs.Inputs.{BySecond}
 use Rattle.odb_engine.specs.Matches.{MatchesIn}
 use Rattle.odb_ffi.specs.Returns.{AnswersIn}

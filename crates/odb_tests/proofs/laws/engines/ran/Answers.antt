@@ -1,5 +1,5 @@
 use Rattle.std.proofs.Common.{ℕ, List, Some, Bor, subst}
-use Rattle.odb_json.specs.Devices.{Reading}
+use Rattle.odb_io.specs.Devices.{Reading}
 use Rattle.odb_engine.specs.Cascade.{Answers}
 use Rattle.odb_engine.specs.Runs.{Runs}
 use Rattle.odb_engine.proofs.MemoryLemmas.{document-of, text-in}
