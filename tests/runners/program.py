@@ -5,6 +5,7 @@ No script builds it in silence: one that needs it ends with a line if it is miss
 
 import argparse
 import os
+import subprocess
 import sys
 
 ROOT = os.path.dirname(os.path.dirname(os.path.dirname(os.path.realpath(__file__))))
@@ -12,14 +13,15 @@ TESTS = os.path.join(ROOT, "tests")
 CRATES = os.path.join(ROOT, "crates")
 PROGRAM = os.path.join(CRATES, "odb_batch", "out", "odb_batch")
 
-# The crates that the program does not consist of, as bin/odb_batch leaves them out.
-BESIDE = ("odb_tests", "odb_calls", "odb_ffi")
 
+def crates():
+    """The crates that the program consists of."""
+    return subprocess.check_output([os.path.join(ROOT, "bin", "crates"), "odb_batch"], text=True).split()
 
 def sources():
     """The files that the program is made of."""
     yield os.path.join(ROOT, "crates.txt")
-    for crate in sorted(set(os.listdir(CRATES)) - set(BESIDE)):
+    for crate in crates():
         for part in ("src", "specs", "proofs"):
             for folder, _, names in os.walk(os.path.join(CRATES, crate, part)):
                 yield from (os.path.join(folder, name) for name in names)
