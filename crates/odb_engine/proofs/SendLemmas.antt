@@ -1,9 +1,14 @@
 -- A text that is written in parts, one after another.
-use Rattle.std.proofs.Common.{ℕ, List, ◌++◌, Option, Result, Ok, Err}
+use Rattle.std.proofs.Common.{◌≡◌, ℕ, List, ◌++◌, Option, Result, Ok, Err, IsTrue, ap, cc, inr, refl}
 use Rattle.std.proofs.KnownBytes.{Appends-trans}
 use Rattle.std.specs.Io.KnownBytes.{Appends}
 use Rattle.odb_io.specs.Devices.{Writing}
+use Rattle.odb_engine.specs.declared.ending.Ended.{Ended}
+use Rattle.odb_engine.specs.declared.ending.Ended.TheVariants.{Done}
 use Rattle.odb_engine.specs.declared.ending.EngineFault.{EngineFault}
+use Rattle.odb_engine.specs.declared.ending.EngineFault.TheVariants as faults
+use Rattle.odb_engine.specs.Cascade.{Prints}
+use Rattle.odb_engine.specs.Engines.{Ends, WritesPrefix}
 use Rattle.odb_engine.specs.Halts.{Sends}
 use Rattle.odb_io.proofs.WriteLemmas.{AppendsPrefix-part, AppendsPrefix-append}
 
@@ -28,3 +33,27 @@ module _ {W : Type 0} (contents : W → Option (List ℕ)) where
     write = then.write;
     unread = then.unread;
   }
+
+  -- an engine ends by a failed part
+  pub Ends-failed : (text : List ℕ) (old new : Writing W) (fault : EngineFault) → Sends contents text old new (Err fault) → Ends contents (Prints text) ⊥ old new (Err fault)
+  Ends-failed text old new fault sent = record {
+    ended = tt;
+    read = (λ e. absurd (sent.unread (ap Err (is e))), λ none. absurd none);
+    unread = λ e. absurd (sent.unread (ap Err (is e)));
+    write = (λ e. sent.write.0 (ap Err (writes e)), λ failed. ap Err (cc (sent.write.1 failed)));
+    part = λ e. part;
+    memory = λ e. inr part;
+  }
+    where
+      is : Err fault ≡ Err faults.Read → fault ≡ faults.Read
+      is e = cc (e)
+
+      writes : Err fault ≡ Err faults.Write → fault ≡ faults.Write
+      writes e = cc (e)
+
+      part : WritesPrefix (contents old.writer) (contents new.writer) (Prints text)
+      part = record { ended = Done; text = text; so = (refl, refl); written = sent.part }
+
+  -- an engine ends that has written all parts
+  pub Ends-sent : (text : List ℕ) (old new : Writing W) (result : Result (Unit {0}) EngineFault) (unit : Unit {0}) → result ≡ Ok unit → Sends contents text old new result → Ends contents (Prints text) ⊥ old new (Ok Done)
+  Ends-sent text old new result unit same sent = TODO

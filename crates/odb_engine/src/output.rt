@@ -55,22 +55,6 @@ fn send_response<W: Write>(
     }
 }
 
-/// Writes a text, and then the response to a run whose bodies have only whole numbers, as a line.
-fn send_line<W: Write>(
-    alloc: Global,
-    output: &mut Output<W>,
-    start: &str,
-    done: &Done<'_>,
-) -> Result<(), EngineFault>
-    requires works { output.old.failed ≡ false }
-    requires whole { HasWholeBodies done.now }
-    ensures { Sends W.contents (start.now ++ response_line done.now) output.old output.new result }
-{
-    send_text(output, start)?;
-    send_response(alloc, output, done)?;
-    send_text(output, "\n")
-}
-
 /// Writes a text, and then the response to a finished run as a line; returns how the engine has ended: `Done`.
 ///
 /// The response is written through a buffer, as [`odb_reply::write_responses`] does. Every body of it must
@@ -91,5 +75,8 @@ pub fn send<W: Write>(
     ensures { Ends W.contents (Prints (start.now ++ response_line done.now)) ⊥
         output.old output.new result }
 {
-    send_line(alloc, output, start, done).and(Ok(Ended::Done))
+    send_text(output, start)?;
+    send_response(alloc, output, done)?;
+    send_text(output, "\n")?;
+    Ok(Ended::Done)
 }

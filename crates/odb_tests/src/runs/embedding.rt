@@ -7,7 +7,7 @@ use odb_check::{Plan, Seed, check_with};
 use odb_doc::{Batch, Outcome, Request, parse};
 use odb_exec::{First, Service, ServiceFault, execute};
 use odb_reply::response_text;
-use odb_sched::{Done, Mode, Policy, Scheduler};
+use odb_sched::{Mode, Policy, Scheduler};
 use std::alloc::Global;
 use std::collections::BTreeMap;
 use std::random::RandomSource;
@@ -24,34 +24,10 @@ fn respond<R: RandomSource, S: Service>(
     let seed = Seed::random(random)?;
     let value = parse(alloc, document)?;
     let batch = Batch::read(alloc, &value)?;
-    perform_batch(alloc, seed, &batch, service)
-}
-
-/// Checks a batch, and has the service perform its requests.
-fn perform_batch<S: Service>(
-    alloc: Global,
-    seed: Seed,
-    batch: &Batch<'_>,
-    service: &mut S,
-) -> Result<String, Fail> {
-    let plan = check_with(alloc, seed, batch)?;
-    perform_all(alloc, &plan, service)
-}
-
-/// Has the service perform the requests of a plan, and returns the text of the response.
-fn perform_all<S: Service>(
-    alloc: Global,
-    plan: &Plan<'_>,
-    service: &mut S,
-) -> Result<String, Fail> {
+    let plan = check_with(alloc, seed, &batch)?;
     let policy = Policy::free(Mode::Continue);
-    let trace = execute(alloc, plan, policy, &mut First, service)?;
-    response_to(alloc, &trace.done)
-}
-
-/// Returns the text of the response to a finished run.
-fn response_to(alloc: Global, done: &Done<'_>) -> Result<String, Fail> {
-    Ok(response_text(alloc, done)?)
+    let trace = execute(alloc, &plan, policy, &mut First, service)?;
+    Ok(response_text(alloc, &trace.done)?)
 }
 
 /// Neither a request runs nor one may start, and yet the run is not finished.
@@ -74,7 +50,7 @@ pub fn response_of(alloc: Global, scheduler: Scheduler<'_>) -> Result<Option<Str
     if !scheduler.is_finished() {
         return Ok(None);
     }
-    Ok(Some(response_to(alloc, &scheduler.close())?))
+    Ok(Some(response_text(alloc, &scheduler.close())?))
 }
 
 fn send_each(alloc: Global, plan: &Plan<'_>, scheduler: &mut Scheduler<'_>) -> Result<(), Fail> {
