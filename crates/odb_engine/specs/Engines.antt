@@ -20,8 +20,8 @@ pub record WritesPrefix (old new : Option (List ℕ)) (P : Writes) : Type 0 wher
   pub so : P ended text
   pub written : AppendsPrefix old new text
 
--- How an engine ends whose whole output is such. Read means exactly that an input failed, Write exactly that the output
--- did. Out of memory nothing was written, or a prefix.
+-- How an engine ends whose whole output is as P says. It returns Read if and only if an input failed, and Write if and only
+-- if the output did. If it runs out of memory, it has written nothing, or a prefix.
 pub record Ends {W : Type 0} (contents : W → Option (List ℕ)) (P : Writes) (ReadFailed : Type 0) (old new : Writing W) (result : Result Ended EngineFault) : Type 0 where
   pub ended : IfOk result (λ ended. WritesText (contents old.writer) (contents new.writer) (P ended))
   pub read : (result ≡ Err faults.Read) ↔ ReadFailed

@@ -93,8 +93,8 @@ pub fn end<W: Write>(
     Ok(ended)
 }
 
-/// Returns how an engine has ended; or writes the fault by which it halted before it wrote anything, in the
-/// form.
+/// If the command halted before it wrote anything, writes its fault in the form; otherwise returns how it
+/// ended.
 ///
 /// # Errors
 ///

@@ -32,7 +32,7 @@ pub extern "C" fn odb_version() -> u32
 ///
 /// Sets `text_length` to the length of the text. Returns 0 if the text is the result and 1 if it is the
 /// line of a fault, and then `text` begins with it; 5 if the text is longer than `text`; and 4 if an
-/// allocation fails, with the length 0. Otherwise than with 0 and 1 `text` is as it was.
+/// allocation fails, with the length 0. With any other status than 0 and 1 `text` is unchanged.
 ///
 /// Names are looked up by hashes that start from `seed`; 0 is no seed, and look-ups take O(log n)
 /// comparisons.
