@@ -66,8 +66,8 @@ enum {
     ODB_STOPPED = 12,         /* S2: an error has stopped the run */
     ODB_UNIT_FAILED = 13,     /* S3: the unit of the request has failed */
     ODB_WAITING = 14,         /* S4: a request or group that it needs has not succeeded */
-    ODB_WIDTH_REACHED = 15,   /* S5: as many requests run as may */
-    ODB_NOT_RUNNING = 21,     /* P1: the request does not run */
+    ODB_WIDTH_REACHED = 15,   /* S5: the width limit is reached */
+    ODB_NOT_RUNNING = 21,     /* P1: the request is not running */
     ODB_BAD_STATUS = 22       /* P2: the status is not from 200 to 599 */
 };
 

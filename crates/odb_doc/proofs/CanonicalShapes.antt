@@ -22,7 +22,6 @@ use Rattle.odb_names.specs.declared.method.Method.TheVariants.{Delete, Get, Patc
 use Rattle.odb_doc.specs.declared.fault.DocumentRule.TheVariants as document
 use Rattle.odb_doc.specs.declared.fault.RequestRule.{RequestRule}
 use Rattle.odb_doc.specs.declared.fault.RequestRule.TheVariants as rules
-use Rattle.odb_doc.specs.declared.member.Object.TheVariants.{Request}
 use Rattle.odb_doc.specs.batch.Bodies.{content_type}
 use Rattle.odb_doc.specs.batch.MediaTypes.{AllowsBody}
 use Rattle.odb_doc.specs.canonical.Canonical.{names_value, header_members, headers_value, with_some, request_value, canonical_value}
@@ -30,7 +29,7 @@ use Rattle.odb_doc.specs.Headers.{Header, folded, text_members, listed_in, HasHe
 use Rattle.odb_doc.specs.batch.LeastFault.{IsBatchObject, IsWellShaped, BreaksRequestAt}
 use Rattle.odb_doc.specs.BrokenRules.{IsRequestObject}
 use Rattle.odb_doc.specs.LeastRules.{NoneBroken}
-use Rattle.odb_doc.specs.Members.{given, members_of, names_in, is_unknown}
+use Rattle.odb_doc.specs.Members.{given, names_in, is_unknown, request_names}
 use Rattle.odb_doc.specs.Names.{distinct}
 use Rattle.odb_doc.specs.batch.Records.{Record, ReadsAs, IsBatchOf}
 use Rattle.odb_doc.specs.batch.Shapes.{HasGroup, elements, listed_names, texts_of, texts_or_none}
@@ -56,7 +55,7 @@ record HasMembers (d : Data) (group body names headers : Option Data) (id method
   at_method : get (codes "method") d ≡ Some method
   at_url : get (codes "url") d ≡ Some url
   at_if : get (codes "if") d ≡ None
-  known : list_any (is_unknown (members_of Request)) (names_in d) ≡ false
+  known : list_any (is_unknown request_names) (names_in d) ≡ false
 
 has-members : (group body names headers : Option Data) (id method url : Data) → HasMembers (value_of group body names headers id method url) group body names headers id method url
 unfolding is_unknown

@@ -18,8 +18,7 @@ use Rattle.serde_json.specs.Find.{get_member}
 use Rattle.serde_json.specs.View.{view, members_view}
 use Rattle.serde_json.specs.declared.value.Value.{Value}
 use Rattle.odb_doc.specs.HeaderMaps.{Entry}
-use Rattle.odb_doc.specs.Members.{names_of, is_unknown, members_of}
-use Rattle.odb_doc.specs.declared.member.Object.TheVariants as objects
+use Rattle.odb_doc.specs.Members.{names_of, is_unknown, request_names}
 use Rattle.odb_doc.specs.declared.batch.members.Members.{Members}
 use Rattle.odb_doc.specs.batch.MembersFound.{AreMembersOf, PutsMember, put_at, data_of}
 use Rattle.odb_doc.proofs.DistinctLemmas.{all_at}
@@ -94,6 +93,6 @@ members_more es e rest old new ordered before put =
       headers = place_more (codes "headers") es e old.headers new.headers is_new before.headers put.headers;
       body = place_more (codes "body") es e old.body new.body is_new before.body put.body;
       unknown =
-          put.unknown ∙ ap (λ b. b || is_unknown (members_of objects.Request) (string_bytes e.0)) before.unknown
-          ∙ sym (any-push (is_unknown (members_of objects.Request)) es e);
+          put.unknown ∙ ap (λ b. b || is_unknown request_names (string_bytes e.0)) before.unknown
+          ∙ sym (any-push (is_unknown request_names) es e);
     }

@@ -4,7 +4,7 @@ use Rattle.std.specs.List.{list_any}
 use Rattle.serde_json.specs.Data.{Data, null, object, Items, no_items, item, Members, no_members, member}
 use Rattle.serde_json.specs.Find.{get, as_array, as_str}
 use Rattle.odb_doc.specs.declared.member.Object.{Object}
-use Rattle.odb_doc.specs.declared.member.Object.TheVariants.{Document, Request, Outcomes, Outcome, Events, Start, Report}
+use Rattle.odb_doc.specs.declared.member.Object.TheVariants.{Outcomes, Outcome, Events, Start, Report}
 
 abbrev pub list_of : Items → List Data
 list_of no_items = []
@@ -37,11 +37,16 @@ array_at name d = option_and_then as_array (get name d)
 abbrev pub elements_at : List ℕ → Data → List Data
 elements_at name d = unwrap_or (option_map list_of (array_at name d)) []
 
--- the names of the members that an object may have
-abbrev pub members_of : Object → List (List ℕ)
-members_of Document = codes "requests" ∷ []
-members_of Request =
+-- the names of the members that a batch document may have, and those that a request may have
+abbrev pub document_names : List (List ℕ)
+document_names = codes "requests" ∷ []
+
+abbrev pub request_names : List (List ℕ)
+request_names =
     codes "id" ∷ codes "method" ∷ codes "url" ∷ codes "atomicityGroup" ∷ codes "dependsOn" ∷ codes "if" ∷ codes "headers" ∷ codes "body" ∷ []
+
+-- the names of the members that an object of recorded outcomes or events may have
+abbrev pub members_of : Object → List (List ℕ)
 members_of Outcomes = codes "outcomes" ∷ []
 members_of Outcome = codes "id" ∷ codes "status" ∷ codes "headers" ∷ codes "body" ∷ []
 members_of Events = codes "events" ∷ []
@@ -59,9 +64,9 @@ is_one_of names name = list_any (λ known. bytes_eq name known) names
 unfoldable pub is_unknown : List (List ℕ) → List ℕ → Bool
 is_unknown known name = not (is_annotation name) && not (is_one_of known name)
 
--- some member is neither an annotation nor one that the object may have
-abbrev pub HasUnknown : Object → Data → Type 0
-HasUnknown owner d = list_any (is_unknown (members_of owner)) (names_in d) ≡ true
+-- some member is not an annotation, and not one of these
+abbrev pub HasUnknown : List (List ℕ) → Data → Type 0
+HasUnknown known d = list_any (is_unknown known) (names_in d) ≡ true
 
 -- the name is not one of these
 abbrev pub is_other : List (List ℕ) → List ℕ → Bool

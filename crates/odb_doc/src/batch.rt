@@ -1,12 +1,15 @@
 //! A batch as it was read: its requests, in the order of the document.
 
-ghost use Rattle.std.specs.Prelude.{◌==◌, ◌≡◌, ◌≤◌, ◌<◌, length, map, vec_len, slice_get, Some, IfOk, IfErr, OnOk, OnErr};
-ghost use Rattle.std.specs.List.{AllZip};
+ghost use Rattle.std.specs.Prelude.{◌==◌, ◌≡◌, ◌≤◌, ◌<◌, ◌↔◌, IsTrue, string_bytes, length, map, vec_len, slice_get, Some, IfOk, IfErr, OnOk, OnErr};
+ghost use Rattle.std.specs.BTreeMap.{keys};
+ghost use Rattle.std.specs.List.{AllZip, list_any};
 ghost use Rattle.serde_json.specs.View.{view};
 ghost use Rattle.odb_doc.specs.declared.fault.DocFault.TheVariants as faults;
 ghost use Rattle.odb_doc.specs.batch.LeastFault.{IsWellShaped, IsLeastFault, IsBatchObject, IsFirstBroken, IsLeastDocumentRule, BreaksRequestAt};
 ghost use Rattle.odb_doc.specs.BrokenRules.{OnPlace, request_fault};
 ghost use Rattle.odb_doc.specs.LeastRules.{NoneBroken};
+ghost use Rattle.odb_doc.specs.Members.{HasUnknown, document_names};
+ghost use Rattle.odb_doc.specs.Members as spec;
 ghost use Rattle.odb_doc.specs.batch.Shapes.{elements};
 ghost use Rattle.odb_doc.specs.batch.Records.{ReadsAs, IsWellFormedRecord, IsBatchOf, record_of};
 
@@ -22,8 +25,8 @@ pub mod request;
 use crate::batch::request::Request;
 use crate::broken::Broken;
 use crate::fault::{DocFault, DocumentRule, RequestRule};
-use crate::member::{Object, array_at};
-use serde_json::Value;
+use crate::member::{array_at, is_annotation};
+use serde_json::{Map, Value};
 use std::alloc::Global;
 
 /// The limit of F06.
@@ -34,6 +37,31 @@ const MAX_REQUESTS: usize = 10_000;
 pub struct Batch<'a> {
     requests: Vec<Request<'a>>,
     ghost small: { vec_len requests ≤ 10000 },
+}
+
+/// Returns whether the name is neither that of an annotation nor `requests`.
+#[tactic(auto, unfolding(crate::specs::Members::is_unknown))]
+fn is_unknown(name: &str) -> bool
+    ensures { result ≡ spec.is_unknown document_names name.now }
+{
+    !is_annotation(name) && name != "requests"
+}
+
+fn has_unknown_among(members: &Map<String, Value>) -> bool
+    ensures { result ≡ list_any (λ name. spec.is_unknown document_names (string_bytes name))
+        (keys members.now) }
+{
+    members.keys().any(|name| is_unknown(name.as_str()))
+}
+
+/// Returns whether a member of the document is neither an annotation nor `requests`.
+fn has_unknown(document: &Value) -> bool
+    ensures { IsTrue result ↔ HasUnknown document_names (view document.now) }
+{
+    match document.as_object() {
+        Some(members) => has_unknown_among(members),
+        None => false,
+    }
 }
 
 /// Returns the elements of `requests`, or the first rule that the document as a whole breaks.
@@ -49,7 +77,7 @@ fn elements_of(document: &Value) -> Result<&[Value], DocumentRule>
     let Some(elements) = array_at(document, "requests") else {
         return Err(DocumentRule::NoRequests);
     };
-    if Object::Document.has_unknown(document) {
+    if has_unknown(document) {
         return Err(DocumentRule::UnknownMember);
     }
     if elements.len() > MAX_REQUESTS {

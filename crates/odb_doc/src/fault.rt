@@ -67,13 +67,13 @@ pub enum RequestRule {
     #[error("the request has an unknown member")]
     UnknownRequestMember,
     /// F13: `id` is missing or not an identifier.
-    #[error("the request has no proper `id`")]
+    #[error("`id` is missing or is not an identifier")]
     BadId,
     /// F14: `method` is missing or not the name of a method, in any ASCII case.
-    #[error("the request has no proper `method`")]
+    #[error("`method` is missing or is not a known method")]
     BadMethod,
     /// F15: `url` is missing or not a string.
-    #[error("the request has no proper `url`")]
+    #[error("`url` is missing or is not a string")]
     BadUrl,
     /// F16: `atomicityGroup` has a value other than null that is not an identifier.
     #[error("`atomicityGroup` is not an identifier")]

@@ -5,30 +5,18 @@ ghost use Rattle.std.specs.List.{list_any};
 ghost use Rattle.std.specs.BTreeMap.{keys};
 ghost use Rattle.serde_json.specs.Find.{get, as_str, as_array, as_object};
 ghost use Rattle.serde_json.specs.View.{view, items_view, members_view};
-ghost use Rattle.odb_doc.specs.declared.member.Object.TheVariants as objects;
 ghost use Rattle.odb_doc.specs.Members as spec;
 
 use serde_json::{Map, Value};
 
-/// The objects in documents of batches, outcomes and events, each with members of its own.
+/// The objects in documents of outcomes and of events, each with members of its own.
 #[derive(Clone, Copy)]
-pub enum Object {
-    Document,
-    Request,
+pub(crate) enum Object {
     Outcomes,
     Outcome,
     Events,
     Start,
     Report,
-}
-
-fn is_of_request(name: &str) -> bool
-    ensures { result ≡ spec.is_one_of (spec.members_of objects.Request) name.now }
-{
-    matches!(
-        name,
-        "id" | "method" | "url" | "atomicityGroup" | "dependsOn" | "if" | "headers" | "body"
-    )
 }
 
 /// Returns whether the name is one that both outcomes and reports may have.
@@ -41,42 +29,15 @@ fn is_of_answer(name: &str) -> bool
 
 impl Object {
     /// Returns whether the object may have a member of this name.
-    pub fn may_have(self, name: &str) -> bool
+    pub(crate) fn may_have(self, name: &str) -> bool
         ensures { result ≡ spec.is_one_of (spec.members_of self) name.now }
     {
         match self {
-            Object::Document => name == "requests",
-            Object::Request => is_of_request(name),
             Object::Outcomes => name == "outcomes",
             Object::Outcome => name == "id" || is_of_answer(name),
             Object::Events => name == "events",
             Object::Start => name == "start",
             Object::Report => name == "report" || is_of_answer(name),
-        }
-    }
-
-    /// Returns whether the name is neither that of an annotation nor one that the object may have.
-    #[tactic(auto, unfolding(crate::specs::Members::is_unknown))]
-    pub fn is_unknown(self, name: &str) -> bool
-        ensures { result ≡ spec.is_unknown (spec.members_of self) name.now }
-    {
-        !is_annotation(name) && !self.may_have(name)
-    }
-
-    fn has_unknown_among(self, members: &Map<String, Value>) -> bool
-        ensures { result ≡ list_any (λ name. spec.is_unknown (spec.members_of self)
-            (string_bytes name)) (keys members.now) }
-    {
-        members.keys().any(|name| self.is_unknown(name.as_str()))
-    }
-
-    /// Returns whether a member of the value is neither an annotation nor one that the object may have.
-    pub fn has_unknown(self, value: &Value) -> bool
-        ensures { IsTrue result ↔ spec.HasUnknown self (view value.now) }
-    {
-        match value.as_object() {
-            Some(members) => self.has_unknown_among(members),
-            None => false,
         }
     }
 
@@ -88,7 +49,7 @@ impl Object {
     }
 
     /// Returns whether a member of the value, even an annotation, is not one that the object may have.
-    pub fn has_other(self, value: &Value) -> bool
+    pub(crate) fn has_other(self, value: &Value) -> bool
         ensures { IsTrue result ↔ spec.HasOther self (view value.now) }
     {
         match value.as_object() {
@@ -98,7 +59,7 @@ impl Object {
     }
 
     /// Moves out the array at `name`, which is the one member that the object may have.
-    pub fn elements_at(self, document: Value, name: &str) -> Option<Vec<Value>>
+    pub(crate) fn elements_at(self, document: Value, name: &str) -> Option<Vec<Value>>
         ensures none { IfNone result (¬ spec.IsListObject self name.now (view document)) }
         ensures object { OnSome result (spec.IsListObject self name.now (view document)) }
         ensures elements { IfSome result (λ found. spec.elements_at name.now (view document)
@@ -112,7 +73,7 @@ impl Object {
 }
 
 /// Returns whether the name contains `@`, as that of an annotation does.
-fn is_annotation(name: &str) -> bool
+pub(crate) fn is_annotation(name: &str) -> bool
     ensures { result ≡ spec.is_annotation name.now }
 {
     name.as_bytes().iter().any(|byte| *byte == b'@')
@@ -137,7 +98,7 @@ pub fn text_at<'a>(value: &'a Value, name: &str) -> Option<&'a str>
 }
 
 /// Returns the string at a member, if any.
-pub fn text_in(member: Option<&Value>) -> Option<&str>
+pub(crate) fn text_in(member: Option<&Value>) -> Option<&str>
     ensures { option_map (λ text. text.now) result
         ≡ option_and_then as_str (option_map (λ v. view v.now) member.entry) }
 {
@@ -145,14 +106,14 @@ pub fn text_in(member: Option<&Value>) -> Option<&str>
 }
 
 /// Returns the value at a member, if any. Null is treated as absent.
-pub fn given(member: Option<&Value>) -> Option<&Value>
+pub(crate) fn given(member: Option<&Value>) -> Option<&Value>
     ensures { option_map (λ v. view v.now) result ≡ spec.given (option_map (λ v. view v.now) member.entry) }
 {
     member.filter(|value| !value.is_null())
 }
 
 /// Moves out the string that the value is.
-pub fn text_of(value: Value) -> Option<String>
+pub(crate) fn text_of(value: Value) -> Option<String>
     ensures { option_map string_bytes result ≡ as_str (view value) }
 {
     match value {
@@ -162,7 +123,7 @@ pub fn text_of(value: Value) -> Option<String>
 }
 
 /// Moves out the members of an object.
-pub fn into_members(value: Value) -> Option<Map<String, Value>>
+pub(crate) fn into_members(value: Value) -> Option<Map<String, Value>>
     ensures { option_map (λ members. members_view members.entries) result ≡ as_object (view value) }
 {
     match value {
@@ -190,7 +151,7 @@ fn member_of(value: Value, name: &str) -> Option<Value>
 }
 
 /// Returns the value. Null is treated as absent.
-pub fn unless_null(value: Option<Value>) -> Option<Value>
+pub(crate) fn unless_null(value: Option<Value>) -> Option<Value>
     ensures { option_map view result ≡ spec.given (option_map view value) }
 {
     value.filter(|member| !member.is_null())

@@ -12,7 +12,7 @@ use std::alloc::{AllocError, Global};
 use std::collections::BTreeSet;
 
 /// Texts, of which one alone is kept in place and takes no allocation, as the names in a `dependsOn`.
-pub type Names<'a> = SmallVec<&'a str, 1>;
+pub(crate) type Names<'a> = SmallVec<&'a str, 1>;
 
 /// Up to how many texts are compared one by one. For so few that is quicker than a sort.
 const FEW: usize = 8;
@@ -73,7 +73,7 @@ fn may_repeat_among_many(alloc: Global, texts: &[&str]) -> Result<bool, AllocErr
 /// # Errors
 ///
 /// If memory for a sorted list cannot be allocated.
-pub fn may_repeat(alloc: Global, texts: &[&str]) -> Result<bool, AllocError>
+pub(crate) fn may_repeat(alloc: Global, texts: &[&str]) -> Result<bool, AllocError>
     ensures apart { IfOk result (λ repeats. repeats ≡ false
         → IsDistinct bytes_eq (texts_in texts.now)) }
     ensures some { OnErr result (0 < length texts.now) }
@@ -121,7 +121,7 @@ fn first_places<'a>(alloc: Global, texts: &[&'a str]) -> Result<Vec<&'a str>, Al
 /// # Errors
 ///
 /// If memory for a sorted list, or for the set and the texts that it keeps, cannot be allocated.
-pub fn without_repeats<'a>(alloc: Global, texts: Names<'a>) -> Result<Names<'a>, AllocError>
+pub(crate) fn without_repeats<'a>(alloc: Global, texts: Names<'a>) -> Result<Names<'a>, AllocError>
     ensures { IfOk result (λ kept. texts_in kept.items ≡ distinct (texts_in texts.entry.items)) }
 {
     if texts.len() <= 1 {

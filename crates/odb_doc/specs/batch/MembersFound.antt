@@ -9,11 +9,10 @@ use Rattle.serde_json.specs.declared.value.Value.{Value}
 use Rattle.odb_names.specs.declared.method.Method.{Method}
 use Rattle.odb_doc.specs.declared.batch.members.Members.{Members}
 use Rattle.odb_doc.specs.declared.fault.RequestRule.TheVariants as rules
-use Rattle.odb_doc.specs.declared.member.Object.TheVariants as objects
 use Rattle.odb_doc.specs.BrokenRules.{BreaksNoneBefore}
 use Rattle.odb_doc.specs.Headers.{Header, HasHeaders}
 use Rattle.odb_doc.specs.batch.Shapes.{HasMethod}
-use Rattle.odb_doc.specs.Members.{is_unknown, members_of, names_in}
+use Rattle.odb_doc.specs.Members.{is_unknown, names_in, request_names}
 
 -- the data at a place
 abbrev pub data_of : Option (Bor Value) → Option Data
@@ -29,7 +28,7 @@ pub record AreMembersOf (d : Data) (members : Members) : Type 0 where
   pub condition : data_of members.condition ≡ get (codes "if") d
   pub headers : data_of members.headers ≡ get (codes "headers") d
   pub body : data_of members.body ≡ get (codes "body") d
-  pub unknown : members.has_unknown ≡ list_any (is_unknown (members_of objects.Request)) (names_in d)
+  pub unknown : members.has_unknown ≡ list_any (is_unknown request_names) (names_in d)
 
 -- the value if the name is this one, and else what was there
 abbrev pub put_at : List ℕ → List ℕ → Data → Option (Bor Value) → Option Data
@@ -45,7 +44,7 @@ pub record PutsMember (name : List ℕ) (d : Data) (old new : Members) : Type 0 
   pub condition : data_of new.condition ≡ put_at (codes "if") name d old.condition
   pub headers : data_of new.headers ≡ put_at (codes "headers") name d old.headers
   pub body : data_of new.body ≡ put_at (codes "body") name d old.body
-  pub unknown : new.has_unknown ≡ (old.has_unknown || is_unknown (members_of objects.Request) name)
+  pub unknown : new.has_unknown ≡ (old.has_unknown || is_unknown request_names name)
 
 -- the members and the method and headers that were read of them, where no rule before that on bodies is broken
 pub record MayHaveBody (d : Data) (members : Members) (method : Method) (headers : List Header) : Type 0 where

@@ -12,10 +12,9 @@ use Rattle.odb_doc.specs.declared.fault.DocumentRule.{DocumentRule}
 use Rattle.odb_doc.specs.declared.fault.DocumentRule.TheVariants as document
 use Rattle.odb_doc.specs.declared.fault.RequestRule.{RequestRule}
 use Rattle.odb_doc.specs.declared.fault.RequestRule.TheVariants as request
-use Rattle.odb_doc.specs.declared.member.Object.TheVariants.{Document, Request}
 use Rattle.odb_doc.specs.batch.Bodies.{body_of, HasBadBody}
 use Rattle.odb_doc.specs.Headers.{listed_headers, header_names}
-use Rattle.odb_doc.specs.Members.{array_at, elements_at, text_at, given, HasUnknown}
+use Rattle.odb_doc.specs.Members.{array_at, elements_at, text_at, given, document_names, request_names, HasUnknown}
 
 -- the array at `requests`
 abbrev pub requests_in : Data → Option Items
@@ -31,7 +30,7 @@ BreaksDocument document.TooLong d = ⊥
 BreaksDocument document.NotJson d = ⊥
 BreaksDocument document.NotObject d = IsNone (as_object d)
 BreaksDocument document.NoRequests d = IsSome (as_object d) × IsNone (requests_in d)
-BreaksDocument document.UnknownMember d = HasUnknown Document d
+BreaksDocument document.UnknownMember d = HasUnknown document_names d
 BreaksDocument document.TooMany d = 10000 < length (elements d)
 
 -- the member `id` is this identifier
@@ -81,7 +80,7 @@ pub record HasBodyNotAllowed (d : Data) : Type 0 where
 abbrev pub BreaksRequest : RequestRule → Data → Type 0
 BreaksRequest request.NotRequestObject d = IsNone (as_object d)
 BreaksRequest request.IfMember d = IsSome (get (codes "if") d)
-BreaksRequest request.UnknownRequestMember d = HasUnknown Request d
+BreaksRequest request.UnknownRequestMember d = HasUnknown request_names d
 BreaksRequest request.BadId d = IsSome (as_object d) × ((id : List ℕ) → ¬ HasId d id)
 BreaksRequest request.BadMethod d = IsSome (as_object d) × ((method : Method) → ¬ HasMethod d method)
 BreaksRequest request.BadUrl d = IsSome (as_object d) × IsNone (url_of d)

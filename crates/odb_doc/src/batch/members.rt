@@ -4,7 +4,7 @@ ghost use Rattle.serde_json.specs.Data.{object, no_members};
 ghost use Rattle.serde_json.specs.View.{view, members_view};
 ghost use Rattle.odb_doc.specs.batch.MembersFound.{AreMembersOf, PutsMember};
 
-use crate::member::Object;
+use crate::member::is_annotation;
 use serde_json::{Map, Value};
 
 /// The values at the names that a request may have, and whether its object has an unknown name.
@@ -36,7 +36,7 @@ impl<'a> Members<'a> {
             "body" => self.body = Some(value),
             "atomicityGroup" => self.group = Some(value),
             "if" => self.condition = Some(value),
-            _ => self.has_unknown = self.has_unknown || Object::Request.is_unknown(name),
+            _ => self.has_unknown = self.has_unknown || !is_annotation(name),
         }
     }
 

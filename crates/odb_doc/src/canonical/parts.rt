@@ -108,24 +108,6 @@ fn push_end(
     text.push_str("}")
 }
 
-/// Appends the start of a request, with a comma first if it comes `later` than another, and the members
-/// `atomicityGroup` and `body`, if it has them.
-fn push_group_and_body(
-    alloc: Global,
-    text: &mut String,
-    later: bool,
-    request: &Request<'_>,
-) -> Result<(), AllocError>
-    requires { HasWholeBody (record_of request.now).body }
-    ensures { OnOk result (string_bytes text.new ≡ string_bytes text.old ++ (comma_if later ++ (codes "{"
-        ++ (member_part (codes "\"atomicityGroup\":") (option_map string (record_of request.now).group)
-        ++ member_part (codes "\"body\":") (record_of request.now).body)))) }
-{
-    push_open(text, later)?;
-    push_group(alloc, text, request.group)?;
-    push_body(alloc, text, request.body)
-}
-
 /// Appends request `i`, with a comma first unless it is the first request.
 pub(crate) fn push_request(
     alloc: Global,
@@ -139,7 +121,9 @@ pub(crate) fn push_request(
         ≡ string_bytes text.new ++ canonical_parts.requests_left (records batch.now) (i + 1)) }
 {
     let request = batch.request(i);
-    push_group_and_body(alloc, text, i > 0, request)?;
+    push_open(text, i > 0)?;
+    push_group(alloc, text, request.group)?;
+    push_body(alloc, text, request.body)?;
     push_names(alloc, text, request.names.as_slice())?;
     push_headers(alloc, text, request.headers.as_slice())?;
     push_end(alloc, text, request.id, request.method, request.url)

@@ -41,7 +41,7 @@ const DOCUMENTS: &[(DocFault, &str)] = &[
             at: 16,
             rule: RequestRule::BadUrl,
         },
-        "request 16: the request has no proper `url`",
+        "request 16: `url` is missing or is not a string",
     ),
     (DocFault::OutOfMemory, "out of memory"),
 ];
@@ -60,9 +60,9 @@ const REQUESTS: &[(RequestRule, &str)] = &[
         RequestRule::UnknownRequestMember,
         "the request has an unknown member",
     ),
-    (RequestRule::BadId, "the request has no proper `id`"),
-    (RequestRule::BadMethod, "the request has no proper `method`"),
-    (RequestRule::BadUrl, "the request has no proper `url`"),
+    (RequestRule::BadId, "`id` is missing or is not an identifier"),
+    (RequestRule::BadMethod, "`method` is missing or is not a known method"),
+    (RequestRule::BadUrl, "`url` is missing or is not a string"),
     (
         RequestRule::BadGroup,
         "`atomicityGroup` is not an identifier",

@@ -26,12 +26,12 @@ const STARTS: &[(StartRefusal, &str)] = &[
         StartRefusal::Waiting(Need::Group(12)),
         "the request waits for Group(12)",
     ),
-    (StartRefusal::WidthReached, "as many requests run as may"),
+    (StartRefusal::WidthReached, "the width limit is reached"),
 ];
 
 /// P1 and P2.
 const REPORTS: &[(ReportRefusal, &str)] = &[
-    (ReportRefusal::NotRunning, "the request does not run"),
+    (ReportRefusal::NotRunning, "the request is not running"),
     (
         ReportRefusal::BadStatus,
         "the status is not from 200 to 599",
@@ -51,7 +51,7 @@ const RUNS: &[(RunRefusal, &str)] = &[
             at: 14,
             cause: ReportRefusal::NotRunning,
         },
-        "event 14: the request does not run",
+        "event 14: the request is not running",
     ),
     (RunRefusal::OutOfMemory, "out of memory"),
 ];

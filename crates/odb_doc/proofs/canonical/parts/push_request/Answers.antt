@@ -8,10 +8,10 @@ use Rattle.odb_doc.specs.batch.Batches.{records}
 use Rattle.odb_doc.proofs.CanonicalLemmas.{requests_left-parts}
 use Rattle.odb_doc.proofs.canonical.parts.push_request.Goals as goal
 
--- a text to which four pieces are appended in turn, of which the first has four parts, before what is left
-appended : (t0 t1 t2 t3 t4 a b c d e f g left : List ℕ) → t1 ≡ t0 ++ (a ++ (b ++ (c ++ d))) → t2 ≡ t1 ++ e → t3 ≡ t2 ++ f → t4 ≡ t3 ++ g
-    → t0 ++ ((a ++ (b ++ (c ++ (d ++ (e ++ (f ++ g)))))) ++ left) ≡ t4 ++ left
-appended t0 t1 t2 t3 t4 a b c d e f g left e1 e2 e3 e4 = rw (e4, e3, e2, e1) (simp append_assoc)
+-- a text to which six pieces are appended in turn, of which the first has two parts, before what is left
+appended : (t0 t1 t2 t3 t4 t5 t6 a b c d e f g left : List ℕ) → t1 ≡ t0 ++ (a ++ b) → t2 ≡ t1 ++ c → t3 ≡ t2 ++ d → t4 ≡ t3 ++ e → t5 ≡ t4 ++ f → t6 ≡ t5 ++ g
+    → t0 ++ ((a ++ (b ++ (c ++ (d ++ (e ++ (f ++ g)))))) ++ left) ≡ t6 ++ left
+appended t0 t1 t2 t3 t4 t5 t6 a b c d e f g left e1 e2 e3 e4 e5 e6 = rw (e6, e5, e4, e3, e2, e1) (simp append_assoc)
 
 pub returns : goal.returns
 returns c =
@@ -24,4 +24,4 @@ returns c =
     let group = member_part (codes "\"atomicityGroup\":") (option_map string r.group) in
     let body = member_part (codes "\"body\":") r.body in
     on_ok_weaker c.push_end.result
-    (λ end. ap (λ text. before ++ text) parts ∙ appended before _ _ _ _ (comma_if (nat_lt 0 c.args.i)) (codes "{") group body _ _ _ _ c.in_ok-push_group_and_body.ensures names headers end) c.push_end.ensures
+    (λ end. ap (λ text. before ++ text) parts ∙ appended before _ _ _ _ _ _ (comma_if (nat_lt 0 c.args.i)) (codes "{") group body _ _ _ _ c.in_ok-push_open.ensures c.in_ok-push_group.ensures c.in_ok-push_body.ensures names headers end) c.push_end.ensures

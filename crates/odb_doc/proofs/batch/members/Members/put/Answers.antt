@@ -1,10 +1,9 @@
 use Rattle.std.proofs.Common.{◌≡◌, ◌∙◌, ◌||◌, ℕ, Bool, List, false, codes, ap, refl, sym}
 use Rattle.std.proofs.Math.Bool.{or-false}
-use Rattle.odb_doc.specs.Members.{is_unknown, members_of}
-use Rattle.odb_doc.specs.declared.member.Object.TheVariants as objects
+use Rattle.odb_doc.specs.Members.{is_unknown, request_names}
 use Rattle.odb_doc.proofs.batch.members.Members.put.Goals as goal
 
-known : (before : Bool) (name : List ℕ) → is_unknown (members_of objects.Request) name ≡ false → before ≡ (before || is_unknown (members_of objects.Request) name)
+known : (before : Bool) (name : List ℕ) → is_unknown request_names name ≡ false → before ≡ (before || is_unknown request_names name)
 known before name is = sym (ap (λ unknown. before || unknown) is ∙ or-false before)
 
 pub returns-in-id : goal.returns-in-id
