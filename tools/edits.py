@@ -153,17 +153,17 @@ def wrong(crate, every):
 
 
 def with_those_below(crate):
-    """The names of a crate and of all that it stands on, as crates.txt lists them."""
-    below, known = {crate}, set(crates())
+    """The names of a crate and of all that it stands on; crates.txt lists the lowest first."""
+    found, known = {crate}, crates()
     for line in reversed(text_of(f"{ROOT}/crates.txt").splitlines()):
         name, _, libraries = line.partition(":")
-        if name.split()[:1] and name.split()[0] in below:
-            below |= known & set(libraries.split())
-    return below
+        if found.intersection(name.split()[:1]):
+            found.update(set(known).intersection(libraries.split()))
+    return found
 
 
 def link(one, other):
-    """Copies a file. One that the prover wrote is linked: it replaces such a file, and never writes into it."""
+    """Copies a file. What was proved is linked: the prover replaces such a file, and never writes into it."""
     try:
         if one.endswith(".oantt"):
             return os.link(one, other)
@@ -173,16 +173,15 @@ def link(one, other):
 
 
 def copy_crates(crate, copy):
-    """Copies the crates without their edits, with the kept work of a crate and of those below it."""
-    kept = {f"{ROOT}/crates/{name}" for name in with_those_below(crate)}
+    """Copies the crates without their edits, with the kept work of one crate and of those that it stands on."""
+    kept = with_those_below(crate)
 
-    def left_out(folder, names):
-        return {"must-fail"} if folder in kept else {"must-fail", "out"}
+    def left_out(folder, _names):
+        if os.path.dirname(folder) != f"{ROOT}/crates":
+            return []
+        return ["must-fail"] if os.path.basename(folder) in kept else ["must-fail", "out"]
 
-    def ignored(folder, names):
-        return left_out(folder, names) if os.path.dirname(folder) == f"{ROOT}/crates" else set()
-
-    shutil.copytree(f"{ROOT}/crates", f"{copy}/crates", symlinks=True, ignore=ignored, copy_function=link)
+    shutil.copytree(f"{ROOT}/crates", f"{copy}/crates", symlinks=True, ignore=left_out, copy_function=link)
 
 
 def try_alone(name):
