@@ -9,8 +9,8 @@ names the clause that has to refuse it:
 CALL is written as a caller writes it (`check`, `Plan::needs`), CLAUSE is the name of its `ensures`,
 or `result` where it has one without a name, and CASE distinguishes two edits of one clause. The exit
 status is 1 where an edit lacks that line, names a call or a clause that does not exist, asks what
-another one asks, or where all edits together take more processor minutes than MINUTES; else 0. A
-clause that no edit asks is listed and is no failure.
+another one asks, where there are more than EDITS edits, or where they take more processor minutes
+than MINUTES; else 0. A clause that no edit asks is no failure: `--unasked` lists it.
 
 `--try NAME` tries the one edit crates/CRATE/must-fail/NAME.edit instead, over what `rt check` kept, and
 ends with the lines and the status of `rt must-fail`, and with what it took.
@@ -28,12 +28,14 @@ import tempfile
 
 ROOT = os.path.dirname(os.path.dirname(os.path.realpath(__file__)))
 
-# What `.ci/run` may spend on edits, and what one edit of a crate takes, beside other work: each without the proof
-# of the crate that its edits are tried over. A crate without a number counts as the dearest did.
-MINUTES = 70
+# How many edits there may be, and how many minutes of `.ci/run` they may take. What one edit of a crate takes, beside
+# other work, is without the proof of the crate that its edits are tried over, which all of them together double. A crate
+# without a number counts as the dearest did.
+EDITS = 60
+MINUTES = 28
 SECONDS = {
     "odb_dense": 11, "odb_names": 13, "odb_io": 16, "odb_doc": 28, "odb_check": 26, "odb_sched": 26, "odb_exec": 30,
-    "odb_reply": 24, "odb_draw": 60, "odb_command": 28, "odb_engine": 40, "odb_lines": 26,
+    "odb_reply": 24, "odb_engine": 40,
 }  # fmt: skip
 OTHER = 70
 
@@ -150,6 +152,38 @@ def wrong(crate, every):
         asked[question] = name
 
 
+def with_those_below(crate):
+    """The names of a crate and of all that it stands on; crates.txt lists the lowest first."""
+    found, known = {crate}, crates()
+    for line in reversed(text_of(f"{ROOT}/crates.txt").splitlines()):
+        name, _, libraries = line.partition(":")
+        if found.intersection(name.split()[:1]):
+            found.update(set(known).intersection(libraries.split()))
+    return found
+
+
+def link(one, other):
+    """Copies a file. What was proved is linked: the prover replaces such a file, and never writes into it."""
+    try:
+        if one.endswith(".oantt"):
+            return os.link(one, other)
+    except OSError:
+        pass
+    return shutil.copy2(one, other)
+
+
+def copy_crates(crate, copy):
+    """Copies the crates without their edits, with the kept work of one crate and of those that it stands on."""
+    kept = with_those_below(crate)
+
+    def left_out(folder, _names):
+        if os.path.dirname(folder) != f"{ROOT}/crates":
+            return []
+        return ["must-fail"] if os.path.basename(folder) in kept else ["must-fail", "out"]
+
+    shutil.copytree(f"{ROOT}/crates", f"{copy}/crates", symlinks=True, ignore=left_out, copy_function=link)
+
+
 def try_alone(name):
     """Tries one edit in a copy of the crates that has no other edit; returns the exit status."""
     found = glob.glob(f"{ROOT}/crates/*/must-fail/{glob.escape(name)}.edit")
@@ -158,7 +192,7 @@ def try_alone(name):
         return 2
     crate = found[0].split("/")[-3]
     with tempfile.TemporaryDirectory(prefix="edit-") as copy:
-        shutil.copytree(f"{ROOT}/crates", f"{copy}/crates", ignore=shutil.ignore_patterns("out", "must-fail"))
+        copy_crates(crate, copy)
         os.mkdir(f"{copy}/crates/{crate}/must-fail")
         for path in (found[0], f"{ROOT}/crates.txt", f"{ROOT}/HANDLES"):
             shutil.copy(path, os.path.join(copy, os.path.relpath(path, ROOT)))
@@ -189,11 +223,12 @@ def main():
         print(f"{crate}: {edits} edits; {total - len(unasked)} of {total} clauses of public calls are asked")
         if options.unasked:
             print("".join(f"  not asked: {it}\n" for it in unasked), end="")
+    if count > EDITS:
+        faults.append(f"there are more than {EDITS} edits: drop one that asks less")
     if seconds > MINUTES * 60:
-        faults.append(f"the edits take more than {MINUTES} processor minutes: drop one that asks less, or raise MINUTES")
+        faults.append(f"the edits take more than {MINUTES} processor minutes: drop one that asks less")
     print("".join(f"{it}\n" for it in faults), end="")
-    print(f"about {seconds / 60:.0f} processor minutes of at most {MINUTES}")
-    print(f"{count} edits, {len(faults)} faults")
+    print(f"{count} edits of at most {EDITS}, about {seconds / 60:.0f} processor minutes of at most {MINUTES}; {len(faults)} faults")
     return 1 if faults else 0
 
 
