@@ -13,10 +13,10 @@ ghost use Rattle.odb_doc.specs.Members as members;
 ghost use Rattle.odb_doc.specs.WholeNumbers.{IsWhole};
 
 use crate::broken::Broken;
+use crate::member::{Object, text_of};
 use crate::recorded::event_fault::EventRule;
 use crate::recorded::outcome::{Outcome, RawOutcome, moved, raw_outcome_of};
 use crate::whole::has_whole_body;
-use crate::member::{Object, text_of};
 use serde_json::{Number, Value};
 use std::alloc::Global;
 

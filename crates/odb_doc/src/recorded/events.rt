@@ -11,10 +11,10 @@ ghost use Rattle.odb_doc.specs.recorded.LeastEventFault.{AreEvents, IsEventsDocu
 ghost use Rattle.odb_doc.specs.recorded.RawOutcomes.{event_fault};
 
 use crate::broken::Broken;
+use crate::member::Object;
 use crate::recorded::event::{NamedEvent, read_event};
 use crate::recorded::event_fault::{EventFault, EventRule};
 use crate::recorded::outcomes::Husk;
-use crate::member::Object;
 use serde_json::Value;
 use std::alloc::Global;
 

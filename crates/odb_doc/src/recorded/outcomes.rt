@@ -15,12 +15,12 @@ ghost use Rattle.odb_doc.specs.recorded.Outcomes.{AreOutcomesOf, IsOutcomesObjec
 ghost use Rattle.odb_doc.specs.WholeNumbers.{IsWhole};
 
 use crate::broken::Broken;
+use crate::member::Object;
 use crate::recorded::outcome::{Outcome, RawOutcome, raw_outcome_of};
 use crate::recorded::outcome_fault::{OutcomeFault, OutcomeRule};
 use crate::recorded::seen::SeenIds;
 use crate::status::is_status;
 use crate::whole::has_whole_body;
-use crate::member::Object;
 use serde_json::{Number, Value};
 use std::alloc::Global;
 

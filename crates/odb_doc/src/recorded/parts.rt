@@ -6,10 +6,10 @@ ghost use Rattle.odb_doc.specs.recorded.Parts.{AreNoParts, HasParts};
 
 use crate::broken::Broken;
 use crate::headers::headers_from;
+use crate::member::unless_null;
 use crate::recorded::event_fault::EventRule;
 use crate::recorded::outcome::Outcome;
 use crate::whole::has_whole_body;
-use crate::member::unless_null;
 use serde_json::Value;
 use std::alloc::{AllocError, Global};
 

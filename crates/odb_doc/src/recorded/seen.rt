@@ -6,8 +6,8 @@ ghost use Rattle.serde_json.specs.View.{view};
 ghost use Rattle.odb_doc.specs.Names.{texts_in};
 ghost use Rattle.odb_doc.specs.recorded.Outcomes.{ids};
 
-use crate::repeats::may_repeat;
 use crate::member::text_at;
+use crate::repeats::may_repeat;
 use serde_json::Value;
 use std::alloc::{AllocError, Global};
 use std::collections::BTreeSet;
