@@ -30,7 +30,7 @@ STAND_INS = {
     "fails_after_its_work": '"REAL" "$@"; exit 3',
     "leaves_out": 'head -n 2 | "REAL" "$@"; exit 0',
     "is_killed": '"REAL" "$@"; kill -9 $$',
-    "has_no_memory": 'ulimit -v 400000; exec "REAL" "$@"',
+    "has_no_memory": 'ulimit -v 500000; exec "REAL" "$@"',
 }
 
 
