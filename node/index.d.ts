@@ -1,6 +1,7 @@
 /**
- * A document: bytes or a text of JSON, or an object that `JSON.stringify` writes by its members. Bytes that
- * another thread shares are copied first. Anything else, as an array, a `Map` or a `Uint16Array`, is a `TypeError`.
+ * A document: bytes or a text of JSON, or an object that `JSON.stringify` writes by its members. Bytes that another
+ * thread shares are copied first. Another kind, such as an array, a `Map` or a `Uint16Array`, throws a `TypeError`. A
+ * string with a lone surrogate is refused as one that is not UTF-8, and an object that nests too deep as its text is.
  */
 export type Document = Uint8Array | ArrayBuffer | string | object
 
@@ -34,6 +35,7 @@ export interface PlannedRequest {
   needs: string[]
 }
 
+/** Options of a run. In each call an option with another name throws a `TypeError`. */
 export interface RunOptions {
   /** `stop` starts nothing more after a status from 400 to 599; `continue` is the default. */
   mode?: 'continue' | 'stop'
