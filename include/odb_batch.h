@@ -18,7 +18,7 @@
  *              fails, the status says so.
  *   Threads    Nothing is kept between calls but in a live run: any number of threads may call at once. Do not call from
  *              a signal handler, nor in the forked child of a process with threads.
- *   Stack      A call needs ODB_STACK_BYTES of its thread's stack at most: it recurses no deeper than documents may
+ *   Stack      A thread with a stack of ODB_STACK_BYTES can make any call: it recurses no deeper than documents may
  *              nest, 127 levels. This is measured, and a test makes each call on such a stack; it is not proved.
  *   Cost       O(n log n) time for n bytes of documents and text, whatever the names in them.
  *   Seed       The tables of names start from `seed`. Draw it once per process by `odb_seed` and keep
@@ -47,8 +47,9 @@ extern "C" {
 #define ODB_VERSION_PATCH 0
 #define ODB_VERSION (ODB_VERSION_MAJOR * 10000 + ODB_VERSION_MINOR * 100 + ODB_VERSION_PATCH)
 
-/* How much stack a thread has to have for any call. */
-#define ODB_STACK_BYTES 131072
+/* How much stack a thread has to have for any call. A call and the C library's own use of it take three quarters at
+ * most; the rest is for the caller, its thread-local variables and its signal handlers. */
+#define ODB_STACK_BYTES 262144
 
 /* What a call returns. */
 enum {
@@ -203,8 +204,8 @@ uint32_t odb_run_position(odb_live_run *run, const uint8_t *id, size_t id_size, 
 uint32_t odb_run_start(odb_live_run *run, uint32_t position);
 
 /* Takes the outcome of a request: an HTTP status, headers and a body. The headers are a JSON object of strings
- * whose names differ in lower case, the body is JSON of whole numbers, and each may be empty or NULL, as the JSON
- * null, for none. The response is a document that `odb_match` reads if no body in it nests more than 124 deep.
+ * whose names differ in lower case. The body is JSON of whole numbers that nests at most 124 deep, so that `odb_match`
+ * reads the response. Each may be empty or NULL, as the JSON null, for none.
  * Returns ODB_DONE; or, with the run as it was, ODB_WRONG_OPTION if there is no such position,
  * ODB_REFUSED if the headers or the body are not of this form, ODB_OUT_OF_MEMORY, or the cause, ODB_NOT_RUNNING or
  * ODB_BAD_STATUS. A handle as above. All reports of a run take O(requests + dependencies) time together, beside

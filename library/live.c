@@ -15,6 +15,7 @@
 #define FILLING 0xa5
 #define MOST 8      /* more than the requests of a batch here */
 #define RUNS 10000
+#define DEEPEST 124 /* levels of a body */
 
 #define A "{\"id\":\"a\",\"method\":\"GET\",\"url\":\"X\"}"
 #define B "{\"id\":\"b\",\"method\":\"get\",\"url\":\"Y\",\"dependsOn\":[\"a\"]}"
@@ -183,6 +184,34 @@ static void try_course(void)
     count("a report of an error", 0, odb_run_report(&run, 2, 404, NULL, 0, NULL, 0) == ODB_DONE && is_in(&run, 0, 0, 1));
     try_response(&run, ODB_DONE, RESPONSE);
     odb_run_close(run);
+}
+
+/* Writes a body that nests so deep. */
+static void nest(char *body, int levels, const char *open, const char *close)
+{
+    *body = 0;
+    for (int level = 0; level < levels; level++)
+        strcat(body, open);
+    strcat(body, "1");
+    for (int level = 0; level < levels; level++)
+        strcat(body, close);
+}
+
+/* Reports bodies that nest as deep as they may, and deeper: no response may show those. */
+static void try_deep_bodies(const char *open, const char *close)
+{
+    for (int levels = DEEPEST; levels <= DEEPEST + 4; levels++) {
+        char body[1024];
+        odb_live_run run = open_batch(NO_EVENTS);
+        nest(body, levels, open, close);
+        count("a start", 0, odb_run_start(&run, 0) == ODB_DONE);
+        if (levels > DEEPEST) {
+            count("a report that is too deep", levels, report(&run, 0, 200, "", body) == ODB_REFUSED && is_in(&run, 4, 1, 0));
+            nest(body, 1, open, close);
+        }
+        count("a report", levels, report(&run, 0, 200, "", body) == ODB_DONE && is_in(&run, 6, 0, 0));
+        odb_run_close(run);
+    }
 }
 
 /* A request alone and a group of three: the members that succeeded are undone if another one fails. */
@@ -372,6 +401,8 @@ static void try_allocations(int rest)
 int main(void)
 {
     try_course();
+    try_deep_bodies("[", "]");
+    try_deep_bodies("{\"k\":", "}");
     try_all_undone();
     try_openings();
     try_refusals();

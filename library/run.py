@@ -222,6 +222,10 @@ class Parts:
         run(sys.executable, page, wanted="Counts(requests=1, groups=0)\n['a']\n", env=found)
         run(sys.executable, self.write("live.py", block("python", 1)), wanted=LIVE, env=found)
 
+    def types_in_python(self):
+        need("mypy")
+        run("mypy", f"--cache-dir={self.path('mypy')}", cwd=ROOT)
+
     def python_installed(self):
         """Installs a copy of the package, with the library in it, without a network."""
         copy, place = self.path("python"), self.path("installed")
@@ -251,8 +255,8 @@ class Parts:
         need("node")
         folder = os.path.join(ROOT, "node")
         self.compile_addon(folder)
-        tests = [os.path.join(folder, "test", name) for name in ("commands.test.js", "run.test.js")]
-        run("node", "--test", "--test-reporter=dot", *tests)
+        tests = sorted(name for name in os.listdir(os.path.join(folder, "test")) if name.endswith(".test.js"))
+        run("node", "--test", "--test-reporter=dot", *(os.path.join(folder, "test", name) for name in tests))
         os.makedirs(self.path("node_modules"), exist_ok=True)
         os.symlink(folder, os.path.join(self.path("node_modules"), "odb-batch"))
         run("node", self.write("page.js", block("js")), wanted="{ requests: 1, groups: 0 } [ 'a' ]\n")
@@ -273,6 +277,14 @@ class Parts:
         run(*words, cwd=copy, env={**self.variables, "HOME": self.folder})
         check = f"console.log(require({json.dumps(copy)}).check('{{\"requests\":[]}}'))"
         run("node", "-e", check, wanted="{ requests: 0, groups: 0 }\n")
+
+    def types_in_node(self):
+        """Compiles calls against index.d.ts, alone and beside what newer types declare."""
+        need("tsc")
+        alone = ["--typeRoots", self.path("types")]  # no types of other packages
+        for name in ("typed.ts", "newer.ts"):
+            source = os.path.join(ROOT, "node", "test", name)
+            run("tsc", "--noEmit", "--strict", "--target", "es2020", "--module", "commonjs", *alone, source)
 
     def node_on_the_worked_cases(self):
         need("node")
@@ -303,6 +315,9 @@ fn main() {
 
     def page_in_go(self):
         need("go")
+        version = subprocess.run(["go", "version"], capture_output=True, text=True)
+        if tuple(map(int, re.search(r"go(\d+)\.(\d+)", version.stdout).groups())) < (1, 20):
+            raise Skipped("go 1.20 is not installed")
         os.makedirs(self.path("go"), exist_ok=True)
         main = (
             'package main\n\nimport (\n\t"fmt"\n\todb "page"\n)\n\nfunc main() {\n'

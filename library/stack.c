@@ -1,7 +1,10 @@
 /* Measures how much stack the calls of the library take: each is made by a thread with a stack of
- * ODB_STACK_BYTES, on documents that nest as deep as they may and deeper, and on a long chain of requests.
+ * ODB_STACK_BYTES, on documents that nest as deep as they may and deeper, of objects, of arrays and of both by turns,
+ * and on a long chain of requests. What the C library takes of the stack for its thread is counted, too.
  *
- * The last line that it prints is the most that a call took, `N of M bytes of stack`. */
+ * A call that takes more ends the program by a signal, after its title. The last line is the most that a call
+ * took, `N of M bytes of stack`. The status is 1 if less than a quarter is left, for the program's thread-local
+ * variables and signal handlers, and for other C libraries. */
 
 #include "odb_batch.h"
 
@@ -9,6 +12,7 @@
 #include <stdio.h>
 #include <stdlib.h>
 #include <string.h>
+#include <sys/mman.h>
 
 #define PAGE 4096
 #define FILLING 0xa5
@@ -113,7 +117,18 @@ static int run(void)
                            text, sizeof text, &length, 7));
 }
 
-/* Opens a run after the events, and makes all of its calls: its one request is reported with the body in `second`. */
+/* Opens a run after the events in `second`, which end it, and makes its response. */
+static int live_after_events(void)
+{
+    odb_live_run opened;
+    if (odb_run_open(bytes(batch), strlen(batch), bytes(second), strlen(second), ODB_STOP, 1, &opened, text, sizeof text, &length, 7))
+        return 0;
+    int right = is_done(odb_run_response(&opened, text, sizeof text, &length));
+    odb_run_close(opened);
+    return right;
+}
+
+/* Opens a run, and makes all of its calls: its one request is reported with the body in `second`. */
 static int live(void)
 {
     static const char none[] = "{\"events\":[]}", headers[] = "{\"ETag\":\"7\"}";
@@ -132,15 +147,30 @@ static int live(void)
     return right;
 }
 
-/* Appends a value that nests so deep, of arrays and objects in turn. */
+#define OBJECT "{\"k\":"
+
+/* What the even and the odd levels of a value that nests open and close with. */
+static const struct shape {
+    const char *name, *open[2], *close[2];
+} shapes[] = {
+    {"objects", {OBJECT, OBJECT}, {"}", "}"}},
+    {"arrays", {"[", "["}, {"]", "]"}},
+    {"both by turns", {"[", OBJECT}, {"]", "}"}},
+};
+
+#define SHAPES (sizeof shapes / sizeof *shapes)
+
+static const struct shape *shape = shapes;
+
+/* Appends a value that nests so deep. */
 static void nest(char *document, int levels)
 {
     char *end = document + strlen(document);
     for (int level = 0; level < levels; level++)
-        end = stpcpy(end, level % 2 ? "{\"k\":" : "[");
+        end = stpcpy(end, shape->open[level % 2]);
     end = stpcpy(end, "1");
     for (int level = levels; level-- > 0;)
-        end = stpcpy(end, level % 2 ? "}" : "]");
+        end = stpcpy(end, shape->close[level % 2]);
 }
 
 /* Makes a document of a text, a value that nests, and a text. */
@@ -179,16 +209,24 @@ static void *perform(void *given)
 static size_t most;
 static int wrong;
 
+/* Makes a stack whose bytes are known, above a page on which a thread that goes beyond it ends. */
+static uint8_t *new_stack(void)
+{
+    uint8_t *page = mmap(NULL, PAGE + ODB_STACK_BYTES, PROT_READ | PROT_WRITE, MAP_PRIVATE | MAP_ANONYMOUS, -1, 0);
+    if (page == MAP_FAILED || mprotect(page, PAGE, PROT_NONE))
+        exit(70);
+    return memset(page + PAGE, FILLING, ODB_STACK_BYTES);
+}
+
 /* Does the work in a thread, and measures how much of its stack was written. */
 static void measure(const char *title, work *done)
 {
     pthread_t thread;
     pthread_attr_t attributes;
-    void *result = NULL, *place = NULL;
-    if (posix_memalign(&place, PAGE, ODB_STACK_BYTES))
-        exit(70);
-    uint8_t *stack = place;
-    memset(stack, FILLING, ODB_STACK_BYTES);
+    void *result = NULL;
+    uint8_t *stack = new_stack();
+    printf("%s: ", title);
+    fflush(stdout);
     if (pthread_attr_init(&attributes) || pthread_attr_setstack(&attributes, stack, ODB_STACK_BYTES)
         || pthread_create(&thread, &attributes, perform, &done) || pthread_join(thread, &result))
         exit(70);
@@ -196,36 +234,44 @@ static void measure(const char *title, work *done)
     while (left < ODB_STACK_BYTES && stack[left] == FILLING)
         left++;
     size_t used = ODB_STACK_BYTES - left;
-    if (result == NULL || left == 0) {
-        wrong++;
-        printf("%s: is wrong\n", title);
-    }
-    printf("%s: %zu\n", title, used);
+    wrong += result == NULL;
+    printf("%zu%s\n", used, result == NULL ? ", is wrong" : "");
     most = used > most ? used : most;
     pthread_attr_destroy(&attributes);
-    free(stack);
+    munmap(stack - PAGE, PAGE + ODB_STACK_BYTES);
 }
 
-int main(void)
+/* Makes each call on documents whose bodies nest as deep as they may, and deeper. */
+static void measure_deep(void)
 {
     make_deep(DEEPEST);
     measure("a check of a deep body", check);
     measure("a check of a deep body without a seed", check_without_a_seed);
+    measure("a check of a deep body in JSON", check_in_json);
     measure("a plan of a deep body", plan);
+    measure("a plan of a deep body in JSON", plan_in_json);
     measure("a canonical text of a deep body", canon);
+    measure("a canonical text of a deep body in JSON", canon_in_json);
     make(second, "{\"responses\":[{\"id\":\"a\",\"status\":200,\"body\":", DEEPEST, "}]}");
     measure("a match of a deep body", match);
     measure("a match of a deep body in JSON", match_in_json);
     make(second, "{\"outcomes\":[{\"id\":\"a\",\"status\":200,\"body\":", DEEPEST, "}]}");
     measure("a replay of a deep body", replay);
+    measure("a replay of a deep body in JSON", replay_in_json);
     make(second, "{\"events\":[{\"start\":\"a\"},{\"report\":\"a\",\"status\":200,\"body\":", DEEPEST, "}]}");
     measure("a run of a deep body", run);
     measure("a run of a deep body in JSON", run_in_json);
-    make(second, "", DEEPEST + 2, "");
+    measure("a live run after a deep body", live_after_events);
+    make(second, "", DEEPEST, "");
     measure("a live run of a deep body", live);
     make_deep(100000);
     measure("a check of a body that is too deep", refused);
     measure("a check of a body that is too deep in JSON", refused_in_json);
+}
+
+/* Makes each call on a batch in which each request needs the one before it. */
+static void measure_chain(void)
+{
     make_chain("outcomes", "");
     measure("a check of a chain", check);
     measure("a check of a chain without a seed", check_without_a_seed);
@@ -239,6 +285,16 @@ int main(void)
     make_chain("responses", "");
     measure("a match of a chain", match);
     measure("a match of a chain in JSON", match_in_json);
+}
+
+int main(void)
+{
+    for (size_t at = 0; at < SHAPES; at++) {
+        shape = &shapes[at];
+        printf("%s\n", shape->name);
+        measure_deep();
+    }
+    measure_chain();
     printf("%zu of %d bytes of stack\n", most, ODB_STACK_BYTES);
-    return wrong != 0;
+    return wrong != 0 || most > ODB_STACK_BYTES / 4 * 3;
 }

@@ -12,14 +12,29 @@ struct bytes {
     size_t size;
 };
 
+struct live;
+
+/* What an instance of the addon keeps, until it and all of its runs are freed. */
+struct instance {
+    uint64_t seed;
+    size_t users;       /* the instance itself, and the runs that are not freed */
+    struct live *lives; /* the open runs */
+    size_t open;        /* how many they are */
+    size_t opened;      /* how many were opened since forgotten ones were looked for, and */
+    size_t kept;        /* how many were open then */
+};
+
+/* Returns the instance of the thread. */
+struct instance *instance_of(napi_env env);
+
+/* Takes a user from an instance, and frees it with the last one. */
+void release_instance(struct instance *it);
+
 /* Reads the arguments of a call, which have to be so many. Returns whether they are. */
 int read_arguments(napi_env env, napi_callback_info info, napi_value *arguments, size_t wanted);
 
 /* Reads a Uint8Array. Returns whether it is one. */
 int read_bytes(napi_env env, napi_value value, struct bytes *found);
-
-/* Returns the seed of this instance. */
-uint64_t seed_of(napi_env env);
 
 /* A call that writes a text to a buffer, and the length of the text; returns its status. */
 typedef uint32_t writer(void *given, struct bytes buffer, size_t *length);

@@ -3,7 +3,7 @@
 // The commands. index.d.ts says what each takes and returns.
 
 const addon = require('./odb_batch.node')
-const { bytesOf, eventsOf } = require('./documents.js')
+const { bytesOf, eventsOf, kindOf } = require('./documents.js')
 const { DONE, REFUSED, settle } = require('./faults.js')
 
 const COMMANDS = ['check', 'plan', 'canon', 'match', 'run', 'replay']
@@ -12,11 +12,27 @@ const ORDERS = ['first', 'last', 'wide']
 const FORMS = ['lines', 'json']
 const MAX_WIDTH = 10000
 
+// The second document of a command that takes one alone.
+const NONE = ''
+
+// The names of the options of a call.
+const OF_RUN = ['mode', 'width']
+const OF_REPLAY = [...OF_RUN, 'order', 'trace']
+const OF_OUTPUT = [...OF_REPLAY, 'form']
+
 /** The number of a named option. */
 function numberOf(names, what, value) {
   const number = names.indexOf(value)
   if (number < 0) throw new RangeError(`${what} must be one of ${names.join(', ')}, not ${String(value)}`)
   return number
+}
+
+/** The options that a caller passes, which have to be an object with no other names. */
+function optionsOf(options, names) {
+  if (kindOf(options) !== 'Object') throw new TypeError(`the options must be an object, not ${kindOf(options)}`)
+  const unknown = Object.keys(options).find((name) => !names.includes(name))
+  if (unknown !== undefined) throw new TypeError(`an option must be one of ${names.join(', ')}, not ${unknown}`)
+  return options
 }
 
 /** The numbers of the options. */
@@ -34,7 +50,7 @@ function call(command, batch, second, options) {
 }
 
 /** The text that a command writes; throws what else it returns. */
-function answer(command, batch, second = '', options = {}) {
+function answer(command, batch, second, options = {}) {
   const [status, text] = call(command, batch, second, options)
   settle(command, status, text)
   return text
@@ -46,12 +62,12 @@ function linesOf(text) {
 }
 
 function check(batch) {
-  const [, requests, , groups] = answer('check', batch).toString().split(' ')
+  const [, requests, , groups] = answer('check', batch, NONE).toString().split(' ')
   return { requests: Number(requests), groups: Number(groups) }
 }
 
 function plan(batch) {
-  return linesOf(answer('plan', batch)).map((line) => {
+  return linesOf(answer('plan', batch, NONE)).map((line) => {
     const [position, id, , level, , group, , needs] = line.split(' ')
     return {
       position: Number(position),
@@ -64,7 +80,7 @@ function plan(batch) {
 }
 
 function canon(batch) {
-  return answer('canon', batch).subarray(0, -1)
+  return answer('canon', batch, NONE).subarray(0, -1)
 }
 
 function match(batch, responses) {
@@ -72,8 +88,8 @@ function match(batch, responses) {
   return new Map(lines.map((line) => line.split(' ')).map(([id, status]) => [id, Number(status)]))
 }
 
-function run(batch, events, { mode, width } = {}) {
-  return answer('run', batch, eventsOf(events), { mode, width }).subarray(0, -1)
+function run(batch, events, options = {}) {
+  return answer('run', batch, eventsOf(events), optionsOf(options, OF_RUN)).subarray(0, -1)
 }
 
 /** The step of a line of a trace. */
@@ -82,8 +98,8 @@ function stepOf(line) {
   return step === 'report' ? { step, id, status: Number(status) } : { step, id }
 }
 
-function replay(batch, outcomes, { mode, width, order, trace } = {}) {
-  const text = answer('replay', batch, outcomes, { mode, width, order, trace }).subarray(0, -1)
+function replay(batch, outcomes, options = {}) {
+  const text = answer('replay', batch, outcomes, optionsOf(options, OF_REPLAY)).subarray(0, -1)
   const end = text.lastIndexOf('\n')
   const lines = end < 0 ? [] : linesOf(text.subarray(0, end + 1)).map(stepOf)
   return {
@@ -93,14 +109,16 @@ function replay(batch, outcomes, { mode, width, order, trace } = {}) {
   }
 }
 
-function output(command, batch, second, { mode, width, order, trace, form = 'json' } = {}) {
+function output(command, batch, second, options = {}) {
+  const { mode, width, order, trace, form = 'json' } = optionsOf(options, OF_OUTPUT)
   const takesTwo = numberOf(COMMANDS, 'command', command) > 2
   if (takesTwo !== (second !== undefined && second !== null)) {
     throw new TypeError(`${command} takes ${takesTwo ? 'a' : 'no'} second document`)
   }
-  const [status, text] = call(command, batch, takesTwo ? eventsOf(second) : '', { mode, width, order, trace, form })
+  const given = takesTwo ? eventsOf(second) : NONE
+  const [status, text] = call(command, batch, given, { mode, width, order, trace, form })
   if (status !== REFUSED) settle(command, status, text)
   return { accepted: status === DONE, text }
 }
 
-module.exports = { canon, check, match, numbersOf, output, plan, replay, run }
+module.exports = { OF_RUN, canon, check, match, numbersOf, optionsOf, output, plan, replay, run }

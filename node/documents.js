@@ -2,26 +2,65 @@
 
 // Documents and events: what callers pass, and the bytes that the library reads.
 
+const { types } = require('node:util')
+
+// How deep a document may nest.
+const MOST_LEVELS = 127
+
+const LONE_SURROGATE = /\p{Surrogate}/u
+
+/** What kind of object a value is, as `Object`, `Map` or `Uint16Array`; `Object` also of an instance of a class. */
+function kindOf(value) {
+  return Object.prototype.toString.call(value).slice('[object '.length, -1)
+}
+
+/** The bytes of a text. For one that is not Unicode, bytes that are refused as not UTF-8. */
+function utf8Of(text) {
+  const bytes = Buffer.from(text)
+  return LONE_SURROGATE.test(text) ? Buffer.concat([bytes, Buffer.of(0xff)]) : bytes
+}
+
+/** Whether a value nests deeper than a document may. */
+function isTooDeep(value) {
+  let level = new Set([value])
+  for (let depth = 0; depth <= MOST_LEVELS; depth++) {
+    level = new Set([...level].filter((it) => typeof it === 'object' && it !== null).flatMap((it) => Object.values(it)))
+  }
+  return level.size > 0
+}
+
+/** The text that JSON.stringify writes. For a value that is too deep for it, a text that is refused as too deep, too. */
+function textOf(value) {
+  try {
+    return JSON.stringify(value)
+  } catch (error) {
+    // Else it is the caller's stack that is used up.
+    if (error instanceof RangeError && isTooDeep(value)) return '['.repeat(MOST_LEVELS + 1)
+    throw error
+  }
+}
+
 /** The JSON of a value, or a TypeError if it has none. */
 function jsonOf(value) {
-  const text = JSON.stringify(value)
+  const text = textOf(value)
   if (text === undefined) throw new TypeError(`${typeof value} has no JSON`)
   return Buffer.from(text)
 }
 
-/** The bytes of an array of bytes, or undefined if a value is something else. */
+/** The bytes of an array of bytes, or undefined if a value is something else. Bytes that other threads share are copied. */
 function arrayOf(value) {
-  if (value instanceof Uint8Array) return value
-  return value instanceof ArrayBuffer ? new Uint8Array(value) : undefined
+  const bytes = types.isAnyArrayBuffer(value) ? new Uint8Array(value) : value
+  if (!types.isUint8Array(bytes)) return undefined
+  return types.isSharedArrayBuffer(bytes.buffer) ? new Uint8Array(bytes) : bytes
 }
 
 /** The bytes of a document. */
 function bytesOf(document) {
   const bytes = arrayOf(document)
   if (bytes !== undefined) return bytes
-  if (typeof document === 'string') return Buffer.from(document)
-  if (typeof document === 'object' && document !== null && !Array.isArray(document)) return jsonOf(document)
-  throw new TypeError('a document must be a Uint8Array, an ArrayBuffer, a string or an object')
+  if (typeof document === 'string') return utf8Of(document)
+  if (kindOf(document) === 'Object') return jsonOf(document)
+  throw new TypeError(`a document must be a Uint8Array, an ArrayBuffer, a string or a plain object, not ${kindOf(document)}`)
 }
 
 /** The object of headers: of one, or of the pairs of a Headers, a Map or an array. */
@@ -45,4 +84,4 @@ function eventsOf(events) {
   return Array.isArray(events) ? jsonOf({ events: events.map(elementOf) }) : bytesOf(events)
 }
 
-module.exports = { arrayOf, bytesOf, eventsOf, headersOf, jsonOf }
+module.exports = { arrayOf, bytesOf, eventsOf, headersOf, jsonOf, kindOf }

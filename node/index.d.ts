@@ -1,5 +1,17 @@
-/** A document: bytes or a text of JSON, or an object that `JSON.stringify` can write. */
+/**
+ * A document: bytes or a text of JSON, or an object that `JSON.stringify` writes by its members. Bytes that another
+ * thread shares are copied first. Another kind, such as an array, a `Map` or a `Uint16Array`, throws a `TypeError`. A
+ * string with a lone surrogate is refused as one that is not UTF-8, and an object that nests too deep as its text is.
+ */
 export type Document = Uint8Array | ArrayBuffer | string | object
+
+/** Bytes that a call returns: a `Buffer`, which needs the types of Node to be seen as one. */
+export type Bytes = typeof globalThis extends { Buffer: { alloc(size: number): infer B } } ? B : Uint8Array
+
+/** What `using` calls, in versions of TypeScript that know it. */
+export type Disposes = SymbolConstructor extends { readonly dispose: infer S extends symbol }
+  ? { [name in S]: () => void }
+  : {}
 
 /** How many requests and how many different atomicity groups a batch has. */
 export interface Counts {
@@ -23,6 +35,7 @@ export interface PlannedRequest {
   needs: string[]
 }
 
+/** Options of a run. In each call an option with another name throws a `TypeError`. */
 export interface RunOptions {
   /** `stop` starts nothing more after a status from 400 to 599; `continue` is the default. */
   mode?: 'continue' | 'stop'
@@ -63,7 +76,7 @@ export type Events = Document | readonly RunEvent[]
 /** What a replay did. `steps` and `undone` are empty if no trace was asked for. */
 export interface Replay {
   /** The response document, as JSON without a newline. */
-  response: Buffer
+  response: Bytes
   /** The starts and reports in order. */
   steps: Step[]
   /** The ids of the requests that have to be undone, in this order. */
@@ -112,7 +125,7 @@ export function plan(batch: Document): PlannedRequest[]
  * Makes the canonical text of a batch, without a newline. Two documents have equal texts if and only if
  * they are the same batch.
  */
-export function canon(batch: Document): Buffer
+export function canon(batch: Document): Bytes
 
 /**
  * Matches the response document of a service against a batch. Returns the status of the response to each
@@ -124,7 +137,7 @@ export function match(batch: Document, responses: Document): Map<string, number>
  * Runs a batch by recorded events, and returns the response document, as JSON without a newline. Throws a
  * `RangeError` for an option that has none of its values.
  */
-export function run(batch: Document, events: Events, options?: RunOptions): Buffer
+export function run(batch: Document, events: Events, options?: RunOptions): Bytes
 
 /** Replays a batch by recorded outcomes. Throws a `RangeError` for an option that has none of its values. */
 export function replay(batch: Document, outcomes: Document, options?: ReplayOptions): Replay
@@ -134,7 +147,7 @@ export interface Output {
   /** Whether the text is the result; else it is the fault of a document. */
   accepted: boolean
   /** The text, with a newline at its end. */
-  text: Buffer
+  text: Bytes
 }
 
 export interface OutputOptions extends ReplayOptions {
@@ -232,12 +245,12 @@ export class Run {
    * Returns the response document of the finished run, as JSON without a newline. Throws the {@link Fault}
    * F66 if the run is not finished.
    */
-  response(): Buffer
+  response(): Bytes
 
   /** Frees the run, if it is not closed yet. `using` does so, too. */
   close(): void
-  [Symbol.dispose](): void
 }
+export interface Run extends Disposes {}
 
 /** The version of the library, MAJOR.MINOR.PATCH. */
 export const version: string

@@ -59,10 +59,16 @@ int read_bytes(napi_env env, napi_value value, struct bytes *found)
     return 1;
 }
 
-uint64_t seed_of(napi_env env)
+struct instance *instance_of(napi_env env)
 {
-    void *seed = NULL;
-    return napi_get_instance_data(env, &seed) == napi_ok && seed != NULL ? *(uint64_t *)seed : 0;
+    void *instance = NULL;
+    return napi_get_instance_data(env, &instance) == napi_ok ? instance : NULL;
+}
+
+void release_instance(struct instance *it)
+{
+    if (--it->users == 0)
+        free(it);
 }
 
 /* Makes the pair of a status and a text, or returns NULL with an exception. */
@@ -119,27 +125,29 @@ static napi_value call(napi_env env, napi_callback_info info)
         || napi_get_value_uint32(env, it[6], &given.trace) != napi_ok
         || napi_get_value_uint32(env, it[7], &given.form) != napi_ok)
         return wrong_arguments(env);
-    given.seed = seed_of(env);
+    given.seed = instance_of(env)->seed;
     return written(env, make, &given, given.batch.size + given.second.size + MORE);
 }
 
-static void free_seed(napi_env env, void *seed, void *hint)
+static void end_instance(napi_env env, void *instance, void *hint)
 {
     (void)env;
     (void)hint;
-    free(seed);
+    release_instance(instance);
 }
 
-/* Draws the seed of this instance, which nobody can see, and exports `call`, `version` and the runs. */
+/* Makes the instance, with a seed that nobody can see, and exports `call`, `version` and the runs. */
 NAPI_MODULE_INIT()
 {
     napi_value function, version;
-    uint64_t *seed = malloc(sizeof *seed);
-    if (seed != NULL) {
-        *seed = odb_seed();
-        if (napi_set_instance_data(env, seed, free_seed, NULL) != napi_ok)
-            free(seed);
+    struct instance *instance = calloc(1, sizeof *instance);
+    if (instance == NULL || napi_set_instance_data(env, instance, end_instance, NULL) != napi_ok) {
+        free(instance);
+        napi_throw_error(env, "ERR_ODB_OUT_OF_MEMORY", "out of memory");
+        return NULL;
     }
+    instance->users = 1;
+    instance->seed = odb_seed();
     if (napi_create_function(env, "call", NAPI_AUTO_LENGTH, call, NULL, &function) == napi_ok
         && napi_set_named_property(env, exports, "call", function) == napi_ok
         && napi_create_uint32(env, odb_version(), &version) == napi_ok

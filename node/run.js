@@ -3,10 +3,11 @@
 // Live runs. index.d.ts says what each call takes and returns.
 
 const addon = require('./odb_batch.node')
-const { numbersOf, plan, run } = require('./commands.js')
+const { OF_RUN, numbersOf, optionsOf, plan, run } = require('./commands.js')
 const { arrayOf, bytesOf, eventsOf, headersOf, jsonOf } = require('./documents.js')
 const { DONE, Fault, REFUSED, Refused, errorOf, settle } = require('./faults.js')
 
+const OF_LIVE = [...OF_RUN, 'events']
 const MOST = 2 ** 32 - 1
 const NOTHING = new Uint8Array()
 
@@ -53,7 +54,8 @@ class Run {
   #listed
   #size
 
-  constructor(batch, { mode, width, events = [] } = {}) {
+  constructor(batch, options = {}) {
+    const { mode, width, events = [] } = optionsOf(options, OF_LIVE)
     const [modeNumber, widthNumber] = numbersOf({ mode, width })
     const [given, happened] = [bytesOf(batch), eventsOf(events)]
     this.#plan = plan(given)

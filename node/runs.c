@@ -1,4 +1,5 @@
-/* Live runs for Node: a run is an external value, which closes it when it is collected.
+/* Live runs for Node: a run is an external value, and is closed once that is collected: by its finalizer, after the turn
+ * of the event loop, or when another run is opened in the same turn.
  *
  *   open(batch, events, mode, width) -> [status, text, run]
  *   ready(run, positions), running(run, positions), undone(run, positions) -> [status, count]
@@ -13,27 +14,93 @@
 
 #include "addon.h"
 
-#define LINE 256 /* longer than the line of a fault */
+#define LINE 256  /* longer than the line of a fault */
+#define GROWTH 8  /* about how many bytes a run holds for each byte of its documents */
+#define FEW_RUNS 16
 
-/* A run and whether it is open. */
+/* A run and whether it is open: then it is in the list of its instance. */
 struct live {
     odb_live_run run;
     int is_open;
+    int64_t held;             /* how many bytes V8 takes it to hold */
+    napi_ref value;           /* a weak reference to its value: empty once that is collected */
+    struct instance *instance;
+    struct live *next, **at;  /* the next one of the list, and the pointer to this one */
 };
 
-static void close_live(struct live *it)
+/* Has V8 know of the memory that a run holds more, or less, so that it collects forgotten runs in time. */
+static void hold(napi_env env, struct live *it, int64_t more)
 {
-    if (it->is_open)
-        odb_run_close(it->run);
+    int64_t all;
+    it->held += more;
+    napi_adjust_external_memory(env, more, &all);
+}
+
+/* Puts a run that was opened into the list. `size` is how long its documents are. */
+static void enlist(napi_env env, struct live *it, size_t size)
+{
+    struct instance *all = it->instance;
+    it->next = all->lives;
+    it->at = &all->lives;
+    if (it->next != NULL)
+        it->next->at = &it->next;
+    all->lives = it;
+    all->open++;
+    all->opened++;
+    hold(env, it, GROWTH * (int64_t)size);
+}
+
+static void close_live(napi_env env, struct live *it)
+{
+    if (!it->is_open)
+        return;
     it->is_open = 0;
+    odb_run_close(it->run);
+    *it->at = it->next;
+    if (it->next != NULL)
+        it->next->at = it->at;
+    it->instance->open--;
+    hold(env, it, -it->held);
+}
+
+/* Closes the runs whose values are collected, where as many runs as are open were opened since the last time. */
+static void close_forgotten(napi_env env, struct instance *all)
+{
+    napi_handle_scope scope;
+    if (all->opened < FEW_RUNS + all->kept || napi_open_handle_scope(env, &scope) != napi_ok)
+        return;
+    for (struct live *it = all->lives, *next; it != NULL; it = next) {
+        napi_value value = NULL;
+        next = it->next;
+        if (napi_get_reference_value(env, it->value, &value) == napi_ok && value == NULL)
+            close_live(env, it);
+    }
+    napi_close_handle_scope(env, scope);
+    all->opened = 0;
+    all->kept = all->open;
 }
 
 static void free_live(napi_env env, void *data, void *hint)
 {
-    (void)env;
+    struct live *it = data;
     (void)hint;
-    close_live(data);
-    free(data);
+    close_live(env, it);
+    napi_delete_reference(env, it->value);
+    release_instance(it->instance);
+    free(it);
+}
+
+/* Makes the value of a run that is not open yet, or returns NULL. */
+static struct live *new_live(napi_env env, napi_value *value)
+{
+    struct live *it = calloc(1, sizeof *it);
+    if (it == NULL || napi_create_external(env, it, free_live, NULL, value) != napi_ok) {
+        free(it);
+        return NULL;
+    }
+    it->instance = instance_of(env);
+    it->instance->users++;
+    return napi_create_reference(env, *value, 0, &it->value) == napi_ok ? it : NULL;
 }
 
 /* Reads a run that is open. */
@@ -86,14 +153,16 @@ static napi_value open_run(napi_env env, napi_callback_info info)
         || !read_bytes(env, it[0], &given.batch) || !read_bytes(env, it[1], &given.events)
         || !read_number(env, it[2], &given.mode) || !read_number(env, it[3], &given.width))
         return wrong_arguments(env);
-    given.seed = seed_of(env);
-    given.live = calloc(1, sizeof *given.live);
-    if (given.live == NULL || napi_create_external(env, given.live, free_live, NULL, &run) != napi_ok) {
-        free(given.live);
+    given.seed = instance_of(env)->seed;
+    close_forgotten(env, instance_of(env));
+    given.live = new_live(env, &run);
+    if (given.live == NULL) {
         napi_throw_error(env, "ERR_ODB_OUT_OF_MEMORY", "out of memory");
         return NULL;
     }
     napi_value found = written(env, open_live, &given, LINE);
+    if (given.live->is_open)
+        enlist(env, given.live, given.batch.size + given.events.size);
     if (found == NULL || napi_set_element(env, found, 2, run) != napi_ok)
         return NULL;
     return found;
@@ -161,7 +230,10 @@ static napi_value report(napi_env env, napi_callback_info info)
     if (!read_arguments(env, info, it, 5) || !read_live(env, it[0], &live) || !read_number(env, it[1], &position)
         || !read_number(env, it[2], &status) || !read_bytes(env, it[3], &headers) || !read_bytes(env, it[4], &body))
         return wrong_arguments(env);
-    return number_of(env, odb_run_report(&live->run, position, status, headers.at, headers.size, body.at, body.size));
+    uint32_t end = odb_run_report(&live->run, position, status, headers.at, headers.size, body.at, body.size);
+    if (end == ODB_DONE)
+        hold(env, live, GROWTH * (int64_t)(headers.size + body.size));
+    return number_of(env, end);
 }
 
 static napi_value finished(napi_env env, napi_callback_info info)
@@ -195,7 +267,7 @@ static napi_value close_run(napi_env env, napi_callback_info info)
     napi_value it[1];
     if (!read_arguments(env, info, it, 1) || !read_live(env, it[0], &live))
         return wrong_arguments(env);
-    close_live(live);
+    close_live(env, live);
     return NULL;
 }
 

@@ -42,26 +42,6 @@ const EVENTS = {
   ],
 }
 
-test('takes each kind of document', () => {
-  const bytes = Buffer.from(TEXT)
-  const copy = new Uint8Array(bytes)
-  for (const document of [BATCH, TEXT, bytes, copy, copy.buffer]) {
-    assert.deepEqual(check(document), { requests: 4, groups: 1 })
-  }
-})
-
-test('refuses another kind', () => {
-  for (const document of [null, undefined, 7, [], Symbol('x')]) {
-    assert.throws(() => check(document), TypeError)
-  }
-})
-
-test('reads an empty document', () => {
-  for (const document of ['', Buffer.alloc(0), new Uint8Array(), new ArrayBuffer(0)]) {
-    assert.throws(() => check(document), { message: 'F02 NotJson batch' })
-  }
-})
-
 test('plans', () => {
   const planned = plan(BATCH)
   assert.deepEqual(planned[0], { position: 0, id: 'book', level: 0, group: null, needs: [] })

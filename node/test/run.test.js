@@ -5,7 +5,7 @@ const { execFileSync } = require('node:child_process')
 const { once } = require('node:events')
 const { test } = require('node:test')
 const { Worker } = require('node:worker_threads')
-const { Fault, Refused, Run, replay, run } = require('..')
+const { Fault, Refused, Run, match, replay, run } = require('..')
 
 const BATCH = {
   requests: [
@@ -256,6 +256,24 @@ test('refuses what a response cannot show', () => {
   }
 })
 
+test('takes a body as deep as a response may show', () => {
+  for (const wrap of [(value) => [value], (value) => ({ k: value })]) {
+    for (const levels of [124, 125, 126, 127, 128, 100000]) {
+      let body = 1
+      for (let i = 0; i < levels; i++) body = wrap(body)
+      withRun(ONE, { events: STARTED }, (live) => {
+        if (levels > 124) {
+          assert.throws(() => live.report('a', 200, null, body), { name: 'Fault', message: 'F02 NotJson report' })
+          assert.deepEqual(live.running, ['a'])
+          body = 1
+        }
+        live.report('a', 200, null, body)
+        assert.deepEqual([...match(ONE, live.response())], [['a', 200]])
+      })
+    }
+  }
+})
+
 test('has no response and nothing undone before its end', () => {
   withRun(BATCH, { events: EVENTS.slice(0, 5) }, (live) => {
     for (const call of [() => live.response(), () => live.undone]) {
@@ -290,6 +308,18 @@ test('using closes a run', { skip: Symbol.dispose === undefined }, () => {
   live[Symbol.dispose]()
   assert.throws(() => live.ready, { code: 'ERR_ODB_CLOSED' })
   live[Symbol.dispose]()
+})
+
+test('forgotten runs are closed in the turn of the event loop that opens others', () => {
+  const code = `
+    const { Run } = require(${JSON.stringify(require.resolve('..'))})
+    const requests = Array.from({ length: 2000 }, (_, i) => ({ id: 'r' + i, method: 'get', url: 'X' }))
+    const batch = Buffer.from(JSON.stringify({ requests }))
+    for (let i = 0; i < 1500; i++) new Run(batch)
+    console.log(process.memoryUsage().rss)`
+  const most = Number(execFileSync(process.execPath, ['-e', code]))
+  // All of them hold more than 900 MB.
+  assert.ok(most < 450e6, `${most} bytes`)
 })
 
 test('a forgotten run is closed when it is collected', () => {

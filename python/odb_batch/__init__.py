@@ -25,13 +25,18 @@ Output(accepted=True, text=b'{"groups":0,"requests":2}\\n')
 A :class:`Run` is a live run, for who performs the requests: it says which of them may start now, takes what
 each is answered, and has the response in the end.
 
-A document is bytes, a text or a mapping that ``json`` can write. A document that is refused raises
-:class:`Fault`. All functions may be called from any number of threads at once, also over one run; they
-release the interpreter's lock while they work.
+A document is bytes, a text or a mapping that ``json`` can write, with mappings of any kind in it. A document
+that is refused raises :class:`Fault`, which and :class:`Refused` have the base :class:`OdbError`. All functions
+may be called from any number of threads at once, also over one run; they release the interpreter's lock while
+they work.
 """
 
 from ._commands import (
+    Command,
     Counts,
+    Form,
+    Mode,
+    Order,
     Output,
     Plan,
     PlannedRequest,
@@ -45,15 +50,20 @@ from ._commands import (
     run,
 )
 from ._documents import Document, Events, Report, Start
-from ._faults import Fault, Refused
+from ._faults import Fault, OdbError, Refused
 from ._library import VERSION as __version__
 from ._runs import Run
 
 __all__ = [
+    "Command",
     "Counts",
     "Document",
     "Events",
     "Fault",
+    "Form",
+    "Mode",
+    "OdbError",
+    "Order",
     "Output",
     "Plan",
     "PlannedRequest",

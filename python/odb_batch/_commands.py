@@ -1,15 +1,21 @@
 """The commands: what they take and what they return."""
 
-from typing import Any, Dict, Iterator, List, NamedTuple, Optional, Tuple, Union
+from typing import Any, Dict, Iterator, List, Literal, NamedTuple, Optional, Sequence, Tuple, Union, get_args, overload
 
 from . import _library
 from ._documents import Document, Events, Report, Start, bytes_of, events_of
 from ._faults import fault_of
 
-MODES = {"continue": 0, "stop": 1}
-ORDERS = {"first": 0, "last": 1, "wide": 2}
-FORMS = {"lines": 0, "json": 1}
-COMMANDS = ("check", "plan", "canon", "match", "run", "replay")
+#: The values of options, each at the place that is its number, and the commands.
+Mode = Literal["continue", "stop"]
+Order = Literal["first", "last", "wide"]
+Form = Literal["lines", "json"]
+Command = Literal["check", "plan", "canon", "match", "run", "replay"]
+
+MODES: Tuple[str, ...] = get_args(Mode)
+ORDERS: Tuple[str, ...] = get_args(Order)
+FORMS: Tuple[str, ...] = get_args(Form)
+COMMANDS: Tuple[str, ...] = get_args(Command)
 MAX_WIDTH = 10_000
 
 # How much longer than its documents a text is thought to be; a longer one takes a second call.
@@ -42,38 +48,49 @@ class PlannedRequest(NamedTuple):
     needs: Tuple[str, ...]
 
 
-class Plan:
-    """The requests of a batch in order, with what each depends on. It is a sequence of them."""
+class Plan(Sequence[PlannedRequest]):
+    """The requests of a batch in order, with what each depends on. It is a sequence of them that cannot be changed."""
 
-    __slots__ = ("requests", "_positions")
-
-    requests: Tuple[PlannedRequest, ...]
+    __slots__ = ("_requests", "_positions")
 
     def __init__(self, requests: Tuple[PlannedRequest, ...]) -> None:
-        self.requests = requests
-        self._positions = {request.id: request.position for request in requests}
+        self._requests = tuple(requests)
+        self._positions = {request.id: position for position, request in enumerate(self._requests)}
+
+    @property
+    def requests(self) -> Tuple[PlannedRequest, ...]:
+        """The requests in order."""
+        return self._requests
 
     def __len__(self) -> int:
-        return len(self.requests)
+        return len(self._requests)
 
     def __iter__(self) -> Iterator[PlannedRequest]:
-        return iter(self.requests)
+        return iter(self._requests)
 
-    def __getitem__(self, position: int) -> PlannedRequest:
-        return self.requests[position]
+    @overload
+    def __getitem__(self, position: int) -> PlannedRequest: ...
+
+    @overload
+    def __getitem__(self, position: slice) -> Tuple[PlannedRequest, ...]: ...
+
+    def __getitem__(self, position: Union[int, slice]) -> Union[PlannedRequest, Tuple[PlannedRequest, ...]]:
+        return self._requests[position]
 
     def __eq__(self, other: object) -> bool:
-        return isinstance(other, Plan) and self.requests == other.requests
+        if not isinstance(other, Plan):
+            return NotImplemented
+        return self._requests == other._requests
 
     def __hash__(self) -> int:
-        return hash(self.requests)
+        return hash(self._requests)
 
     def __repr__(self) -> str:
-        return f"Plan({self.requests!r})"
+        return f"Plan({self._requests!r})"
 
     def request(self, id: str) -> PlannedRequest:
         """Returns the request with this id; raises KeyError if there is none."""
-        return self.requests[self._positions[id]]
+        return self._requests[self._positions[id]]
 
 
 class Replay(NamedTuple):
@@ -103,14 +120,14 @@ class Output(NamedTuple):
     text: bytes
 
 
-def _number(names: Dict[str, int], what: str, value: str) -> int:
-    """The number of a named option."""
+def _number(names: Tuple[str, ...], what: str, value: str) -> int:
+    """The number of a named value."""
     if value not in names:
         raise ValueError(f"{what} must be one of {', '.join(map(repr, names))}, not {value!r}")
-    return names[value]
+    return names.index(value)
 
 
-def policy(mode: str, width: int) -> Tuple[int, int]:
+def policy(mode: Mode, width: int) -> Tuple[int, int]:
     """The numbers of a policy."""
     if isinstance(width, bool) or not isinstance(width, int) or not 1 <= width <= MAX_WIDTH:
         raise ValueError(f"width must be a whole number from 1 to {MAX_WIDTH}, not {width!r}")
@@ -194,7 +211,7 @@ def match(batch: Document, responses: Document) -> Dict[str, int]:
     return {id: int(status) for id, status in (line.split(" ") for line in lines)}
 
 
-def run(batch: Document, events: Events, *, mode: str = "continue", width: int = MAX_WIDTH) -> bytes:
+def run(batch: Document, events: Events, *, mode: Mode = "continue", width: int = MAX_WIDTH) -> bytes:
     """Runs a batch by recorded events.
 
     Args:
@@ -233,8 +250,8 @@ def replay(
     batch: Document,
     outcomes: Document,
     *,
-    order: str = "first",
-    mode: str = "continue",
+    order: Order = "first",
+    mode: Mode = "continue",
     width: int = MAX_WIDTH,
     trace: bool = False,
 ) -> Replay:
@@ -259,13 +276,13 @@ def replay(
 
 
 def output(
-    command: str,
+    command: Command,
     batch: Document,
     second: Optional[Events] = None,
     *,
-    form: str = "json",
-    order: str = "first",
-    mode: str = "continue",
+    form: Form = "json",
+    order: Order = "first",
+    mode: Mode = "continue",
     width: int = MAX_WIDTH,
     trace: bool = False,
 ) -> Output:
@@ -284,9 +301,7 @@ def output(
         TypeError: The second document is missing, or there is one too many.
         MemoryError: An allocation failed.
     """
-    if command not in COMMANDS:
-        raise ValueError(f"command must be one of {', '.join(map(repr, COMMANDS))}, not {command!r}")
-    if (second is None) == (command in COMMANDS[3:]):
+    if (second is None) == (_number(COMMANDS, "command", command) > 2):
         raise TypeError(f"{command} takes {'no second' if second is not None else 'a second'} document")
     numbers: Tuple[int, ...] = policy(mode, width) if command in ("run", "replay") else ()
     if command == "replay":

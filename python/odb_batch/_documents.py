@@ -3,7 +3,10 @@
 import json
 from typing import Any, Dict, Iterable, Mapping, NamedTuple, Optional, Union
 
-#: A document: bytes or a text of JSON, or a mapping that ``json`` can write.
+# How deep a document may nest.
+_MOST_LEVELS = 127
+
+#: A document: bytes or a text of JSON, or a mapping that ``json`` can write; mappings in it may be of any kind.
 Document = Union[bytes, bytearray, memoryview, str, Mapping[str, Any]]
 
 
@@ -35,22 +38,52 @@ Events = Union[Document, Iterable[Union[Start, Report]]]
 
 def _utf8(text: str) -> bytes:
     """The bytes of a text. One that is not Unicode is refused as a document that is not UTF-8."""
-    return text.encode("utf-8", "surrogatepass")
+    # Not text.encode: a subclass may have its own.
+    return str.encode(text, "utf-8", "surrogatepass")
+
+
+def _parts(value: Any) -> Iterable[Any]:
+    """The values in a value that ``json`` writes."""
+    if isinstance(value, Mapping):
+        return value.values()
+    return value if isinstance(value, (list, tuple)) else ()
+
+
+def _is_too_deep(value: Any) -> bool:
+    """Whether a value nests deeper than a document may, as one that contains itself does."""
+    level = {id(value): value}
+    for _ in range(_MOST_LEVELS + 1):
+        level = {id(part): part for it in level.values() for part in _parts(it)}
+    return bool(level)
+
+
+def _dict_of(value: Any) -> Dict[Any, Any]:
+    """The dict of a mapping of another kind, which ``json`` does not write."""
+    if isinstance(value, Mapping):
+        return dict(value)
+    raise TypeError(f"{type(value).__name__} has no JSON")
 
 
 def json_of(value: Any) -> bytes:
-    """The JSON of a value."""
-    return _utf8(json.dumps(value, ensure_ascii=False, separators=(",", ":")))
+    """The JSON of a value. For one that is too deep to be written, as one that contains itself, a text that is refused
+    as too deep, too."""
+    try:
+        return _utf8(json.dumps(value, ensure_ascii=False, separators=(",", ":"), default=_dict_of))
+    except (RecursionError, ValueError):
+        # Else it is the caller's stack that is used up, or a number with too many digits.
+        if _is_too_deep(value):
+            return b"[" * (_MOST_LEVELS + 1)
+        raise
 
 
 def bytes_of(document: Document) -> bytes:
-    """The bytes of a document."""
-    if isinstance(document, bytes):
+    """The bytes of a document, with no method of a subclass: the library reads as many as they are."""
+    if type(document) is bytes:
         return document
     if isinstance(document, str):
         return _utf8(document)
-    if isinstance(document, (bytearray, memoryview)):
-        return bytes(document)
+    if isinstance(document, (bytes, bytearray, memoryview)):
+        return memoryview(document).tobytes()
     if isinstance(document, Mapping):
         return json_of(document)
     raise TypeError(f"a document is bytes, a str or a mapping, not {type(document).__name__}")

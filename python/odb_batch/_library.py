@@ -3,7 +3,7 @@
 import ctypes
 import os
 import secrets
-from typing import Any, Callable, List, Tuple
+from typing import Any, Callable, Dict, List, Tuple
 
 NAME = "libodb_batch.so.0"
 VARIABLE = "ODB_BATCH_LIBRARY"
@@ -20,7 +20,7 @@ class Handle(ctypes.Structure):
     _fields_ = [("at", ctypes.c_void_p)]
 
 
-_BYTES = [ctypes.c_char_p, ctypes.c_size_t]
+_BYTES: List[Any] = [ctypes.c_char_p, ctypes.c_size_t]
 _NUMBER = [ctypes.c_uint32]
 _SIZE = ctypes.POINTER(ctypes.c_size_t)
 _TEXT = [ctypes.c_void_p, ctypes.c_size_t, _SIZE]
@@ -29,7 +29,7 @@ _RUN = [ctypes.POINTER(Handle)]
 _POSITIONS = [ctypes.POINTER(ctypes.c_uint32), ctypes.c_size_t, _SIZE]
 
 # The parameters of each function.
-_PARAMETERS = {
+_PARAMETERS: Dict[str, List[Any]] = {
     "odb_check": [*_BYTES, *_SEEDED],
     "odb_plan": [*_BYTES, *_SEEDED],
     "odb_canon": [*_BYTES, *_SEEDED],

@@ -4,10 +4,10 @@ import ctypes
 import threading
 import weakref
 from types import TracebackType
-from typing import Any, List, Mapping, Optional, Tuple, Type
+from typing import Any, List, Mapping, NoReturn, Optional, SupportsIndex, Tuple, Type
 
 from . import _library
-from ._commands import MAX_WIDTH, answer, failure_of, plan, policy
+from ._commands import MAX_WIDTH, Mode, answer, failure_of, plan, policy
 from ._documents import Document, Events, bytes_of, events_of, json_of
 from ._faults import Fault, Refused
 
@@ -45,7 +45,8 @@ class Run:
     run is as it was then. A run that is not finished has a request that is ready or one that is running.
 
     A run holds memory of the library: close it, by ``with`` or by :meth:`close`. After that each call
-    and property raises ValueError. One that is forgotten is closed when it is collected.
+    and property raises ValueError. One that is forgotten is closed when it is collected. A run cannot be
+    copied or pickled: open another one after the same events.
 
     Any number of threads may use one run: a lock of the run lets in one at a time. The interpreter's lock
     is released meanwhile. Do not use it in a handler of a signal, nor in the child of a fork.
@@ -66,7 +67,7 @@ class Run:
     __slots__ = ("_lock", "_handle", "_release", "_plan", "_listed", "_size", "__weakref__")
 
     def __init__(
-        self, batch: Document, *, mode: str = "continue", width: int = MAX_WIDTH, events: Events = ()
+        self, batch: Document, *, mode: Mode = "continue", width: int = MAX_WIDTH, events: Events = ()
     ) -> None:
         options, given, happened = policy(mode, width), bytes_of(batch), events_of(events)
         self._plan = plan(given)
@@ -80,6 +81,17 @@ class Run:
         self._release = weakref.finalize(self, _library.close_run, self._handle)
         # A thread may still be in a call when the process ends, and then all memory goes.
         self._release.atexit = False
+
+    def __reduce_ex__(self, protocol: SupportsIndex) -> NoReturn:
+        # A copy would share the handle, and one of the two would free it under the other.
+        raise TypeError("a Run cannot be copied")
+
+    def __repr__(self) -> str:
+        release = getattr(self, "_release", None)
+        if release is None:
+            return "<Run: not open>"
+        with self._lock:
+            return f"<Run of {len(self._plan)} requests: {self._state() if release.alive else 'closed'}>"
 
     def __enter__(self) -> "Run":
         with self._lock:
@@ -199,12 +211,22 @@ class Run:
         self._require_open()
         return _library.call_run(name, self._handle, *arguments)
 
+    def _count(self, name: str) -> Tuple[int, int]:
+        """The status that a function returns, and how many positions it lists, by the thread that has the lock."""
+        count = ctypes.c_size_t()
+        return self._call(name, self._listed, len(self._listed), ctypes.byref(count)), count.value
+
+    def _state(self) -> str:
+        """How far the open run is, by the thread that has the lock."""
+        if self._call("odb_run_finished"):
+            return "finished"
+        return f"{self._count('odb_run_ready')[1]} ready, {self._count('odb_run_running')[1]} running"
+
     def _positions(self, name: str) -> Tuple[int, List[int]]:
         """The status that a function returns, and the positions that it lists."""
-        count = ctypes.c_size_t()
         with self._lock:
-            status = self._call(name, self._listed, len(self._listed), ctypes.byref(count))
-            return status, self._listed[: count.value]
+            status, count = self._count(name)
+            return status, self._listed[:count]
 
     def _list(self, name: str) -> Tuple[str, ...]:
         """The ids of the requests that a function lists, in the order of the batch."""
@@ -224,7 +246,7 @@ def _settle(name: str, status: int, id: str) -> None:
 def _body(body: Any) -> bytes:
     """The JSON of a body; nothing if there is none."""
     if isinstance(body, (bytes, bytearray, memoryview)):
-        return bytes(body)
+        return bytes_of(body)
     return b"" if body is None else json_of(body)
 
 

@@ -1,5 +1,7 @@
-"""What the functions take, return and raise."""
+"""What the functions return and raise."""
 
+import collections.abc
+import copy
 import json
 import pickle
 import threading
@@ -7,7 +9,7 @@ import unittest
 from unittest import mock
 
 import odb_batch
-from odb_batch import Counts, Fault, PlannedRequest, Report, Start, canon, check, match, output, plan, replay, run
+from odb_batch import Fault, OdbError, PlannedRequest, Refused, Report, Start, canon, check, match, output, plan, replay, run
 
 BATCH = {
     "requests": [
@@ -40,28 +42,6 @@ EVENTS = {
 }
 
 
-class Documents(unittest.TestCase):
-    def test_takes_each_kind_of_document(self):
-        for document in (BATCH, TEXT, TEXT.encode(), bytearray(TEXT.encode()), memoryview(TEXT.encode())):
-            with self.subTest(kind=type(document).__name__):
-                self.assertEqual(check(document), Counts(requests=4, groups=1))
-
-    def test_refuses_another_kind(self):
-        for document in (None, 7, [], {1}):
-            with self.subTest(document=document), self.assertRaises(TypeError):
-                check(document)
-
-    def test_reads_a_document_with_a_null_byte_to_its_end(self):
-        with self.assertRaises(Fault) as raised:
-            check(TEXT.encode() + b"\0")
-        self.assertEqual(raised.exception.code, "F02")
-
-    def test_refuses_a_text_that_is_not_unicode_as_a_document(self):
-        with self.assertRaises(Fault) as raised:
-            check(TEXT.replace("dune", "\ud800"))
-        self.assertEqual(str(raised.exception), "F02 NotJson batch")
-
-
 class Commands(unittest.TestCase):
     def test_plans(self):
         planned = plan(BATCH)
@@ -73,6 +53,25 @@ class Commands(unittest.TestCase):
         self.assertEqual(hash(planned), hash(plan(TEXT)))
         with self.assertRaises(KeyError):
             planned.request("lend")
+
+    def test_a_plan_is_a_sequence(self):
+        planned = plan(BATCH)
+        self.assertIsInstance(planned, collections.abc.Sequence)
+        mark = planned.request("mark")
+        self.assertEqual((planned.index(mark), planned.count(mark), mark in planned), (1, 1, True))
+        self.assertEqual((planned[1:3], planned[-1]), (planned.requests[1:3], planned.request("list")))
+        self.assertEqual(list(reversed(planned)), list(planned)[::-1])
+
+    def test_a_plan_is_not_changed(self):
+        planned = plan(BATCH)
+        for name in ("requests", "other"):
+            with self.subTest(name=name), self.assertRaises(AttributeError):
+                setattr(planned, name, ())
+        with self.assertRaises(TypeError):
+            planned[0] = planned[1]
+        self.assertNotEqual(planned, planned.requests)
+        for same in (copy.copy(planned), copy.deepcopy(planned), pickle.loads(pickle.dumps(planned))):
+            self.assertEqual((same, hash(same), same.request("loan")), (planned, hash(planned), planned[2]))
 
     def test_plans_the_empty_batch(self):
         self.assertEqual(plan({"requests": []}).requests, ())
@@ -172,6 +171,15 @@ class Refusals(unittest.TestCase):
         self.assertIn("dependsOn", fault.explanation)
         self.assertIsInstance(fault, ValueError)
 
+    def test_faults_and_refusals_have_one_base(self):
+        for kind in (Fault, Refused):
+            with self.subTest(kind=kind), self.assertRaises(OdbError) as raised:
+                raise kind("S4", "Waiting", "list")
+            error = raised.exception
+            self.assertEqual((error.code, error.name, str(error)), ("S4", "Waiting", "S4 Waiting list"))
+            self.assertTrue(error.explanation)
+        self.assertFalse(issubclass(ValueError, OdbError) or issubclass(Refused, ValueError))
+
     def test_a_fault_is_pickled(self):
         fault = pickle.loads(pickle.dumps(Fault("F02", "NotJson", "batch")))
         self.assertEqual((fault.code, fault.name, fault.place), ("F02", "NotJson", "batch"))
@@ -194,7 +202,7 @@ class Refusals(unittest.TestCase):
     def test_an_option_is_no_fault(self):
         with self.assertRaises(ValueError) as raised:
             run(b"", b"", width=0)
-        self.assertNotIsInstance(raised.exception, Fault)
+        self.assertNotIsInstance(raised.exception, OdbError)
 
 
 class Statuses(unittest.TestCase):

@@ -1,6 +1,7 @@
 """What a live run says, takes and refuses."""
 
 import contextlib
+import copy
 import gc
 import io
 import json
@@ -9,11 +10,10 @@ import pickle
 import re
 import threading
 import time
-import types
 import unittest
 from unittest import mock
 
-from odb_batch import Fault, Refused, Report, Run, Start, _library, replay, run
+from odb_batch import Fault, OdbError, Refused, Report, Run, Start, _library, replay, run
 
 BATCH = {
     "requests": [
@@ -204,61 +204,6 @@ class Refusals(unittest.TestCase):
         self.assertEqual((refused.code, refused.name, refused.id), ("S4", "Waiting", "list"))
 
 
-class Bodies(unittest.TestCase):
-    BATCH = {"requests": [{"id": "a", "method": "get", "url": "X"}]}
-
-    def test_shows_headers_and_bodies(self):
-        deep = "[" * 124 + "]" * 124
-        table = [
-            (None, None, {}),
-            ({}, b"null", {}),
-            (None, b"", {}),
-            ({"ETag": "7", "Allow": ""}, None, {"headers": {"allow": "", "etag": "7"}}),
-            (types.MappingProxyType({"É": "é"}), None, {"headers": {"É": "é"}}),
-            (None, "Größe", {"body": "Größe"}),
-            (None, [2**64 - 1, -(2**63)], {"body": [2**64 - 1, -(2**63)]}),
-            (None, False, {"body": False}),
-            (None, b' {"b" : 1, "a":[true]} ', {"body": {"a": [True], "b": 1}}),
-            (None, memoryview(b'"x"'), {"body": "x"}),
-            (None, bytearray(deep.encode()), {"body": json.loads(deep)}),
-        ]
-        for headers, body, wanted in table:
-            with self.subTest(headers=headers, body=body), Run(self.BATCH, events=[Start("a")]) as live:
-                live.report("a", 200, headers, body)
-                responses = [{"id": "a", "status": 200, **wanted}]
-                self.assertEqual(json.loads(live.response()), {"responses": responses})
-
-    def test_refuses_what_a_response_cannot_show(self):
-        table = [
-            ({"A": "1", "a": "2"}, None, "F64 BadEvents report"),
-            ({"A": 1}, None, "F64 BadEvents report"),
-            (None, 0.5, "F63 NotWhole report"),
-            (None, [{"a": 2**64}], "F63 NotWhole report"),
-            (None, float("nan"), "F02 NotJson report"),
-            (None, "\ud800", "F02 NotJson report"),
-            (None, b" ", "F02 NotJson report"),
-            (None, b"{", "F02 NotJson report"),
-            (None, b'1},{"start":"a"', "F02 NotJson report"),
-            (None, ("[" * 128 + "]" * 128).encode(), "F02 NotJson report"),
-        ]
-        for headers, body, line in table:
-            with self.subTest(headers=headers, body=body), Run(self.BATCH, events=[Start("a")]) as live:
-                with self.assertRaises(Fault) as raised:
-                    live.report("a", 200, headers, body)
-                self.assertEqual(str(raised.exception), line)
-                self.assertTrue(raised.exception.explanation)
-                self.assertEqual(live.running, ("a",))
-                live.report("a", 200)
-                self.assertTrue(live.finished)
-
-    def test_refuses_what_is_no_answer(self):
-        for arguments in (("200",), (200.0,), (None,), (True,), (200, 7), (200, None, object()), (200, None, {1, 2})):
-            with self.subTest(arguments=arguments), Run(self.BATCH, events=[Start("a")]) as live:
-                with self.assertRaises(TypeError):
-                    live.report("a", *arguments)
-                self.assertEqual(live.running, ("a",))
-
-
 class Closing(unittest.TestCase):
     def test_a_closed_run_raises_value_errors(self):
         live = Run(BATCH, events=EVENTS)
@@ -274,6 +219,7 @@ class Closing(unittest.TestCase):
             with self.assertRaises(ValueError) as raised:
                 call()
             self.assertEqual(str(raised.exception), "the run is closed")
+            self.assertNotIsInstance(raised.exception, OdbError)
 
     def closed(self):
         """Counts the runs that are closed meanwhile."""
@@ -300,6 +246,27 @@ class Closing(unittest.TestCase):
                     Run(**wrong)
             gc.collect()
         self.assertEqual(close.call_count, 0)
+
+
+class Objects(unittest.TestCase):
+    def test_a_run_is_not_copied(self):
+        with Run(BATCH) as live:
+            for call in (copy.copy, copy.deepcopy, pickle.dumps, lambda it: pickle.dumps(it, 0)):
+                with self.assertRaises(TypeError) as raised:
+                    call(live)
+                self.assertEqual(str(raised.exception), "a Run cannot be copied")
+            self.assertEqual(live.ready, ("book",))
+
+    def test_a_run_shows_its_state(self):
+        live = Run(BATCH)
+        self.assertEqual(repr(live), "<Run of 4 requests: 1 ready, 0 running>")
+        take(live, EVENTS[:3])
+        self.assertEqual(repr(live), "<Run of 4 requests: 1 ready, 1 running>")
+        take(live, EVENTS[3:])
+        self.assertEqual(repr(live), "<Run of 4 requests: finished>")
+        live.close()
+        self.assertEqual(repr(live), "<Run of 4 requests: closed>")
+        self.assertEqual(repr(Run.__new__(Run)), "<Run: not open>")
 
 
 class Statuses(unittest.TestCase):
