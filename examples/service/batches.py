@@ -20,7 +20,7 @@ from store import Store, Transaction
 
 LOG = logging.getLogger(__name__)
 
-# How many bytes the gets of one batch may show: as many as the library reads of a document.
+# How many bytes the gets of one batch may show: as many as a batch may have.
 MAX_RESPONSE = 16_777_216
 
 # A reference in the first segment of a URL: $ and an id that is not reserved (OData JSON Format 4.01, section 19.2).
