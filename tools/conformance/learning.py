@@ -10,7 +10,6 @@ from twin import etag_of
 LACKS = {
     "named": "the service makes the keys itself",
     "text": "no property of the body takes any text or number",
-    "listing": "the set cannot be listed",
     "create": "what a batch creates cannot be found, since the service makes its key",
     "patch": "alone, PATCH does not change an entity",
     "put": "alone, PUT does not change an entity",
@@ -33,7 +32,6 @@ def learn(entities: Entities) -> None:
     has = {
         "named": entities.are_named,
         "text": entities.text is not None,
-        "listing": entities.before is not None,
         "create": entities.are_named or None not in (entities.text, entities.before),
         "patch": changes(entities, "patch"),
         "put": changes(entities, "put"),
