@@ -107,6 +107,7 @@ def judge(options: argparse.Namespace, cases: List[Any]) -> int:
         for url in [*entities.left, *entities.made.values()]:
             print(f"not removed: {url}", file=sys.stderr)
         print(f"error: {error}", file=sys.stderr)
+        INTERRUPTION.ignore()
         return UNUSABLE
     progress(0, "", 0)
     if options.json:

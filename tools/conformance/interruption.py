@@ -35,6 +35,11 @@ class Interruption:
         for number in (signal.SIGINT, signal.SIGTERM):
             signal.signal(number, self._note)
 
+    def ignore(self) -> None:
+        """Has no further signal do anything: the run has ended."""
+        for number in (signal.SIGINT, signal.SIGTERM):
+            signal.signal(number, signal.SIG_IGN)
+
     def _note(self, *_: Any) -> None:
         self.count += 1
         self.until = time.monotonic() + GRACE

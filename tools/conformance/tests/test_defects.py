@@ -79,6 +79,7 @@ DEFECTS = (
     Defect("half_group", "group group-fails-body-*", "group"),
     Defect("half_of_long_groups", "group-many-*", "group"),
     Defect("own_keys_half_group", "group-fails-missing-*", "group"),
+    Defect("fixed_titles_half_group", "group-fails-missing-*", "group"),
     Defect("shown_success", "group-fails-missing-*", "group"),
     Defect("failed_reads_ignored", "group-fails-*", "group failed"),
     Defect("failed_puts_ignored", "group-fails-*", "group failed"),
@@ -96,6 +97,7 @@ DEFECTS = (
     Defect("references_by_word", "reference-numbers reference-signs", "reference"),
     Defect("references_of_first_group", "reference-groups", "reference"),
     Defect("changes_by_reference_lost", "reference-each-*", "reference alone"),
+    Defect("references_without_rest", "reference-property reference-option", "reference"),
     Defect("shared_references", "reference-at-once", "reference", False),
 )
 # Of each variant, which breaks nothing, a promise of which nothing is judged, and a reason.
@@ -105,6 +107,8 @@ VARIANTS = {
     "always_stops": ("continue", "the service does not apply the preference continue-on-error"),
     "own_keys": (None, "alone, no request fails by a key that is taken"),
     "hidden_keys": (None, "the service makes the keys itself"),
+    "fixed_titles": (None, "no property of the body takes any text or number"),
+    "properties": (None, "the service has no ETags"),
     None: (None, "alone, $select is not applied"),
 }
 AT_ONCE = 4

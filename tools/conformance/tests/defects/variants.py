@@ -3,9 +3,11 @@
 import itertools
 import json
 import os
+import re
 import secrets
 
 import entities
+import store
 import web
 from odata import Answer, Refusal
 from of_groups import half_group
@@ -90,3 +92,48 @@ def own_keys_posts_twice():
         return answer(self, id, perform)
 
     Execution.answer = answering
+
+
+def fixed_titles():
+    """The service makes the keys, and every book has the same title."""
+    own_keys()
+    value = entities._value
+
+    def checked(name, key, given):
+        if key == "Title" and given != "Conformance":
+            raise Refusal(400, "BadTitle", "A book is titled Conformance")
+        return value(name, key, given)
+
+    entities._value = checked
+
+
+def fixed_titles_half_group():
+    """Such a service, which commits what a failing group has done before its failure."""
+    fixed_titles()
+    half_group()
+
+
+def properties():
+    """The service shows properties by URLs of their own, and applies $select."""
+    perform = entities.perform
+
+    def performing(database, request):
+        url, _, name = request.url.partition("?$select=")
+        url, _, part = url.partition(")/")
+        if request.method != "get" or not (name or part):
+            return perform(database, request)
+        answer = perform(database, request._replace(url=url + ")" if part else url))
+        if answer.status != 200 or (name or part) not in answer.body:
+            return answer
+        return answer._replace(body={name or "value": answer.body[name or part]})
+
+    target_of = web.target_of
+    web.target_of = lambda url, host: target_of(re.sub(r"\)/\w+$", ")", url), host)
+    entities.perform = store.perform = performing
+
+
+def references_without_rest():
+    """Such a service, in which what follows the id of a reference is dropped."""
+    properties()
+    resolved = Execution.resolved
+    Execution.resolved = lambda self, url: resolved(self, re.split("[/?]", url)[0] if url.startswith("$") else url)
