@@ -6,10 +6,23 @@ import os
 import signal
 import sys
 import tempfile
+import threading
 from contextlib import ExitStack, closing
+from typing import Any
 
 from store import Store
 from web import Service
+
+
+def end_by_signals(service: Service) -> None:
+    """Has SIGTERM and SIGINT end the service, once what is in flight is answered. A second one ends it at once."""
+
+    def end(number: int, _: Any) -> None:
+        signal.signal(number, signal.SIG_DFL)
+        threading.Thread(target=service.end).start()
+
+    for number in (signal.SIGTERM, signal.SIGINT):
+        signal.signal(number, end)
 
 
 def main() -> None:
@@ -29,11 +42,9 @@ def main() -> None:
         store = stack.enter_context(closing(Store(path, options.patience)))
         address = (options.host, options.port)
         service = stack.enter_context(Service(address, store, options.width, options.patience))
+        end_by_signals(service)
         logging.info("listening on http://%s:%d/library/", *service.server_address)
-        try:
-            service.serve_forever()
-        except KeyboardInterrupt:
-            pass
+        service.serve_forever()
 
 
 if __name__ == "__main__":

@@ -9,8 +9,9 @@ import json
 import logging
 import queue
 import re
+import threading
 from concurrent.futures import ThreadPoolExecutor
-from typing import Callable, Dict, Iterator, List, Optional, Set
+from typing import Any, Callable, Dict, Iterator, List, Optional, Set
 from urllib.parse import unquote
 
 from odata import FAILED, Answer, Refusal, Request
@@ -18,6 +19,9 @@ from odb_batch import Refused, Run, canon, plan
 from store import Store, Transaction
 
 LOG = logging.getLogger(__name__)
+
+# How many bytes the gets of one batch may show: as many as a batch may have.
+MAX_RESPONSE = 16_777_216
 
 # A reference in the first segment of a URL: $ and an id that is not reserved (OData JSON Format 4.01, section 19.2).
 REFERENCE = re.compile(r"\$(?!(?:batch|crossjoin|all|entity|root|id|metadata)$)([\w.~-]+)", re.ASCII)
@@ -86,6 +90,8 @@ class Execution:
         # The canonical text has what the library has read: each member once, and lower case where case does not matter.
         self.requests = {it["id"]: it for it in json.loads(canon(document))["requests"]}
         self.locations: Dict[str, str] = {}
+        self.tags: Dict[str, str] = {}
+        self.shown, self.counting = 0, threading.Lock()
         self.host, self.number = host, next(batches.numbers)
         self.listed: Iterator[Unit] = iter(())
         self.is_list_old = True
@@ -187,9 +193,10 @@ class Execution:
     def answer(self, id: str, perform: Callable[[Request], Answer]) -> Answer:
         """Has a request performed; an exception is an answer, too, since what was started has to be reported."""
         given = self.requests[id]
-        method, url, headers = given["method"], given["url"], {"host": self.host, **given.get("headers", {})}
+        method, url = given["method"], given["url"]
         try:
-            answer = perform(Request(method, self.resolved(url), headers, given.get("body")))
+            request = Request(method, self.resolved(url), self.headers_of(given), given.get("body"))
+            answer = self.show(request, perform) if method == "get" else perform(request)
         except Refusal as refusal:
             answer = refusal.answer
         except Exception:
@@ -202,8 +209,32 @@ class Execution:
         """Reports what a request is answered, and returns whether it has succeeded."""
         if "Location" in answer.headers:
             self.locations[id] = answer.headers["Location"]
+        if "ETag" in answer.headers:
+            self.tags[id] = answer.headers["ETag"]
         self.run.report(id, answer.status, answer.headers, answer.body)
         return answer.is_success
+
+    def show(self, request: Request, perform: Callable[[Request], Answer]) -> Answer:
+        """Answers a get. The first one by which the response gets too long is refused, and all after it."""
+        if self.shown <= MAX_RESPONSE:
+            answer = perform(request)
+            with self.counting:
+                self.shown += len(json.dumps(answer.body))
+                if self.shown <= MAX_RESPONSE:
+                    return answer
+        raise Refusal(507, "TooLong", f"The gets of a batch may show {MAX_RESPONSE} bytes together")
+
+    def headers_of(self, given: Dict[str, Any]) -> Dict[str, str]:
+        """The headers of a request. A precondition that is $ and an id stands for the ETag that this request, which
+        has to be in dependsOn, was answered (OData JSON Format 4.01, section 19.3)."""
+        headers = {"host": self.host, **given.get("headers", {})}
+        for name in ("if-match", "if-none-match"):
+            if headers.get(name, "").startswith("$"):
+                id = headers[name][1:]
+                if id not in given.get("dependsOn", ()) or id not in self.tags:
+                    raise Refusal(400, "NoETag", f"{name}: {id[:80]} is not in dependsOn, or was answered no ETag")
+                headers[name] = self.tags[id]
+        return headers
 
     def resolved(self, url: str) -> str:
         """The URL; if it begins with a reference, that is the Location of what the other request has created."""

@@ -5,6 +5,7 @@ import os
 import sqlite3
 from typing import Any, Callable, Dict, List
 
+from conditions import require_readable, unmet_precondition
 from odata import ROOT, Answer, Refusal, Request, Target
 from odata import is_integer, literal, media_type, target_of, url_of
 
@@ -26,6 +27,7 @@ SETS = {name: _properties(it["$Type"]) for name, it in _CONTAINER.items() if not
 def perform(database: sqlite3.Connection, request: Request) -> Answer:
     """Performs a request. Where OData has an error for it, that is its answer."""
     try:
+        require_readable(request.headers)
         target = target_of(request.url, request.headers.get("host", ""))
         if target.name == "$metadata":
             actions = {"get": _metadata}
@@ -38,6 +40,11 @@ def perform(database: sqlite3.Connection, request: Request) -> Answer:
         for option in target.options.keys() - {"$filter"}:
             if option.startswith("$"):
                 raise Refusal(501, "NotImplemented", f"{option[:80]} is not supported")
+        is_read = request.method == "get" or target.key is not None
+        current = actions["get"](database, target, request) if is_read else Answer(200)
+        unmet = unmet_precondition(request, current.headers.get("ETag"))
+        if unmet is not None or request.method == "get":
+            return unmet or current
         return actions[request.method](database, target, request)
     except Refusal as refusal:
         return refusal.answer
@@ -50,8 +57,20 @@ def _metadata(_database: sqlite3.Connection, _target: Target, _request: Request)
 
 
 def _rows(database: sqlite3.Connection, name: str, rest: str, *values: object) -> List[Dict[str, Any]]:
-    found = database.execute(f"SELECT {', '.join(SETS[name])} FROM {name} {rest}", values)
-    return [dict(zip(SETS[name], row)) for row in found]
+    """Rows of a set as entities, each with its ETag."""
+    found = database.execute(f"SELECT Version, {', '.join(SETS[name])} FROM {name} {rest}", values)
+    return [{"@etag": _tag(version), **dict(zip(SETS[name], row))} for version, *row in found]
+
+
+def _tag(version: int) -> str:
+    return f'"{version}"'
+
+
+def _next_version(database: sqlite3.Connection) -> int:
+    """A version that no entity has had, so that one that is deleted and created again has another ETag."""
+    database.execute("UPDATE Versions SET Last = Last + 1")
+    (version,) = database.execute("SELECT Last FROM Versions").fetchone()
+    return int(version)
 
 
 def _list(database: sqlite3.Connection, target: Target, _: Request) -> Answer:
@@ -70,28 +89,28 @@ def _show(database: sqlite3.Connection, target: Target, _: Request) -> Answer:
     rows = _rows(database, target.name, "WHERE Id = ?", _value(target.name, "Id", target.key))
     if not rows:
         raise Refusal(404, "NotFound", f"{target.name} has no such entity")
-    return Answer(200, {"@context": f"{ROOT}$metadata#{target.name}/$entity", **rows[0]})
+    body = {"@context": f"{ROOT}$metadata#{target.name}/$entity", **rows[0]}
+    return Answer(200, body, {"ETag": rows[0]["@etag"]})
 
 
 def _create(database: sqlite3.Connection, target: Target, request: Request) -> Answer:
-    row = _given(target.name, request)
+    row = {**_given(target.name, request), "Version": _next_version(database)}
     marks = ", ".join("?" for _ in row)
     done = database.execute(f"INSERT INTO {target.name} ({', '.join(row)}) VALUES ({marks})", tuple(row.values()))
     key = row.get("Id", done.lastrowid)
     shown = _show(database, target._replace(key=key), request)
-    return Answer(201, shown.body, {"Location": url_of(target.name, key)})
+    return Answer(201, shown.body, {"Location": url_of(target.name, key), **shown.headers})
 
 
 def _change(database: sqlite3.Connection, target: Target, request: Request) -> Answer:
-    _show(database, target, request)
-    row = _given(target.name, request)
-    changes = ", ".join(f"{name} = ?" for name in ("Id", *row))
-    database.execute(f"UPDATE {target.name} SET {changes} WHERE Id = ?", (target.key, *row.values(), target.key))
-    return Answer(204)
+    row = {**_given(target.name, request), "Version": _next_version(database)}
+    changes = ", ".join(f"{name} = ?" for name in row)
+    database.execute(f"UPDATE {target.name} SET {changes} WHERE Id = ?", (*row.values(), target.key))
+    # A put has no ETag here: the entity is not stored just as it was sent (RFC 9110, section 9.3.4).
+    return Answer(204, None, {"ETag": _tag(row["Version"])} if request.method == "patch" else {})
 
 
-def _delete(database: sqlite3.Connection, target: Target, request: Request) -> Answer:
-    _show(database, target, request)
+def _delete(database: sqlite3.Connection, target: Target, _: Request) -> Answer:
     database.execute(f"DELETE FROM {target.name} WHERE Id = ?", (target.key,))
     return Answer(204)
 

@@ -77,7 +77,7 @@ def target_of(url: str, host: str) -> Target:
         raise Refusal(400, "BadUrl", f"{url[:80]!r} is not a URL") from None
     path = re.sub(r"^(/library(?=/|$))?/?", "", parts.path)
     named = re.fullmatch(r"(\$?\w+)(?:\((?:Id=)?(.*)\))?", unquote(path), re.DOTALL)
-    if parts.netloc not in ("", host) or "/" in path or named is None:
+    if parts.netloc.lower() not in ("", host.lower()) or "/" in path or named is None:
         raise Refusal(404, "NotFound", f"The service has nothing at {url[:80]!r}")
     key = None if named[2] is None else literal(named[2])
     return Target(named[1], key, dict(parse_qsl(parts.query, keep_blank_values=True)))

@@ -4,6 +4,7 @@ SQLite has one writer at a time, and any number of readers, which see what was c
 store has one connection that writes, for whoever has its turn, and further ones that read.
 """
 
+import itertools
 import queue
 import sqlite3
 import threading
@@ -13,13 +14,22 @@ from typing import Iterator
 from entities import perform
 from odata import Answer, Refusal, Request
 
+# The statements that lead from each version of the schema to the next one.
 SCHEMA = (
-    "CREATE TABLE Books (Id TEXT PRIMARY KEY NOT NULL, Title TEXT NOT NULL, Shelf TEXT, Reader INTEGER)",
-    # A book is lent to one reader at a time, and is not removed while it is lent.
-    "CREATE TABLE Loans (Id INTEGER PRIMARY KEY AUTOINCREMENT,"
-    " Book TEXT NOT NULL UNIQUE REFERENCES Books, Reader INTEGER NOT NULL)",
-    "INSERT INTO Books VALUES ('dune', 'Dune', 'K2', NULL), ('emma', 'Emma', 'A1', NULL)",
-    "PRAGMA user_version = 1",
+    (
+        "CREATE TABLE Books (Id TEXT PRIMARY KEY NOT NULL, Title TEXT NOT NULL, Shelf TEXT, Reader INTEGER)",
+        # A book is lent to one reader at a time, and is not removed while it is lent.
+        "CREATE TABLE Loans (Id INTEGER PRIMARY KEY AUTOINCREMENT,"
+        " Book TEXT NOT NULL UNIQUE REFERENCES Books, Reader INTEGER NOT NULL)",
+        "INSERT INTO Books VALUES ('dune', 'Dune', 'K2', NULL), ('emma', 'Emma', 'A1', NULL)",
+    ),
+    (
+        "ALTER TABLE Books ADD COLUMN Version INTEGER NOT NULL DEFAULT 1",
+        "ALTER TABLE Loans ADD COLUMN Version INTEGER NOT NULL DEFAULT 1",
+        # The last version of any entity.
+        "CREATE TABLE Versions (Last INTEGER NOT NULL)",
+        "INSERT INTO Versions VALUES (1)",
+    ),
 )
 
 
@@ -52,10 +62,12 @@ class Store:
         self._writer.execute("PRAGMA journal_mode = WAL")
         self._writer.execute("PRAGMA foreign_keys = ON")
         with self.transaction() as work:
-            if self._writer.execute("PRAGMA user_version").fetchone() == (0,):
-                for statement in SCHEMA:
-                    self._writer.execute(statement)
-                work.commit()
+            (version,) = self._writer.execute("PRAGMA user_version").fetchone()
+            for statement in itertools.chain(*SCHEMA[version:]):
+                self._writer.execute(statement)
+            if version < len(SCHEMA):
+                self._writer.execute(f"PRAGMA user_version = {len(SCHEMA)}")
+            work.commit()
 
     def _connect(self) -> sqlite3.Connection:
         return sqlite3.connect(self._path, timeout=self._patience, isolation_level=None, check_same_thread=False)

@@ -1,5 +1,6 @@
 """HTTP: reads requests from connections, and writes one answer to each, with one line in the log."""
 
+import contextlib
 import io
 import json
 import logging
@@ -9,9 +10,10 @@ import sys
 import threading
 import time
 from http.server import BaseHTTPRequestHandler, ThreadingHTTPServer
-from typing import Any, Dict, Optional, Tuple
+from typing import Any, Dict, List, Optional, Set, Tuple
 
 from batches import Batches
+from conditions import require_readable
 from odata import FAILED, Answer, Refusal, Request, media_type, preference, target_of
 from odb_batch import Fault
 from store import Store
@@ -19,6 +21,9 @@ from store import Store
 LOG = logging.getLogger(__name__)
 MAX_BODY = 16_777_216
 MAX_CONNECTIONS = 100
+
+# A line of a head after the first: a name, a colon and a value (RFC 9112, section 5).
+FIELD = re.compile(rb"[!#$%&'*+.^_`|~0-9A-Za-z-]+:[^\r\n\0]*\r\n")
 
 
 class TimedReader(io.RawIOBase):
@@ -35,22 +40,47 @@ class TimedReader(io.RawIOBase):
         return self.connection.recv_into(buffer)
 
 
+class LineKeeper(io.BufferedReader):
+    """Keeps the lines of a head, since http.server drops what it cannot read of them."""
+
+    def __init__(self, raw: io.RawIOBase) -> None:
+        super().__init__(raw)
+        self.lines: List[bytes] = []
+
+    def readline(self, size: Optional[int] = -1) -> bytes:
+        line = super().readline(size)
+        self.lines.append(line)
+        return line
+
+
 class Connection(BaseHTTPRequestHandler):
     """A client: its requests are answered one after another."""
 
     protocol_version = "HTTP/1.1"
     disable_nagle_algorithm = True
     server: "Service"
+    rfile: LineKeeper
 
     def setup(self) -> None:
         super().setup()
         self.rfile.close()
         self.incoming = TimedReader(self.connection)
-        self.rfile = io.BufferedReader(self.incoming)
+        self.rfile = LineKeeper(self.incoming)
 
     def handle_one_request(self) -> None:
+        self.server.reading.add(self.connection)
+        if self.server.is_ending:
+            self.close_connection = True
+            return
         self.incoming.until = time.monotonic() + self.server.patience
         super().handle_one_request()
+
+    def parse_request(self) -> bool:
+        """Reads a head. An empty line before it is ignored (RFC 9112, section 2.2)."""
+        if self.raw_requestline == b"\r\n":
+            self.raw_requestline = self.rfile.readline(65_537)
+        self.rfile.lines.clear()
+        return super().parse_request()
 
     def respond(self) -> None:
         """Answers a request whose head has been read."""
@@ -69,7 +99,7 @@ class Connection(BaseHTTPRequestHandler):
 
     def answer(self) -> Answer:
         data = self.read_body()
-        headers = {name.lower(): ", ".join(self.headers.get_all(name, [])) for name in self.headers}
+        headers = {name.lower(): ", ".join(self.headers.get_all(name, [])).strip() for name in self.headers}
         method = "get" if self.command == "HEAD" else self.command.lower()
         if target_of(self.path, headers.get("host", "")).name == "$batch":
             return self.answer_batch(method, headers, data)
@@ -83,6 +113,7 @@ class Connection(BaseHTTPRequestHandler):
             raise Refusal(405, "NotAllowed", f"{method} does not apply here", Allow="POST")
         if media_type(headers) != "application/json":
             raise Refusal(415, "BadMediaType", "A batch is in application/json", Accept="application/json")
+        require_readable(headers)
         continues = preference(headers, "continue-on-error") in ("", "true")
         try:
             text = self.server.batches.answer(data, "continue" if continues else "stop", headers.get("host", ""))
@@ -99,14 +130,27 @@ class Connection(BaseHTTPRequestHandler):
             data = self.rfile.read(length)
         except socket.timeout:
             raise Refusal(408, "TooSlow", f"The request took longer than {self.server.patience:g} seconds") from None
+        if len(data) < length and self.server.is_ending:
+            raise Refusal(503, "Ending", "The service ends, and has not performed the request")
         if len(data) < length:
             raise Refusal(400, "CutBody", f"The body has {len(data)} bytes of {length}")
+        self.server.reading.discard(self.connection)
         self.close_connection = keeps
         return data
 
+    def require_plain_head(self) -> None:
+        """Refuses a head by which another server could find another end of the request."""
+        *fields, end = self.rfile.lines
+        if end != b"\r\n" or not all(map(FIELD.fullmatch, fields)):
+            raise Refusal(400, "BadHead", "A line of the head is not a name, a colon and a value, ended by CR LF")
+        hosts = self.headers.get_all("host", [])
+        if len(hosts) > 1 or (not hosts and self.request_version >= "HTTP/1.1"):
+            raise Refusal(400, "BadHost", f"A request must have one Host, and has {len(hosts)}")
+
     def body_length(self) -> int:
         """The length that the head declares for the body; raises what the body is refused by before it is read."""
-        lengths = self.headers.get_all("content-length", ["0"])
+        self.require_plain_head()
+        lengths = [it.strip() for it in self.headers.get_all("content-length", ["0"])]
         if "transfer-encoding" in self.headers:
             raise Refusal(411, "LengthRequired", "A body has to have a Content-Length")
         if len(lengths) > 1 or not re.fullmatch("[0-9]{1,18}", lengths[0]):
@@ -129,8 +173,10 @@ class Connection(BaseHTTPRequestHandler):
         """Writes an answer, and its line in the log."""
         data = answer.body if isinstance(answer.body, bytes) else json.dumps(answer.body).encode()
         headers = {"OData-Version": "4.01", "Date": self.date_time_string(), **answer.headers}
-        if answer.status != 204:
+        has_body = answer.status not in (204, 304)
+        if has_body:
             headers.update({"Content-Type": "application/json", "Content-Length": str(len(data))})
+        self.close_connection = self.close_connection or self.server.is_ending
         if self.close_connection:
             headers["Connection"] = "close"
         self.connection.settimeout(self.server.patience)
@@ -138,11 +184,12 @@ class Connection(BaseHTTPRequestHandler):
         for name, value in headers.items():
             self.send_header(name, value)
         self.end_headers()
-        if answer.status != 204 and self.command != "HEAD":
+        if has_body and self.command != "HEAD":
             self.wfile.write(data)
-        code = "" if answer.is_success else answer.body["error"]["code"]
+        is_error = answer.status >= 400
+        code = answer.body["error"]["code"] if is_error else ""
         LOG.info("%s %.200r %d %s", self.client_address[0], self.requestline, answer.status, code)
-        if self.close_connection and not answer.is_success:
+        if self.close_connection and is_error:
             self.drop_rest()
 
     def drop_rest(self) -> None:
@@ -182,14 +229,21 @@ class Service(ThreadingHTTPServer):
         store: The database.
         width: How many requests of batches are performed at once.
         patience: For how many seconds a client may send a request or take an answer.
+
+    Attributes:
+        reading: The connections from which a request is being read or waited for.
     """
 
     request_queue_size = 64
+    # So that server_close waits for the connections.
+    daemon_threads = False
 
     def __init__(self, address: Tuple[str, int], store: Store, width: int = 8, patience: float = 20.0) -> None:
         self.store, self.patience = store, patience
         self.batches = Batches(store, width)
         self.places = threading.BoundedSemaphore(MAX_CONNECTIONS)
+        self.reading: Set[socket.socket] = set()
+        self.is_ending = False
         super().__init__(address, Connection)
 
     def process_request(self, request: Any, client_address: Any) -> None:
@@ -200,10 +254,21 @@ class Service(ThreadingHTTPServer):
         try:
             super().process_request_thread(request, client_address)
         finally:
+            self.reading.discard(request)
             self.places.release()
 
+    def end(self) -> None:
+        """Has serve_forever return. No further request is taken, and those that are not read yet are cut off."""
+        # A connection joins the set before it looks whether the service ends, so it is in the set or sees it.
+        self.is_ending = True
+        LOG.info("the service ends")
+        for connection in list(self.reading):
+            with contextlib.suppress(OSError):
+                connection.shutdown(socket.SHUT_RD)
+        self.shutdown()
+
     def server_close(self) -> None:
-        """Closes the address, and waits for the units that are being performed."""
+        """Closes the address, and waits until what was read is answered."""
         super().server_close()
         self.batches.pool.shutdown()
 

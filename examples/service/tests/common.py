@@ -45,9 +45,9 @@ class Process:
         self.process.kill()
         self._join()
 
-    def stop(self):
+    def stop(self, number=signal.SIGTERM):
         """Ends it as a user does; returns its exit status."""
-        self.process.send_signal(signal.SIGTERM)
+        self.process.send_signal(number)
         return self._join()
 
     def _join(self):
@@ -92,9 +92,9 @@ class Client:
         self.connection.close()
 
 
-def request(id, method, url, body=None, group=None, needs=()):
+def request(id, method, url, body=None, group=None, needs=(), headers=None):
     """A request of a batch."""
-    found = {"id": id, "method": method, "url": url}
+    found = {"id": id, "method": method, "url": url, **({"headers": headers} if headers else {})}
     found.update({"body": body} if body is not None else {}, **({"atomicityGroup": group} if group else {}))
     return {**found, "dependsOn": list(needs)} if needs else found
 

@@ -75,7 +75,7 @@ class References(ServiceTest):
             request("gone", "get", "$lend", needs=["back", "lend"]),
         )
         self.assertEqual([it["status"] for it in found.values()], [201, 200, 404, 204, 201, 204, 404])
-        self.assertEqual(found["b"]["headers"], {"location": "/library/Books('it''s%20a%2Fb%3F')"})
+        self.assertEqual(found["b"]["headers"]["location"], "/library/Books('it''s%20a%2Fb%3F')")
         self.assertEqual(found["show"]["body"]["Title"], "it's a/b?")
 
     def test_a_reference_to_what_created_nothing_is_refused(self):
@@ -180,7 +180,7 @@ class Entities(ServiceTest):
 
     def test_lists_and_filters(self):
         status, value = self.client.ask("GET", "/library/Books?$filter=Title%20eq%20'Emma'")
-        emma = {"Id": "emma", "Title": "Emma", "Shelf": "A1", "Reader": None}
+        emma = {"@etag": '"1"', "Id": "emma", "Title": "Emma", "Shelf": "A1", "Reader": None}
         self.assertEqual((status, value["value"]), (200, [emma]))
         self.assertEqual(value["@context"], "/library/$metadata#Books")
 
@@ -203,6 +203,16 @@ class Sizes(ServiceTest):
         half = {**new_book("a", "x"), "body": {"Reader": 1.5}}
         status, value = self.client.ask("POST", "/$batch", {"requests": [half]})
         self.assertEqual((status, value["error"]["code"]), (400, "F50"))
+
+    def test_refuses_gets_by_which_the_response_gets_too_long(self):
+        self.assertEqual(self.client.ask("POST", "/Books", {"Id": "long", "Title": "t" * 1_000_000})[0], 201)
+        gets = [request(f"r{k}", "get", "Books('long')") for k in range(20)]
+        found = self.client.batch(*gets, new_book("new", "small"), request("needs", "get", "Books", needs=["r19"]))
+        statuses = [it["status"] for it in found.values()]
+        self.assertEqual((sorted(statuses[:20]), statuses[20]), ([200] * 16 + [507] * 4, 201))
+        refused = next(it for it in found.values() if it["status"] == 507)
+        self.assertEqual(refused["body"]["error"]["code"], "TooLong")
+        self.assertEqual(self.client.ask("DELETE", "/Books('long')")[0], 204)
 
     def test_the_response_is_the_text_of_the_library(self):
         status, value = self.client.ask("POST", "/$batch", {"requests": [request("a", "get", "Loans")]})

@@ -6,51 +6,14 @@ import socket
 import time
 import unittest
 
-from common import JSON, SECONDS, ServiceTest, new_book, request, rows, until
+from common import JSON, SECONDS, new_book, request, rows, until
+from exchanges import ClientTest, everything, head, post
 
 MAX_BODY = 16_777_216
 BATCH = json.dumps({"requests": [request("a", "get", "Books")]}).encode()
 # A group that fails, in a document of some length.
 GROUP = [new_book("a", "m", "g"), new_book("b", "dune", "g")]
 UNDONE = json.dumps({"requests": GROUP, "note@here": "n" * 9999}).encode()
-
-
-def head(*lines, method="POST", path="/$batch"):
-    return "\r\n".join([f"{method} {path} HTTP/1.1", "Host: here", *lines, "", ""]).encode()
-
-
-def post(body, *lines):
-    return head("Content-Type: application/json", f"Content-Length: {len(body)}", *lines) + body
-
-
-class ClientTest(ServiceTest):
-    options = ("--patience", "1.5")
-
-    def connect(self):
-        connection = socket.create_connection(("127.0.0.1", self.service.port), timeout=SECONDS)
-        self.addCleanup(connection.close)
-        return connection
-
-    def everything(self, connection):
-        """What the service sends until it closes the connection."""
-        found = b""
-        while part := connection.recv(65536):
-            found += part
-        return found
-
-    def exchange(self, data, then_close_writing=True):
-        """Sends bytes on a connection of their own; returns what comes back."""
-        with self.connect() as connection:
-            connection.sendall(data)
-            if then_close_writing:
-                connection.shutdown(socket.SHUT_WR)
-            return self.everything(connection)
-
-    def assert_answers(self, found, status, code=None):
-        first, _, body = found.partition(b"\r\n\r\n")
-        self.assertEqual(first.split(b" ")[1:2], [str(status).encode()], found[:300])
-        if code is not None:
-            self.assertEqual(json.loads(body)["error"]["code"], code)
 
 
 class Refusals(ClientTest):
@@ -91,14 +54,14 @@ class Refusals(ClientTest):
         lines = ["Content-Type: application/json", f"Content-Length: {MAX_BODY + 1}"]
         with self.connect() as connection:
             connection.sendall(head(*lines) + b" " * (MAX_BODY + 1))
-            self.assert_answers(self.everything(connection), 413, "TooLong")
+            self.assert_answers(everything(connection), 413, "TooLong")
 
     def test_waits_for_a_body_that_is_announced(self):
         with self.connect() as connection:
             connection.sendall(post(BATCH, "Expect: 100-continue", "Connection: close")[: -len(BATCH)])
             self.assertEqual(connection.recv(65536), b"HTTP/1.1 100 Continue\r\n\r\n")
             connection.sendall(BATCH)
-            self.assert_answers(self.everything(connection), 200)
+            self.assert_answers(everything(connection), 200)
 
     def test_refuses_bodies_without_a_length(self):
         for lines, status, code in [
@@ -136,7 +99,7 @@ class Refusals(ClientTest):
             self.assertEqual(status, wanted)
 
     def test_logs_a_line_for_each_answer(self):
-        self.exchange("GET /logged\x1b[2J\u00ff HTTP/1.1\r\n\r\n".encode("latin-1"))
+        self.exchange("GET /logged\x1b[2J\u00ff HTTP/1.1\r\nHost: here\r\n\r\n".encode("latin-1"))
         self.client.ask("GET", "/logged")
         lines = until(lambda: [line for line in self.service.log if "/logged" in line], lambda it: len(it) == 2)
         self.assertEqual([line.split()[-2:] for line in lines], [["404", "NotFound"]] * 2)
@@ -169,12 +132,12 @@ class Connections(ClientTest):
     def test_cuts_off_a_client_that_takes_no_answer(self):
         book = {"Id": "long", "Title": "t" * 100_000}
         self.assertEqual(self.client.ask("POST", "/Books", book)[0], 201)
-        document = json.dumps({"requests": [request(f"r{k}", "get", "Books('long')") for k in range(200)]})
+        document = json.dumps({"requests": [request(f"r{k}", "get", "Books('long')") for k in range(150)]})
         with self.connect() as connection:
             connection.sendall(post(document.encode()))
             time.sleep(3)
             try:
-                self.assertLess(len(self.everything(connection)), 100_000 * 200)
+                self.assertLess(len(everything(connection)), 100_000 * 150)
             except ConnectionResetError:
                 pass
 
@@ -219,7 +182,7 @@ class Memory(ClientTest):
                 # Each third client hangs up before it is answered.
                 if k % 3:
                     connection.shutdown(socket.SHUT_WR)
-                    self.assertTrue(self.everything(connection).startswith(b"HTTP/1.1 "), k)
+                    self.assertTrue(everything(connection).startswith(b"HTTP/1.1 "), k)
 
     def held(self):
         """The kilobytes, threads and open files of the service."""

@@ -112,7 +112,8 @@ class Load(ServiceTest):
         course = Course(self.batches)
         self.assertEqual(course.follow(log), [])
         for name in ("Books", "Loans"):
-            self.assertEqual(rows(self.database, name), [tuple(it.values()) for it in course.library.listed(name)])
+            kept = [row[:-1] for row in rows(self.database, name)]  # without their versions
+            self.assertEqual(kept, [tuple(it.values()) for it in course.library.listed(name)])
         succeeded = 0
         for k, batch in enumerate(self.batches):
             statuses = match(batch, found[k])
@@ -127,7 +128,8 @@ class Load(ServiceTest):
         id, status = response["id"], response["status"]
         self.assertIn(status, (course.statuses.get(id), 424))
         if status == 200 and course.requests[id]["url"] in ("Books", "Loans"):
-            name, shown = course.requests[id]["url"], response["body"]["value"]
+            name = course.requests[id]["url"]
+            shown = [{key: it[key] for key in it if key != "@etag"} for it in response["body"]["value"]]
             if id in course.reads:
                 # The line of a commit may come after that of a read that shows it.
                 self.assertIn(shown, [it[name] for it in course.versions[: course.reads[id] + 1]])
