@@ -1,11 +1,16 @@
 """Judges whether a service keeps what OData promises of batches in JSON. See docs/conformance.md."""
 
+from interruption import Interrupted, Interruption
+
+# From here on no module is interrupted while it is read.
+INTERRUPTION = Interruption()
+INTERRUPTION.catch()
+
 import argparse
 import fnmatch
 import json
 import os
 import re
-import signal
 import sys
 from typing import Any, Dict, List
 from urllib.parse import urlsplit
@@ -89,19 +94,20 @@ def progress(at: int, name: str, count: int) -> None:
 def judge(options: argparse.Namespace, cases: List[Any]) -> int:
     """Runs the cases and prints what they show; returns the exit status."""
     import report
+    from entities import Entities
     from runner import Runner
-    from service import Entities, Service, Unusable
+    from service import Service, Unusable
 
-    service = Service(options.url, dict(options.header), options.timeout)
+    service = Service(options.url, dict(options.header), options.timeout, INTERRUPTION)
     entities = Entities(service, options.set, options.key, options.body)
     try:
         results = Runner(service, entities).run(cases, lambda at, name: progress(at, name, len(cases)))
-    except (Unusable, KeyboardInterrupt) as error:
+    except (Unusable, Interrupted) as error:
         progress(0, "", 0)
-        for url in [*entities.left, *entities.made]:
+        for url in [*entities.left, *entities.made.values()]:
             print(f"not removed: {url}", file=sys.stderr)
-        # a codec or an import that is interrupted gives its KeyboardInterrupt a text of its own
-        print(f"error: {'interrupted' if isinstance(error, KeyboardInterrupt) else error}", file=sys.stderr)
+        print(f"error: {error}", file=sys.stderr)
+        INTERRUPTION.ignore()
         return UNUSABLE
     progress(0, "", 0)
     if options.json:
@@ -119,7 +125,6 @@ def judge(options: argparse.Namespace, cases: List[Any]) -> int:
 def main() -> int:
     arguments = parser()
     options = arguments.parse_args()
-    signal.signal(signal.SIGTERM, signal.default_int_handler)
     try:
         import odb_batch  # noqa: F401
     except ModuleNotFoundError:

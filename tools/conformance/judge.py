@@ -1,11 +1,14 @@
 """Judges what a service has answered to a batch, by the library and by what shows of the batch afterwards."""
 
+from collections import Counter
 from typing import Any, Dict, Iterator, List, NamedTuple, Optional
 
-from cases import Case
+from entities import Entities, Listing
 from odb_batch import Document, Fault, match
-from service import Answer, Entities
-from stage import DONE, FAILS, OPEN, SKIPPED, UNDONE, Stage, Step
+from promises import Case
+from service import Answer
+from stage import ABSENT, DONE, FAILS, OPEN, SKIPPED, UNDONE, Stage, Step
+from twin import Taking, Twin, differences, parts_in_batch
 
 # Which promise a fault of a match breaks.
 FAULTS = {"F71": "once", "F72": "once", "F73": "once", "F74": "named", "F75": "failed"}
@@ -30,21 +33,28 @@ class Judge:
 
     def __init__(self, case: Case, stage: Stage, answer: Answer, stops: bool) -> None:
         self.case, self.stage, self.answer, self.stops = case, stage, answer, stops
+        self.entities = stage.entities
         self.expected = stage.expected(stops)
         self.responses = responses_of(answer)
-        self.statuses = statuses_of(self.responses or [])
+        self.clear = clear_responses(self.responses or [])
+        self.statuses = {id: it["status"] for id, it in self.clear.items()}
 
-    def checks(self, entities: Entities) -> List[Check]:
-        """Looks at the response, and at the entities."""
+    def checks(self, listing: Optional[Listing]) -> List[Check]:
+        """Looks at the response, and at the entities, which may be in a listing."""
         if self.responses is None:
             return [Check("answered", f"the batch is answered {self.answer}, without a document of responses")]
         found = [Check("answered"), *self._by_match()]
         for step, expected in zip(self.stage.steps, self.expected):
-            performed = None
-            if step.effect is not None:
-                performed = entities.is_there(step.effect.url) == step.effect.is_there
-            found += self._of_step(step, expected, self.statuses.get(step.id), performed)
+            checks = self._of_step_by(listing, step, expected)
+            if listing is not None and step.effect and step.effect.url and any(it.rule for it in checks):
+                # A list may be behind: what it shows is asked anew before it is called broken.
+                checks = self._of_step_by(None, step, expected)
+            found += checks
         return found
+
+    def _of_step_by(self, listing: Optional[Listing], step: Step, expected: str) -> List[Check]:
+        performed = self.entities.is_shown(step.effect, listing) if step.effect is not None else None
+        return list(self._of_step(step, expected, self.statuses.get(step.id), performed))
 
     # By the library
 
@@ -73,7 +83,9 @@ class Judge:
 
         Without one clear status `match` has judged the response, and only what must not show is looked at.
         """
-        if expected == DONE:
+        if step.twin is not None and status is not None and expected in (DONE, FAILS):
+            yield from self._beside_alone(step, step.twin)
+        elif expected == DONE:
             yield from self._done(step, status, performed)
         elif expected == OPEN:
             yield from self._stopped(step, status, performed)
@@ -97,8 +109,35 @@ class Judge:
             yield from unseen("alone", step, status, performed)
         else:
             yield from self._seen(step, status, performed)
+            yield from self._shown(step, step.promise or "alone")
             if step.needs and not step.promise:
                 yield Check("order")
+
+    def _beside_alone(self, step: Step, twin: Twin) -> Iterator[Check]:
+        """A request that was also sent alone does the same in the batch."""
+        taking = Taking(self.entities, twin.entity, twin.marks)
+        found = differences(twin.alone, parts_in_batch(taking, self.clear[step.id]))
+        yield from (Check("alone", f"{step.id}: {it}") for it in found)
+        if not found:
+            yield Check("alone")
+
+    def _shown(self, step: Step, promise: str) -> Iterator[Check]:
+        """A read returns the entity that its URL leads to, as it is then."""
+        if step.shows is None:
+            return
+        body, (values, maker) = self.clear[step.id].get("body"), step.shows
+        values = {**self._made_by(maker), **values}
+        for name, value in values.items():
+            shown = body.get(name, ABSENT) if isinstance(body, dict) else ABSENT
+            what = "nothing" if shown is ABSENT else repr(shown)
+            other = "nothing" if value is ABSENT else repr(value)
+            yield check(promise, shown == value, f"{step.id} returns {what} for {name}, and not {other}")
+
+    def _made_by(self, maker: Optional[str]) -> Dict[str, Any]:
+        """The key of what another request has created, as far as its response shows it."""
+        body = self.clear.get(maker or "", {}).get("body")
+        key = self.entities.key
+        return {key: body[key]} if isinstance(body, dict) and key in body else {}
 
     def _seen(self, step: Step, status: int, performed: Optional[bool]) -> Iterator[Check]:
         """A request that is answered 2xx shows its effect, if it has one."""
@@ -143,7 +182,7 @@ def wrong_text(step: Step, expected: str, status: int) -> str:
     if expected == UNDONE:
         return f"{step.id} is answered {status}, though a member of its group has failed"
     if step.promise == "order":
-        return f"{step.id} is answered {status}, as if {'it' if step.needs else 'what needs it'} had not waited"
+        return f"{step.id} is answered {status}, as if {'it or ' if step.needs else ''}what needs it had not waited"
     if step.promise == "reference":
         return f"{step.id} is answered {status}, so its URL does not lead to what {step.needs[0]} has created"
     if expected == FAILS:
@@ -173,11 +212,11 @@ def responses_of(answer: Answer) -> Optional[List[Dict[str, Any]]]:
     return found if isinstance(found, list) and all(isinstance(it, dict) for it in found) else None
 
 
-def statuses_of(responses: List[Dict[str, Any]]) -> Dict[str, int]:
-    """The statuses by the ids that have one response."""
-    ids = [it.get("id") for it in responses]
+def clear_responses(responses: List[Dict[str, Any]]) -> Dict[str, Dict[str, Any]]:
+    """The responses by the ids that have one response, if that has a status."""
+    ids = Counter(it["id"] for it in responses if isinstance(it.get("id"), str))
     clear = (it for it in responses if isinstance(it.get("id"), str) and isinstance(it.get("status"), int))
-    return {it["id"]: it["status"] for it in clear if ids.count(it["id"]) == 1}
+    return {it["id"]: it for it in clear if ids[it["id"]] == 1}
 
 
 def response_of(step: Step) -> Dict[str, Any]:

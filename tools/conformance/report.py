@@ -4,7 +4,7 @@ import json
 import os
 from typing import Any, Dict, List, NamedTuple
 
-from cases import PROMISES, SECTIONS, Case
+from promises import PROMISES, SECTIONS, Case
 from runner import Result
 
 

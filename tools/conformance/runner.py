@@ -1,13 +1,20 @@
 """Runs cases against a service: the batch of each, its judgement, and the removal of what it made."""
 
-from typing import Callable, Dict, List, NamedTuple, Optional, Set
+from concurrent.futures import ThreadPoolExecutor
+from typing import Callable, Dict, List, NamedTuple, Optional, Set, Union
 
-from cases import Case
-from judge import Check, Judge, is_success, responses_of, statuses_of
-from service import Answer, Entities, Service
-from stage import DONE, FAILS, KINDS, Stage, failing_kinds
+from entities import Entities
+from judge import Check, Judge, clear_responses, is_success, responses_of
+from kinds import KINDS, failing_kinds
+from learning import learn
+from left_over import left_over
+from promises import Case
+from service import Answer, Service, Unanswered
+from stage import DONE, FAILS, Stage
 
 REFUSED = (*range(400, 500), 501)
+# After how many batches without an answer in time the run ends.
+MAX_LATE = 3
 
 
 class Result(NamedTuple):
@@ -17,7 +24,7 @@ class Result(NamedTuple):
         case: The case.
         checks: The promises that were looked at; none if the case does not apply.
         reason: Why it does not apply, or None.
-        batch: Its batch.
+        batch: Its batch; of several, the first that is broken.
         response: What the service has answered.
     """
 
@@ -37,6 +44,10 @@ class Runner:
 
     Attributes:
         refused: What the service refuses, with the reason.
+        known: What a batch may have, as it has been answered.
+        kinds: The ways to fail that the service has.
+        continues: Whether it applies the preference continue-on-error, as far as is known.
+        late: How many batches had no answer in time.
     """
 
     def __init__(self, service: Service, entities: Entities) -> None:
@@ -45,51 +56,110 @@ class Runner:
         self.known: Set[str] = set()
         self.kinds: List[str] = []
         self.continues = True
+        self.late = 0
 
     def run(self, cases: List[Case], progress: Callable[[int, str], None]) -> List[Result]:
-        """Runs the cases; raises Unusable if the service cannot be judged any more."""
+        """Runs the cases; raises Unusable if the service cannot be judged any more, or Interrupted."""
         self.service.require_batches(self.entities.set)
         found = []
         try:
-            self.entities.learn()
+            learn(self.entities)
             self.kinds = failing_kinds(self.entities)
+            self.entities.clear()
             for at, case in enumerate(cases):
                 progress(at, case.name)
                 found.append(self._run(case))
-                self.entities.clear()
+                self.entities.clear(self.entities.spare)
+            self.entities.appeared()
         finally:
+            self.service.interruption.allowed = 1
             self.entities.clear()
         return found
 
     def _run(self, case: Case) -> Result:
-        if case.kind is not None and case.kind not in self.kinds:
-            return Result(case, [], f"alone, no request fails by {KINDS[case.kind].text}")
-        stage = Stage(self.entities)
-        case.write(stage)
-        refused = sorted(stage.features() & self.refused.keys())
-        if refused:
-            return Result(case, [], self.refused[refused[0]])
-        batch = stage.document()
-        answer = self.service.batch(batch, not case.stops)
-        self._note_created(answer)
-        reason = self._reason(case, stage, answer)
+        reason = self._lack(case)
         if reason is not None:
             return Result(case, [], reason)
-        stops = case.stops or not self._applies_preference(stage, answer)
-        if stops and case.promise == "continue":
-            return Result(case, [], "the service does not apply the preference continue-on-error")
-        checks = Judge(case, stage, answer, stops).checks(self.entities)
-        return Result(case, checks, None, batch, answer.text)
+        stages = [Stage(self.entities) for _ in range(case.at_once)]
+        for stage in stages:
+            case.write(stage)
+        refused = sorted(stages[0].features() & self.refused.keys())
+        if refused:
+            return Result(case, [], self.refused[refused[0]])
+        answers = self._send(case, stages)
+        reason = next((it for it in map(lambda *of: self._reason(case, *of), stages, answers) if it), None)
+        if reason is not None:
+            return Result(case, [], reason)
+        return self._judge(case, stages, answers)
+
+    def _lack(self, case: Case) -> Optional[str]:
+        """What the service lacks that a case needs."""
+        if case.kind is not None and case.kind not in self.kinds:
+            return f"alone, no request fails by {KINDS[case.kind].text}"
+        return next((self.entities.lacks[it] for it in case.needs if it in self.entities.lacks), None)
+
+    # Sending
+
+    def _send(self, case: Case, stages: List[Stage]) -> List[Union[Answer, Unanswered]]:
+        """Sends the batches of a case at the same time, and notes what they have created."""
+        documents = [it.document() for it in stages]
+        if len(documents) == 1:
+            answers = [self._answer(documents[0], case)]
+        else:
+            with ThreadPoolExecutor(len(documents)) as pool:
+                answers = list(pool.map(lambda it: self._answer(it, case), documents))
+        for answer in answers:
+            if isinstance(answer, Answer):
+                self._note_created(answer)
+        late = [it for it in answers if isinstance(it, Unanswered) and it.is_late]
+        self.late += len(late)
+        lost = next((it for it in answers if isinstance(it, Unanswered)), None)
+        if lost is not None and (self.late >= MAX_LATE or not self.service.is_reachable()):
+            raise lost
+        return answers
+
+    def _answer(self, document: bytes, case: Case) -> Union[Answer, Unanswered]:
+        try:
+            return self.service.batch(document, not case.stops)
+        except Unanswered as error:
+            return error
 
     def _note_created(self, answer: Answer) -> None:
         """Notes what a batch has created, to remove it."""
         for response in responses_of(answer) or []:
             headers = response.get("headers")
-            if response.get("status") == 201 and isinstance(headers, dict) and not self.entities.are_named:
+            if response.get("status") in (201, 204) and isinstance(headers, dict):
                 self.entities.note({str(name).lower(): str(it) for name, it in headers.items()}.get("location", ""))
 
-    def _reason(self, case: Case, stage: Stage, answer: Answer) -> Optional[str]:
+    # Judging
+
+    def _judge(self, case: Case, stages: List[Stage], answers: List[Union[Answer, Unanswered]]) -> Result:
+        """Judges the batches of a case by their answers, and by what the set has afterwards."""
+        known = set(self.entities.made)
+        listing = self.entities.appeared()
+        checks: List[Check] = []
+        result = Result(case, checks)
+        for stage, answer in zip(stages, answers):
+            if isinstance(answer, Unanswered):
+                found, text = [Check("answered", f"the batch is not answered: {answer.reason}")], b""
+            else:
+                stops = case.stops or not self._applies_preference(stage, answer)
+                if stops and case.promise == "continue":
+                    return Result(case, [], "the service does not apply the preference continue-on-error")
+                found, text = Judge(case, stage, answer, stops).checks(listing), answer.text
+            checks += found
+            if not result.batch or any(it.rule for it in found) and not any(it.rule for it in checks[: -len(found)]):
+                result = result._replace(batch=stage.document(), response=text)
+        if listing is not None:
+            checks += left_over(case, stages, listing, known)
+            if all(isinstance(it, Answer) for it in answers):
+                self.entities.settle(listing)
+        return result
+
+    def _reason(self, case: Case, stage: Stage, answer: Union[Answer, Unanswered]) -> Optional[str]:
         """Why a case does not apply: the service refuses the batch, or what no batch before had."""
+        if isinstance(answer, Unanswered):
+            return None
         unknown = sorted(stage.features() - self.known)
         responses = responses_of(answer)
         status = str(answer) if responses is None else "501 of its requests"
@@ -109,7 +179,7 @@ class Runner:
     def _applies_preference(self, stage: Stage, answer: Answer) -> bool:
         """Whether the service continues on errors. One that does not may leave it at that: it is a preference."""
         if self.continues and "continue-on-error" not in answer.headers.get("preference-applied", "").lower():
-            statuses = statuses_of(responses_of(answer) or [])
+            statuses = {id: it["status"] for id, it in clear_responses(responses_of(answer) or []).items()}
             expected = stage.expected(False)
             first = expected.index(FAILS) if FAILS in expected else len(expected)
             after = [it.id for it, outcome in zip(stage.steps[first:], expected[first:]) if outcome == DONE]

@@ -1,26 +1,37 @@
-"""The service that is judged: requests over HTTP, and the entities that are made in it to judge it by."""
+"""The service that is judged: requests over HTTP, and their answers."""
 
-import contextlib
 import http.client
+import io
 import json
-import secrets
 import socket
-import threading
 import time
-import uuid
-from typing import Any, Callable, Dict, Iterator, List, Mapping, NamedTuple, Optional, Tuple
-from urllib.parse import quote, urljoin, urlsplit
+from typing import Any, Mapping, NamedTuple, Optional
+from urllib.parse import unquote, urljoin, urlsplit
+
+from interruption import Interrupted, Interruption
 
 MAX_ANSWER = 67_108_864
-
-# For how many seconds the end of a request is waited for after an interruption: the service may still create something.
-GRACE = 5.0
+# For how many seconds at most a read waits before it looks for an interruption.
+SLICE = 0.25
 JSON = {"Content-Type": "application/json"}
 GONE = (404, 410)
 
 
 class Unusable(Exception):
     """Why the service cannot be judged, in one line."""
+
+
+class Unanswered(Unusable):
+    """A request has no answer.
+
+    Attributes:
+        reason: Why, in a few words.
+        is_late: Whether the time for it was up.
+    """
+
+    def __init__(self, request: str, reason: str, is_late: bool) -> None:
+        super().__init__(f"{request}: {reason}")
+        self.reason, self.is_late = reason, is_late
 
 
 class Answer(NamedTuple):
@@ -59,37 +70,39 @@ class Service:
         root: Its URL, http or https, without a query.
         headers: What every request has besides, such as Authorization.
         timeout: For how many seconds an answer is waited for.
+        interruption: What ends the run before its time.
     """
 
-    def __init__(self, root: str, headers: Mapping[str, str], timeout: float) -> None:
-        self.root, self.timeout = root.rstrip("/") + "/", timeout
+    def __init__(self, root: str, headers: Mapping[str, str], timeout: float, interruption: Interruption) -> None:
+        self.root, self.timeout, self.interruption = root.rstrip("/") + "/", timeout, interruption
         self.headers = {"OData-MaxVersion": "4.01", "Accept": "application/json", "Connection": "close", **headers}
         self.parts = urlsplit(self.root)
 
     def ask(self, method: str, url: str, value: Any = None, headers: Mapping[str, str] = {}) -> Answer:
-        """Sends a request to a URL that is relative to the root; raises Unusable if no answer can be read."""
+        """Sends a request to a URL that is relative to the root; raises Unanswered if no answer can be read."""
+        self.interruption.check()
         data = value if isinstance(value, (bytes, type(None))) else json.dumps(value).encode()
         path = urlsplit(urljoin(self.root, url))
         target = path.path + (f"?{path.query}" if path.query else "")
         connection = self._connection()
-        expired = threading.Event()
         try:
-            connection.connect()
-            with _hanging_up(connection.sock, self.timeout, expired):
-                connection.request(method, target, data, {**self.headers, **(JSON if data else {}), **headers})
-                return _read(connection.getresponse())
+            connection.request(method, target, data, {**self.headers, **(JSON if data else {}), **headers})
+            return _read(connection.getresponse())
         except (OSError, http.client.HTTPException, ValueError) as error:
-            reason = reason_of(TimeoutError() if expired.is_set() else error, self.timeout)
-            raise Unusable(f"{method} {self.root}{url}: {reason}") from None
-        except KeyboardInterrupt:
-            _wait_for_end(connection.sock)
-            raise
+            if self.interruption.is_due:
+                raise Interrupted from None
+            is_late = isinstance(error, socket.timeout) or "timed out" in str(error)
+            reason = f"no answer within {self.timeout:g} seconds" if is_late else reason_of(error)
+            raise Unanswered(f"{method} {self.root}{url}", reason, is_late) from None
         finally:
             connection.close()
 
     def _connection(self) -> http.client.HTTPConnection:
         kind = http.client.HTTPSConnection if self.parts.scheme == "https" else http.client.HTTPConnection
-        return kind(self.parts.hostname or "", self.parts.port, timeout=self.timeout)
+        found = kind(self.parts.hostname or "", self.parts.port, timeout=self.timeout)
+        until = time.monotonic() + self.timeout
+        found.response_class = lambda sock, **rest: _Response(_Timed(sock, until, self.interruption), sock, **rest)
+        return found
 
     def batch(self, document: bytes, continues: bool) -> Answer:
         """Sends a batch, with the preference to continue on errors or without it."""
@@ -97,8 +110,7 @@ class Service:
 
     def require_batches(self, entity_set: str) -> None:
         """Sends a batch of one request; raises Unusable if the service does not answer it as a batch."""
-        request = {"id": "1", "method": "get", "url": f"{entity_set}?$top=1"}
-        answer = self.batch(json.dumps({"requests": [request]}).encode(), True)
+        answer = self.probe(f"{entity_set}?$top=1")
         if answer.status in (*GONE, 405, 501):
             raise Unusable(f"{self.root} has no $batch: POST {self.root}$batch is answered {answer}")
         if answer.status in (406, 415):
@@ -108,6 +120,69 @@ class Service:
         if not isinstance(answer.value, dict) or not isinstance(answer.value.get("responses"), list):
             kind = answer.headers.get("content-type", "no media type")
             raise Unusable(f"POST {self.root}$batch is not answered with a batch in JSON, but with {kind}")
+
+    def probe(self, url: str) -> Answer:
+        """Sends a batch of one read; one that is hung up on is sent once more."""
+        request = {"id": "1", "method": "get", "url": url}
+        document = json.dumps({"requests": [request]}).encode()
+        try:
+            return self.batch(document, True)
+        except Unanswered as error:
+            if error.is_late:
+                raise
+        return self.batch(document, True)
+
+    def is_reachable(self) -> bool:
+        """Whether the service answers a plain request, whatever it answers."""
+        try:
+            self.ask("GET", "")
+        except Unusable:
+            return False
+        return True
+
+    def address(self, url: str) -> str:
+        """The URL as all ways to write it are compared: absolute, with each character as itself."""
+        try:
+            return unquote(urljoin(self.root, url))
+        except ValueError:
+            return url
+
+
+class _Timed(io.RawIOBase):
+    """Reads from a connection until a point in time, also if the answer comes drop by drop."""
+
+    def __init__(self, connection: socket.socket, until: float, interruption: Interruption) -> None:
+        self.connection, self.until, self.interruption = connection, until, interruption
+        # http.client closes the connection before the answer is read; it stays open as long as this file.
+        self.file = connection.makefile("rb", 0)
+
+    def readable(self) -> bool:
+        return True
+
+    def readinto(self, buffer: Any) -> Optional[int]:
+        while True:
+            until = min(self.until, self.interruption.until) if self.interruption.is_due else self.until
+            rest = until - time.monotonic()
+            if rest <= 0:
+                raise socket.timeout("timed out")
+            self.connection.settimeout(min(rest, SLICE))
+            try:
+                return self.connection.recv_into(buffer)
+            except socket.timeout:
+                pass
+
+    def close(self) -> None:
+        self.file.close()
+        super().close()
+
+
+class _Response(http.client.HTTPResponse):
+    """A response that is read from a file in place of its connection."""
+
+    def __init__(self, file: _Timed, sock: socket.socket, **rest: Any) -> None:
+        super().__init__(sock, **rest)
+        self.fp.close()
+        self.fp = io.BufferedReader(file)
 
 
 def _read(response: http.client.HTTPResponse) -> Answer:
@@ -122,40 +197,8 @@ def _read(response: http.client.HTTPResponse) -> Answer:
     return Answer(response.status, {name.lower(): it for name, it in response.headers.items()}, bytes(text))
 
 
-@contextlib.contextmanager
-def _hanging_up(connection: socket.socket, timeout: float, expired: threading.Event) -> Iterator[None]:
-    """Ends a connection when the time is up, also if the answer comes drop by drop."""
-
-    def hang_up() -> None:
-        expired.set()
-        try:
-            connection.shutdown(socket.SHUT_RDWR)
-        except OSError:
-            pass
-
-    timer = threading.Timer(timeout, hang_up)
-    timer.daemon = True
-    timer.start()
-    try:
-        yield
-    finally:
-        timer.cancel()
-
-
-def _wait_for_end(connection: Optional[socket.socket]) -> None:
-    """Waits until the service hangs up, at most GRACE seconds."""
-    end = time.monotonic() + GRACE
-    with contextlib.suppress(OSError):
-        while connection is not None and (rest := end - time.monotonic()) > 0:
-            connection.settimeout(rest)
-            if not connection.recv(65_536):
-                break
-
-
-def reason_of(error: Exception, timeout: float) -> str:
+def reason_of(error: Exception) -> str:
     """Why there is no answer, in a few words."""
-    if isinstance(error, TimeoutError) or "timed out" in str(error):
-        return f"no answer within {timeout:g} seconds"
     if isinstance(error, (http.client.RemoteDisconnected, ConnectionResetError, BrokenPipeError)):
         return "the service hung up without an answer"
     if isinstance(error, http.client.IncompleteRead):
@@ -163,151 +206,3 @@ def reason_of(error: Exception, timeout: float) -> str:
     if isinstance(error, http.client.HTTPException):
         return "the answer is not HTTP"
     return " ".join((getattr(error, "strerror", None) or str(error) or type(error).__name__).split())
-
-
-class Entity(NamedTuple):
-    """An entity that was made, or that a body would make: its URL, and that body."""
-
-    url: str
-    body: Dict[str, Any]
-
-
-# Keys that a service may take, and None for one that makes its own: each is tried in turn.
-KEYS: Tuple[Callable[[], Any], ...] = (
-    lambda: f"conformance-{secrets.token_hex(6)}",
-    lambda: str(uuid.uuid4()),
-    lambda: secrets.randbelow(2_000_000_000),
-    lambda: None,
-)
-
-
-def literals(value: Any) -> Iterator[str]:
-    """How a key may be written in a URL."""
-    if isinstance(value, str):
-        yield quote("'" + value.replace("'", "''") + "'", safe="'")
-    yield quote(str(value), safe="")
-
-
-class Entities:
-    """The entities that are made in one set. All of them are known, so that they can be removed.
-
-    Attributes:
-        made: The URLs of what may be there, and whether they lead to this server.
-        left: The URLs of what could not be removed.
-        are_named: Whether the client gives the keys. Otherwise the URL of an entity is known once it is made.
-    """
-
-    def __init__(self, service: Service, entity_set: str, key: str, body: Dict[str, Any]) -> None:
-        self.service, self.set, self.key, self.body = service, entity_set, key, body
-        self.made: Dict[str, bool] = {}
-        self.left: List[str] = []
-        self.new_key: Callable[[], Any] = KEYS[-1]
-        self.are_named, self.are_quoted = False, True
-
-    def learn(self) -> None:
-        """Makes one entity, to learn how keys are given and written; raises Unusable if none can be made."""
-        refusals = []
-        for new_key in KEYS:
-            key = new_key()
-            answer = self._post(self._body(key))
-            if answer.is_success:
-                value = self._key_of(answer)
-                self.are_named = key is not None and value == key
-                self.new_key = new_key if self.are_named else KEYS[-1]
-                self._learn_to_write(value, answer)
-                return
-            refusals.append(answer)
-        raise Unusable(f"{self.set} takes no entity: POST {self.service.root}{self.set} is answered {refusals[-1]}")
-
-    def _learn_to_write(self, value: Any, answer: Answer) -> None:
-        """Finds out how the key of an entity that is there is written in its URL."""
-        for at, literal in enumerate(literals(value)):
-            url = f"{self.set}({literal})"
-            if self.is_there(url):
-                self._found(url, answer)
-                self.are_quoted = at == 0
-                return
-        raise Unusable(f"{self.service.root}{self.set}({next(literals(value))}) was created, and cannot be read")
-
-    def _body(self, key: Any) -> Dict[str, Any]:
-        given = {name: it for name, it in self.body.items() if name != self.key}
-        return given if key is None else {self.key: key, **given}
-
-    def _post(self, body: Any) -> Answer:
-        answer = self.service.ask("POST", self.set, body)
-        if answer.is_success:
-            self.note(answer.headers.get("location", ""))
-        return answer
-
-    def _found(self, url: str, answer: Answer) -> None:
-        """Notes what was created by its own URL, in place of its Location."""
-        self.made.pop(answer.headers.get("location", ""), None)
-        self.made[url] = True
-
-    def _key_of(self, answer: Answer) -> Any:
-        """The key of an entity that was created, by its representation, or by what its Location shows."""
-        shown = answer.value
-        if not isinstance(shown, dict) and "location" in answer.headers:
-            shown = self.service.ask("GET", answer.headers["location"]).value
-        if not isinstance(shown, dict) or not isinstance(shown.get(self.key), (str, int)):
-            raise Unusable(f"an entity of {self.set} was created, and its answer has no key {self.key}")
-        return shown[self.key]
-
-    def note(self, location: str) -> None:
-        """Notes what was created at a Location. If that leads to another server, it is left there."""
-        if location:
-            self.made[location] = urljoin(self.service.root, location).startswith(urljoin(self.service.root, "/"))
-
-    def url_of(self, key: Any) -> str:
-        return f"{self.set}({list(literals(key))[0 if self.are_quoted else -1]})"
-
-    def fresh(self) -> Entity:
-        """An entity that is not there yet, for a batch to create. Without a name its URL is empty."""
-        key = self.new_key()
-        url = self.url_of(key) if self.are_named else ""
-        if url:
-            self.made[url] = True
-        return Entity(url, self._body(key))
-
-    def make(self) -> Entity:
-        """Makes an entity by a plain request."""
-        entity = self.fresh()
-        answer = self._post(entity.body)
-        if not answer.is_success:
-            raise Unusable(f"POST {self.service.root}{self.set} is answered {answer}, and was answered 2xx before")
-        url = entity.url or self.url_of(self._key_of(answer))
-        self._found(url, answer)
-        return Entity(url, entity.body)
-
-    def missing(self) -> Entity:
-        """An entity that is not there and that nothing creates."""
-        if self.are_named:
-            return Entity(self.url_of(self.new_key()), {})
-        entity = self.make()
-        self.service.ask("DELETE", entity.url)
-        return entity
-
-    def is_there(self, url: str) -> bool:
-        """Whether an entity is there, by a plain request. If not, it needs no removal."""
-        answer = self.service.ask("GET", url)
-        if answer.status in GONE:
-            self.made.pop(url, None)
-        if answer.is_success or answer.status in GONE:
-            return answer.is_success
-        raise Unusable(f"GET {self.service.root}{url} is answered {answer}")
-
-    def clear(self) -> None:
-        """Removes all that was made. An interruption forgets nothing: what is not removed yet stays in made."""
-        for url, is_here in list(self.made.items()):
-            try:
-                if not is_here or not self._remove(url):
-                    self.left.append(url)
-                self.made.pop(url, None)
-            except Unusable:
-                self.left += self.made
-                self.made = {}
-                break
-
-    def _remove(self, url: str) -> bool:
-        """Removes an entity; returns whether it is gone."""
-        return self.service.ask("DELETE", url).is_success or not self.is_there(url)

@@ -2,22 +2,32 @@
 
 import itertools
 import json
-from typing import Any, Callable, Dict, List, NamedTuple, Optional, Sequence, Set
+from typing import Any, Dict, List, NamedTuple, Optional, Sequence, Set, Tuple
 
-from service import Entities
+from entities import Effect, Entities, Entity
+from twin import Twin
 
 # What is expected of a request: success; an error of its own; 424 for a dependency that failed; no success, in a
 # group that fails; or anything, since the batch may have ended before it.
 DONE, FAILS, SKIPPED, UNDONE, OPEN = "done", "fails", "skipped", "undone", "open"
 
-NO_TAG = '"conformance-no-such-tag"'
+METHODS = {"create": "post", "read": "get", "patch": "patch", "put": "put", "delete": "delete"}
 
 
-class Effect(NamedTuple):
-    """What shows that a request was performed: whether its entity is there afterwards."""
+# The value of a property that a read must not return.
+ABSENT = object()
 
-    url: str
-    is_there: bool
+
+class Shown(NamedTuple):
+    """What a read has to return.
+
+    Attributes:
+        values: The values of properties.
+        maker: The id of the request that creates the entity in the batch, whose key is then that of its response.
+    """
+
+    values: Dict[str, Any]
+    maker: Optional[str] = None
 
 
 class Step(NamedTuple):
@@ -28,12 +38,16 @@ class Step(NamedTuple):
         promise: What is broken if it is not answered as expected, in place of what its place in the batch says.
         fails: Whether it fails by itself.
         effect: What shows that it was performed, or None if nothing does.
+        shows: What it returns, or None if that is not looked at.
+        twin: The same request as it was answered alone, or None.
     """
 
     request: Dict[str, Any]
     promise: Optional[str] = None
     fails: bool = False
     effect: Optional[Effect] = None
+    shows: Optional[Shown] = None
+    twin: Optional[Twin] = None
 
     @property
     def id(self) -> str:
@@ -52,13 +66,36 @@ class Step(NamedTuple):
         return self.request.get("dependsOn", ())
 
 
+class Subject:
+    """An entity as the requests of a batch leave it, one after another.
+
+    Attributes:
+        entity: As it was made, or is made in the batch.
+        is_there: Whether it is there after the requests so far.
+        mark: What its text property has then.
+        at: The position of the request whose effect shows afterwards, or None.
+        maker: The id of the request that creates it.
+    """
+
+    def __init__(self, entity: Entity, is_there: bool) -> None:
+        self.entity, self.is_there, self.mark = entity, is_there, entity.mark
+        self.at: Optional[int] = None
+        self.maker: Optional[str] = None
+
+
 class Stage:
-    """Writes the batch of a case, and makes what its requests need by plain requests."""
+    """Writes the batch of a case, and makes what its requests need by plain requests.
+
+    Attributes:
+        writes: The ways to write that take turns.
+    """
 
     def __init__(self, entities: Entities) -> None:
         self.entities = entities
         self.steps: List[Step] = []
-        self.writes = 0
+        self.subjects: Dict[str, Subject] = {}
+        ways = ("create", "delete", "patch", "put")
+        self.writes = itertools.cycle([it for it in ways if it not in entities.lacks] or ["delete"])
 
     def document(self) -> bytes:
         """The batch, a request on each line."""
@@ -98,34 +135,65 @@ class Stage:
             request["body"] = body
         self.steps.append(Step(request, **rest))
 
-    def write(self, id: str, **where: Any) -> None:
-        """A request that creates or deletes an entity, by turns; only deletes where the service names them."""
-        self.writes += 1
-        if self.entities.are_named and self.writes % 2:
-            self.create(id, **where)
-        else:
-            url = self.entities.make().url
-            self.add(id, "delete", url, effect=Effect(url, False), **where)
+    def subject(self, is_there: bool = True) -> Subject:
+        """An entity that is there already, or that the batch is to create."""
+        return Subject(self.entities.make() if is_there else self.entities.fresh(), is_there)
 
-    def create(self, id: str, lasts: bool = True, **where: Any) -> None:
-        """A request that creates an entity; it lasts unless a later request deletes it."""
-        entity = self.entities.fresh()
-        effect = Effect(entity.url, True) if entity.url and lasts else None
-        self.add(id, "post", self.entities.set, entity.body, effect=effect, **where)
+    def lasting(self) -> Subject:
+        """An entity that is there, and that the batch does not remove."""
+        return Subject(self.entities.borrow(), True)
+
+    def act(self, id: str, act: str, subject: Subject, by: str = "", **where: Any) -> None:
+        """A request on an entity, by its URL or by another way to lead to it."""
+        entity, fails = subject.entity, subject.is_there == (act == "create")
+        self.subjects[id] = subject
+        if act == "read":
+            shows = None if fails else self._shown(subject)
+            self.add(id, "get", by or entity.url, fails=fails, shows=shows, **where)
+            return
+        body, effect = None, Effect(entity.url, False, subject.mark if not entity.url else None)
+        if act != "delete":
+            mark = entity.mark if act == "create" else self.entities.new_mark()
+            body = entity.body if act == "create" else self.entities.change(act, mark)
+            effect = Effect(entity.url, True, mark)
+        if not fails:
+            self._supersede(subject, effect)
+            subject.maker = id if act == "create" else subject.maker
+        url = self.entities.set if act == "create" else by or entity.url
+        is_seen = not fails and bool(entity.url or "create" not in self.entities.lacks)
+        self.add(id, METHODS[act], url, body, fails=fails, effect=effect if is_seen else None, **where)
+
+    def _shown(self, subject: Subject) -> Shown:
+        """What a read of an entity returns, as far as it is known."""
+        values = {self.entities.key: subject.entity.key, self.entities.text or "": subject.mark}
+        return Shown({name: it for name, it in values.items() if it is not None}, subject.maker)
+
+    def _supersede(self, subject: Subject, effect: Effect) -> None:
+        """The next request writes an entity: what an earlier one did to it does not show any more."""
+        if subject.at is not None:
+            self.steps[subject.at] = self.steps[subject.at]._replace(effect=None)
+        subject.at, subject.is_there, subject.mark = len(self.steps), effect.is_there, effect.mark
+
+    def write(self, id: str, **where: Any) -> None:
+        """A request that creates, deletes or changes an entity, by turns."""
+        act = next(self.writes)
+        self.act(id, act, self.lasting() if act in ("patch", "put") else self.subject(act != "create"), **where)
+
+    def create(self, id: str, **where: Any) -> Subject:
+        """A request that creates an entity."""
+        subject = self.subject(False)
+        self.act(id, "create", subject, **where)
+        return subject
 
     def read(self, id: str, **where: Any) -> None:
         """A request that reads an entity which is there all the time."""
-        self.add(id, "get", self.entities.make().url, **where)
+        self.act(id, "read", self.lasting(), **where)
 
     def look(self, id: str, written: str, **where: Any) -> None:
-        """A request that reads what a write has created or deleted; it is to see that."""
-        effect = next(it.effect for it in self.steps if it.id == written)
-        assert effect is not None
-        self.add(id, "get", effect.url, promise="order", fails=not effect.is_there, **where)
-
-    def fail(self, id: str, kind: str, **where: Any) -> None:
-        """A request that fails by itself."""
-        KINDS[kind].add(self, id, where)
+        """A request that reads what a write has done; it is to see that."""
+        subject = self.subjects[written]
+        by = "" if subject.entity.url else f"${subject.maker}"
+        self.act(id, "read", subject, by, promise="order", **where)
 
     # What is expected
 
@@ -144,54 +212,3 @@ class Stage:
             if is_failing:
                 failed.add(steps[0].unit)
         return found
-
-
-class Kind(NamedTuple):
-    """A way to fail: what it is, and a method of Stage that adds such a request."""
-
-    text: str
-    add: Callable[[Stage, str, Dict[str, Any]], None]
-
-
-def _missing(stage: Stage, id: str, where: Dict[str, Any]) -> None:
-    stage.add(id, "delete", stage.entities.missing().url, fails=True, **where)
-
-
-def _wrong_body(stage: Stage, id: str, where: Dict[str, Any]) -> None:
-    stage.add(id, "post", stage.entities.set, [], fails=True, **where)
-
-
-def _taken_key(stage: Stage, id: str, where: Dict[str, Any]) -> None:
-    stage.add(id, "post", stage.entities.set, stage.entities.make().body, fails=True, **where)
-
-
-def _precondition(stage: Stage, id: str, where: Dict[str, Any]) -> None:
-    url = stage.entities.make().url
-    stage.add(id, "delete", url, headers={"If-Match": NO_TAG}, fails=True, effect=Effect(url, False), **where)
-
-
-KINDS = {
-    "missing": Kind("an entity that is missing", _missing),
-    "body": Kind("a wrong body", _wrong_body),
-    "key": Kind("a key that is taken", _taken_key),
-    "precondition": Kind("a precondition that does not hold", _precondition),
-}
-
-
-def failing_kinds(entities: Entities) -> List[str]:
-    """The ways to fail that the service has, as plain requests show: it answers them 4xx."""
-    found = []
-    for name, kind in KINDS.items():
-        if name == "key" and not entities.are_named:
-            continue
-        stage = Stage(entities)
-        kind.add(stage, "1", {})
-        request = stage.steps[0].request
-        answer = entities.service.ask(
-            request["method"].upper(), request["url"], request.get("body"), request.get("headers", {})
-        )
-        if 400 <= answer.status <= 499:
-            found.append(name)
-        elif answer.is_success and request["method"] == "post":
-            entities.note(answer.headers.get("location", ""))
-    return found

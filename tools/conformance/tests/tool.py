@@ -18,7 +18,7 @@ class Defective(Process):
 
     def __init__(self, name, database):
         if name is not None:
-            self.program = (os.path.join(ROOT, "examples", "service", "tests", "defects.py"), name)
+            self.program = (os.path.join(ROOT, "tools", "conformance", "tests", "defects"), name)
         super().__init__(database)
 
     @property

@@ -1,0 +1,153 @@
+"""Cases in which a request of a batch is compared with the same request alone, on entities of their own."""
+
+from typing import Any, Callable, Dict, List, NamedTuple, Tuple
+
+from entities import Entities, Entity
+from kinds import NO_TAG, ask_alone
+from promises import Case
+from stage import Stage, Step
+from twin import Taking, Twin, etag_of, parts_alone
+
+# How often a request is sent alone: what differs between these is not compared.
+TIMES = 2
+ODD = "ä \"\\/ € & '%41 <b>"
+MINIMAL, WHOLE = {"Prefer": "return=minimal"}, {"Prefer": "return=representation"}
+
+
+class Row(NamedTuple):
+    """A request that is sent in a batch and alone.
+
+    Attributes:
+        name: The name of its case.
+        shows: What it is, in a few words.
+        method: Its method.
+        target: What its URL leads to, of TARGETS.
+        body: Its body, of BODIES.
+        headers: Its headers, in which {etag} is the ETag of the entity.
+        needs: What the service has to have.
+    """
+
+    name: str
+    shows: str
+    method: str
+    target: str
+    body: str = ""
+    headers: Dict[str, str] = {}
+    needs: Tuple[str, ...] = ()
+
+
+# Each makes an entity, or names one, that the request is about.
+TARGETS: Dict[str, Callable[[Entities], Entity]] = {
+    "there": lambda entities: entities.make(),
+    "missing": lambda entities: entities.missing(),
+    "new": lambda entities: entities.fresh(),
+    "found": lambda entities: entities.make(),
+    "no set": lambda entities: Entity("ConformanceNoSuchSet", {}),
+}
+# Each returns a body; the second value is a mark that may be written by it.
+BODIES: Dict[str, Callable[[Entities, Entity, Any], Any]] = {
+    "": lambda entities, entity, mark: None,
+    "whole": lambda entities, entity, mark: entity.body,
+    "odd": lambda entities, entity, mark: {**entity.body, entities.text: f"{ODD}{mark}"},
+    "mark": lambda entities, entity, mark: entities.change("patch", mark),
+    "odd mark": lambda entities, entity, mark: entities.change("patch", f"{ODD}{mark}"),
+    "other": lambda entities, entity, mark: entities.change("put", mark),
+    "empty": lambda entities, entity, mark: {},
+    "list": lambda entities, entity, mark: [],
+    "text": lambda entities, entity, mark: "text",
+    "unknown": lambda entities, entity, mark: {**entities.change("put", mark), "ConformanceNoSuchProperty": 1},
+    "bad value": lambda entities, entity, mark: {**entity.body, entities.text: {"conformance": [1]}},
+}
+
+ROWS = (
+    Row("get", "a read", "get", "there"),
+    Row("get-missing", "a read of what is missing", "get", "missing"),
+    Row("get-filtered", "a read with a query option", "get", "found", needs=("text",)),
+    Row("get-no-set", "a read of a set that does not exist", "get", "no set"),
+    Row("post", "a POST", "post", "new", "whole"),
+    Row("post-minimal", "a POST that prefers no body", "post", "new", "whole", MINIMAL),
+    Row("post-whole", "a POST that prefers a body", "post", "new", "whole", WHOLE),
+    Row("post-odd", "a POST of signs and letters that are not ASCII", "post", "new", "odd", needs=("text",)),
+    Row("post-taken", "a POST of a key that is taken", "post", "there", "whole", needs=("named",)),
+    Row("post-list", "a POST of an array", "post", "new", "list"),
+    Row("post-text", "a POST of a text", "post", "new", "text", {"Content-Type": "text/plain"}),
+    Row("post-unknown", "a POST of a property that does not exist", "post", "new", "unknown"),
+    Row("post-bad-value", "a POST of a value of the wrong type", "post", "new", "bad value", needs=("text",)),
+    Row("post-no-set", "a POST to a set that does not exist", "post", "no set", "empty"),
+    Row("patch", "a PATCH", "patch", "there", "mark", needs=("patch",)),
+    Row("patch-minimal", "a PATCH that prefers no body", "patch", "there", "mark", MINIMAL, ("patch",)),
+    Row("patch-whole", "a PATCH that prefers a body", "patch", "there", "mark", WHOLE, ("patch",)),
+    Row("patch-odd", "a PATCH with signs and letters that are not ASCII", "patch", "there", "odd mark", needs=("patch",)),
+    Row("patch-missing", "a PATCH of what is missing", "patch", "missing", "mark", needs=("patch",)),
+    Row("patch-empty", "a PATCH of nothing", "patch", "there", "empty", needs=("patch",)),
+    Row("patch-list", "a PATCH with an array", "patch", "there", "list", needs=("patch",)),
+    Row("patch-unknown", "a PATCH of a property that does not exist", "patch", "there", "unknown", needs=("patch",)),
+    Row("put", "a PUT", "put", "there", "other", needs=("put",)),
+    Row("put-whole", "a PUT that prefers a body", "put", "there", "other", WHOLE, ("put",)),
+    Row("put-missing", "a PUT of what is missing", "put", "missing", "other", needs=("put",)),
+    Row("put-empty", "a PUT of nothing", "put", "there", "empty", needs=("put",)),
+    Row("put-mark", "a PUT of one property", "put", "there", "mark", needs=("put",)),
+    Row("delete", "a delete", "delete", "there"),
+    Row("delete-missing", "a delete of what is missing", "delete", "missing"),
+    Row("get-known", "a read of what is known", "get", "there", "", {"If-None-Match": "{etag}"}, ("etags",)),
+    Row("get-if-match", "a read with the right ETag", "get", "there", "", {"If-Match": "{etag}"}, ("etags",)),
+    Row("patch-match", "a PATCH with the right ETag", "patch", "there", "mark", {"If-Match": "{etag}"}, ("etags", "patch")),
+    Row("patch-stale", "a PATCH with a wrong ETag", "patch", "there", "mark", {"If-Match": NO_TAG}, ("etags", "patch")),
+    Row("put-match", "a PUT with the right ETag", "put", "there", "other", {"If-Match": "{etag}"}, ("etags", "put")),
+    Row("put-stale", "a PUT with a wrong ETag", "put", "there", "other", {"If-Match": NO_TAG}, ("etags", "put")),
+    Row("put-new", "a PUT of what is to be new", "put", "there", "other", {"If-None-Match": "*"}, ("etags", "put")),
+    Row("delete-match", "a delete with the right ETag", "delete", "there", "", {"If-Match": "{etag}"}, ("etags",)),
+    Row("delete-stale", "a delete with a wrong ETag", "delete", "there", "", {"If-Match": NO_TAG}, ("etags",)),
+    Row("delete-any", "a delete with any ETag", "delete", "there", "", {"If-Match": "*"}, ("etags",)),
+)
+
+
+def asked(stage: Stage, row: Row) -> Tuple[Step, Entity, Any]:
+    """The request of a row about an entity of its own, that entity, and the mark that it writes."""
+    entities = stage.entities
+    entity, mark = TARGETS[row.target](entities), entities.new_mark()
+    url = entities.set if row.method == "post" and row.target != "no set" else entity.url
+    if row.target == "missing" and row.method in ("patch", "put"):
+        # such a request creates the entity in some services
+        entities.note(url)
+    if row.target == "found":
+        url = f"{entities.set}?$filter={entities.text}%20eq%20{literal(entity.mark)}"
+    headers = dict(row.headers)
+    if "{etag}" in headers.values():
+        answer = entities.service.ask("GET", entity.url)
+        tag = etag_of(answer.headers, answer.value) or ""
+        headers = {name: it.replace("{etag}", tag) for name, it in headers.items()}
+    scratch = Stage(entities)
+    scratch.add("asked", row.method, url, BODIES[row.body](entities, entity, mark), headers=headers)
+    if row.target == "no set":
+        entity = Entity("", {})
+    return scratch.steps[0], entity, mark
+
+
+def literal(mark: Any) -> str:
+    return f"'{mark}'" if isinstance(mark, str) else str(mark)
+
+
+def beside(row: Row) -> Callable[[Stage], None]:
+    """Writes a request between two others, with which it shares nothing."""
+
+    def write(stage: Stage) -> None:
+        entities = stage.entities
+        alone, fails = [], False
+        for _ in range(TIMES):
+            step, entity, mark = asked(stage, row)
+            answer = ask_alone(entities, step.request)
+            alone.append(parts_alone(Taking(entities, entity, [mark]), answer))
+            fails = not answer.is_success
+        step, entity, mark = asked(stage, row)
+        stage.write("before", headers=MINIMAL)
+        stage.steps.append(step._replace(fails=fails, twin=Twin(entity, [mark], tuple(alone))))
+        stage.read("after")
+
+    return write
+
+
+def alone() -> List[Case]:
+    return [
+        Case(f"alone-{it.name}", "alone", f"{it.shows}, in a batch and alone", beside(it), needs=it.needs) for it in ROWS
+    ]

@@ -1,0 +1,92 @@
+"""Finds out by plain requests, and one batch, what the service has; a case that needs more does not apply."""
+
+from typing import Any, Dict
+from urllib.parse import urljoin, urlsplit
+
+from entities import Entities
+from twin import etag_of
+
+# What a service may lack, and the reason why a case does not apply then.
+LACKS = {
+    "named": "the service makes the keys itself",
+    "text": "no property of the body takes any text or number",
+    "create": "what a batch creates cannot be found, since the service makes its key",
+    "patch": "alone, PATCH does not change an entity",
+    "put": "alone, PUT does not change an entity",
+    "etags": "the service has no ETags",
+    "property": "alone, a property cannot be read by a URL of its own",
+    "options": "alone, $select is not applied",
+    "absolute": "the service takes no absolute URLs in a batch",
+    "rooted": "the service takes no URLs in a batch that begin with /",
+}
+# How many properties of the body are tried.
+MAX_TRIED = 8
+
+
+def learn(entities: Entities) -> None:
+    """Learns all that cases need; raises Unusable if no entity can be made."""
+    entities.learn_keys()
+    entities.clear()
+    entities.before = entities.listed()
+    entities.text = text_property(entities)
+    has = {
+        "named": entities.are_named,
+        "text": entities.text is not None,
+        "create": entities.are_named or None not in (entities.text, entities.before),
+        "patch": changes(entities, "patch"),
+        "put": changes(entities, "put"),
+        **learn_reads(entities),
+        **learn_urls(entities),
+    }
+    entities.lacks = {name: reason for name, reason in LACKS.items() if not has[name]}
+    entities.clear()
+
+
+def text_property(entities: Entities) -> Any:
+    """A property of the body in which an entity may have a mark of its own."""
+    tried = [name for name, it in entities.body.items() if isinstance(it, (str, int)) and not isinstance(it, bool)]
+    for name in [it for it in tried if it != entities.key][:MAX_TRIED]:
+        entities.text = name
+        body, mark = entities.fresh(), None
+        answer = entities.post(body.body)
+        if answer.is_success:
+            url = body.url or entities.url_of(entities.key_of(answer))
+            entities.note(url)
+            mark = (entities.read(url) or {}).get(name)
+        if mark is not None and mark == body.mark:
+            return name
+    return None
+
+
+def changes(entities: Entities, act: str) -> bool:
+    """Whether PATCH or PUT changes the text property."""
+    if entities.text is None:
+        return False
+    entity, mark = entities.make(), entities.new_mark()
+    answer = entities.service.ask(act.upper(), entity.url, entities.change(act, mark))
+    return answer.is_success and (entities.read(entity.url) or {}).get(entities.text) == mark
+
+
+def learn_reads(entities: Entities) -> Dict[str, bool]:
+    """Whether entities have ETags, and what of them can be read."""
+    entity, ask, text = entities.make(), entities.service.ask, entities.text
+    whole = ask("GET", entity.url)
+    part = ask("GET", f"{entity.url}/{text}").value if text else None
+    some = ask("GET", f"{entity.url}?$select={entities.key}")
+    return {
+        "etags": etag_of(whole.headers, whole.value) is not None,
+        "property": isinstance(part, dict) and part.get("value") == entity.mark,
+        "options": some.is_success and isinstance(some.value, dict) and bool(text) and text not in some.value,
+    }
+
+
+def learn_urls(entities: Entities) -> Dict[str, bool]:
+    """Which forms of a URL a batch may have, besides relative to its root."""
+    entity = entities.make()
+    absolute = urljoin(entities.service.root, entity.url)
+    found = {}
+    for name, url in (("absolute", absolute), ("rooted", urlsplit(absolute).path)):
+        value = entities.service.probe(url).value
+        responses = value.get("responses") if isinstance(value, dict) else None
+        found[name] = bool(responses) and isinstance(responses[0], dict) and responses[0].get("status") == 200
+    return found

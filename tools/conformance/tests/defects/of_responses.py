@@ -1,0 +1,268 @@
+"""Defects in what a batch is answered, and in what its requests do."""
+
+import itertools
+import json
+import threading
+
+import web
+from odata import Answer, Refusal
+from odb_batch import Run
+from patching import Execution, batches, change_answers, change_requests, change_responses, request_of
+
+
+def hangs_up():
+    """One batch in seven is not answered: its connection ends."""
+    answer, numbers = web.Connection.answer_batch, itertools.count(1)
+
+    def hanging_up(self, *rest):
+        if next(numbers) % 7 == 0:
+            raise ConnectionResetError("hung up")
+        return answer(self, *rest)
+
+    web.Connection.answer_batch = hanging_up
+
+
+def missing():
+    """The last of several responses is left out."""
+    change_responses(lambda responses, _: responses.pop() if len(responses) > 1 else None)
+
+
+def twice():
+    """The last response is there twice."""
+    change_responses(lambda responses, _: responses.append(responses[-1]))
+
+
+def change_ids(change):
+    change_responses(lambda responses, _: [it.update(id=change(it["id"])) for it in responses])
+
+
+def lower_case_ids():
+    """Responses have their ids in lower case."""
+    change_ids(str.lower)
+
+
+def ids_as_names():
+    """Ids are taken for file names: what follows a full stop is dropped."""
+    change_ids(lambda id: id.partition(".")[0])
+
+
+def long_ids_cut():
+    """Ids are kept in 32 characters."""
+    change_ids(lambda id: id[:32])
+
+
+def numbers_as_ids():
+    """Ids that are numbers are kept as such."""
+    change_ids(lambda id: str(int(id)) if id.isdigit() else id)
+
+
+def no_group_names():
+    """Responses do not name their groups."""
+    change_responses(lambda responses, _: [it.pop("atomicityGroup", None) for it in responses])
+
+
+def lower_case_groups():
+    """Responses name their groups in lower case."""
+    change_responses(
+        lambda responses, _: [
+            it.update(atomicityGroup=it["atomicityGroup"].lower()) for it in responses if "atomicityGroup" in it
+        ]
+    )
+
+
+def false_success():
+    """A request whose dependency has failed is answered 204."""
+
+    def change(responses, requests):
+        for it in responses:
+            if it["status"] == 424 and "dependsOn" in requests[it["id"]]:
+                it["status"] = 204
+
+    change_responses(change)
+
+
+def false_424():
+    """The last request outside of a group is answered 424, though it was performed."""
+
+    def change(responses, requests):
+        for it in responses[-1:]:
+            if it["status"] < 300 and "atomicityGroup" not in it and requests[it["id"]]["method"] != "get":
+                it["status"] = 424
+
+    change_responses(change)
+
+
+def skipped_as_400():
+    """What depends on a failure is answered 400 in place of 424."""
+    change_responses(lambda responses, _: [it.update(status=400) for it in responses if it["status"] == 424])
+
+
+def performed_all_the_same():
+    """What depends on a failure is answered 424, and performed."""
+    respond = Execution.respond
+
+    def performing(self):
+        found = respond(self)
+        for id, given in self.requests.items():
+            if id not in self.started and "atomicityGroup" not in given and not given["url"].startswith("$"):
+                self.store.write(request_of(given))
+        return found
+
+    count_started()
+    Execution.respond = performing
+
+
+def count_started():
+    """Has an execution know which requests were started."""
+    prepare, answer = Execution.__init__, Execution.answer
+
+    def preparing(self, *rest):
+        self.started = set()
+        prepare(self, *rest)
+
+    def answering(self, id, perform):
+        self.started.add(id)
+        return answer(self, id, perform)
+
+    Execution.__init__, Execution.answer = preparing, answering
+
+
+def no_location():
+    """What is created has no Location in a batch."""
+    change_answers(
+        lambda given, it: it._replace(headers={name: value for name, value in it.headers.items() if name != "Location"})
+    )
+
+
+def no_body_of_a_post():
+    """A POST of a batch returns no body."""
+    change_answers(lambda given, it: it._replace(body=None) if it.status == 201 else it)
+
+
+def created_is_200():
+    """A POST of a batch is answered 200."""
+    change_answers(lambda given, it: it._replace(status=200) if it.status == 201 else it)
+
+
+def not_found_is_400():
+    """Each error of a request in a batch is 400."""
+    change_answers(lambda given, it: it._replace(status=400) if it.status in (404, 409, 412, 415) else it)
+
+
+def no_error_objects():
+    """Errors in a batch have a text as their body."""
+    change_answers(lambda given, it: it if it.status < 400 else Answer(it.status, it.body["error"]["message"]))
+
+
+def body_as_text():
+    """Bodies in a batch are texts of JSON."""
+    change_answers(lambda given, it: it._replace(body=json.dumps(it.body)) if isinstance(it.body, dict) else it)
+
+
+def wrong_type():
+    """Bodies in a batch have the type of a page."""
+    change_answers(lambda given, it: it._replace(headers={**it.headers, "Content-Type": "text/html"}) if it.body else it)
+
+
+def no_request_headers():
+    """The headers of requests in a batch are dropped."""
+    change_requests(lambda request: request._replace(headers={"host": request.headers.get("host", "")}))
+
+
+def no_query():
+    """The query of a URL is dropped in a batch."""
+    change_requests(lambda request: request._replace(url=request.url.partition("?")[0]))
+
+
+def no_signs():
+    """Letters that are not ASCII get lost in a batch."""
+
+    def plain(value):
+        if isinstance(value, dict):
+            return {name: plain(it) for name, it in value.items()}
+        return value.encode("ascii", "replace").decode() if isinstance(value, str) else value
+
+    change_requests(lambda request: request._replace(body=plain(request.body)))
+
+
+def put_as_patch():
+    """A PUT of a batch keeps what it does not name."""
+    change_requests(lambda request: request._replace(method="patch") if request.method == "put" else request)
+
+
+def patch_as_put():
+    """A PATCH of a batch clears what it does not name."""
+
+    def whole(request):
+        if request.method != "patch" or not isinstance(request.body, dict):
+            return request
+        return request._replace(body={"Title": "", "Shelf": None, "Reader": None, **request.body})
+
+    change_requests(whole)
+
+
+def lost_changes():
+    """A PATCH of a batch outside of a group is answered, and not kept."""
+    change_requests(lambda request: request._replace(body={}) if request.method == "patch" else request)
+
+
+def deletes_nothing():
+    """A delete of what is missing succeeds in a batch."""
+    change_answers(lambda given, it: Answer(204) if given["method"] == "delete" and it.status == 404 else it)
+
+
+def other_urls_answered():
+    """A delete by an absolute URL, or one that begins with /, is answered 204 and not performed."""
+    answer = Execution.answer
+
+    def answering(self, id, perform):
+        given = self.requests[id]
+        if given["method"] == "delete" and given["url"].startswith(("/", "http")):
+            return Answer(204)
+        return answer(self, id, perform)
+
+    Execution.answer = answering
+
+
+def mixed_answers():
+    """Batches at the same time share the bodies of their answers, by the ids."""
+    bodies, respond = {}, Execution.respond
+
+    def keep(given, answer):
+        bodies[given["id"]] = answer.body
+        return answer
+
+    def responding(self):
+        value = json.loads(respond(self))
+        for it in value["responses"]:
+            if "body" in it and it["id"] in bodies:
+                it["body"] = bodies[it["id"]]
+        return json.dumps(value).encode()
+
+    change_answers(keep)
+    Execution.respond = responding
+
+
+def one_at_a_time():
+    """A batch beside another is refused."""
+    answer, lock = batches.Batches.answer, threading.Lock()
+
+    def answering(self, *rest):
+        if not lock.acquire(blocking=False):
+            raise Refusal(500, "Busy", "The state of a batch is in use")
+        try:
+            return answer(self, *rest)
+        finally:
+            lock.release()
+
+    batches.Batches.answer = answering
+
+
+def no_stop():
+    """A batch continues after an error, whatever the client prefers."""
+    web.preference = lambda headers, name: "true"
+
+
+def stops_by_itself():
+    """A batch ends with its first error, and the client is told that its preference to continue applies."""
+    batches.Run = lambda document, mode, width: Run(document, mode="stop", width=width)
