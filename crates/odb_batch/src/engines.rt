@@ -2,7 +2,7 @@
 ghost use Rattle.std.specs.Prelude.{IfOk};
 ghost use Rattle.odb_command.specs.Inputs.{IsFresh};
 
-use crate::command_line::{BatchTask, PairTask};
+use crate::command_line::{BatchTask, PairTask, Report, Source};
 use crate::ending::{Status, failed, finish};
 use odb_check::Seed;
 use odb_engine::{
@@ -10,7 +10,7 @@ use odb_engine::{
     plan_batch_with, replay_batch_with, run_batch_with,
 };
 use odb_json::{Input, Output};
-use std::io::Read;
+use std::io::{Read, Write};
 use std::rt::Runtime;
 use std::{fs, io};
 
@@ -19,8 +19,7 @@ use std::{fs, io};
 pub struct Environment {
     /// The seed of the tables of names.
     pub seed: Seed,
-    /// Whether standard error is a terminal: then the reason is also printed if a file cannot be opened,
-    /// and the progress of a log is shown.
+    /// Whether standard error is a terminal: then the progress of a log is shown.
     pub stderr_is_terminal: bool,
     /// Whether standard output is a terminal: then each answer to a line is written at once.
     pub stdout_is_terminal: bool,
@@ -38,43 +37,37 @@ impl Environment {
     }
 }
 
-/// Prints that the file cannot be opened, and why if a person reads it. Returns the status.
-pub fn not_opened<R: Runtime>(
-    rt: &R,
-    environment: Environment,
-    path: &str,
-    error: io::Error,
-) -> Status {
+/// Prints that the file cannot be opened, and why. Returns the status.
+pub fn not_opened<R: Runtime>(rt: &R, path: &str, error: io::Error) -> Status {
     if error.kind() == io::ErrorKind::OutOfMemory {
         return failed(rt, "memory", Status::Memory);
     }
     let status = failed(rt, "open", Status::Device);
-    if environment.stderr_is_terminal {
-        let _ = eprintln!(rt; "{path}: {error}");
-    }
+    let _ = eprintln!(rt; "{path}: {error}");
     status
 }
 
 /// Opens the file as an input, or returns the status of a program that cannot open it.
-fn open<R: Runtime>(rt: &R, environment: Environment, path: &str) -> Result<Input<R::File>, Status>
+fn open<R: Runtime>(rt: &R, path: &str) -> Result<Input<R::File>, Status>
     ensures { IfOk result IsFresh }
 {
     match fs::open(rt, path) {
         Ok(file) => Ok(Input::new(file)),
-        Err(error) => Err(not_opened(rt, environment, path, error)),
+        Err(error) => Err(not_opened(rt, path, error)),
     }
 }
 
-/// Performs a task on the batch in an input.
-fn answer<R: Runtime + AllocGlobal, I: Read>(
+/// Performs a task on the batch in an input, with the result to a writer.
+fn answer_to<R: Runtime + AllocGlobal, I: Read, W: Write + Drop>(
     rt: &R,
     input: &mut Input<I>,
+    writer: W,
     task: BatchTask,
     setup: Setup,
 ) -> Status
     requires { IsFresh input.old }
 {
-    let mut output = Output::new(io::writer(rt));
+    let mut output = Output::new(writer);
     let ended = match task {
         BatchTask::Check => check_batch_with(rt.alloc(), input, &mut output, setup),
         BatchTask::Plan => plan_batch_with(rt.alloc(), input, &mut output, setup),
@@ -84,36 +77,57 @@ fn answer<R: Runtime + AllocGlobal, I: Read>(
     finish(rt, ended)
 }
 
+/// Performs a task on the batch in an input.
+fn answer<R: Runtime + AllocGlobal, I: Read>(
+    rt: &R,
+    environment: Environment,
+    input: &mut Input<I>,
+    task: BatchTask,
+    report: Report,
+) -> Status
+    requires { IsFresh input.old }
+{
+    let setup = environment.setup(report.form);
+    if report.quiet {
+        answer_to(rt, input, io::sink(), task, setup)
+    } else {
+        answer_to(rt, input, io::writer(rt), task, setup)
+    }
+}
+
 /// Performs a task on the batch in a file, or on standard input.
 pub fn answer_batch<R: Runtime + AllocGlobal>(
     rt: &R,
     environment: Environment,
-    file: Option<&str>,
+    source: Source<'_>,
     task: BatchTask,
-    form: Form,
+    report: Report,
 ) -> Status {
-    let setup = environment.setup(form);
-    match file {
-        None => answer(rt, &mut Input::new(rt.reader()), task, setup),
-        Some(path) => match open(rt, environment, path) {
-            Ok(mut input) => answer(rt, &mut input, task, setup),
+    match source {
+        Source::StandardInput => {
+            answer(rt, environment, &mut Input::new(rt.reader()), task, report)
+        }
+        Source::File(path) => match open(rt, path) {
+            Ok(mut input) => answer(rt, environment, &mut input, task, report),
             Err(status) => status,
         },
     }
 }
 
-/// Performs a task on the batch in an input and the second document in another.
-fn answer_two<R: Runtime + AllocGlobal, I: Read, J: Read>(
+/// Performs a task on the batch in an input and the second document in another, with the result to a
+/// writer.
+fn answer_two_to<R: Runtime + AllocGlobal, I: Read, J: Read, W: Write + Drop>(
     rt: &R,
     batch: &mut Input<I>,
     second: &mut Input<J>,
+    writer: W,
     task: PairTask,
     setup: Setup,
 ) -> Status
     requires batch { IsFresh batch.old }
     requires second { IsFresh second.old }
 {
-    let mut output = Output::new(io::writer(rt));
+    let mut output = Output::new(writer);
     let ended = match task {
         PairTask::Match => match_batch_with(rt.alloc(), batch, second, &mut output, setup),
         PairTask::Replay {
@@ -137,20 +151,66 @@ fn answer_two<R: Runtime + AllocGlobal, I: Read, J: Read>(
     finish(rt, ended)
 }
 
-/// Performs a task on the batch in the first file and the second document in the other.
+/// Performs a task on the batch in an input and the second document in another.
+fn answer_two<R: Runtime + AllocGlobal, I: Read, J: Read>(
+    rt: &R,
+    environment: Environment,
+    batch: &mut Input<I>,
+    second: &mut Input<J>,
+    task: PairTask,
+    report: Report,
+) -> Status
+    requires batch { IsFresh batch.old }
+    requires second { IsFresh second.old }
+{
+    let setup = environment.setup(report.form);
+    if report.quiet {
+        answer_two_to(rt, batch, second, io::sink(), task, setup)
+    } else {
+        answer_two_to(rt, batch, second, io::writer(rt), task, setup)
+    }
+}
+
+/// Performs a task on the batch in an input and the second document in a file or on standard input.
+fn answer_with<R: Runtime + AllocGlobal, I: Read>(
+    rt: &R,
+    environment: Environment,
+    batch: &mut Input<I>,
+    second: Source<'_>,
+    task: PairTask,
+    report: Report,
+) -> Status
+    requires { IsFresh batch.old }
+{
+    match second {
+        Source::StandardInput => {
+            let mut input = Input::new(rt.reader());
+            answer_two(rt, environment, batch, &mut input, task, report)
+        }
+        Source::File(path) => match open(rt, path) {
+            Ok(mut input) => answer_two(rt, environment, batch, &mut input, task, report),
+            Err(status) => status,
+        },
+    }
+}
+
+/// Performs a task on a batch and a second document. Both files are opened before either is read.
 pub fn answer_pair<R: Runtime + AllocGlobal>(
     rt: &R,
     environment: Environment,
-    files: (&str, &str),
+    sources: (Source<'_>, Source<'_>),
     task: PairTask,
-    form: Form,
+    report: Report,
 ) -> Status {
-    let mut batch = match open(rt, environment, files.0) {
-        Ok(input) => input,
-        Err(status) => return status,
-    };
-    match open(rt, environment, files.1) {
-        Ok(mut second) => answer_two(rt, &mut batch, &mut second, task, environment.setup(form)),
-        Err(status) => status,
+    let (batch, second) = sources;
+    match batch {
+        Source::StandardInput => {
+            let mut input = Input::new(rt.reader());
+            answer_with(rt, environment, &mut input, second, task, report)
+        }
+        Source::File(path) => match open(rt, path) {
+            Ok(mut input) => answer_with(rt, environment, &mut input, second, task, report),
+            Err(status) => status,
+        },
     }
 }

@@ -2,10 +2,11 @@
 
 ghost use Rattle.std.specs.Prelude.{◌≡◌, false};
 
+use crate::command_line::{Report, Source};
 use crate::ending::{Status, failed, finish};
 use crate::engines::{Environment, not_opened};
 use crate::progress::Watched;
-use odb_engine::{Disposal, Ended, EngineFault, Form, LineTask, Setup};
+use odb_engine::{Disposal, Ended, EngineFault, LineTask, Setup};
 use odb_json::Output;
 use odb_lines::{EachLine, LineCommand, LineInput, answer_lines};
 use std::alloc::Global;
@@ -19,10 +20,9 @@ const BUFFER_BYTES: usize = 65_536;
 /// How a log is answered.
 #[derive(Clone, Copy)]
 pub struct Log<'a> {
-    /// The file, or standard input where there is none.
-    pub file: Option<&'a str>,
+    pub source: Source<'a>,
     pub task: LineTask,
-    pub form: Form,
+    pub report: Report,
     /// Whether each answer is written at once.
     pub flush: bool,
 }
@@ -34,7 +34,7 @@ impl Log<'_> {
             task: self.task,
             setup: Setup {
                 disposal: Disposal::Drop,
-                ..environment.setup(self.form)
+                ..environment.setup(self.report.form)
             },
         }
     }
@@ -58,7 +58,8 @@ fn answer<R: Read + Drop, W: Write, C: LineCommand>(
     ended
 }
 
-/// Answers each line of a reader, and shows the progress if only standard error is a terminal.
+/// Answers each line of a reader, and shows the progress if only standard error is a terminal and answers
+/// are printed.
 fn answer_watched<R: Runtime + AllocGlobal, I: Read + Drop, W: Write>(
     rt: &R,
     environment: Environment,
@@ -70,7 +71,8 @@ fn answer_watched<R: Runtime + AllocGlobal, I: Read + Drop, W: Write>(
 {
     let command = log.command(environment);
     let flush = log.flush || environment.stdout_is_terminal;
-    if environment.stderr_is_terminal && !environment.stdout_is_terminal {
+    let is_alone = environment.stderr_is_terminal && !environment.stdout_is_terminal;
+    if is_alone && !log.report.quiet {
         if let Ok(watched) = Watched::new(rt, command) {
             let ended = answer(rt.alloc(), reader, output, &watched, flush);
             watched.end();
@@ -80,14 +82,15 @@ fn answer_watched<R: Runtime + AllocGlobal, I: Read + Drop, W: Write>(
     answer(rt.alloc(), reader, output, &command, flush)
 }
 
-/// Answers each line of a reader, and returns the exit status.
-fn answer_from<R: Runtime + AllocGlobal, I: Read + Drop>(
+/// Answers each line of a reader, with the answers to a writer, and returns the exit status.
+fn answer_to<R: Runtime + AllocGlobal, I: Read + Drop, W: Write + Drop>(
     rt: &R,
     environment: Environment,
     log: Log<'_>,
     reader: I,
+    writer: W,
 ) -> Status {
-    match BufWriter::with_capacity(rt.alloc(), BUFFER_BYTES, io::writer(rt)) {
+    match BufWriter::with_capacity(rt.alloc(), BUFFER_BYTES, writer) {
         Ok(writer) => {
             let mut output = Output::new(writer);
             finish(
@@ -99,17 +102,31 @@ fn answer_from<R: Runtime + AllocGlobal, I: Read + Drop>(
     }
 }
 
+/// Answers each line of a reader, and returns the exit status.
+fn answer_from<R: Runtime + AllocGlobal, I: Read + Drop>(
+    rt: &R,
+    environment: Environment,
+    log: Log<'_>,
+    reader: I,
+) -> Status {
+    if log.report.quiet {
+        answer_to(rt, environment, log, reader, io::sink())
+    } else {
+        answer_to(rt, environment, log, reader, io::writer(rt))
+    }
+}
+
 /// Answers each line of a log, in order.
 pub fn answer_log<R: Runtime + AllocGlobal>(
     rt: &R,
     environment: Environment,
     log: Log<'_>,
 ) -> Status {
-    match log.file {
-        None => answer_from(rt, environment, log, rt.reader()),
-        Some(path) => match fs::open(rt, path) {
+    match log.source {
+        Source::StandardInput => answer_from(rt, environment, log, rt.reader()),
+        Source::File(path) => match fs::open(rt, path) {
             Ok(file) => answer_from(rt, environment, log, file),
-            Err(error) => not_opened(rt, environment, path, error),
+            Err(error) => not_opened(rt, path, error),
         },
     }
 }

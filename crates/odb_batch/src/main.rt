@@ -5,6 +5,7 @@
 //! the end of a command into an exit status.
 #![tactic(auto)]
 
+mod argument;
 mod command_line;
 mod commands;
 mod completions;
@@ -13,6 +14,7 @@ mod engines;
 mod explain;
 mod log;
 mod man;
+mod names;
 mod page;
 mod parser;
 mod progress;
@@ -54,25 +56,34 @@ fn reject<R: Runtime>(rt: &R, wrong: &BadArguments) -> Status {
             "--width must be a whole number from 1 to 10000",
             Status::WrongArguments,
         ),
+        BadArguments::StandardInputTwice => failed(
+            rt,
+            "standard input can be only one of the two documents",
+            Status::WrongArguments,
+        ),
     }
 }
 
 /// Performs a task.
 fn perform<R: Runtime + AllocGlobal>(rt: &R, environment: Environment, task: Task<'_>) -> Status {
     match task {
-        Task::Batch { file, task, form } => answer_batch(rt, environment, file, task, form),
-        Task::Pair {
-            file,
-            second,
+        Task::Batch {
+            source,
             task,
-            form,
-        } => answer_pair(rt, environment, (file, second), task, form),
+            report,
+        } => answer_batch(rt, environment, source, task, report),
+        Task::Pair {
+            sources,
+            task,
+            report,
+        } => answer_pair(rt, environment, sources, task, report),
         Task::Log(log) => answer_log(rt, environment, log),
-        Task::Print(text) => texts::print(rt, text),
+        Task::Print(text) => texts::print(rt, &text),
     }
 }
 
-/// Draws a seed; without random bytes no seed is as safe against crafted names, and slower.
+/// Draws a random seed. If the system has no random bytes there is none: lookups are then as safe against
+/// crafted names, but slower.
 fn seed<R: RandomSource>(rt: &R) -> Seed {
     match Seed::random(rt) {
         Ok(seed) => seed,
