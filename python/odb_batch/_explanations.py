@@ -113,8 +113,9 @@ EXPLANATIONS = {
     ),
     "F41": (
         "The request depends on itself, on a later request, or on a group that begins later. A name in\n"
-        "dependsOn refers to what comes before (OData JSON Format 4.01, section 19.1), so no requests can\n"
-        "wait for each other. Move the request after what it depends on."
+        "dependsOn refers to what comes before (OData JSON Format 4.01, section 19.1). So a cycle is refused,\n"
+        "in any order: requests that depend on each other would never start. Move the request after what it\n"
+        "depends on, or remove a dependency of the cycle."
     ),
     "F42": (
         "The request depends on its own group. The group succeeds only if all its requests do, so this one\n"
@@ -132,7 +133,8 @@ EXPLANATIONS = {
     ),
     "F45": (
         "The URL refers to the request itself or to a later one, whose result is not known when the request is\n"
-        "sent (OData JSON Format 4.01, section 19.2). Move the request after the one that it refers to."
+        "sent (OData JSON Format 4.01, section 19.2). So a cycle of URLs that refer to each other is refused,\n"
+        "too. Move the request after the one that it refers to."
     ),
     "F46": (
         "The URL refers to an earlier request, and dependsOn lists neither it nor its group (OData JSON Format\n"

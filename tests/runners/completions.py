@@ -21,7 +21,7 @@ LINES = [
     ("odb_batch re", ["replay"]),
     ("odb_batch --v", ["--version"]),
     ("odb_batch check ", [FILE]),
-    ("odb_batch replay --", ["--order", "--stop", "--width", "--trace", "--json", "--lines", "--flush", "--help"]),
+    ("odb_batch replay --or", ["--order"]),
     ("odb_batch replay --order ", ["first", "last", "wide"]),
     ("odb_batch replay batch outcomes --order w", ["wide"]),
     ("odb_batch replay --width ", []),
@@ -29,11 +29,14 @@ LINES = [
     ("odb_batch replay --stop ", [FILE]),
     ("odb_batch replay batch ", [FILE]),
     ("odb_batch match batch ", [FILE]),
-    ("odb_batch run --", ["--stop", "--width", "--json", "--lines", "--flush", "--help"]),
+    ("odb_batch run --w", ["--width"]),
+    ("odb_batch run --q", ["--quiet"]),
+    ("odb_batch run -q", ["-q"]),
     ("odb_batch run --width ", []),
     ("odb_batch run batch events --st", ["--stop"]),
     ("odb_batch run batch ", [FILE]),
     ("odb_batch completions ", ["bash", "zsh", "fish"]),
+    ("odb_batch help can", ["canon"]),
 ]
 
 
@@ -65,6 +68,7 @@ MISTAKES = [
     ("bash", "no files after a command", without("-o default ")),
     ("bash", "an order left out", without(" wide")),
     ("bash", "an option left out", without(" --stop")),
+    ("bash", "a short option left out", without(" -q")),
     ("bash", "a command left out", without(" canon")),
     ("bash", "the orders after each option", lambda script: script.replace(" replay --order'", " replay --'*")),
     ("zsh", "no texts", lambda script: re.sub(r"(?m)^( +\w+:)'.*'$", r"\1", script)),
@@ -78,6 +82,7 @@ MISTAKES = [
     ("fish", "an order left out", without(" wide")),
     ("fish", "files beside the commands", lambda script: script.replace(" -f -a", " -a")),
     ("fish", "an option left out", without(" -l stop")),
+    ("fish", "a short option left out", without(" -s q")),
 ]
 
 

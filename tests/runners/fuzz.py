@@ -7,6 +7,7 @@ mistakes.py is found: that the rules with it print something else than the progr
 
 import os
 import subprocess
+import sys
 import tempfile
 from collections import Counter
 from concurrent.futures import ThreadPoolExecutor
@@ -14,12 +15,19 @@ from dataclasses import dataclass, replace
 from random import Random
 
 from . import grammar, mistakes, rules, rules_of_runs
+from .helps import Texts, read_helps
 from .pages import OF_BATCHES, command_names
 from .program import read_arguments
 from .shrink import shrunk
 
 SECONDS = 60
 SHOWN = 5
+
+# How often an option is given; the values of one that has a value are of its help, or these.
+OFTEN = {"stop": 0.3, "trace": 0.6, "dot": 0.4, "quiet": 0.1, "width": 0.5, "order": 0.8}
+WIDTHS = (1, 1, 2, 3, 10_000)
+# The options that are left to other tests: schemas, and lines.
+ELSEWHERE = {"json", "lines", "flush", "help"}
 
 
 @dataclass
@@ -38,23 +46,38 @@ class Trial:
         return words
 
     def by_rules(self):
-        """What the rules print; a planted mistake may also make them fail."""
+        """What the rules print, unless the trial is quiet; a planted mistake may also make them fail."""
+        options = {name: value for name, value in self.options.items() if name != "quiet"}
         try:
-            return rules_of_runs.printed(self.command, *self.documents, **self.options)
+            printed, status = rules_of_runs.printed(self.command, *self.documents, **options)
+            return b"" if self.options["quiet"] else printed, status
         except (ArithmeticError, AttributeError, LookupError, RecursionError, TypeError, ValueError) as error:
             return repr(error).encode(), None
 
 
-def options_of(random, command):
-    if command == "plan":
-        return {"dot": random.random() < 0.4}
-    if command not in ("replay", "run"):
-        return {}
-    found = {"stop": random.random() < 0.3}
-    if random.random() < 0.5:
-        found["width"] = random.choice((1, 1, 2, 3, 10_000))
-    if command == "replay":
-        found |= {"order": random.choice(("first", "last", "wide")), "trace": random.random() < 0.6}
+def listed_options(binary):
+    """The options of each command by its help: name and values. One that no test is known to try ends the run."""
+    found = {}
+    for command, it in read_helps(Texts(binary))[1].items():
+        options = {option.long[2:]: option for option in it.options}
+        unknown = set(options) - set(OFTEN) - ELSEWHERE
+        if command in OF_BATCHES and unknown:
+            sys.exit(f"{command} --{min(unknown)}: fuzz.py does not know how often to give it")
+        found[command] = {name: option.values or WIDTHS if option.value else None for name, option in options.items()}
+    return found
+
+
+def options_of(random, listed):
+    """Some of the options that the help lists for a command."""
+    found = {}
+    for name, values in listed.items():
+        if name in ELSEWHERE:
+            continue
+        given = random.random() < OFTEN[name]
+        if values is None:
+            found[name] = given
+        elif given:
+            found[name] = random.choice(values)
     return found
 
 
@@ -73,12 +96,12 @@ def second_document(random, command, first, options):
     return []
 
 
-def trial(random, commands):
+def trial(random, commands, listed):
     command = random.choice(commands)
     alone = command in ("check", "plan", "canon")
-    options, first = options_of(random, command), grammar.batch(random, 0.9 if alone else 0.3)
+    options, first = options_of(random, listed[command]), grammar.batch(random, 0.9 if alone else 0.3)
     documents = [first, *second_document(random, command, first, options)]
-    return Trial(command, options, documents, command == "check" and random.random() < 0.5)
+    return Trial(command, options, documents, alone and random.random() < 0.5)
 
 
 def call(trial, binary):
@@ -157,7 +180,8 @@ def compare(trials, outputs, binary):
 def main():
     options = read_arguments("Compares the program with plain rules on random documents.", more_options)
     binary, commands = options.program, options.commands
-    trials = [trial(Random(f"{options.seed} {k}"), commands) for k in range(options.count)]
+    listed = listed_options(binary)
+    trials = [trial(Random(f"{options.seed} {k}"), commands, listed) for k in range(options.count)]
     with ThreadPoolExecutor(options.jobs) as pool:
         outputs = list(pool.map(lambda it: call(it, binary), trials))
     counts = Counter(map(kind, outputs))

@@ -41,6 +41,7 @@ class Item:
     names: list
     value: str
     demanded: bool
+    repeated: bool
     about: str
     values: list
 
@@ -68,6 +69,7 @@ def read_item(line):
         names=re.findall(r"(?<!\S)--?[A-Za-z-]+", form.replace(",", " ")),
         value="".join(re.findall(r"[<\[](.*)[>\]]", form)),
         demanded=form.startswith("<"),
+        repeated=form.endswith("..."),
         about=about,
         values=values.rstrip("]").split(", ") if values else [],
     )

@@ -32,7 +32,7 @@ TOO_LONG = b"fault F01 TooLong batch\n"
 def words_of(trial):
     """The options of a trial that a log takes too."""
     words = trial.arguments()[1:]
-    return [it for it in words if it not in ("--trace", "--dot")] + ["--json"] * (trial.command in JSON_ALONE)
+    return [it for it in words if it not in ("--trace", "--dot", "--quiet")] + ["--json"] * (trial.command in JSON_ALONE)
 
 
 def single(program, command, words, documents):
@@ -73,9 +73,9 @@ def answered(program, command, words, log):
     return done.stdout + done.stderr, done.returncode
 
 
-def log_difference(program, command, seed, count):
+def log_difference(program, listed, command, seed, count):
     """What differs of a log of so many random lines of a command, with the options of the first, or None."""
-    trials = [fuzz.trial(Random(f"{seed} {command} {k}"), [command]) for k in range(count)]
+    trials = [fuzz.trial(Random(f"{seed} {command} {k}"), [command], listed) for k in range(count)]
     words, lines = words_of(trials[0]), [it for it in map(line_of, trials) if it is not None]
     parts = [wanted(program, command, words, line) for line in lines]
     text, status = b"".join(part for part, _ in parts), max(status for _, status in parts)
@@ -189,8 +189,9 @@ def main():
     options = read_arguments("Compares the answers to the lines of logs with single runs.", more_options)
     program = options.program
     logs = [(command, seed) for command in OF_BATCHES for seed in range(options.logs)]
+    listed = fuzz.listed_options(program)
     with ThreadPoolExecutor(options.jobs) as pool:
-        found = list(pool.map(lambda it: log_difference(program, *it, options.count), logs))
+        found = list(pool.map(lambda it: log_difference(program, listed, *it, options.count), logs))
     found += [it(program) for it in (long_difference, cut_difference, device_difference, progress_difference, audit_difference)]
     found += [talk_difference(program, words) for words in ([], ["--flush"])]
     failed = [it for it in found if it]

@@ -33,15 +33,9 @@ Exit status: 0 for a result, 1 for a fault of a document, 2 for wrong arguments,
 3 if a file or the output fails, 4 if out of memory
 """
 
-# What a reader has to find in the page as it is set, in this order.
-SET = [
-    "NAME",
-    "SYNOPSIS",
-    "DESCRIPTION",
-    "OPTIONS",
-    "COMMANDS",
-    "replay [FILE] [OUTCOMES] [--order ORDER] [--stop] [--width N] [--trace] [--json] [--lines] [--flush]",
-    "run [FILE] [EVENTS] [--stop] [--width N] [--json] [--lines] [--flush]",
+# What a reader has to find in the page as it is set, in this order: before the commands, and after them.
+SET_BEFORE = ["NAME", "SYNOPSIS", "DESCRIPTION", "OPTIONS", "COMMANDS"]
+SET_AFTER = [
     "EXIT STATUS",
     "0 for a result",
     "1 for a fault",
@@ -60,6 +54,7 @@ MISTAKES = {
     "the values of an option left out": lambda page: page.replace("One of: first last wide\n", ""),
     "an option without a short name": lambda page: page.replace(".B \\-V, ", ".B "),
     "an option without its value": lambda page: page.replace(".B \\-\\-width N", ".B \\-\\-width"),
+    "an argument that is not repeated": lambda page: page.replace("[CODE ..]", "[CODE]"),
     "sections in another order": lambda page: page.replace(".SH NAME", ".SH SYNOPSIS", 1),
     "a paragraph without a tag": lambda page: page.replace(".TP\n.B FILE", ".B FILE", 1),
 }
@@ -80,14 +75,20 @@ def described(item):
 def used(item):
     """An argument or an option in the heading of its command: in brackets unless it is demanded."""
     name = f"{item.long} {item.value}".strip() if item.names else item.value
-    return roff(name) if item.demanded else f"[{roff(name)}]"
+    name += " .." if item.repeated else ""
+    return name if item.demanded else f"[{name}]"
+
+
+def heading(name, command):
+    """The heading of a command. It leaves out the help option, which each command has."""
+    items = command.arguments + command.options
+    return " ".join([name, *(used(item) for item in items if "--help" not in item.names)])
 
 
 def section(name, command):
-    """The section of a command. Its heading leaves out the help option, which each command has."""
+    """The section of a command."""
     items = command.arguments + command.options
-    heading = " ".join([".SS", name, *(used(item) for item in items if "--help" not in item.names)])
-    return "\n".join([heading, roff(command.about), *map(described, items)])
+    return "\n".join([f".SS {roff(heading(name, command))}", roff(command.about), *map(described, items)])
 
 
 def page_of(program, commands):
@@ -115,7 +116,8 @@ def groff_faults(texts):
     if done.returncode or done.stderr:
         yield f"groff: {done.stderr.strip()}"
     rest = " ".join(done.stdout.split())
-    for wanted in SET:
+    headings = [heading(*it) for it in read_helps(texts)[1].items()]
+    for wanted in [*SET_BEFORE, *headings, *SET_AFTER]:
         _, found, rest = rest.partition(wanted)
         if not found:
             yield f"groff does not set {wanted!r}, or not there"

@@ -12,7 +12,7 @@ from dataclasses import dataclass, field
 
 # The commands that read a batch, and all commands.
 OF_BATCHES = ("check", "plan", "replay", "canon", "match", "run")
-COMMANDS = (*OF_BATCHES, "explain", "completions", "man")
+COMMANDS = (*OF_BATCHES, "explain", "completions", "man", "help")
 SOMETHING = "..."
 STREAMS = ("input", "output", "errors")
 

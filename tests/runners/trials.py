@@ -25,7 +25,7 @@ USUAL_RESPONSES = [
 ]
 
 
-COMMANDS = ("check", "plan", "canon", "replay", "match", "run", "explain", "completions", "man")
+COMMANDS = ("check", "plan", "canon", "replay", "match", "run", "explain", "completions", "man", "help")
 
 
 @dataclass
@@ -125,7 +125,8 @@ def trials(commands):
         trial("check usual.json more.json", 2),
         trial("plan usual.json"),
         trial("plan usual.json --dot"),
-        trial("plan", 2),
+        trial("plan -q wrong_body.json", 1),
+        Trial("plan of a bad batch on standard input", "plan", ["plan", "-"], 1, input=bad),
         trial("canon usual.json"),
         trial("replay usual.json lent.json"),
         trial("replay usual.json not_lent.json --order wide --trace"),
@@ -133,21 +134,28 @@ def trials(commands):
         trial("replay usual.json usual.json", 1),
         trial("replay usual.json lent.json --width 0", 2),
         trial("replay --help"),
+        trial("replay - -", 2),
+        trial("replay -q usual.json lent.json"),
         trial("match usual.json usual_responses.json"),
         trial("match usual.json lent.json", 1),
         trial("run usual.json usual_events.json"),
         trial("run usual.json usual_events.json --stop --width 1", 1),
         trial("check --lines log.jsonl", 1),
+        trial("check --lines -q log.jsonl", 1),
         trial("plan --lines log.jsonl", 1),
         trial("replay --lines pairs.jsonl --order wide --json", 1),
         trial("match --lines --flush pairs.jsonl", 1),
         trial("explain NotWhole"),
+        trial("explain F41 P1 S4"),
         trial("explain"),
         trial("explain F99", 2),
         trial("completions bash"),
         trial("completions zsh"),
         trial("completions fish"),
         trial("man"),
+        trial("help"),
+        trial("help replay"),
+        trial("help verify", 2),
         trial("check many.json", large=True),
         trial("plan many.json", large=True),
         trial("plan many.json --dot", large=True),

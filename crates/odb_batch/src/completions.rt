@@ -4,7 +4,8 @@ pub mod bash;
 pub mod fish;
 pub mod zsh;
 
-use crate::commands::{Added, Argument, Row, SHOW_HELP, SHOW_VERSION};
+use crate::argument::{Added, Argument, Row};
+use crate::commands::{SHOW_HELP, SHOW_VERSION};
 use crate::page::Page;
 
 /// Adds the names of an option that `clap` adds, short and long, with a space before each.
@@ -12,8 +13,12 @@ fn add_names(page: &mut Page, option: &Added) {
     page.add_all(&[" -", option.short, " --", option.long]);
 }
 
-/// Adds the name of an option, with a space before it.
-fn add_long(page: &mut Page, argument: &Argument) {
+/// Adds the names of an option, short and long, with a space before each.
+fn add_option(page: &mut Page, argument: &Argument) {
+    if let Some(short) = argument.short() {
+        page.add(" -");
+        page.add_char(short);
+    }
     if let Some(long) = argument.long() {
         page.add_all(&[" --", long]);
     }
@@ -22,7 +27,7 @@ fn add_long(page: &mut Page, argument: &Argument) {
 /// Adds the names of all options of a command, with a space before each.
 fn add_options(page: &mut Page, row: &Row) {
     for argument in row.arguments {
-        add_long(page, argument);
+        add_option(page, argument);
     }
     add_names(page, &SHOW_HELP);
 }

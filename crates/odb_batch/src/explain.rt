@@ -71,9 +71,36 @@ fn add_named(page: &mut Page, texts: &[&str], word: &str) {
     }
 }
 
-/// Adds the explanations of the faults that have this code or name, if there are any.
-pub fn add_explanations(page: &mut Page, word: &str) {
+/// Tests whether one of these explanations has this code or name.
+fn has_named(texts: &[&str], word: &str) -> bool {
+    texts.iter().any(|text| is_named(text, word))
+}
+
+/// Tests whether a fault has this code or name.
+fn is_known(word: &str) -> bool {
     for family in families() {
-        add_named(page, family, word);
+        if has_named(family, word) {
+            return true;
+        }
+    }
+    false
+}
+
+/// Returns the first of these words that is not the code or the name of a fault.
+pub fn first_unknown<'a>(words: &[&'a str]) -> Option<&'a str> {
+    for word in words {
+        if !is_known(word) {
+            return Some(*word);
+        }
+    }
+    None
+}
+
+/// Adds the explanations of the faults that have these codes or names, word by word.
+pub fn add_explanations(page: &mut Page, words: &[&str]) {
+    for word in words {
+        for family in families() {
+            add_named(page, family, word);
+        }
     }
 }

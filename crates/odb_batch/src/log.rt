@@ -2,16 +2,18 @@
 
 ghost use Rattle.std.specs.Prelude.{◌≡◌, false};
 
+use crate::command_line::{Report, Source};
+use crate::devices::{open, results};
 use crate::ending::{Status, failed, finish};
-use crate::engines::{Environment, not_opened};
+use crate::engines::Environment;
 use crate::progress::Watched;
-use odb_engine::{Disposal, Ended, EngineFault, Form, LineTask, Setup};
+use odb_engine::{
+    Disposal, EachLine, Ended, EngineFault, LineCommand, LineInput, LineTask, Setup, answer_lines,
+};
 use odb_io::Output;
-use odb_engine::{EachLine, LineCommand, LineInput, answer_lines};
 use std::alloc::Global;
 use std::io::{BufWriter, Read, Write};
 use std::rt::Runtime;
-use std::{fs, io};
 
 /// Size of the output buffer.
 const BUFFER_BYTES: usize = 65_536;
@@ -19,10 +21,9 @@ const BUFFER_BYTES: usize = 65_536;
 /// How a log is answered.
 #[derive(Clone, Copy)]
 pub struct Log<'a> {
-    /// The file, or standard input where there is none.
-    pub file: Option<&'a str>,
+    pub source: Source<'a>,
     pub task: LineTask,
-    pub form: Form,
+    pub report: Report,
     /// Whether each answer is written at once.
     pub flush: bool,
 }
@@ -34,7 +35,7 @@ impl Log<'_> {
             task: self.task,
             setup: Setup {
                 disposal: Disposal::Drop,
-                ..environment.setup(self.form)
+                ..environment.setup(self.report.form)
             },
         }
     }
@@ -58,7 +59,8 @@ fn answer<R: Read + Drop, W: Write, C: LineCommand>(
     ended
 }
 
-/// Answers each line of a reader, and shows the progress if only standard error is a terminal.
+/// Answers each line of a reader, and shows the progress if only standard error is a terminal and answers
+/// are printed.
 fn answer_watched<R: Runtime + AllocGlobal, I: Read + Drop, W: Write>(
     rt: &R,
     environment: Environment,
@@ -70,7 +72,8 @@ fn answer_watched<R: Runtime + AllocGlobal, I: Read + Drop, W: Write>(
 {
     let command = log.command(environment);
     let flush = log.flush || environment.stdout_is_terminal;
-    if environment.stderr_is_terminal && !environment.stdout_is_terminal {
+    let is_alone = environment.stderr_is_terminal && !environment.stdout_is_terminal;
+    if is_alone && !log.report.quiet {
         if let Ok(watched) = Watched::new(rt, command) {
             let ended = answer(rt.alloc(), reader, output, &watched, flush);
             watched.end();
@@ -87,7 +90,7 @@ fn answer_from<R: Runtime + AllocGlobal, I: Read + Drop>(
     log: Log<'_>,
     reader: I,
 ) -> Status {
-    match BufWriter::with_capacity(rt.alloc(), BUFFER_BYTES, io::writer(rt)) {
+    match BufWriter::with_capacity(rt.alloc(), BUFFER_BYTES, results(rt, log.report)) {
         Ok(writer) => {
             let mut output = Output::new(writer);
             finish(
@@ -105,11 +108,8 @@ pub fn answer_log<R: Runtime + AllocGlobal>(
     environment: Environment,
     log: Log<'_>,
 ) -> Status {
-    match log.file {
-        None => answer_from(rt, environment, log, rt.reader()),
-        Some(path) => match fs::open(rt, path) {
-            Ok(file) => answer_from(rt, environment, log, file),
-            Err(error) => not_opened(rt, environment, path, error),
-        },
+    match open(rt, log.source) {
+        Ok(reader) => answer_from(rt, environment, log, reader),
+        Err(status) => status,
     }
 }

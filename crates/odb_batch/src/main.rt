@@ -5,14 +5,17 @@
 //! the end of a command into an exit status.
 #![tactic(auto)]
 
+mod argument;
 mod command_line;
 mod commands;
 mod completions;
+mod devices;
 mod ending;
 mod engines;
 mod explain;
 mod log;
 mod man;
+mod names;
 mod page;
 mod parser;
 mod progress;
@@ -54,25 +57,16 @@ fn reject<R: Runtime>(rt: &R, wrong: &BadArguments) -> Status {
             "--width must be a whole number from 1 to 10000",
             Status::WrongArguments,
         ),
+        BadArguments::StandardInputTwice => failed(
+            rt,
+            "standard input can be only one of the two documents",
+            Status::WrongArguments,
+        ),
     }
 }
 
-/// Performs a task.
-fn perform<R: Runtime + AllocGlobal>(rt: &R, environment: Environment, task: Task<'_>) -> Status {
-    match task {
-        Task::Batch { file, task, form } => answer_batch(rt, environment, file, task, form),
-        Task::Pair {
-            file,
-            second,
-            task,
-            form,
-        } => answer_pair(rt, environment, (file, second), task, form),
-        Task::Log(log) => answer_log(rt, environment, log),
-        Task::Print(text) => texts::print(rt, text),
-    }
-}
-
-/// Draws a seed; without random bytes no seed is as safe against crafted names, and slower.
+/// Draws a random seed. If the system has no random bytes there is none: lookups are then as safe against
+/// crafted names, but slower.
 fn seed<R: RandomSource>(rt: &R) -> Seed {
     match Seed::random(rt) {
         Ok(seed) => seed,
@@ -80,9 +74,25 @@ fn seed<R: RandomSource>(rt: &R) -> Seed {
     }
 }
 
-fn run<R: Runtime + AllocGlobal>(rt: &R, environment: Environment, args: &[String]) -> Status {
+/// Performs what the arguments ask for.
+fn perform<R: Runtime + AllocGlobal>(
+    rt: &R,
+    environment: Environment,
+    args: &[String],
+) -> Status {
     match Task::read(rt.alloc(), args) {
-        Ok(task) => perform(rt, environment, task),
+        Ok(Task::Batch {
+            source,
+            task,
+            report,
+        }) => answer_batch(rt, environment, source, task, report),
+        Ok(Task::Pair {
+            sources,
+            task,
+            report,
+        }) => answer_pair(rt, environment, sources, task, report),
+        Ok(Task::Log(log)) => answer_log(rt, environment, log),
+        Ok(Task::Print(text)) => texts::print(rt, &text),
         Err(wrong) => reject(rt, &wrong),
     }
 }
@@ -102,7 +112,7 @@ fn arguments(rt: &HostRuntime) -> io::Result<Vec<String>> {
 
 fn main(rt: HostRuntime) -> ExitCode {
     let status = match arguments(&rt) {
-        Ok(args) => run(&rt, environment_of(&rt), args.as_slice()),
+        Ok(args) => perform(&rt, environment_of(&rt), args.as_slice()),
         Err(error) if error.kind() == io::ErrorKind::OutOfMemory => {
             failed(&rt, "memory", Status::Memory)
         }

@@ -1,8 +1,7 @@
 //! The manual page, made of the rows of the commands.
 
-use crate::commands::{
-    Added, Argument, PROGRAM_ABOUT, PROGRAM_NOTES, Row, SHOW_HELP, SHOW_VERSION, rows,
-};
+use crate::argument::{Added, Argument, Row};
+use crate::commands::{PROGRAM_ABOUT, PROGRAM_NOTES, SHOW_HELP, SHOW_VERSION, rows};
 use crate::page::Page;
 
 const HEAD: &str = ".TH ODB_BATCH 1\n\
@@ -59,6 +58,11 @@ fn add_values(page: &mut Page, values: &[&str]) {
 /// Adds what an argument means.
 fn add_argument(page: &mut Page, argument: &Argument) {
     page.add(".TP\n.B ");
+    if let Some(short) = argument.short() {
+        page.add("\\-");
+        page.add_char(short);
+        page.add(", ");
+    }
     add_name(page, argument);
     page.add("\n");
     add_line(page, argument.help);
@@ -86,7 +90,7 @@ fn add_use(page: &mut Page, argument: &Argument) {
     }
     page.add(" [");
     add_name(page, argument);
-    page.add("]");
+    page.add(if argument.is_repeated() { " ..]" } else { "]" });
 }
 
 /// Adds the heading of a command: its arguments, without the help option that each has.

@@ -32,6 +32,11 @@ impl Page {
         }
     }
 
+    /// Notes that memory ran out for a text that was to be added.
+    pub fn fail(&mut self) {
+        self.is_whole = false;
+    }
+
     /// Adds texts, one after another.
     pub fn add_all(&mut self, pieces: &[&str]) {
         for piece in pieces {

@@ -1,6 +1,8 @@
 //! The parser of the command line, as `clap` is given it.
 
-use crate::commands::{Argument, Kind, PROGRAM_ABOUT, PROGRAM_NOTES, Row, VERSION, rows};
+use crate::argument::{Argument, Kind, Row};
+use crate::commands::{PROGRAM_ABOUT, PROGRAM_NOTES, VERSION, rows};
+use crate::names::LINES;
 use clap::{Arg, ArgAction, Command};
 use std::alloc::{AllocError, Global};
 
@@ -9,14 +11,15 @@ fn arg_of<'a>(alloc: Global, argument: &Argument) -> Result<Arg<'a>, AllocError>
     let arg = Arg::new(alloc, argument.id).help(argument.help);
     match argument.kind {
         Kind::Optional => Ok(arg),
+        Kind::Any => Ok(arg.action(ArgAction::Append).num_args(0..)),
+        Kind::MaybeOneOf(words) => Ok(arg.value_parser(words)),
         Kind::OneOf(words) => Ok(arg.required(true).value_parser(words)),
-        Kind::Batch => arg.required_unless_present("lines"),
-        Kind::Second => arg
-            .required_unless_present("lines")?
-            .conflicts_with("lines"),
+        Kind::Batch => arg.required_unless_present(LINES),
+        Kind::Second => arg.required_unless_present(LINES)?.conflicts_with(LINES),
         Kind::Flag => Ok(flag(arg, argument.id)),
+        Kind::ShortFlag(name) => Ok(flag(arg, argument.id).short(name)),
         Kind::FlagWithout(others) => flag(arg, argument.id).conflicts_with_all(others),
-        Kind::FlagOf(other) => flag(arg, argument.id).requires_arg(other),
+        Kind::FlagOfLines => flag(arg, argument.id).requires_arg(LINES),
         Kind::Value(name) => Ok(arg.long(name)),
         Kind::Choice(name, words) => Ok(arg.long(name).value_parser(words)),
     }
@@ -41,6 +44,7 @@ fn command_of<'a>(alloc: Global, row: &Row) -> Result<Command<'a>, AllocError> {
     let args = args_of(alloc, row.arguments)?;
     Command::new(alloc, row.name)
         .about(row.about)
+        .override_usage(row.usage)
         .after_help(row.notes)
         .args(args)
 }
@@ -63,4 +67,14 @@ pub fn program<'a>(alloc: Global) -> Result<Command<'a>, AllocError> {
         .after_help(PROGRAM_NOTES)
         .disable_help_subcommand(true)
         .subcommands(commands)
+}
+
+/// Returns the help of the command of this name, or of the program, as `--help` prints it.
+pub fn help_of(alloc: Global, name: Option<&str>) -> Result<String, AllocError> {
+    for row in rows() {
+        if name == Some(row.name) {
+            return command_of(alloc, row)?.render_help();
+        }
+    }
+    program(alloc)?.render_help()
 }

@@ -3,9 +3,8 @@
 ghost use Rattle.odb_engine.specs.Forms.{InForm};
 ghost use Rattle.odb_engine.specs.LineTasks as tasks;
 
-use odb_engine::{Ended, EngineFault};
+use odb_engine::{EachLine, Ended, EngineFault, LineCommand};
 use odb_io::Output;
-use odb_engine::{EachLine, LineCommand};
 use std::alloc::Global;
 use std::cell::Cell;
 use std::io;

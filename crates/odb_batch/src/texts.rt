@@ -1,25 +1,37 @@
 //! The commands that read no document: each prints a text.
 
 use crate::command_line::{Shell, Text};
+use crate::commands::EXPLAIN;
 use crate::completions::{bash, fish, zsh};
 use crate::ending::{Status, failed, finish};
-use crate::explain::{add_explanations, add_table};
+use crate::explain::{add_explanations, add_table, first_unknown};
 use crate::man::add_page;
 use crate::page::Page;
+use crate::parser::help_of;
 use odb_engine::{Ended, EngineFault};
 use odb_io::Output;
+use std::alloc::Global;
 use std::io;
 use std::rt::Runtime;
 
+/// Adds the help of a command, or of the program.
+fn add_help(alloc: Global, page: &mut Page, name: Option<&str>) {
+    match help_of(alloc, name) {
+        Ok(text) => page.add(&text),
+        Err(_) => page.fail(),
+    }
+}
+
 /// Adds a text.
-fn add_text(page: &mut Page, text: Text<'_>) {
+fn add_text(alloc: Global, page: &mut Page, text: &Text<'_>) {
     match text {
         Text::Faults => add_table(page),
-        Text::Explanation(code) => add_explanations(page, code),
+        Text::Explanations(codes) => add_explanations(page, codes),
         Text::Completions(Shell::Bash) => bash::add_script(page),
         Text::Completions(Shell::Zsh) => zsh::add_script(page),
         Text::Completions(Shell::Fish) => fish::add_script(page),
         Text::Manual => add_page(page),
+        Text::Help(name) => add_help(alloc, page, *name),
     }
 }
 
@@ -39,20 +51,29 @@ fn print_page<R: Runtime>(rt: &R, page: &Page) -> Status {
 
 /// Prints that there is no such fault, in the form in which `clap` rejects arguments.
 fn reject<R: Runtime>(rt: &R, code: &str) -> Status {
+    let usage = EXPLAIN.usage;
     let _ = eprintln!(rt;
         "error: there is no fault '{code}'; 'odb_batch explain' lists all\n\n\
-        Usage: odb_batch explain [CODE]\n\n\
+        Usage: {usage}\n\n\
         For more information, try '--help'."
     );
     Status::WrongArguments
 }
 
-/// Prints a text, or that there is no fault to explain.
-pub fn print<R: Runtime + AllocGlobal>(rt: &R, text: Text<'_>) -> Status {
-    let mut page = Page::new(rt.alloc());
-    add_text(&mut page, text);
+/// Returns the first of the codes or names that are to be explained and that no fault has.
+fn unknown_in<'a>(text: &Text<'a>) -> Option<&'a str> {
     match text {
-        Text::Explanation(code) if page.is_empty() => reject(rt, code),
-        _ => print_page(rt, &page),
+        Text::Explanations(codes) => first_unknown(codes),
+        _ => None,
     }
+}
+
+/// Prints a text, or that there is no fault to explain.
+pub fn print<R: Runtime + AllocGlobal>(rt: &R, text: &Text<'_>) -> Status {
+    if let Some(code) = unknown_in(text) {
+        return reject(rt, code);
+    }
+    let mut page = Page::new(rt.alloc());
+    add_text(rt.alloc(), &mut page, text);
+    print_page(rt, &page)
 }

@@ -2,7 +2,8 @@
 //! word before.
 
 use super::{add_options, add_positional_values, add_program_options};
-use crate::commands::{Row, rows};
+use crate::argument::Row;
+use crate::commands::rows;
 use crate::page::Page;
 
 const HEAD: &str =

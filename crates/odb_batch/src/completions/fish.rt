@@ -1,7 +1,8 @@
 //! Completions for fish: a line for each command and each option.
 
 use super::add_quoted;
-use crate::commands::{Added, Argument, Row, SHOW_HELP, SHOW_VERSION, rows};
+use crate::argument::{Added, Argument, Row};
+use crate::commands::{SHOW_HELP, SHOW_VERSION, rows};
 use crate::page::Page;
 
 const HEAD: &str =
@@ -48,6 +49,10 @@ fn add_added(page: &mut Page, command: Option<&str>, option: &Added) {
 /// Adds the line of an option.
 fn add_option(page: &mut Page, command: &str, argument: &Argument, long: &str) {
     add_condition(page, Some(command));
+    if let Some(short) = argument.short() {
+        page.add(" -s ");
+        page.add_char(short);
+    }
     page.add_all(&[" -l ", long]);
     if argument.has_value() {
         add_values(page, argument);

@@ -1,7 +1,8 @@
 //! Completions for zsh: a pattern for each command, over the command and the word before.
 
 use super::{add_options, add_positional_values, add_program_options, add_quoted};
-use crate::commands::{Row, rows};
+use crate::argument::Row;
+use crate::commands::rows;
 use crate::page::Page;
 
 const HEAD: &str = "#compdef odb_batch\n\

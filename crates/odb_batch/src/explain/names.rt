@@ -26,9 +26,10 @@ refused: {"requests":[{"id":"a","method":"get","url":"A"},{"id":"2","method":"ge
 accepted: {"requests":[{"id":"a","method":"get","url":"A"},{"id":"2","method":"get","url":"B","dependsOn":["a"]}]}"#,
     r#"F41 ForwardName /requests/N
 The request depends on itself, on a later request, or on a group that begins later. A name in
-dependsOn refers to what comes before (OData JSON Format 4.01, section 19.1), so no requests can
-wait for each other. Move the request after what it depends on.
-refused: {"requests":[{"id":"2","method":"get","url":"B","dependsOn":["1"]},{"id":"1","method":"get","url":"A"}]}
+dependsOn refers to what comes before (OData JSON Format 4.01, section 19.1). So a cycle is refused,
+in any order: requests that depend on each other would never start. Move the request after what it
+depends on, or remove a dependency of the cycle.
+refused: {"requests":[{"id":"1","method":"get","url":"A","dependsOn":["2"]},{"id":"2","method":"get","url":"B","dependsOn":["1"]}]}
 accepted: {"requests":[{"id":"1","method":"get","url":"A"},{"id":"2","method":"get","url":"B","dependsOn":["1"]}]}"#,
     r#"F42 OwnGroup /requests/N
 The request depends on its own group. The group succeeds only if all its requests do, so this one
@@ -49,7 +50,8 @@ refused: {"requests":[{"id":"a","method":"post","url":"A"},{"id":"2","method":"g
 accepted: {"requests":[{"id":"a","method":"post","url":"A"},{"id":"2","method":"get","url":"$a/B","dependsOn":["a"]}]}"#,
     r#"F45 ForwardReference /requests/N
 The URL refers to the request itself or to a later one, whose result is not known when the request is
-sent (OData JSON Format 4.01, section 19.2). Move the request after the one that it refers to.
+sent (OData JSON Format 4.01, section 19.2). So a cycle of URLs that refer to each other is refused,
+too. Move the request after the one that it refers to.
 refused: {"requests":[{"id":"2","method":"get","url":"$1/B"},{"id":"1","method":"post","url":"A"}]}
 accepted: {"requests":[{"id":"1","method":"post","url":"A"},{"id":"2","method":"get","url":"$1/B","dependsOn":["1"]}]}"#,
     r#"F46 ReferenceNotListed /requests/N
