@@ -72,7 +72,7 @@ pub fn open<R: Runtime>(
 }
 
 /// Returns the writer of a command that reports so.
-pub fn results<R: Runtime>(rt: &R, report: Report) -> Results<Printer<'_, R>> {
+pub fn writer_of<R: Runtime>(rt: &R, report: Report) -> Results<Printer<'_, R>> {
     if report.quiet {
         Results::Quiet
     } else {

@@ -1,7 +1,7 @@
 //! The commands over documents: each opens its files and calls its engine.
 
 use crate::command_line::{BatchTask, PairTask, Report, Source};
-use crate::devices::{Document, open, results};
+use crate::devices::{Document, open, writer_of};
 use crate::ending::{Status, finish};
 use odb_check::Seed;
 use odb_engine::{
@@ -46,7 +46,7 @@ pub fn answer_batch<R: Runtime + AllocGlobal>(
         Ok(document) => Input::new(document),
         Err(status) => return status,
     };
-    let mut output = Output::new(results(rt, report));
+    let mut output = Output::new(writer_of(rt, report));
     let setup = environment.setup(report.form);
     let ended = match task {
         BatchTask::Check => check_batch_with(rt.alloc(), &mut input, &mut output, setup),
@@ -79,7 +79,7 @@ pub fn answer_pair<R: Runtime + AllocGlobal>(
         Ok((batch, second)) => (Input::new(batch), Input::new(second)),
         Err(status) => return status,
     };
-    let mut output = Output::new(results(rt, report));
+    let mut output = Output::new(writer_of(rt, report));
     let setup = environment.setup(report.form);
     let ended = match task {
         PairTask::Match => {

@@ -3,7 +3,7 @@
 ghost use Rattle.std.specs.Prelude.{◌≡◌, false};
 
 use crate::command_line::{Report, Source};
-use crate::devices::{open, results};
+use crate::devices::{open, writer_of};
 use crate::ending::{Status, failed, finish};
 use crate::engines::Environment;
 use crate::progress::Watched;
@@ -90,7 +90,7 @@ fn answer_from<R: Runtime + AllocGlobal, I: Read + Drop>(
     log: Log<'_>,
     reader: I,
 ) -> Status {
-    match BufWriter::with_capacity(rt.alloc(), BUFFER_BYTES, results(rt, log.report)) {
+    match BufWriter::with_capacity(rt.alloc(), BUFFER_BYTES, writer_of(rt, log.report)) {
         Ok(writer) => {
             let mut output = Output::new(writer);
             finish(

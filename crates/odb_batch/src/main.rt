@@ -75,22 +75,22 @@ fn seed<R: RandomSource>(rt: &R) -> Seed {
 }
 
 /// Performs what the arguments ask for.
-fn perform<R: Runtime + AllocGlobal>(
-    rt: &R,
-    environment: Environment,
-    args: &[String],
-) -> Status {
+fn perform<R: Runtime + AllocGlobal>(rt: &R, environment: Environment, args: &[String]) -> Status {
     match Task::read(rt.alloc(), args) {
-        Ok(Task::Batch {
-            source,
-            task,
-            report,
-        }) => answer_batch(rt, environment, source, task, report),
-        Ok(Task::Pair {
-            sources,
-            task,
-            report,
-        }) => answer_pair(rt, environment, sources, task, report),
+        Ok(
+            Task::Batch {
+                source,
+                task,
+                report,
+            },
+        ) => answer_batch(rt, environment, source, task, report),
+        Ok(
+            Task::Pair {
+                sources,
+                task,
+                report,
+            },
+        ) => answer_pair(rt, environment, sources, task, report),
         Ok(Task::Log(log)) => answer_log(rt, environment, log),
         Ok(Task::Print(text)) => texts::print(rt, &text),
         Err(wrong) => reject(rt, &wrong),
