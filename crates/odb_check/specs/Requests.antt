@@ -6,4 +6,4 @@ use Rattle.odb_check.specs.declared.tables.Tables.{Tables}
 
 -- the requests, in order
 abbrev pub requests : Tables → List Record
-requests tables = records tables.batch.now
+requests tables = records tables.all.batch.now

@@ -56,9 +56,9 @@ fn note_start(starts: &mut Vec<u32>, unit: u32, i: u32) -> Result<(), AllocError
     Ok(())
 }
 
-/// The requests of a batch by their identifiers, groups and units.
+/// The tables of the first requests of a batch.
 #[derive(Drop)]
-pub(crate) struct Tables<'b> {
+pub(crate) struct FirstTables<'b> {
     batch: &'b Batch<'b>,
     /// The first position of each identifier.
     ids: Table<'b>,
@@ -70,21 +70,16 @@ pub(crate) struct Tables<'b> {
     starts: Vec<u32>,
     /// Whether two requests have one identifier.
     has_repeated_id: bool,
-    ghost exact: { AreTablesOf (records batch.now) (length (records batch.now)) ids groups
-        units.items starts.items } by { Prim.hlevel props },
-    ghost apart: { has_repeated_id ≡ false → AreIdsDistinct (records batch.now)
-        (length (records batch.now)) } by { Prim.hlevel props },
 }
 
-/// The tables of the first requests of a batch.
+/// The requests of a batch by their identifiers, groups and units.
 #[derive(Drop)]
-struct FirstTables<'b> {
-    batch: &'b Batch<'b>,
-    ids: Table<'b>,
-    groups: Table<'b>,
-    units: Vec<u32>,
-    starts: Vec<u32>,
-    has_repeated_id: bool,
+pub(crate) struct Tables<'b> {
+    all: FirstTables<'b>,
+    ghost exact: { AreTablesOf (records all.batch.now) (length (records all.batch.now)) all.ids
+        all.groups all.units.items all.starts.items } by { Prim.hlevel props },
+    ghost apart: { all.has_repeated_id ≡ false → AreIdsDistinct (records all.batch.now)
+        (length (records all.batch.now)) } by { Prim.hlevel props },
 }
 
 impl<'b> FirstTables<'b> {
@@ -142,14 +137,14 @@ pub(crate) fn tables_of<'b>(
     seed: Seed,
     batch: &'b Batch<'b>,
 ) -> Result<Tables<'b>, AllocError>
-    ensures batch { IfOk result (λ tables. tables.batch.now ≡ batch.now) }
-    ensures ids { IfOk result (λ tables. table_start tables.ids
+    ensures batch { IfOk result (λ tables. tables.all.batch.now ≡ batch.now) }
+    ensures ids { IfOk result (λ tables. table_start tables.all.ids
         ≡ option_map start_of seed.number) }
-    ensures groups { IfOk result (λ tables. table_start tables.groups
+    ensures groups { IfOk result (λ tables. table_start tables.all.groups
         ≡ option_map start_of seed.number) }
 {
     let start = seed.start();
-    let mut tables = FirstTables {
+    let mut all = FirstTables {
         batch,
         ids: Table::new(alloc, start),
         groups: Table::new(alloc, start),
@@ -157,23 +152,8 @@ pub(crate) fn tables_of<'b>(
         starts: Vec::new(alloc),
         has_repeated_id: false,
     };
-    tables.fill(alloc)?;
-    let FirstTables {
-        batch,
-        ids,
-        groups,
-        units,
-        starts,
-        has_repeated_id,
-    } = tables;
-    Ok(Tables {
-        batch,
-        ids,
-        groups,
-        units,
-        starts,
-        has_repeated_id,
-    })
+    all.fill(alloc)?;
+    Ok(Tables { all })
 }
 
 impl<'b> Tables<'b> {
@@ -188,7 +168,7 @@ impl<'b> Tables<'b> {
         ensures count { result ≡ length (requests self.now) }
         ensures small { result ≤ 10000 }
     {
-        self.batch.len()
+        self.all.batch.len()
     }
 
     pub(crate) fn request(&self, i: u32) -> &'b Request<'b>
@@ -196,7 +176,7 @@ impl<'b> Tables<'b> {
         ensures value { slice_get (requests self.now) i ≡ Some (record_of result.now) }
         ensures well_formed { IsWellFormedRecord (record_of result.now) }
     {
-        self.batch.request(i)
+        self.all.batch.request(i)
     }
 
     pub(crate) fn id(&self, i: u32) -> &'b str
@@ -234,7 +214,7 @@ impl<'b> Tables<'b> {
         ensures count { result ≡ spec.unit_count (requests self.now) }
         ensures few { result ≤ length (requests self.now) }
     {
-        self.starts.len() as u32
+        self.all.starts.len() as u32
     }
 
     /// How many different groups there are.
@@ -242,7 +222,7 @@ impl<'b> Tables<'b> {
         ensures { result ≡ length (groups_of (requests self.now)) }
     {
         odb_doc::laws::distinct_names();
-        self.groups.len() as u32
+        self.all.groups.len() as u32
     }
 
     pub(crate) fn unit_of(&self, i: u32) -> u32
@@ -250,7 +230,7 @@ impl<'b> Tables<'b> {
         ensures value { result ≡ spec.unit_at (requests self.now) i }
         ensures within { result < spec.unit_count (requests self.now) }
     {
-        self.units[i as usize]
+        self.all.units[i as usize]
     }
 
     /// Where the unit begins.
@@ -258,7 +238,7 @@ impl<'b> Tables<'b> {
         requires { u < spec.unit_count (requests self.now) }
         ensures { IsStartOf (requests self.now) u result }
     {
-        self.starts[u as usize]
+        self.all.starts[u as usize]
     }
 
     /// Where the unit of the request begins.
@@ -274,20 +254,20 @@ impl<'b> Tables<'b> {
     pub(crate) fn position_of(&self, id: &str) -> Option<u32>
         ensures { result ≡ spec.position_of (requests self.now) id.now }
     {
-        self.ids.get(id)
+        self.all.ids.get(id)
     }
 
     /// Whether two requests have one identifier.
     pub(crate) fn has_repeated_id(&self) -> bool
         ensures { result ≡ false → AreIdsDistinct (requests self.now) (length (requests self.now)) }
     {
-        self.has_repeated_id
+        self.all.has_repeated_id
     }
 
     pub(crate) fn unit_of_group(&self, group: &str) -> Option<u32>
         ensures { result ≡ spec.unit_of_group (requests self.now) group.now }
     {
-        self.groups.get(group)
+        self.all.groups.get(group)
     }
 
     /// What a name resolves to, if no two requests have one id. The request at `guess` is looked at before

@@ -9,13 +9,13 @@ use Rattle.odb_check.proofs.levels.levels_of.Goals as goal
 
 pub next_level-level-requires-clause-within : goal.next_level-level-requires-clause-within
 next_level-level-requires-clause-within c =
-    let rs = records c.args.tables.now.batch.now in
+    let rs = records c.args.tables.now.all.batch.now in
     rw c.needs_of_request.ensures (levels_known rs (needs_before rs c.requires.good) c.loop-i.i (omega (arith, c.loop-i-test.true)) _ _
     (ap length c.deref.ensures.value ∙ ap length c.loop-i.invariant.levels_are ∙ length-levels_below rs c.loop-i.i) (ap length c.deref-in-loop-i.ensures.value ∙ c.loop-i.invariant.unit_levels_count))
 
 pub loop-i-preserved : goal.loop-i-preserved
 loop-i-preserved c =
-    let rs = records c.args.tables.now.batch.now in
+    let rs = records c.args.tables.now.all.batch.now in
     let unit_levels = c.loop-i.unit_levels.items in
     let unit = c.unit_of-unit.result in
     let level = rw (c.deref.ensures.value, c.deref-in-loop-i.ensures.value, c.needs_of_request.ensures) at c.next_level-level.ensures in

@@ -4,4 +4,4 @@ use Rattle.odb_check.proofs.LevelLemmas.{AreLevelsOf}
 
 -- the levels of the requests before i, and of the units among these
 abbrev pub invariant-loop-i : goal.invariant-loop-i
-invariant-loop-i l = AreLevelsOf (records l.tables.batch.now) l.i l.levels.items l.unit_levels.items
+invariant-loop-i l = AreLevelsOf (records l.tables.all.batch.now) l.i l.levels.items l.unit_levels.items
