@@ -70,9 +70,11 @@ class Place:
         """What an audit prints on each stream, and its status."""
         variables = {**os.environ, "PATH": path} if path else dict(os.environ)
         pipes = {"stdin": subprocess.DEVNULL, "stdout": subprocess.PIPE, "stderr": subprocess.PIPE, **more}
-        done = subprocess.run(
-            [sys.executable, script, *words], cwd=self.folder, env=variables, timeout=SECONDS, text=True, **pipes
-        )
+        more = {"cwd": self.folder, "env": variables, "timeout": SECONDS, "text": True, **pipes}
+        try:
+            done = subprocess.run([sys.executable, script, *words], **more)
+        except subprocess.TimeoutExpired:
+            return "", f"no end after {SECONDS} s", None
         return done.stdout, done.stderr, done.returncode
 
 
