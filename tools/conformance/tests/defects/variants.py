@@ -113,6 +113,20 @@ def fixed_titles_half_group():
     half_group()
 
 
+def no_etags():
+    """The service has no ETags."""
+    perform = entities.perform
+
+    def performing(database, request):
+        answer = perform(database, request)
+        body = answer.body
+        if isinstance(body, dict):
+            body = {name: it for name, it in body.items() if name != "@etag"}
+        return answer._replace(body=body, headers={name: it for name, it in answer.headers.items() if name != "ETag"})
+
+    entities.perform = store.perform = performing
+
+
 def properties():
     """The service shows properties by URLs of their own, and applies $select."""
     perform = entities.perform
