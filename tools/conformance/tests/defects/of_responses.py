@@ -188,7 +188,8 @@ def body_as_text():
 
 def wrong_type():
     """Bodies in a batch have the type of a page."""
-    change_answers(lambda given, it: it._replace(headers={**it.headers, "Content-Type": "text/html"}) if it.body else it)
+    page = {"Content-Type": "text/html"}
+    change_answers(lambda given, it: it._replace(headers={**it.headers, **page}) if it.body else it)
 
 
 def no_request_headers():

@@ -1,6 +1,5 @@
 """Services without a defect, or with one that no batch shows: a service may be like that."""
 
-import itertools
 import json
 import os
 import re
