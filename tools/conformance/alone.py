@@ -6,12 +6,11 @@ from entities import Entities, Entity
 from kinds import NO_TAG, ask_alone
 from promises import Case
 from stage import Stage, Step
-from twin import Taking, Twin, etag_of, parts_alone
+from twin import Parts, Taking, Twin, etag_of, parts_alone
 
-# How often a request is sent alone: what differs between these is not compared.
-TIMES = 2
 ODD = "ä \"\\/ € & '%41 <b>"
 MINIMAL, WHOLE = {"Prefer": "return=minimal"}, {"Prefer": "return=representation"}
+RIGHT, WRONG = {"If-Match": "{etag}"}, {"If-Match": NO_TAG}
 
 
 class Row(NamedTuple):
@@ -67,7 +66,7 @@ ROWS = (
     Row("post", "a POST", "post", "new", "whole"),
     Row("post-minimal", "a POST that prefers no body", "post", "new", "whole", MINIMAL),
     Row("post-whole", "a POST that prefers a body", "post", "new", "whole", WHOLE),
-    Row("post-odd", "a POST of signs and letters that are not ASCII", "post", "new", "odd", needs=("text",)),
+    Row("post-odd", "a POST of letters that are not ASCII", "post", "new", "odd", needs=("text",)),
     Row("post-taken", "a POST of a key that is taken", "post", "there", "whole", needs=("named",)),
     Row("post-list", "a POST of an array", "post", "new", "list"),
     Row("post-text", "a POST of a text", "post", "new", "text", {"Content-Type": "text/plain"}),
@@ -77,7 +76,7 @@ ROWS = (
     Row("patch", "a PATCH", "patch", "there", "mark", needs=("patch",)),
     Row("patch-minimal", "a PATCH that prefers no body", "patch", "there", "mark", MINIMAL, ("patch",)),
     Row("patch-whole", "a PATCH that prefers a body", "patch", "there", "mark", WHOLE, ("patch",)),
-    Row("patch-odd", "a PATCH with signs and letters that are not ASCII", "patch", "there", "odd mark", needs=("patch",)),
+    Row("patch-odd", "a PATCH with letters that are not ASCII", "patch", "there", "odd mark", needs=("patch",)),
     Row("patch-missing", "a PATCH of what is missing", "patch", "missing", "mark", needs=("patch",)),
     Row("patch-empty", "a PATCH of nothing", "patch", "there", "empty", needs=("patch",)),
     Row("patch-list", "a PATCH with an array", "patch", "there", "list", needs=("patch",)),
@@ -90,21 +89,28 @@ ROWS = (
     Row("delete", "a delete", "delete", "there"),
     Row("delete-missing", "a delete of what is missing", "delete", "missing"),
     Row("get-known", "a read of what is known", "get", "there", "", {"If-None-Match": "{etag}"}, ("etags",)),
-    Row("get-if-match", "a read with the right ETag", "get", "there", "", {"If-Match": "{etag}"}, ("etags",)),
-    Row("patch-match", "a PATCH with the right ETag", "patch", "there", "mark", {"If-Match": "{etag}"}, ("etags", "patch")),
-    Row("patch-stale", "a PATCH with a wrong ETag", "patch", "there", "mark", {"If-Match": NO_TAG}, ("etags", "patch")),
-    Row("put-match", "a PUT with the right ETag", "put", "there", "other", {"If-Match": "{etag}"}, ("etags", "put")),
-    Row("put-stale", "a PUT with a wrong ETag", "put", "there", "other", {"If-Match": NO_TAG}, ("etags", "put")),
+    Row("get-if-match", "a read with the right ETag", "get", "there", "", RIGHT, ("etags",)),
+    Row("patch-match", "a PATCH with the right ETag", "patch", "there", "mark", RIGHT, ("etags", "patch")),
+    Row("patch-stale", "a PATCH with a wrong ETag", "patch", "there", "mark", WRONG, ("etags", "patch")),
+    Row("put-match", "a PUT with the right ETag", "put", "there", "other", RIGHT, ("etags", "put")),
+    Row("put-stale", "a PUT with a wrong ETag", "put", "there", "other", WRONG, ("etags", "put")),
     Row("put-new", "a PUT of what is to be new", "put", "there", "other", {"If-None-Match": "*"}, ("etags", "put")),
-    Row("delete-match", "a delete with the right ETag", "delete", "there", "", {"If-Match": "{etag}"}, ("etags",)),
-    Row("delete-stale", "a delete with a wrong ETag", "delete", "there", "", {"If-Match": NO_TAG}, ("etags",)),
+    Row("delete-match", "a delete with the right ETag", "delete", "there", "", RIGHT, ("etags",)),
+    Row("delete-stale", "a delete with a wrong ETag", "delete", "there", "", WRONG, ("etags",)),
     Row("delete-any", "a delete with any ETag", "delete", "there", "", {"If-Match": "*"}, ("etags",)),
 )
 
 
-def asked(stage: Stage, row: Row) -> Tuple[Step, Entity, Any]:
-    """The request of a row about an entity of its own, that entity, and the mark that it writes."""
-    entities = stage.entities
+class Asked(NamedTuple):
+    """A request of a row, the entity of its own that it is about, and the mark that it writes."""
+
+    step: Step
+    entity: Entity
+    mark: Any
+
+
+def asked(entities: Entities, row: Row) -> Asked:
+    """Makes what a request of a row needs."""
     entity, mark = TARGETS[row.target](entities), entities.new_mark()
     url = entities.set if row.method == "post" and row.target != "no set" else entity.url
     if row.target == "missing" and row.method in ("patch", "put"):
@@ -119,9 +125,7 @@ def asked(stage: Stage, row: Row) -> Tuple[Step, Entity, Any]:
         headers = {name: it.replace("{etag}", tag) for name, it in headers.items()}
     scratch = Stage(entities)
     scratch.add("asked", row.method, url, BODIES[row.body](entities, entity, mark), headers=headers)
-    if row.target == "no set":
-        entity = Entity("", {})
-    return scratch.steps[0], entity, mark
+    return Asked(scratch.steps[0], Entity("", {}) if row.target == "no set" else entity, mark)
 
 
 def literal(mark: Any) -> str:
@@ -133,21 +137,21 @@ def beside(row: Row) -> Callable[[Stage], None]:
 
     def write(stage: Stage) -> None:
         entities = stage.entities
-        alone, fails = [], False
-        for _ in range(TIMES):
-            step, entity, mark = asked(stage, row)
-            answer = ask_alone(entities, step.request)
-            alone.append(parts_alone(Taking(entities, entity, [mark]), answer))
-            fails = not answer.is_success
-        step, entity, mark = asked(stage, row)
+        first, own, second = (asked(entities, row) for _ in range(3))
+
+        def parts(it: Asked) -> Parts:
+            return parts_alone(Taking(entities, it.entity, [it.mark]), ask_alone(entities, it.step.request))
+
+        before = parts(first)
+        twin = Twin(own.entity, [own.mark], lambda: (before, parts(second)))
         stage.write("before", headers=MINIMAL)
-        stage.steps.append(step._replace(fails=fails, twin=Twin(entity, [mark], tuple(alone))))
+        stage.steps.append(own.step._replace(fails=not 200 <= before["the status"] <= 299, twin=twin))
         stage.read("after")
 
     return write
 
 
 def alone() -> List[Case]:
-    return [
-        Case(f"alone-{it.name}", "alone", f"{it.shows}, in a batch and alone", beside(it), needs=it.needs) for it in ROWS
-    ]
+    """All cases of requests that are also sent alone."""
+    shows = "{}, in a batch and alone"
+    return [Case(f"alone-{it.name}", "alone", shows.format(it.shows), beside(it), needs=it.needs) for it in ROWS]

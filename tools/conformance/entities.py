@@ -162,14 +162,14 @@ class Entities:
         for entity in self.lent:
             shown = listing.get(entity.url)
             if shown is not None:
-                self.spare.append(entity._replace(mark=shown.get(self.text)))
+                self.spare.append(entity._replace(mark=shown.get(self.text or "")))
         self.lent = []
         spare = {it.url for it in self.spare}
-        self.made = {address: url for address, url in self.made.items() if url in spare or self._is_listed(url, listing)}
-
-    def _is_listed(self, url: str, listing: Listing) -> bool:
-        """Whether an entity may be there: an absolute URL may be that of any."""
-        return url in listing or not url.startswith(f"{self.set}(")
+        known = {**listing, **dict.fromkeys(spare, {})}
+        # A URL of another form, as of a Location, may be that of any entity.
+        self.made = {
+            address: url for address, url in self.made.items() if url in known or not url.startswith(f"{self.set}(")
+        }
 
     def missing(self) -> Entity:
         """An entity that is not there and that nothing creates."""
@@ -244,6 +244,7 @@ class Entities:
         return own
 
     def marks(self, listing: Optional[Listing]) -> List[Any]:
+        """The marks of what is listed."""
         return [it.get(self.text) for it in (listing or {}).values()] if self.text is not None else []
 
     def is_shown(self, effect: Effect, listing: Optional[Listing]) -> bool:
@@ -253,7 +254,7 @@ class Entities:
         entity = self.read(effect.url) if listing is None else listing.get(effect.url)
         if entity is None or not effect.is_there:
             return (entity is None) != effect.is_there
-        return effect.mark is None or entity.get(self.text) == effect.mark
+        return effect.mark is None or entity.get(self.text or "") == effect.mark
 
     # Removing
 

@@ -1,6 +1,6 @@
 """Cases in which a request fails."""
 
-from typing import Callable, List
+from typing import Callable, List, Tuple
 
 from flows import chain, group
 from kinds import KINDS, fail
@@ -112,7 +112,7 @@ def stop_before_failure(stage: Stage, kind: str) -> None:
 
 
 Failing = Callable[[Stage, str], None]
-FAILING = (
+FAILING: Tuple[Tuple[str, str, str, Failing, bool], ...] = (
     ("failure-among-others", "continue", "requests beside one that fails are performed", among_others, False),
     ("failing-fan-in", "failed", "writes depend on some requests, of which one fails", fan_in, False),
     ("failing-fan-out", "failed", "five requests depend on one that fails", fan_out, False),
@@ -136,9 +136,9 @@ def one_failure(kind: str) -> List[Case]:
     for name, promise, shows, function, stops in FAILING:
         write = lambda stage, function=function: function(stage, kind)
         found.append(Case(name, promise, shows, write, stops, kind))
-    write = lambda stage: at_once(stage, kind)
+    beside = lambda stage: at_once(stage, kind)
     shows = "four batches at the same time, with a group that fails"
-    return [*found, Case("failing-at-once", "group", shows, write, kind=kind, at_once=4)]
+    return [*found, Case("failing-at-once", "group", shows, beside, kind=kind, at_once=4)]
 
 
 def failing_groups() -> List[Case]:

@@ -3,7 +3,7 @@
 from collections import Counter
 from typing import Any, Dict, Iterator, List, NamedTuple, Optional
 
-from entities import Entities, Listing
+from entities import Listing
 from odb_batch import Document, Fault, match
 from promises import Case
 from service import Answer
@@ -116,7 +116,8 @@ class Judge:
     def _beside_alone(self, step: Step, twin: Twin) -> Iterator[Check]:
         """A request that was also sent alone does the same in the batch."""
         taking = Taking(self.entities, twin.entity, twin.marks)
-        found = differences(twin.alone, parts_in_batch(taking, self.clear[step.id]))
+        batch = parts_in_batch(taking, self.clear[step.id])
+        found = differences(twin.alone(), batch)
         yield from (Check("alone", f"{step.id}: {it}") for it in found)
         if not found:
             yield Check("alone")

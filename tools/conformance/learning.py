@@ -88,5 +88,6 @@ def learn_urls(entities: Entities) -> Dict[str, bool]:
     for name, url in (("absolute", absolute), ("rooted", urlsplit(absolute).path)):
         value = entities.service.probe(url).value
         responses = value.get("responses") if isinstance(value, dict) else None
-        found[name] = bool(responses) and isinstance(responses[0], dict) and responses[0].get("status") == 200
+        first = responses[0] if isinstance(responses, list) and responses else None
+        found[name] = isinstance(first, dict) and first.get("status") == 200
     return found

@@ -25,7 +25,7 @@ def left_over(case: Case, stages: List[Stage], listing: Listing, known: Set[str]
     writers = marks_of(entities, stages)
     urls: Dict[Any, List[str]] = {}
     for url, entity in listing.items():
-        mark = entity.get(entities.text) if writers else None
+        mark = entity.get(entities.text or "")
         urls.setdefault(mark if isinstance(mark, (str, int)) and mark in writers else None, []).append(url)
     promise = case.promise if case.promise in ("group", "failed", "untouched") else "once"
     for url in urls.pop(None, []):

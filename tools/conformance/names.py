@@ -4,7 +4,7 @@ from typing import Callable, List, Sequence
 from urllib.parse import urljoin, urlsplit
 
 from promises import Case
-from stage import Stage
+from stage import Stage, Subject
 
 CASE = ("A", "a", "Ab", "aB")
 SIGNS = ("A-1", "A.1", "A_1", "A~1", "-", "~", "._~-")
@@ -42,7 +42,10 @@ def other_urls(form: Callable[[str], str]) -> Callable[[Stage], None]:
 
     def write(stage: Stage) -> None:
         root = stage.entities.service.root
-        url = lambda subject: form(urljoin(root, subject.entity.url))
+
+        def url(subject: Subject) -> str:
+            return form(urljoin(root, subject.entity.url))
+
         for act in ("read", "delete", *[it for it in ("patch", "put") if it not in stage.entities.lacks]):
             subject = stage.subject()
             stage.act(act, act, subject, url(subject))
@@ -53,6 +56,10 @@ def other_urls(form: Callable[[str], str]) -> Callable[[Stage], None]:
         stage.act("look", "read", subject, url(subject), needs=["drop"], promise="order")
 
     return write
+
+
+def path_of(url: str) -> str:
+    return urlsplit(url).path
 
 
 def methods(stage: Stage) -> None:
@@ -73,7 +80,7 @@ CASES = (
     Case("groups-signs", "named", "names of groups with each of -._~", groups(SIGNS)),
     Case("methods-upper", "alone", "methods in upper case", methods),
     Case("urls-absolute", "alone", "absolute URLs", other_urls(lambda url: url), needs=["absolute"]),
-    Case("urls-rooted", "alone", "URLs that begin with /", other_urls(lambda url: urlsplit(url).path), needs=["rooted"]),
+    Case("urls-rooted", "alone", "URLs that begin with /", other_urls(path_of), needs=["rooted"]),
 )
 
 

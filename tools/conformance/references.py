@@ -1,4 +1,4 @@
-"""Cases of references: a URL that begins with $ and an id leads to what that request has created, and to nothing else."""
+"""Cases of references: a URL that begins with $ and an id leads to what that request has created."""
 
 from typing import Callable, Dict, List, Sequence
 
@@ -6,6 +6,9 @@ from promises import Case
 from stage import ABSENT, Shown, Stage, Subject
 
 FOUR = ("a", "b", "c", "d")
+# Ids that are easily taken for each other.
+CASE, NUMBERS = ("Ab", "aB", "ab", "AB"), ("1", "10", "100", "01", "1.0")
+SIGNS = ("a-b", "a.b", "a_b", "a~b", "-", "~")
 
 
 def create_all(stage: Stage, ids: Sequence[str], **where: str) -> Dict[str, Subject]:
@@ -119,14 +122,14 @@ CASES = (
     Case("reference-in-group", "reference", "a member of a group reads what another has created", in_group),
     Case("reference-to-group", "reference", "a read of what a member of a group has created", to_group),
     Case("reference-each-read", "reference", "reads of three of four entities that a batch creates", to_each("read")),
-    Case("reference-each-delete", "reference", "deletes of two of four entities that a batch creates", to_each("delete")),
+    Case("reference-each-delete", "reference", "deletes of two of four entities", to_each("delete")),
     Case("reference-each-patch", "reference", "PATCHes of two of four entities", to_each("patch"), needs=["patch"]),
     Case("reference-each-put", "reference", "PUTs of two of four entities", to_each("put"), needs=["put"]),
     Case("reference-groups", "reference", "references inside two groups, and to both", to_each_in_groups),
     Case("reference-chain", "reference", "six reads in a row of two entities by turns", in_chain),
-    Case("reference-case", "reference", "ids that differ in upper and lower case", with_ids(("Ab", "aB", "ab", "AB"))),
-    Case("reference-numbers", "reference", "ids that begin with one another", with_ids(("1", "10", "100", "01", "1.0"))),
-    Case("reference-signs", "reference", "ids with each of -._~", with_ids(("a-b", "a.b", "a_b", "a~b", "-", "~"))),
+    Case("reference-case", "reference", "ids that differ in upper and lower case", with_ids(CASE)),
+    Case("reference-numbers", "reference", "ids that begin with one another", with_ids(NUMBERS)),
+    Case("reference-signs", "reference", "ids with each of -._~", with_ids(SIGNS)),
     Case("reference-property", "reference", "a property after the id", to_property, needs=["property"]),
     Case("reference-option", "reference", "a query option after the id", with_option, needs=["options"]),
     Case("reference-at-once", "reference", "four batches with the same ids at the same time", at_once, at_once=4),

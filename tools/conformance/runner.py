@@ -152,7 +152,10 @@ class Runner:
                 result = result._replace(batch=stage.document(), response=text)
         if listing is not None:
             checks += left_over(case, stages, listing, known)
-            if all(isinstance(it, Answer) for it in answers):
+            if any(step.twin for stage in stages for step in stage.steps):
+                # a request alone came after the batch
+                listing = self.entities.appeared()
+            if listing is not None and all(isinstance(it, Answer) for it in answers):
                 self.entities.settle(listing)
         return result
 

@@ -99,9 +99,10 @@ class Service:
 
     def _connection(self) -> http.client.HTTPConnection:
         kind = http.client.HTTPSConnection if self.parts.scheme == "https" else http.client.HTTPConnection
-        found = kind(self.parts.hostname or "", self.parts.port, timeout=self.timeout)
+        found: http.client.HTTPConnection = kind(self.parts.hostname or "", self.parts.port, timeout=self.timeout)
         until = time.monotonic() + self.timeout
-        found.response_class = lambda sock, **rest: _Response(_Timed(sock, until, self.interruption), sock, **rest)
+        answer = lambda sock, **rest: _Response(_Timed(sock, until, self.interruption), sock, **rest)
+        setattr(found, "response_class", answer)
         return found
 
     def batch(self, document: bytes, continues: bool) -> Answer:

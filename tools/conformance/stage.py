@@ -2,7 +2,7 @@
 
 import itertools
 import json
-from typing import Any, Dict, List, NamedTuple, Optional, Sequence, Set, Tuple
+from typing import Any, Dict, List, NamedTuple, Optional, Sequence, Set
 
 from entities import Effect, Entities, Entity
 from twin import Twin
@@ -51,7 +51,7 @@ class Step(NamedTuple):
 
     @property
     def id(self) -> str:
-        return self.request["id"]
+        return str(self.request["id"])
 
     @property
     def group(self) -> Optional[str]:

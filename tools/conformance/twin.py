@@ -1,12 +1,13 @@
 """Compares what a request of a batch does with what the same request does alone, on entities of their own.
 
 Both are taken apart into parts by name, as the status, a header or a property, in which the keys and marks of the
-entity are replaced. What differs between two requests alone is not compared, but for whether it is there.
+entity are replaced. One is sent alone before the batch, and one after it: what differs between these two, as a time does, is
+not compared, but for whether it is there.
 """
 
 import re
-from typing import Any, Dict, Iterator, List, Mapping, NamedTuple, Optional, Sequence, Tuple
-from urllib.parse import quote
+from typing import Any, Callable, Dict, Iterator, List, Mapping, NamedTuple, Optional, Sequence, Tuple
+from urllib.parse import quote, urlsplit
 
 from entities import Entities, Entity
 from service import Answer
@@ -15,7 +16,10 @@ Parts = Dict[str, Any]
 
 HEADERS = {"location": "Location", "etag": "ETag", "preference-applied": "Preference-Applied"}
 # Control information whose value is a URL, which may be relative.
-LINKS = re.compile(r".*@(odata\.)?(context|id|editLink|readLink|nextLink)")
+LINKS = re.compile(r".*@(odata\.)?(id|editLink|readLink|nextLink)")
+CONTEXT = re.compile(r".*@(odata\.)?context")
+# What is compared only if both have it: a batch may have relative URLs.
+HOST = "the host of its Location"
 ETAGS = ("@odata.etag", "@etag")
 MISSING = "missing"
 
@@ -26,12 +30,12 @@ class Twin(NamedTuple):
     Attributes:
         entity: What the request of the batch is about.
         marks: What it writes to the text property.
-        alone: The parts of the requests alone.
+        alone: Returns the parts of two requests alone, and sends the second of them.
     """
 
     entity: Entity
     marks: Sequence[Any]
-    alone: Tuple[Parts, ...]
+    alone: Callable[[], Sequence[Parts]]
 
 
 def etag_of(headers: Mapping[str, str], value: Any) -> Optional[str]:
@@ -64,7 +68,9 @@ class Taking:
         found: Parts = {"the status": status}
         for name, shown in HEADERS.items():
             if name in headers:
-                found[shown] = self._plain(self._link(headers[name]) if name == "location" else headers[name])
+                found[shown] = self._plain(self._path(headers[name]) if name == "location" else headers[name])
+        if urlsplit(headers.get("location", "")).netloc:
+            found[HOST] = urlsplit(headers["location"]).netloc
         if value is not None:
             found["Content-Type"] = media_type(headers)
             found.update(self._body(value) if status < 400 else error_parts(value))
@@ -93,8 +99,15 @@ class Taking:
             self.names.append((key, "KEY"))
         return url
 
-    def _link(self, url: str) -> str:
-        return self.entities.service.address(url)
+    def _path(self, url: str) -> str:
+        """The path of a URL, with each character as itself."""
+        return urlsplit(self.entities.service.address(url)).path
+
+    def _member(self, name: str, value: Any) -> Any:
+        """The value of a member, in the form in which it is compared."""
+        if isinstance(value, str) and CONTEXT.fullmatch(name):
+            return value.partition("#")[2]
+        return self._path(value) if isinstance(value, str) and LINKS.fullmatch(name) else value
 
     def _plain(self, value: Any) -> Any:
         """A value with the entity's keys and marks replaced."""
@@ -111,7 +124,7 @@ class Taking:
         """The parts of a body, by their paths."""
         if isinstance(value, dict) and value:
             items: Iterator[Tuple[str, Any]] = iter(value.items())
-            joint = " ."
+            joint = "."
         elif isinstance(value, list) and value:
             items = ((str(at), it) for at, it in enumerate(value))
             joint = "/"
@@ -119,8 +132,7 @@ class Taking:
             return {path: self._plain(value) if value not in ({}, []) else str(value)}
         found: Parts = {path: type(value).__name__}
         for name, it in items:
-            is_link = isinstance(it, str) and LINKS.fullmatch(name)
-            found.update(self._body(self._link(it) if is_link else it, f"{path}{joint.strip()}{name}"))
+            found.update(self._body(self._member(name, it), f"{path}{joint}{name}"))
         return found
 
 
@@ -152,7 +164,8 @@ def differences(alone: Sequence[Parts], batch: Parts) -> List[str]:
     for name in dict.fromkeys([*first, *batch]):
         expected, value = first.get(name, MISSING), batch.get(name, MISSING)
         is_fixed = all(it.get(name, MISSING) == expected for it in others)
-        if expected != value and (is_fixed or MISSING in (expected, value)):
+        is_open = name == HOST and MISSING in (expected, value)
+        if expected != value and not is_open and (is_fixed or MISSING in (expected, value)):
             found.append(f"{name} is {shortened(value)}, and alone {shortened(expected)}")
     return found
 

@@ -124,7 +124,16 @@ def late_reference(stage: Stage) -> None:
         stage.act(f"drop{k}", "delete", subject, f"$new{k}", needs=[f"new{k}", f"look{k}"], promise="order")
 
 
+GROUPS = (
+    ("wait-for-group", "a read depends on a group whose last member comes late", look_at_group, ()),
+    ("group-waits", "the last member of a group depends on a late write", group_after_slow, ("named",)),
+    ("group-waits-for-group", "a group depends on a group that comes late", group_after_group, ("named",)),
+    ("reference-waits", "a reference to what a late write creates", late_reference, ()),
+)
+
+
 def waits() -> List[Case]:
+    """All cases of the order."""
     found = []
     for pair in PAIRS:
         name, shows = f"wait-{pair.first}-{pair.second}", f"{pair.shows}, after six writes in a row"
@@ -132,10 +141,4 @@ def waits() -> List[Case]:
     for place, name in enumerate(("first", "second", "third")):
         shows = f"a read depends on three requests, of which the {name} comes late"
         found.append(Case(f"wait-for-{name}", "order", shows, needs_several(place)))
-    return [
-        *found,
-        Case("wait-for-group", "order", "a read depends on a group whose last member comes late", look_at_group),
-        Case("group-waits", "order", "the last member of a group depends on a late write", group_after_slow, needs=["named"]),
-        Case("group-waits-for-group", "order", "a group depends on a group that comes late", group_after_group, needs=["named"]),
-        Case("reference-waits", "order", "a reference to what a late write creates", late_reference),
-    ]
+    return [*found, *(Case(name, "order", shows, write, needs=needs) for name, shows, write, needs in GROUPS)]

@@ -41,6 +41,9 @@ DEFECTS = (
     Defect("no_group_names", "group group-of-one", "named"),
     Defect("lower_case_groups", "groups-*", "named"),
     # what a request of a batch does
+    Defect("no_etags_in_batches", "alone-*", "alone"),
+    Defect("old_etags", "alone-patch*", "alone"),
+    Defect("no_preconditions", "alone-*-stale", "alone"),
     Defect("no_location", "alone-post*", "alone"),
     Defect("no_body_of_a_post", "alone-post*", "alone"),
     Defect("created_is_200", "alone-post*", "alone"),
@@ -100,7 +103,7 @@ DEFECTS = (
     Defect("references_without_rest", "reference-property reference-option", "reference"),
     Defect("shared_references", "reference-at-once", "reference", False),
 )
-# Of each variant, which breaks nothing, a promise of which nothing is judged, and a reason.
+# Of each variant, which breaks nothing, a promise of which nothing is judged, and a reason; None if all is judged.
 VARIANTS = {
     "refuses_groups": ("group", "the service refuses groups with 501 Groups are not supported"),
     "refuses_references": ("reference", "the service refuses references with 501 References are not supported"),
@@ -108,7 +111,8 @@ VARIANTS = {
     "own_keys": (None, "alone, no request fails by a key that is taken"),
     "hidden_keys": (None, "the service makes the keys itself"),
     "fixed_titles": (None, "no property of the body takes any text or number"),
-    "properties": (None, "the service has no ETags"),
+    "no_etags": (None, "the service has no ETags"),
+    "properties": (None, None),
     None: (None, "alone, $select is not applied"),
 }
 AT_ONCE = 4
@@ -172,7 +176,8 @@ class Defects(unittest.TestCase):
             with self.subTest(name):
                 status, value, files = self.found[name]
                 self.assertEqual((status, value["breaks"], value["left"], files), (0, [], [], {}))
-                self.assertIn(reason, {it["reason"] for it in value["notApplicable"]})
+                reasons = {it["reason"] for it in value["notApplicable"]}
+                self.assertIn(reason, reasons or {None})
                 for it in value["promises"]:
                     self.assertEqual(it["broken"], 0)
                     self.assertEqual(it["cases"], it["kept"] + it["notApplicable"])

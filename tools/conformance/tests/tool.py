@@ -38,7 +38,7 @@ def tool(*words, **options):
     """Runs the tool."""
     done = subprocess.run(
         [sys.executable, TOOL, *words],
-        stdin=subprocess.DEVNULL, stdout=subprocess.PIPE, stderr=subprocess.PIPE, text=True, timeout=3 * SECONDS,
+        stdin=subprocess.DEVNULL, stdout=subprocess.PIPE, stderr=subprocess.PIPE, text=True, timeout=15 * SECONDS,
         **options,
     )  # fmt: skip
     return Done(done.returncode, done.stdout, done.stderr)

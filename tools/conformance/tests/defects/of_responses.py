@@ -127,11 +127,38 @@ def count_started():
     Execution.__init__, Execution.answer = preparing, answering
 
 
+def without(answer, header):
+    """An answer without one of its headers."""
+    return answer._replace(headers={name: it for name, it in answer.headers.items() if name != header})
+
+
 def no_location():
     """What is created has no Location in a batch."""
-    change_answers(
-        lambda given, it: it._replace(headers={name: value for name, value in it.headers.items() if name != "Location"})
-    )
+    change_answers(lambda given, it: without(it, "Location"))
+
+
+def no_etags_in_batches():
+    """Responses of a batch have no ETag."""
+    change_answers(lambda given, it: without(it, "ETag"))
+
+
+def old_etags():
+    """The ETag that a PATCH of a batch returns is that of the first version."""
+
+    def change(given, answer):
+        is_patch = given["method"] == "patch" and answer.is_success
+        return answer._replace(headers={**answer.headers, "ETag": '"1"'}) if is_patch else answer
+
+    change_answers(change)
+
+
+def no_preconditions():
+    """If-Match is not looked at in a batch."""
+
+    def change(request):
+        return request._replace(headers={name: it for name, it in request.headers.items() if name != "if-match"})
+
+    change_requests(change)
 
 
 def no_body_of_a_post():
@@ -161,7 +188,8 @@ def body_as_text():
 
 def wrong_type():
     """Bodies in a batch have the type of a page."""
-    change_answers(lambda given, it: it._replace(headers={**it.headers, "Content-Type": "text/html"}) if it.body else it)
+    page = {"Content-Type": "text/html"}
+    change_answers(lambda given, it: it._replace(headers={**it.headers, **page}) if it.body else it)
 
 
 def no_request_headers():

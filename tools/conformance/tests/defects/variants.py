@@ -1,6 +1,5 @@
 """Services without a defect, or with one that no batch shows: a service may be like that."""
 
-import itertools
 import json
 import os
 import re
@@ -111,6 +110,20 @@ def fixed_titles_half_group():
     """Such a service, which commits what a failing group has done before its failure."""
     fixed_titles()
     half_group()
+
+
+def no_etags():
+    """The service has no ETags."""
+    perform = entities.perform
+
+    def performing(database, request):
+        answer = perform(database, request)
+        body = answer.body
+        if isinstance(body, dict):
+            body = {name: it for name, it in body.items() if name != "@etag"}
+        return answer._replace(body=body, headers={name: it for name, it in answer.headers.items() if name != "ETag"})
+
+    entities.perform = store.perform = performing
 
 
 def properties():
