@@ -7,6 +7,7 @@ installed`. The last line is `N parts, M failed`.
 """
 
 import hashlib
+import json
 import os
 import pwd
 import re
@@ -16,6 +17,9 @@ import sys
 import tarfile
 import tempfile
 import time
+import zipfile
+from contextlib import contextmanager
+from fnmatch import fnmatchcase
 
 sys.dont_write_bytecode = True
 
@@ -31,6 +35,7 @@ ARCHIVE = f"{TOP}.tar.gz"
 DOCS = "share/doc/odb_batch"
 SHARED = "lib/libodb_batch.so.0"
 LARGEST = 5_000_000
+UNLICENSED = "No licence has been granted yet"
 LIMIT = 120  # seconds of a command, but for a build, which may have to prove
 BUILD_LIMIT = 3600
 STRICT = ["-std=c99", "-Wall", "-Wextra", "-Werror", "-pedantic"]
@@ -65,10 +70,34 @@ def newest(path):
     return max((tuple(map(int, it.split("."))) for it in found), default=(0, 0))
 
 
+def names_of(page):
+    """What a page names by a path: of each the text, such as docs/scale.md or tests/."""
+    return {it.rstrip("/.") for it in re.findall(r"[\w.-]+(?:/[\w.-]+)*/?", page) if "/" in it}
+
+
+def paths_of_repository():
+    """The files and folders of the repository."""
+    listed = subprocess.run(["git", "-C", ROOT, "ls-files"], capture_output=True, text=True, check=True).stdout
+    found = set()
+    for path in listed.splitlines():
+        while path and path not in found:
+            found.add(path)
+            path = os.path.dirname(path)
+    return found
+
+
+def is_below(path, names):
+    """Whether a path is one of these names, or below one of them."""
+    return any(fnmatchcase(f"{path}/", f"{name.rstrip('/')}/*") for name in names)
+
+
 class Parts:
     """The parts, in the order in which they run: each a method, named after what it tests."""
 
-    HELPERS = ("path", "place", "text", "outside", "build_in", "addon", "compiled")
+    HELPERS = (
+        "path", "place", "text", "has", "outside", "build_in", "addon", "compiled", "installed_python", "service",
+        "readme_of_node",
+    )  # fmt: skip
     NEEDED = ("build", "unpack")
 
     def __init__(self, folder):
@@ -184,6 +213,36 @@ class Parts:
         logic = re.search(r"rattle-kit-\S+ (logic \w+)", self.text(f"{DOCS}/PROVED.md"))[1]
         wrong_unless(logic in self.text(f"{DOCS}/README.md"), f"README.md names another prover than that of {logic}")
 
+    def paths_in_pages(self):
+        """Each path of the repository that a page names is in the archive, or is said to be in the repository alone."""
+        readme = self.text(f"{DOCS}/README.md")
+        alone = re.findall("`([^`]+)`", re.search(r"(?s)The repository alone has (.*?)\n\n", readme)[1])
+        known, top = paths_of_repository(), self.place(DOCS)
+        for name in alone:
+            wrong_unless(any(is_below(it, [name]) for it in known), f"README.md says that the repository has {name}")
+        for folder, _, names in os.walk(top):
+            for name in filter(lambda it: it.endswith(".md"), names):
+                page = os.path.relpath(os.path.join(folder, name), top)
+                for path in names_of(self.text(f"{DOCS}/{page}")):
+                    meant = {path, os.path.normpath(os.path.join(os.path.dirname(page), path))} & known
+                    is_there = not meant or any(self.has(it) or is_below(it, alone) for it in meant)
+                    wrong_unless(is_there, f"{page} names {path}, which is not in the archive")
+
+    def has(self, path):
+        """Whether the archive has a file or a folder of the repository."""
+        return any(os.path.exists(self.place(it)) for it in (path, f"{DOCS}/{path}"))
+
+    def licence(self):
+        """The packages say that there is no licence."""
+        (name,) = os.listdir(self.place("python"))
+        with zipfile.ZipFile(self.place(f"python/{name}")) as package:
+            (metadata,) = [package.read(it).decode() for it in package.namelist() if it.endswith("/METADATA")]
+        wrong_unless(f"\nLicense: {UNLICENSED}\n" in metadata, "the wheel does not say that there is no licence")
+        for name in os.listdir(self.place("node")) if os.path.exists(self.place("node")) else []:
+            with tarfile.open(self.place(f"node/{name}")) as package:
+                said = json.load(package.extractfile("package/package.json")).get("license")
+            wrong_unless(said == "UNLICENSED", f"the package for Node says {said!r}")
+
     def symbols(self):
         """The libraries show the calls of the header, and need the C library alone."""
         words = [sys.executable, os.path.join(ROOT, "tools", "declarations.py"), self.place("lib")]
@@ -285,6 +344,49 @@ class Parts:
             file.write(block("python") + "import odb_batch\nprint(odb_batch.__version__)\n")
         self.outside(inside, page, wanted=f"Counts(requests=1, groups=0)\n['a']\n{VERSION}\n")
 
+    def installed_python(self):
+        """The Python of the environment in which the wheel is installed."""
+        inside = os.path.join(self.work, "venv", "bin", "python")
+        if not os.path.exists(inside):
+            raise Skipped("the wheel is not installed")
+        return inside
+
+    @contextmanager
+    def service(self):
+        """The service of the archive: its URL, while it runs."""
+        words = [self.installed_python(), self.place(f"{DOCS}/examples/service"), "--port", "0"]
+        log, variables = self.path("service.log"), {"PYTHONDONTWRITEBYTECODE": "1"}
+        with open(log, "wb") as file:
+            running = subprocess.Popen(words, cwd=self.work, env=variables, stderr=file, **user())
+        try:
+            found, end = None, time.monotonic() + LIMIT
+            while not found and running.poll() is None and time.monotonic() < end:
+                time.sleep(0.1)
+                found = re.search(r"listening on (\S+)\n", read(log).decode())
+            wrong_unless(found, f"the service does not start: {read(log).decode()}")
+            yield found[1]
+        finally:
+            running.terminate()
+            running.wait(LIMIT)
+
+    def conformance(self):
+        """The tool of the archive judges the service of the archive."""
+        with self.service() as url:
+            words = [url, "--set", "Books", "--key", "Id", "--body", '{"Title": "Emma"}']
+            tool = self.place(f"{DOCS}/tools/conformance")
+            said = self.outside(self.installed_python(), tool, *words, PYTHONDONTWRITEBYTECODE="1")
+        last = said.splitlines()[-1]
+        wrong_unless(re.fullmatch(r"\d+ cases, 0 of them broken", last), f"the tool says {said}")
+        print(last)
+
+    def audit(self):
+        """The audit of the archive finds the program of the archive."""
+        log = os.path.join(self.work, "log.jsonl")
+        with open(log, "w", encoding="utf-8") as file:
+            file.write('[{"requests":[]},{"responses":[]}]\n')
+        script = self.place(f"{DOCS}/examples/audit.py")
+        self.outside(self.installed_python(), script, log, wanted="ok 1\n", PATH=TOOLS, HOME=self.work)
+
     def node(self):
         """Installs the package for Node, without a network."""
         need("node")
@@ -301,6 +403,18 @@ class Parts:
             file.write(block("js") + "console.log(require('odb-batch').version)\n")
         wanted = f"{{ requests: 1, groups: 0 }} [ 'a' ]\n{VERSION}\n"
         self.outside("node", page, wanted=wanted, folder=folder, PATH=TOOLS)
+        self.readme_of_node(folder)
+
+    def readme_of_node(self, folder):
+        """The page of the installed package: each of its programs prints what it shows."""
+        text = read(os.path.join(folder, "node_modules", "odb-batch", "README.md")).decode()
+        programs, shown = (re.findall(rf"```{kind}\n(.*?)```", text, re.DOTALL) for kind in ("js", "text"))
+        wrong_unless(len(programs) == len(shown) > 0, "README.md of the package for Node has a program without its output")
+        for program, wanted in zip(programs, shown):
+            page = os.path.join(folder, "readme.js")
+            with open(page, "w", encoding="utf-8") as file:
+                file.write(program)
+            self.outside("node", page, wanted=wanted, folder=folder, PATH=TOOLS)
 
     def uninstall(self):
         """Deletes the folder, and nothing is left where it was unpacked."""

@@ -47,6 +47,7 @@ def _metadata():
         f"Name: {_setting('name')}",
         f"Version: {_setting('version')}",
         f"Summary: {_setting('description')}",
+        f"License: {_setting('license.text')}",
         f"Requires-Python: {_setting('requires-python')}",
         "Description-Content-Type: text/markdown",
     ]

@@ -9,7 +9,10 @@ import sys
 
 sys.dont_write_bytecode = True
 
-RUNNERS = ("cases", "manual", "completions", "cut", "sizes", "fuzz", "agree", "lines", "drawings", "schemas", "memory", "seeds")
+RUNNERS = (
+    "cases", "manual", "completions", "cut", "sizes", "fuzz", "agree", "lines", "scale", "audit", "drawings", "schemas",
+    "memory", "seeds",
+)  # fmt: skip
 
 
 def runner(name):
