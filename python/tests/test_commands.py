@@ -9,7 +9,8 @@ import unittest
 from unittest import mock
 
 import odb_batch
-from odb_batch import Fault, OdbError, PlannedRequest, Refused, Report, Start, canon, check, match, output, plan, replay, run
+from odb_batch import Fault, OdbError, PlannedRequest, Refused, Report, Start
+from odb_batch import canon, check, match, output, plan, replay, run
 
 BATCH = {
     "requests": [

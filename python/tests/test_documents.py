@@ -114,10 +114,12 @@ class Documents(unittest.TestCase):
         cyclic["a"] = [types.MappingProxyType(cyclic)]
         for value in (deep, cyclic):
             self.assertEqual(self.raised(value), "F02 NotJson batch")
-            for call in (lambda: match(BATCH, value), lambda: Run(BATCH, events=[Start("a"), Report("a", 200, None, value)])):
-                with self.assertRaises(Fault) as raised:
-                    call()
-                self.assertEqual(raised.exception.code, "F02")
+            with self.assertRaises(Fault) as raised:
+                match(BATCH, value)
+            self.assertEqual(str(raised.exception), "F02 NotJson responses")
+            with self.assertRaises(Fault) as raised:
+                Run(BATCH, events=[Start("a"), Report("a", 200, None, value)])
+            self.assertEqual(str(raised.exception), "F02 NotJson events")
 
     def test_finds_no_fault_where_the_stack_of_the_caller_is_used_up(self):
         with mock.patch("json.dumps", side_effect=RecursionError), self.assertRaises(RecursionError):
