@@ -27,6 +27,10 @@ from collections import Counter
 from concurrent.futures import ThreadPoolExecutor
 from contextlib import suppress
 from threading import Thread
+from typing import IO, Iterable, List, NoReturn, Optional, Tuple
+
+# How many lines have each fault, by its code, or none.
+Counts = Counter[Optional[str]]
 
 HERE = os.path.dirname(os.path.realpath(__file__))
 # A clone has this script in examples/, an archive of a release in share/doc/odb_batch/examples/.
@@ -40,7 +44,7 @@ INCOMPLETE, NOT_FOUND, INTERRUPTED = 3, 127, 130
 class Failed(Exception):
     """Why an audit has no result, and its exit status."""
 
-    def __init__(self, text, status=INCOMPLETE):
+    def __init__(self, text: str, status: int = INCOMPLETE) -> None:
         super().__init__(text)
         self.status = status
 
@@ -48,18 +52,18 @@ class Failed(Exception):
 class Parser(argparse.ArgumentParser):
     """Reports wrong arguments by one line."""
 
-    def error(self, message):
+    def error(self, message: str) -> NoReturn:
         self.exit(2, f"error: {message}\n")
 
 
-def jobs_of(text):
+def jobs_of(text: str) -> int:
     """The number of processes that an argument asks for."""
     if not re.fullmatch("[0-9]{1,4}", text) or not 1 <= int(text) <= 1000:
         raise argparse.ArgumentTypeError(f"{text!r} is not a whole number from 1 to 1000")
     return int(text)
 
 
-def arguments():
+def arguments() -> argparse.Namespace:
     parser = Parser(description="Counts the lines of a log of batches by their faults.")
     option = parser.add_argument
     option("log", help="a file with a line for each batch")
@@ -70,16 +74,17 @@ def arguments():
     return parser.parse_args()
 
 
-def printed(*words):
+def printed(*words: str) -> bytes:
     """What a program prints, or nothing if it does not run."""
     with suppress(OSError):
         return subprocess.run(words, stdin=subprocess.DEVNULL, stdout=subprocess.PIPE).stdout
     return b""
 
 
-def found_program(named):
+def found_program(named: Optional[str]) -> str:
     """The path of the program: the one that is named, else the first of its places that has one."""
-    path = next(filter(None, map(shutil.which, [named] if named else PLACES)), None)
+    paths = (shutil.which(place) for place in ([named] if named else PLACES))
+    path = next(filter(None, paths), None)
     if path is None:
         raise Failed(f"{named or 'odb_batch'} is not found; --program PATH names the program", NOT_FOUND)
     # A clone that has not built its program does so here, once and not in each process.
@@ -88,7 +93,7 @@ def found_program(named):
     return os.path.abspath(path)
 
 
-def found_log(named):
+def found_log(named: str) -> str:
     """The path of the log, whose parts are read from their places."""
     path = os.path.realpath(named)
     if os.path.exists(path) and not os.path.isfile(path):
@@ -96,7 +101,7 @@ def found_log(named):
     return path
 
 
-def lines_of(log):
+def lines_of(log: str) -> int:
     """How many lines a log has. What follows its last newline is one, unless it is empty."""
     count, last = 0, b"\n"
     with open(log, "rb") as file:
@@ -105,7 +110,7 @@ def lines_of(log):
     return count + (last != b"\n")
 
 
-def parts_of(log, parts):
+def parts_of(log: str, parts: int) -> List[Tuple[int, int]]:
     """Where the parts of a log begin and end: each but the first begins after the newline next to an even cut."""
     size = os.path.getsize(log)
     cuts = [0]
@@ -118,7 +123,7 @@ def parts_of(log, parts):
     return [(begin, end) for begin, end in zip(cuts, [*cuts[1:], size]) if begin < end]
 
 
-def feed(log, begin, end, pipe):
+def feed(log: str, begin: int, end: int, pipe: IO[bytes]) -> None:
     """Writes a part of a log to a process. If that fails, lines are missing among the counted ones."""
     with suppress(OSError), pipe, open(log, "rb") as file:
         file.seek(begin)
@@ -127,16 +132,18 @@ def feed(log, begin, end, pipe):
             begin += len(piece)
 
 
-def code_of(line):
+def code_of(line: bytes) -> Optional[str]:
     """The code of the fault that a line of the result has, or None."""
     return line[len(FAULT):].split(b'"', 1)[0].decode() if line.startswith(FAULT) else None
 
 
-def counted(lines):
+def counted(lines: Optional[Iterable[bytes]]) -> Counts:
+    """The counts of the lines that a process writes to its pipe."""
+    assert lines is not None
     return Counter(map(code_of, lines))
 
 
-def audit_part(command, log, begin, end):
+def audit_part(command: List[str], log: str, begin: int, end: int) -> Counts:
     """The counts of a part of a log, by a process of its own."""
     with subprocess.Popen(command, stdin=subprocess.PIPE, stdout=subprocess.PIPE) as process:
         feeder = Thread(target=feed, args=(log, begin, end, process.stdin))
@@ -148,26 +155,25 @@ def audit_part(command, log, begin, end):
     return counts
 
 
-def audit_by_own(program, command, log, jobs):
+def audit_by_own(program: str, command: str, log: str, jobs: int) -> Counts:
     words = [program, command, "--lines", "--json"]
     with ThreadPoolExecutor(jobs) as pool:
-        return sum(pool.map(lambda part: audit_part(words, log, *part), parts_of(log, jobs)), Counter())
+        return sum(pool.map(lambda part: audit_part(words, log, *part), parts_of(log, jobs)), Counts())
 
 
-def audit_by_parallel(program, command, log, jobs):
+def audit_by_parallel(program: str, command: str, log: str, jobs: int) -> Counts:
     words = ["parallel", "--plain", "--will-cite", "--pipe-part", "--block", "-1", "--jobs", str(jobs), "--arg-file", log]
     # The status of GNU parallel is how many jobs did not end with 0. One that refused lines has done its work.
     job = f'"$ODB_BATCH" {command} --lines --json || test $? -eq 1'
     variables = {**os.environ, "ODB_BATCH": program, "PARALLEL_SHELL": "/bin/sh"}
-    pipes = {"stdin": subprocess.DEVNULL, "stdout": subprocess.PIPE}
-    with subprocess.Popen([*words, job], env=variables, **pipes) as process:
+    with subprocess.Popen([*words, job], env=variables, stdin=subprocess.DEVNULL, stdout=subprocess.PIPE) as process:
         counts = counted(process.stdout)
     if process.returncode:
         raise Failed(f"parallel ended with status {process.returncode}")
     return counts
 
 
-def audit(options):
+def audit(options: argparse.Namespace) -> Counts:
     """The counts of all lines of a log."""
     program, log = found_program(options.program), found_log(options.log)
     lines = lines_of(log)
@@ -179,7 +185,7 @@ def audit(options):
     return counts
 
 
-def show(counts):
+def show(counts: Counts) -> None:
     """Prints how many lines each fault has, after those that have none."""
     if sys.stdout is None:
         raise Failed("standard output is closed")
@@ -192,7 +198,7 @@ def show(counts):
         raise Failed(f"standard output: {error.strerror}") from None
 
 
-def main():
+def main() -> int:
     options = arguments()
     try:
         counts = audit(options)
