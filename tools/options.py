@@ -1,8 +1,9 @@
-"""Compares the options that the help of each command lists with README.md and with the worked cases.
+"""Compares the options that the help of each command lists with README.md, the worked cases and the sources.
 
 The table of commands of README has each command and each option, and no other option. For each option of
-each command there is a call in tests/cases/. And `help` takes the commands that the program lists. The
-last line counts what was compared and what is missing.
+each command there is a call in tests/cases/. `help` takes the commands that the program lists. And each
+name of names.rt is in the table of the commands and is read from the command line, which has no name
+of its own. The last line counts what was compared and what is missing.
 """
 
 import argparse
@@ -20,6 +21,7 @@ from runners.helps import Texts, read_helps
 from runners.program import add_program, ready
 
 README = os.path.join(ROOT, "README.md")
+SOURCES = os.path.join(ROOT, "crates", "odb_batch", "src")
 HEAD = "| command or option | what it prints or does |"
 
 
@@ -73,11 +75,29 @@ def name_faults(commands):
         yield f"help takes {', '.join(taken)}; the program lists {', '.join(commands)}"
 
 
+def source(name):
+    with open(os.path.join(SOURCES, name), encoding="utf-8") as file:
+        return file.read()
+
+
+def source_faults():
+    """The names that the table of the commands or the command line leaves out, and those written there anew."""
+    table_of_commands, command_line = source("commands.rt"), source("command_line.rt")
+    for name in re.findall(r"pub const (\w+): &str", source("names.rt")):
+        if f"names::{name}" not in re.findall(r"names::\w+", table_of_commands):
+            yield f"commands.rt: no argument is called names::{name}"
+        is_read = f"names::{name}" in re.findall(r"names::\w+", command_line)
+        if not is_read and not name.endswith("_OPTION"):
+            yield f"command_line.rt: names::{name} is not read"
+    for literal in re.findall(r'get_\w+\("[^"]*"\)', command_line):
+        yield f"command_line.rt: {literal} is no name of names.rt"
+
+
 def main():
     parser = argparse.ArgumentParser(description="Compares the options of the help with README.md and the cases.")
     add_program(parser.add_argument)
     program, commands = read_helps(Texts(ready(parser.parse_args().program)))
-    found = [*readme_faults(program, commands), *case_faults(commands), *name_faults(commands)]
+    found = [*readme_faults(program, commands), *case_faults(commands), *name_faults(commands), *source_faults()]
     print(*found, sep="\n", end="\n" if found else "")
     count = sum(len(it.options) for it in commands.values())
     print(f"{len(commands)} commands, {count} options, {len(found)} missing")

@@ -307,20 +307,23 @@ fn task_named<'a>(name: &str, args: &ArgMatches<'a>) -> Result<Task<'a>, BadArgu
     }
 }
 
-/// The task without a command.
-const CHECK: Task<'static> = Task::Batch {
-    source: Source::StandardInput,
-    task: BatchTask::Check,
-    report: Report {
+/// Returns the task without a command.
+fn check_input<'a>() -> Task<'a> {
+    let report = Report {
         form: Form::Lines,
         quiet: false,
-    },
-};
+    };
+    Task::Batch {
+        source: Source::StandardInput,
+        task: BatchTask::Check,
+        report,
+    }
+}
 
 /// Returns the task that these arguments ask for.
 fn task_of<'a>(alloc: Global, args: &ArgMatches<'a>) -> Result<Task<'a>, BadArguments> {
     let Some((name, command)) = args.subcommand() else {
-        return Ok(CHECK);
+        return Ok(check_input());
     };
     match text_of(alloc, name, command)? {
         Some(text) => Ok(Task::Print(text)),
