@@ -40,6 +40,8 @@ PARTS = [
     ("random documents", "tests fuzz --mistakes"),
     ("commands against each other", "tests agree"),
     ("logs, a line each", "tests lines"),
+    ("ways to share a log", "tests scale"),
+    ("the audit of a log", "tests audit"),
     ("drawings of plans", "tests drawings"),
     ("documents against their schemas", "tests schemas"),
     ("library for other languages", "library/run.py"),

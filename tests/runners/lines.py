@@ -1,15 +1,13 @@
 """Compares the answers to the lines of logs with what single runs print of the documents in them.
 
 Logs are made of random documents, good ones and slightly damaged ones; of lines longer than a document may
-be; cut at each byte; and fed by a pipe that waits for each answer. The audit of examples/ counts a log. The
-last line is `N passed, N failed`.
+be; cut at each byte; and fed by a pipe that waits for each answer. The last line is `N passed, N failed`.
 """
 
 import json
 import os
 import pty
 import re
-import shutil
 import subprocess
 import sys
 import tempfile
@@ -157,29 +155,6 @@ def device_difference(program):
     return None if (done.stderr, done.returncode) == (b"error: write\n", 3) else "a full device is not noticed"
 
 
-def audited(program, log, words):
-    """The counts of an audit of a log of pairs."""
-    audit = [sys.executable, os.path.join(ROOT, "examples", "audit.py"), log, "--program", program, "--jobs", "3", *words]
-    done = subprocess.run(audit, capture_output=True, text=True, timeout=SECONDS)
-    return done.stdout + done.stderr, done.returncode
-
-
-def audit_difference(program):
-    """The audit of a log counts its lines by fault, by GNU parallel where it is installed and by processes of its own."""
-    responses = [b'{"responses":[{"id":"1","status":200}]}', b'{"responses":[]}']
-    lines = [b"[" + BATCH + b"," + responses[k % 7 == 0] + b"]" for k in range(1000)] + [b"[1]"]
-    with tempfile.TemporaryDirectory(prefix="lines-") as folder:
-        log = os.path.join(folder, "log.jsonl")
-        with open(log, "wb") as file:
-            file.write(b"".join(line + b"\n" for line in lines))
-        ways = [["--own"], *([[]] if shutil.which("parallel") else [])]
-        found = [audited(program, log, words) for words in ways]
-    if len(ways) == 1:
-        print("skipped: parallel is not installed")
-    wrong = [it for it in found if it != ("ok 857\nF07 1\nF73 143\n", 1)]
-    return f"an audit is {wrong[0]}" if wrong else None
-
-
 def more_options(option):
     option("--logs", type=int, default=8, metavar="N", help="how many logs of each command; 8")
     option("--count", type=int, default=25, metavar="N", help="how many lines a log has; 25")
@@ -192,7 +167,7 @@ def main():
     listed = fuzz.listed_options(program)
     with ThreadPoolExecutor(options.jobs) as pool:
         found = list(pool.map(lambda it: log_difference(program, listed, *it, options.count), logs))
-    found += [it(program) for it in (long_difference, cut_difference, device_difference, progress_difference, audit_difference)]
+    found += [it(program) for it in (long_difference, cut_difference, device_difference, progress_difference)]
     found += [talk_difference(program, words) for words in ([], ["--flush"])]
     failed = [it for it in found if it]
     print(*failed[:5], sep="\n", end="\n" if failed else "")
