@@ -55,5 +55,15 @@ module _ {W : Type 0} (contents : W → Option (List ℕ)) where
       part = record { ended = Done; text = text; so = (refl, refl); written = sent.part }
 
   -- an engine ends that has written all parts
-  pub Ends-sent : (text : List ℕ) (old new : Writing W) (result : Result (Unit {0}) EngineFault) (unit : Unit {0}) → result ≡ Ok unit → Sends contents text old new result → Ends contents (Prints text) ⊥ old new (Ok Done)
-  Ends-sent text old new result unit same sent = TODO
+  pub Ends-sent : (text : List ℕ) (old new : Writing W) (unit : Unit {0}) → Sends contents text old new (Ok unit) → Ends contents (Prints text) ⊥ old new (Ok Done)
+  Ends-sent text old new unit sent = record {
+    ended = record { text = text; so = (refl, refl); written = sent.whole };
+    read = (λ e. absurd (cc (e)), λ none. absurd none);
+    unread = λ e. absurd (cc (e));
+    write = (λ e. absurd (cc (e)), λ failed. absurd (never (sent.write.1 failed)));
+    part = λ e. absurd (cc (e));
+    memory = λ e. absurd (cc (e));
+  }
+    where
+      never : Ok unit ≡ Err faults.Write → ⊥
+      never e = cc (e)

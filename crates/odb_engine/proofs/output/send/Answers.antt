@@ -31,3 +31,29 @@ returns-in_err-send_response g c =
     exit-error (Ends contents (Prints (start ++ response_line done)) ⊥ old new) fault _ c.from_residual-in_err-send_response.ensures.1
     (Ends-failed contents (start ++ response_line done) old new fault (Sends-after contents start (response_line done) old mid new _ c.in_ok-send_text.ensures.whole
     (Sends-failed contents (response_text done) (newline ∷ []) mid new fault c.in_err-send_response.ensures)))
+
+pub returns-in_err-send_text-2 : goal.returns-in_err-send_text-2
+returns-in_err-send_text-2 g c =
+    let contents = g.W.Write.contents in
+    let start = c.args.start.now in
+    let done = c.args.done.now in
+    let old = c.args.output.now in
+    let first = c.send_text.new.output in
+    let second = c.send_response.new.output in
+    let new = c.send_text-2.new.output in
+    let fault = c.in_err-send_text-2.field-0.0 in
+    exit-error (Ends contents (Prints (start ++ response_line done)) ⊥ old new) fault _ c.from_residual-in_err-send_text-2.ensures.1
+    (Ends-failed contents (start ++ response_line done) old new fault (Sends-after contents start (response_line done) old first new _ c.in_ok-send_text.ensures.whole
+    (Sends-after contents (response_text done) (newline ∷ []) first second new _ c.in_ok-send_response.ensures.whole c.in_err-send_text-2.ensures)))
+
+pub returns : goal.returns
+returns g c =
+    let contents = g.W.Write.contents in
+    let start = c.args.start.now in
+    let done = c.args.done.now in
+    let old = c.args.output.now in
+    let first = c.send_text.new.output in
+    let second = c.send_response.new.output in
+    let new = c.send_text-2.new.output in
+    Ends-sent contents (start ++ response_line done) old new _ (Sends-after contents start (response_line done) old first new _ c.in_ok-send_text.ensures.whole
+    (Sends-after contents (response_text done) (newline ∷ []) first second new _ c.in_ok-send_response.ensures.whole c.in_ok-send_text-2.ensures))
