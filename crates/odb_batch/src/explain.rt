@@ -73,7 +73,12 @@ fn add_named(page: &mut Page, texts: &[&str], word: &str) {
 
 /// Tests whether one of these explanations has this code or name.
 fn has_named(texts: &[&str], word: &str) -> bool {
-    texts.iter().any(|text| is_named(text, word))
+    for text in texts {
+        if is_named(text, word) {
+            return true;
+        }
+    }
+    false
 }
 
 /// Tests whether a fault has this code or name.
