@@ -1,1 +1,3 @@
 mod DrawingLemmas
+mod RowLemmas
+mod ShownLemmas

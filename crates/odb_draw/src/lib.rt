@@ -4,5 +4,7 @@
 #![tactic(auto)]
 
 mod drawing;
+mod rows;
+mod shown;
 
 pub use drawing::drawing_text;
