@@ -1,5 +1,5 @@
 -- What a drawing has to know: the first request of a unit, and its parts.
-use Rattle.std.proofs.Common.{◌≡◌, ◌∙◌, ◌<◌, ◌+◌, ◌-◌, ◌==◌, ℕ, zero, suc, Bool, true, false, List, ◌++◌, Some, None, unwrap_or, length, slice_get, refl, sym, ap, subst, inl, inr, arith, append-nil, append_assoc, Result, Ok, Err, OnOk}
+use Rattle.std.proofs.Common.{◌≡◌, ◌∙◌, ◌<◌, ◌+◌, ◌==◌, ℕ, zero, suc, Bool, true, false, List, ◌++◌, Some, None, unwrap_or, length, slice_get, refl, sym, ap, subst, inl, inr, arith, append_assoc, Result, Ok, Err, OnOk}
 use Rattle.std.specs.List.{flat_map}
 use Rattle.std.proofs.lemmas.Bool.{cases_lt, eq-eqb, ne_eqb}
 use Rattle.odb_doc.specs.batch.Records.{Record}
