@@ -1,10 +1,11 @@
 -- What a call on a live run returns, and how the run changes.
 use Rattle.std.specs.Prelude.{◌≡◌, ◌≢◌, ◌<◌, ◌≤◌, ◌+◌, ℕ, List, [], Option, Some, None, min, true, false}
-use Rattle.serde_json.specs.Data.{Data}
+use Rattle.serde_json.specs.Data.{Data, depth}
 use Rattle.odb_doc.specs.declared.fault.DocFault.{DocFault}
 use Rattle.odb_doc.specs.declared.fault.DocFault.TheVariants as faults
 use Rattle.odb_doc.specs.declared.recorded.outcome.Outcome.{Outcome}
 use Rattle.odb_doc.specs.Documents.{IsDocument, RefusesDocument}
+use Rattle.odb_doc.specs.recorded.OutcomeValues.{IsShallow}
 use Rattle.odb_doc.specs.recorded.Parts.{HasParts, AreNoParts}
 use Rattle.odb_sched.specs.declared.policy.Policy.{Policy}
 use Rattle.odb_sched.specs.declared.refusal.StartRefusal.{StartRefusal}
@@ -77,19 +78,22 @@ pub data IsPart (bytes : List ℕ) : Option Data → Type 0 where
   Present : (d : Data) → IsDocument bytes d → IsPart bytes (Some d)
 
 -- The outcome has this status, and the headers and the body in these bytes. A status above 65,535 is as 65,535, which no run
--- takes either.
+-- takes either. The body nests at most 124 deep, so that a document of events can record the outcome.
 pub record IsReported (status : ℕ) (headers body : List ℕ) (outcome : Outcome) : Type 0 where
   pub headers_value : Option Data
   pub of_headers : IsPart headers headers_value
   pub body_value : Option Data
   pub of_body : IsPart body body_value
   pub parts : HasParts (min status 65535) headers_value body_value outcome
+  pub shallow : IsShallow outcome.body
 
--- no report has these headers and this body: one of them is no JSON, or they are not of the right form
+-- no report has these headers and this body: one of them is no JSON, they are not of the right form, or the body nests more
+-- than 124 deep
 pub data NoReport (headers body : List ℕ) : Type 0 where
   OfHeaders : (fault : DocFault) → fault ≢ faults.OutOfMemory → RefusesDocument fault headers → NoReport headers body
   OfBody : (fault : DocFault) → fault ≢ faults.OutOfMemory → RefusesDocument fault body → NoReport headers body
   OfParts : (headers_value body_value : Option Data) → IsPart headers headers_value → IsPart body body_value → AreNoParts headers_value body_value → NoReport headers body
+  OfDepth : (value : Data) → IsDocument body value → 124 < depth value → NoReport headers body
 
 -- What the report of a request returns. Nothing has changed but with 0.
 pub data Reports (old new : Session) (i status : ℕ) (headers body : List ℕ) (returned : ℕ) : Type 0 where

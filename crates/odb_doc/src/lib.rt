@@ -7,7 +7,8 @@
 //! [`Outcomes::read`] makes recorded outcomes of the value of a document of their own, and
 //! [`Outcomes::split`] returns what remains of it too; an [`Outcome`] is what a service answered.
 //! [`Events::read`] and [`Events::split`] do so for recorded events. [`is_whole`] returns whether a
-//! value can be written. [`status`] says what a status means, and [`text`] appends pieces of JSON text.
+//! value can be written, and [`nests_within`] whether it nests no deeper than a limit. [`status`] says
+//! what a status means, and [`text`] appends pieces of JSON text.
 #![tactic(auto)]
 
 mod batch;
@@ -17,6 +18,7 @@ mod document;
 mod fault;
 mod headers;
 pub mod laws;
+mod nesting;
 mod recorded;
 mod refusal;
 pub mod status;
@@ -27,6 +29,7 @@ pub use batch::Batch;
 pub use batch::request::Request;
 pub use document::{MAX_DOCUMENT_BYTES, parse};
 pub use fault::{DocFault, DocumentRule, Place, RequestRule, TextFault};
+pub use nesting::nests_within;
 pub use recorded::event::NamedEvent;
 pub use recorded::event_fault::{EventFault, EventRule};
 pub use recorded::events::Events;

@@ -157,9 +157,10 @@ pub extern "C" fn odb_run_start(run: &mut Handle, position: u32) -> u32
 /// which may be empty, as `null`, for none.
 ///
 /// Returns 0; or, with the run as it was, 21 for P1 or 22 for P2, the first that applies; 2 if there is
-/// no such position; 1 if the headers are not an object of strings whose names differ in lower case, or
-/// if the body is not JSON of whole numbers; and 4 if an allocation fails. All reports of a run together
-/// take O(requests + dependencies), beside O(n log n) for n bytes of headers and bodies.
+/// no such position; 1 if the headers are not an object of strings whose names differ in lower case, if
+/// the body is not JSON of whole numbers, or if the body nests more than 124 deep; and 4 if an allocation
+/// fails. All reports of a run together take O(requests + dependencies), beside O(n log n) for n bytes of
+/// headers and bodies.
 #[unsafe(no_mangle)]
 pub extern "C" fn odb_run_report(
     alloc: Global,
