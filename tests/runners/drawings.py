@@ -1,16 +1,18 @@
 """Reads drawings of plans as Graphviz does, and compares them with the plans.
 
-Batches are made at random, with URLs that would end a label or a statement if they were not quoted. The drawing of
-examples/usual.json is docs/usual.dot, from which `dot`, where it is installed, draws docs/usual.svg with --write. The
-last line is `N passed, N failed`.
+Batches are made at random: some with URLs that would end a label or a statement if they were not quoted, and some with
+levels of several rows. `dot`, where it is installed, shows each of the URLs, lays 300 requests out, and draws docs/usual.svg
+from docs/usual.dot, the drawing of examples/usual.json, with --write. The last line is `N passed, N failed`.
 """
 
+import html
 import json
 import os
 import re
 import shutil
 import subprocess
 import tempfile
+from collections import Counter
 from dataclasses import dataclass, field
 from random import Random
 
@@ -21,7 +23,13 @@ SECONDS = 60
 EXAMPLE = os.path.join(ROOT, "examples", "usual.json")
 TEXT = os.path.join(ROOT, "docs", "usual.dot")
 PICTURE = os.path.join(ROOT, "docs", "usual.svg")
-URLS = ('"', "\\", '\\"', '"]; x [label="', "x\\", "a\nb", "}", "<b>", "/* x", "// x", "# x", "\\N\\G", "ä" * 50, "\x01")
+URLS = (
+    '"', "\\", '\\"', '"]; x [label="', "x\\", "a\nb", "}", "<b>", "/* x", "// x", "# x", "\\N\\G", "\\l\\r", "ä" * 50, "\x01", "a\tb\r",
+    "&", "&amp;", "&lt;&#65;&nbsp;", "X?a=1&b=2", "ä" * 40, "ä" * 41, "&" * 41, "x" * 37 + "&amp;", "x" * 39 + '"y',
+)
+WIDTH = 12
+SIZES = (1, 1, 1, 1, 2, 5, 11, 12, 13, 30)
+LABEL = re.compile(r'(?:[^\\]|\\["\\n])*', re.S)
 TOKEN = re.compile(r'\s+|"(?P<text>(?:[^"\\]|\\.)*)"|(?P<name>[A-Za-z_][A-Za-z_0-9]*|[0-9]+)|(?P<mark>->|[][{}=;])', re.S)
 
 
@@ -29,9 +37,16 @@ class Unreadable(Exception):
     """A drawing that is not in the part of DOT that drawings use."""
 
 
+def read_label(text):
+    """What Graphviz shows of a label, which has no escapes but those of a quotation mark, a backslash and a new line."""
+    if not LABEL.fullmatch(text):
+        raise Unreadable(f"an escape in {text!r}")
+    return html.unescape(json.loads(f'"{text}"'))
+
+
 @dataclass
 class Drawing:
-    """What a drawing shows: labels of nodes, labels and nodes of clusters, nodes of ranks, and arrows."""
+    """What a drawing shows: labels of nodes, labels and nodes of clusters, styles and nodes of ranks, and arrows."""
 
     labels: dict = field(default_factory=dict)
     clusters: dict = field(default_factory=dict)
@@ -76,7 +91,7 @@ class Reader:
 
     def subgraph(self, drawing, name):
         """A cluster, or a rank, which has no name."""
-        label, rank, members = None, None, []
+        label, rank, style, members = None, None, {}, []
         self.next("{")
         while not self.sees("}"):
             member = self.next("name", "text")
@@ -85,7 +100,7 @@ class Reader:
                 value = self.next("name", "text")
                 label, rank = (value, rank) if member == "label" else (label, value)
             elif member == "node":
-                self.attributes()
+                style = self.attributes()
             else:
                 members.append(member)
             if self.sees(";"):
@@ -93,9 +108,9 @@ class Reader:
         self.next()
         if name is None:
             level, *members = members
-            drawing.ranks.setdefault((rank, level), []).extend(members)
+            drawing.ranks.setdefault((rank, level, style.get("style")), []).extend(members)
         else:
-            drawing.clusters.setdefault((name, json.loads(f'"{label}"')), []).extend(members)
+            drawing.clusters.setdefault((name, read_label(label)), []).extend(members)
 
     def statement(self, drawing):
         if self.sees("{"):
@@ -110,7 +125,7 @@ class Reader:
             self.next()
             drawing.arrows.append((name, self.next("name", "text"), self.attributes()))
         elif name != "node":
-            drawing.labels[name] = json.loads(f'"{self.attributes()["label"]}"')
+            drawing.labels[name] = read_label(self.attributes()["label"])
         else:
             self.attributes()
         return None
@@ -129,22 +144,51 @@ class Reader:
         return found
 
 
+def shown(text):
+    """A text as it is shown: at most 40 characters, and a blank for each control character."""
+    cut = text if len(text) <= 40 else text[:38] + ".."
+    return "".join(" " if character < " " else character for character in cut)
+
+
+def rows_of(plan):
+    """The row of each request in its level: a row has 12 at most, and a group larger than that has its rows to itself."""
+    units = [planned.get("group", at) for at, planned in enumerate(plan)]
+    sizes, rows, levels = Counter(units), [], {}
+    for at, planned in enumerate(plan):
+        row, used = levels.get(planned["level"], (0, 0))
+        begins = at == 0 or units[at - 1] != units[at]
+        before = sizes[units[at - 1]] if at else 0
+        if used == WIDTH or used and begins and (used + sizes[units[at]] > WIDTH or before > WIDTH):
+            row, used = row + 1, 0
+        rows.append(row)
+        levels[planned["level"]] = (row, used + 1)
+    return rows, {level: row for level, (row, _) in levels.items()}
+
+
+def named_row(level, row):
+    return f"level {level} row {row}" if row else f"level {level}"
+
+
 def drawn(requests, plan):
     """The drawing that a plan has, by its JSON form: an arrow from a group has the members of the group."""
     found, position, members = Drawing(), {}, {}
+    rows, ends = rows_of(plan)
     for at, (request, planned) in enumerate(zip(requests, plan)):
         name, group = str(at), planned.get("group")
-        found.labels[name] = f"{planned['id'][:40]}\n{request['method'].lower()} {request['url'][:40]}"
-        found.ranks.setdefault(("same", f"level {planned['level']}"), []).append(name)
+        found.labels[name] = f"{shown(planned['id'])}\n{request['method'].lower()} {shown(request['url'])}"
+        rank = ("same", named_row(planned["level"], rows[at]), "invis" if rows[at] else None)
+        found.ranks.setdefault(rank, []).append(name)
         position[planned["id"]] = name
         if group is not None:
             members.setdefault(group, []).append(name)
     for at, planned in enumerate(plan):
         for need in planned["needs"]:
             found.arrows.append((position.get(need) or members[need][0], str(at), members.get(need)))
-    for level in range(max((it["level"] for it in plan), default=0)):
-        found.arrows.append((f"level {level}", f"level {level + 1}", None))
-    found.clusters = {group[:40]: nodes for group, nodes in members.items()}
+    for level, end in sorted(ends.items()):
+        found.arrows += [(named_row(level, row), named_row(level, row + 1), None) for row in range(end)]
+    for level in range(max(ends, default=0)):
+        found.arrows.append((named_row(level, ends[level]), f"level {level + 1}", None))
+    found.clusters = {shown(group): nodes for group, nodes in members.items()}
     return found
 
 
@@ -175,6 +219,21 @@ def hostile(random):
     return batch
 
 
+def wide(random):
+    """A good batch with levels of several rows, in which groups are smaller and larger than a row."""
+    requests, names, count = [], [], random.randint(1, 80)
+    while len(requests) < count:
+        size, first = random.choice(SIZES), len(requests)
+        group = f"g{first}" if size > 1 or random.random() < 0.2 else None
+        needs = random.sample(names, min(len(names), random.choice((0, 0, 0, 1, 2))))
+        for at in range(first, first + size):
+            own = [f"r{at - 1}"] if at > first and random.random() < 0.1 else []
+            request = {"id": f"r{at}", "method": "post", "url": "Books", "dependsOn": needs + own}
+            requests.append(request if group is None else {**request, "atomicityGroup": group})
+        names.append(group or f"r{first}")
+    return {"requests": requests}
+
+
 def accepted(folder, batch):
     """Whether the batch is accepted with its hostile URLs."""
     done = subprocess.run([folder.binary, "check", batch], cwd=folder.path, capture_output=True, timeout=SECONDS)
@@ -184,7 +243,8 @@ def accepted(folder, batch):
 def differences(folder, count):
     """The faults of the drawings of random batches, or None for each that has none."""
     for k in range(count):
-        value = hostile(Random(f"drawings {k}"))
+        random = Random(f"drawings {k}")
+        value = wide(random) if k % 4 == 0 else hostile(random)
         batch = folder.write("batch.json", value)
         if accepted(folder, batch):
             yield difference(folder, batch, value)
@@ -201,17 +261,57 @@ def of_example(folder, write):
     return None if text == stands else "docs/usual.dot is not the drawing of examples/usual.json"
 
 
-def pictured(write):
-    """What `dot` says of the drawing of the example, or None."""
-    dot = shutil.which("dot")
-    if not dot:
-        print("skipped: dot is not installed")
-        return None
-    done = subprocess.run([dot, "-Tsvg", TEXT], capture_output=True, text=True, timeout=SECONDS)
-    if write and not done.returncode:
+def run_dot(form, text):
+    """What `dot` makes of a drawing; a warning is an error too."""
+    done = subprocess.run(["dot", f"-T{form}"], input=text, capture_output=True, text=True, timeout=SECONDS)
+    if done.returncode or done.stderr:
+        raise Unreadable(f"dot: status {done.returncode}, {done.stderr}")
+    return done.stdout
+
+
+def pictured(folder, write):
+    """What is wrong with the picture of the example, or None."""
+    with open(TEXT, encoding="utf-8") as file:
+        picture = run_dot("svg", file.read())
+    if write:
         with open(PICTURE, "w", encoding="utf-8") as file:
-            file.write(done.stdout)
-    return done.stderr or (f"dot: status {done.returncode}" if done.returncode else None)
+            file.write(picture)
+    return None
+
+
+def spelled(folder, url):
+    """What is wrong with the text that Graphviz shows for a URL, or None."""
+    batch = folder.write("batch.json", {"requests": [{"id": "a", "method": "get", "url": url}]})
+    if not accepted(folder, batch):
+        return None
+    nodes = json.loads(run_dot("json", folder.call("plan", "--dot", batch)))["objects"]
+    node = next(it for it in nodes if it["name"] == "0")
+    texts = [step["text"].rstrip() for step in node["_ldraw_"] if step["op"] == "T"]
+    wanted = ["a", f"get {shown(url)}".rstrip()]
+    return None if texts == wanted else f"Graphviz shows {texts}, and not {wanted}"
+
+
+def laid_out(folder, count):
+    """What is wrong with the layout of so many requests that depend on nothing, or None."""
+    requests = [{"id": f"r{at}", "method": "get", "url": "Books"} for at in range(count)]
+    text = folder.call("plan", "--dot", folder.write("batch.json", {"requests": requests}))
+    nodes = [line.split() for line in run_dot("plain", text).splitlines()]
+    rows = Counter(words[3] for words in nodes if words[0] == "node" and words[1].isdigit())
+    wide = sorted(rows.values(), reverse=True)
+    return None if wide == [WIDTH] * (count // WIDTH) else f"{count} requests have rows of {wide}"
+
+
+def by_graphviz(folder, write):
+    """The faults that Graphviz shows, or None for each trial without one."""
+    if not shutil.which("dot"):
+        print("skipped: dot is not installed")
+        return
+    trials = [(pictured, write), *((spelled, url) for url in URLS), (laid_out, 300)]
+    for trial, value in trials:
+        try:
+            yield trial(folder, value)
+        except (Unreadable, ValueError) as error:
+            yield str(error)
 
 
 def more_options(option):
@@ -223,7 +323,8 @@ def main():
     options = read_arguments("Compares drawings with the plans that they are of.", more_options)
     with tempfile.TemporaryDirectory(prefix="drawings-") as path, open(EXAMPLE, encoding="utf-8") as file:
         folder = agree.Folder(options.program, path)
-        tried = [of_example(folder, options.write), difference(folder, EXAMPLE, json.load(file)), pictured(options.write)]
+        tried = [of_example(folder, options.write), difference(folder, EXAMPLE, json.load(file))]
+        tried += by_graphviz(folder, options.write)
         tried += differences(folder, options.count)
     failed = [it for it in tried if it]
     print(*failed[:5], sep="\n", end="\n" if failed else "")

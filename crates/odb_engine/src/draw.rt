@@ -33,10 +33,10 @@ impl Command for Drawings {
 /// Draws the plan of the batch in a document, in the language DOT of Graphviz, or writes the line of its
 /// least fault.
 ///
-/// A request is a node, labeled with its identifier, method and URL, each cut to 40 characters. A group is
-/// a cluster, a dependency an arrow, and a level a rank. Every text is quoted, so that none can change the
-/// drawing. The arguments are those of [`crate::check_batch`], and so is the cost; the drawing is held in
-/// memory too.
+/// A request is a node, labeled with its identifier, method and URL. A group is a cluster, a dependency an
+/// arrow, and a level one rank or more, with at most 12 requests each. A text of more than 40 characters is
+/// cut, and every text is quoted, so that none can change the drawing. The arguments are those of
+/// [`crate::check_batch`], and so is the cost; the drawing is held in memory too.
 ///
 /// # Errors
 ///

@@ -1,6 +1,6 @@
 //! An outcome of headers and a body as JSON.
 
-ghost use Rattle.std.specs.Prelude.{◌≡◌, ◌≢◌, ◌↔◌, Err, option_map, min, IfOk, IfErr, IsTrue};
+ghost use Rattle.std.specs.Prelude.{◌≡◌, ◌≢◌, ◌⊎◌, ◌↔◌, Err, option_map, min, IfOk, IfErr, IsTrue};
 ghost use Rattle.serde_json.specs.View.{view};
 ghost use Rattle.odb_doc.specs.declared.fault.DocFault.TheVariants as faults;
 ghost use Rattle.odb_doc.specs.Documents.{RefusesDocument};
@@ -59,8 +59,8 @@ fn without(fault: DocFault) -> NoOutcome
 
 /// Returns whether the body nests at most 124 deep, as in a document of events, where it is three levels
 /// deeper.
-fn is_shallow(body: Option<&Value>) -> bool
-    ensures { IsTrue result ↔ IsShallow (option_map (λ body. view body.now) body.entry) }
+fn is_shallow(body: &Option<Value>) -> bool
+    ensures { IsTrue result ↔ IsShallow (option_map view body.now) }
 {
     match body {
         Some(value) => nests_within(value, 124),
@@ -87,6 +87,27 @@ fn outcome_with(
     }
 }
 
+/// Returns the outcome with these headers and this body, if the body nests no deeper than a recorded one.
+fn shallow_outcome_with(
+    alloc: Global,
+    status: u16,
+    headers: Option<Value>,
+    body: Option<Value>,
+) -> Result<Outcome, NoOutcome>
+    ensures some { IfOk result (λ outcome.
+        HasParts status (option_map view headers) (option_map view body) outcome
+        × IsShallow outcome.body) }
+    ensures refused { result ≡ Err none.Refused
+        → AreNoParts (option_map view headers) (option_map view body)
+        ⊎ ¬ IsShallow (option_map view body) }
+{
+    if is_shallow(&body) {
+        outcome_with(alloc, status, headers, body)
+    } else {
+        Err(NoOutcome::Refused)
+    }
+}
+
 /// Returns the outcome with this status and with the headers and the body in these bytes, which may
 /// be none. A status above 65,535 is as 65,535.
 pub fn outcome_of(
@@ -103,10 +124,7 @@ pub fn outcome_of(
         Err(fault) => return Err(without(fault)),
     };
     match part_of(alloc, body) {
-        Ok(body) if is_shallow(body.as_ref()) => {
-            outcome_with(alloc, status_of(status), headers, body)
-        }
-        Ok(_) => Err(NoOutcome::Refused),
+        Ok(body) => shallow_outcome_with(alloc, status_of(status), headers, body),
         Err(fault) => Err(without(fault)),
     }
 }

@@ -1,20 +1,15 @@
--- What a drawing has to know: texts that are cut, and the first request of a unit.
-use Rattle.std.proofs.Common.{◌≡◌, ◌∙◌, ◌<◌, ◌-◌, ◌==◌, ℕ, zero, suc, Bool, true, false, List, ◌++◌, Some, None, unwrap_or, length, slice_get, refl, sym, ap, subst, inl, inr, arith, append-nil, append_assoc, Result, Ok, Err, OnOk}
-use Rattle.std.specs.Fmt.{char_count, take_chars, padded}
+-- What a drawing has to know: the first request of a unit, and its parts.
+use Rattle.std.proofs.Common.{◌≡◌, ◌∙◌, ◌<◌, ◌+◌, ◌==◌, ℕ, zero, suc, Bool, true, false, List, ◌++◌, Some, None, unwrap_or, length, slice_get, refl, sym, ap, subst, inl, inr, arith, append_assoc, Result, Ok, Err, OnOk}
 use Rattle.std.specs.List.{flat_map}
 use Rattle.std.proofs.lemmas.Bool.{cases_lt, eq-eqb, ne_eqb}
 use Rattle.odb_doc.specs.batch.Records.{Record}
-use Rattle.odb_check.specs.Firsts.{first_below}
+use Rattle.odb_check.specs.Firsts.{first_below, joined_below}
 use Rattle.odb_check.specs.Levels.{level_at}
 use Rattle.odb_check.specs.Needs.{needs_at}
 use Rattle.odb_check.specs.PlanGraph.{PlanGraph, IsPlanGraphOf, IsSpan}
 use Rattle.odb_check.specs.Units.{unit_at}
-use Rattle.odb_text.specs.Drawings.{arrow_line, cluster_line, first_of_unit, lines_at, node_line, rank_line, request_lines}
-
--- a text that is shown with a precision of 40 and no width
-pub cut : (text : List ℕ) → padded (record { fill = 32; align = 0; plus = false; alternate = false; zero = false; width = 0; precision = 40 }) text ≡ take_chars 40 text
-unfolding padded take_chars
-cut text = let none : 0 - char_count (take_chars 40 text) ≡ 0 = omega arith in rw none (append-nil (take_chars 40 text))
+use Rattle.odb_text.specs.Drawings.{arrow_line, cluster_line, lines_at, node_line, rank_line, request_lines}
+use Rattle.odb_text.specs.Rows.{first_of_unit, row_at}
 
 none_passes : (n : ℕ) (test : ℕ → Bool) → ((k : ℕ) → k < n → test k ≡ false) → first_below n test ≡ None
 none_passes zero test fails = refl
@@ -45,7 +40,7 @@ first_member rs plan u from to is span =
 
 -- the lines of a request, part by part
 pub request_parts : (rs : List Record) (i : ℕ) (request : Record) → slice_get rs i ≡ Some request
-    → lines_at rs i ≡ node_line i request ++ cluster_line (unit_at rs i) i request.group ++ rank_line (level_at rs i) i ++ flat_map (arrow_line rs i) (needs_at rs i)
+    → lines_at rs i ≡ node_line i request ++ cluster_line (unit_at rs i) i request.group ++ rank_line (level_at rs i) (row_at rs i) i ++ flat_map (arrow_line rs i) (needs_at rs i)
 request_parts rs i request is = ap (request_lines rs i) is
 
 -- what four steps have appended, if the last of them succeeds
@@ -53,3 +48,15 @@ pub four_parts : {E : Type 0} (result : Result (Unit {0}) E) (start first second
     → first ≡ start ++ a → second ≡ first ++ b → third ≡ second ++ c → OnOk result (last ≡ third ++ d) → OnOk result (last ≡ start ++ (a ++ b ++ c ++ d))
 four_parts (Ok done) start first second third last a b c d one two three four = rw (four, three, two, one) (simp append_assoc)
 four_parts (Err fault) start first second third last a b c d one two three four = tt
+
+joined_more : (n : ℕ) (lists : ℕ → List ℕ) → joined_below n lists ++ lists n ≡ joined_below (n + 1) lists
+joined_more n lists = let same : suc n ≡ n + 1 = omega arith in ap (λ m. joined_below m lists) same
+
+-- what is appended, with one list more
+pub lines_more : (lists : ℕ → List ℕ) (n : ℕ) (start before after line : List ℕ) → before ≡ start ++ joined_below n lists → after ≡ before ++ line → line ≡ lists n → after ≡ start ++ joined_below (n + 1) lists
+lines_more lists n start before after line is more same =
+    more ∙ ap (λ text. before ++ text) same ∙ ap (λ text. text ++ lists n) is ∙ append_assoc start (joined_below n lists) (lists n) ∙ ap (λ text. start ++ text) (joined_more n lists)
+
+-- what five steps have made
+pub five_parts : (start first second third last a b c d e : List ℕ) → start ≡ a → first ≡ start ++ b → second ≡ first ++ c → third ≡ second ++ d → last ≡ third ++ e → last ≡ a ++ b ++ c ++ d ++ e
+five_parts start first second third last a b c d e one two three four five = rw (five, four, three, two, one) (simp append_assoc)

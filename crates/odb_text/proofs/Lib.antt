@@ -1,4 +1,6 @@
 mod DrawingLemmas
+mod RowLemmas
+mod ShownLemmas
 mod StatusLemmas
 mod TraceLemmas
 mod ResultLemmas

@@ -1,6 +1,8 @@
 -- What public clauses cite: it has to be believed.
 pub mod Lines
 pub mod Drawings
+pub mod Rows
+pub mod Shown
 pub mod Results
 pub mod Traces
 -- What serves invariants and private clauses alone: the results as JSON by their parts.

@@ -1,29 +1,22 @@
 //! A plan as a drawing in the language DOT of Graphviz.
 
-ghost use Rattle.std.specs.Prelude.{◌≡◌, ◌<◌, ◌++◌, ◌∷◌, [], All, Some, codes, length, option_copied, slice_get, IfOk, OnOk, string_bytes};
-ghost use Rattle.std.specs.Fmt.{take_chars};
+ghost use Rattle.std.specs.Prelude.{◌≡◌, ◌<◌, ◌+◌, ◌++◌, All, length, option_copied, IfOk, OnOk, string_bytes};
 ghost use Rattle.std.specs.List.{flat_map};
 ghost use Rattle.odb_doc.specs.batch.Records.{record_of};
-ghost use Rattle.odb_check.specs.Firsts.{joined_below};
-ghost use Rattle.odb_check.specs.Levels.{greatest_below, level_at};
+ghost use Rattle.odb_check.specs.Firsts.{joined_below, list_below};
 ghost use Rattle.odb_check.specs.PlanGraph.{IsNeed};
 ghost use Rattle.odb_check.specs.Plans.{plan_records, plan_graph};
 ghost use Rattle.odb_text.specs.Drawings as drawings;
+ghost use Rattle.odb_text.specs.Rows.{AreEnds, end_row, row_at};
+ghost use Rattle.odb_text.specs.Shown.{shown};
 
-use odb_check::laws::every_plan;
+use crate::rows::{Row, first_of_unit, rows_of};
+use crate::shown::push_shown;
 use odb_check::{Need, Plan};
 use odb_doc::Request;
 use odb_doc::text::push_quoted;
 use std::alloc::{AllocError, Global};
 use std::fmt::Write;
-
-/// Appends a text, cut to 40 characters.
-fn push_cut(text: &mut String, piece: &str) -> Result<(), AllocError>
-    ensures { OnOk result (string_bytes text.new
-        ≡ string_bytes text.old ++ take_chars 40 piece.now) }
-{
-    write!(text, "{piece:.40}").map_err(|_| AllocError)
-}
 
 /// Returns the label of a request.
 fn request_label(alloc: Global, request: &Request<'_>) -> Result<String, AllocError>
@@ -31,20 +24,20 @@ fn request_label(alloc: Global, request: &Request<'_>) -> Result<String, AllocEr
         ≡ drawings.request_label (record_of request.now)) }
 {
     let mut label = String::new(alloc);
-    push_cut(&mut label, request.id)?;
+    push_shown(&mut label, request.id)?;
     label.push_str("\n")?;
     label.push_str(request.method.name())?;
     label.push_str(" ")?;
-    push_cut(&mut label, request.url)?;
+    push_shown(&mut label, request.url)?;
     Ok(label)
 }
 
 /// Returns the label of a group.
 fn group_label(alloc: Global, group: &str) -> Result<String, AllocError>
-    ensures { IfOk result (λ label. string_bytes label ≡ take_chars 40 group.now) }
+    ensures { IfOk result (λ label. string_bytes label ≡ shown group.now) }
 {
     let mut label = String::new(alloc);
-    push_cut(&mut label, group)?;
+    push_shown(&mut label, group)?;
     Ok(label)
 }
 
@@ -84,25 +77,46 @@ fn push_cluster(
     }
 }
 
-/// Appends the rank of a request.
-fn push_rank(text: &mut String, level: u32, i: u32) -> Result<(), AllocError>
-    ensures { OnOk result (string_bytes text.new
-        ≡ string_bytes text.old ++ drawings.rank_line level i) }
+/// Returns the start of a rank.
+fn rank_start(row: u32) -> &'static str
+    ensures { result.now ≡ drawings.rank_start row }
 {
-    write!(
-        text,
-        "  {{ rank=same; node [shape=plaintext]; \"level {level}\"; {i} }}\n"
-    )
-    .map_err(|_| AllocError)
+    if row == 0 {
+        "  { rank=same; node [shape=plaintext]; "
+    } else {
+        "  { rank=same; node [shape=point style=invis]; "
+    }
 }
 
-/// Returns the first request of a unit.
-fn first_of_unit(plan: &Plan<'_>, unit: u32) -> u32
-    requires { unit < (plan_graph plan.now).unit_count }
-    ensures { result ≡ drawings.first_of_unit (plan_records plan.now) unit }
+/// Appends the end of the name of a row.
+fn push_row_end(text: &mut String, row: u32) -> Result<(), AllocError>
+    ensures { OnOk result (string_bytes text.new
+        ≡ string_bytes text.old ++ drawings.row_end row) }
 {
-    every_plan(plan);
-    plan.members(unit).start
+    if row == 0 {
+        text.push_str("\"")
+    } else {
+        write!(text, " row {row}\"").map_err(|_| AllocError)
+    }
+}
+
+/// Appends the name of a row of a level.
+fn push_row_name(text: &mut String, level: usize, row: u32) -> Result<(), AllocError>
+    ensures { OnOk result (string_bytes text.new
+        ≡ string_bytes text.old ++ drawings.row_name level row) }
+{
+    write!(text, "\"level {level}").map_err(|_| AllocError)?;
+    push_row_end(text, row)
+}
+
+/// Appends the rank of a request.
+fn push_rank(text: &mut String, level: usize, row: u32, i: u32) -> Result<(), AllocError>
+    ensures { OnOk result (string_bytes text.new
+        ≡ string_bytes text.old ++ drawings.rank_line level row i) }
+{
+    text.push_str(rank_start(row))?;
+    push_row_name(text, level, row)?;
+    write!(text, "; {i} }}\n").map_err(|_| AllocError)
 }
 
 /// Returns the request at which the arrow from a dependency begins.
@@ -151,8 +165,15 @@ fn push_arrows(text: &mut String, plan: &Plan<'_>, i: u32, needs: &[Need]) -> Re
 }
 
 /// Appends the lines of request `i`.
-fn push_request(alloc: Global, text: &mut String, plan: &Plan<'_>, i: u32) -> Result<(), AllocError>
-    requires { i < length (plan_records plan.now) }
+fn push_request(
+    alloc: Global,
+    text: &mut String,
+    plan: &Plan<'_>,
+    i: u32,
+    row: u32,
+) -> Result<(), AllocError>
+    requires within { i < length (plan_records plan.now) }
+    requires row { row ≡ row_at (plan_records plan.now) i }
     ensures { OnOk result (string_bytes text.new ≡ string_bytes text.old
         ++ drawings.lines_at (plan_records plan.now) i) }
 {
@@ -160,26 +181,31 @@ fn push_request(alloc: Global, text: &mut String, plan: &Plan<'_>, i: u32) -> Re
     let request = plan.request(i);
     push_node(alloc, text, i, request)?;
     push_cluster(alloc, text, plan.unit_of(i), i, request.group)?;
-    push_rank(text, plan.level(i), i)?;
+    push_rank(text, plan.level(i) as usize, row, i)?;
     push_arrows(text, plan, i, plan.needs(i))
 }
 
-/// Appends the lines of all requests.
-fn push_requests(alloc: Global, text: &mut String, plan: &Plan<'_>) -> Result<(), AllocError>
+/// Appends the lines of all requests, which are in these rows.
+fn push_requests(
+    alloc: Global,
+    text: &mut String,
+    plan: &Plan<'_>,
+    rows: &[u32],
+) -> Result<(), AllocError>
+    requires { rows.now ≡ list_below (length (plan_records plan.now)) (row_at (plan_records plan.now)) }
     ensures { OnOk result (string_bytes text.new ≡ string_bytes text.old
         ++ joined_below (length (plan_records plan.now))
         (drawings.lines_at (plan_records plan.now))) }
 {
     for i in 0..plan.len() {
-        push_request(alloc, text, plan, i)?;
+        push_request(alloc, text, plan, i, rows[i as usize])?;
     }
     Ok(())
 }
 
 /// Returns the greatest level of a request.
 fn greatest_level(plan: &Plan<'_>) -> u32
-    ensures { result ≡ greatest_below (length (plan_records plan.now))
-        (level_at (plan_records plan.now)) }
+    ensures value { result ≡ drawings.greatest_level (plan_records plan.now) }
 {
     let mut greatest = 0;
     for i in 0..plan.len() {
@@ -188,36 +214,80 @@ fn greatest_level(plan: &Plan<'_>) -> u32
     greatest
 }
 
-/// Appends the line that puts a level above the next one.
-fn push_level(text: &mut String, level: u32) -> Result<(), AllocError>
-    requires { level < 4294967295 }
+/// Appends the line that puts a row above another one.
+fn push_below(
+    text: &mut String,
+    level: usize,
+    row: u32,
+    next_level: usize,
+    next_row: u32,
+) -> Result<(), AllocError>
     ensures { OnOk result (string_bytes text.new
-        ≡ string_bytes text.old ++ drawings.level_line level) }
+        ≡ string_bytes text.old ++ drawings.below_line level row next_level next_row) }
 {
-    let next = level + 1;
-    write!(
-        text,
-        "  \"level {level}\" -> \"level {next}\" [style=invis]\n"
-    )
-    .map_err(|_| AllocError)
+    text.push_str("  ")?;
+    push_row_name(text, level, row)?;
+    text.push_str(" -> ")?;
+    push_row_name(text, next_level, next_row)?;
+    text.push_str(" [style=invis]\n")
+}
+
+/// Appends the lines that put each row of a level above the next one, up to the row `end`.
+fn push_rows_of(text: &mut String, level: usize, end: u32) -> Result<(), AllocError>
+    ensures { OnOk result (string_bytes text.new ≡ string_bytes text.old
+        ++ joined_below end (λ row. drawings.below_line level row level (row + 1))) }
+{
+    for row in 0..end {
+        push_below(text, level, row, level, row + 1)?;
+    }
+    Ok(())
+}
+
+/// Returns the last row of a level.
+fn end_of(plan: &Plan<'_>, ends: &[Row], level: usize) -> u32
+    requires ends { AreEnds (plan_records plan.now) ends.now }
+    requires within { level < length ends.now }
+    ensures { result ≡ end_row (plan_records plan.now) level }
+{
+    ends[level].number
+}
+
+/// Appends the lines that put each row of a level above the next one, level by level.
+fn push_rows(text: &mut String, plan: &Plan<'_>, ends: &[Row]) -> Result<(), AllocError>
+    requires { AreEnds (plan_records plan.now) ends.now }
+    ensures { OnOk result (string_bytes text.new ≡ string_bytes text.old
+        ++ joined_below (length ends.now) (drawings.row_lines (plan_records plan.now))) }
+{
+    for level in 0..ends.len() {
+        push_rows_of(text, level, end_of(plan, ends, level))?;
+    }
+    Ok(())
 }
 
 /// Appends the lines that put each level above the next one.
-fn push_levels(text: &mut String, greatest: u32) -> Result<(), AllocError>
-    ensures { OnOk result (string_bytes text.new
-        ≡ string_bytes text.old ++ joined_below greatest drawings.level_line) }
+fn push_levels(
+    text: &mut String,
+    plan: &Plan<'_>,
+    ends: &[Row],
+    greatest: u32,
+) -> Result<(), AllocError>
+    requires ends { AreEnds (plan_records plan.now) ends.now }
+    requires greatest { length ends.now ≡ greatest + 1 }
+    ensures { OnOk result (string_bytes text.new ≡ string_bytes text.old
+        ++ joined_below greatest (drawings.level_line (plan_records plan.now))) }
 {
-    for level in 0..greatest {
-        push_level(text, level)?;
+    for level in 0..greatest as usize {
+        push_below(text, level, end_of(plan, ends, level), level + 1, 0)?;
     }
     Ok(())
 }
 
 /// Returns the drawing of a plan.
 ///
-/// A request is a node, labeled with its identifier, method and URL, each cut to 40 characters. A group is a
-/// cluster, a dependency an arrow, and a level a rank. Every text is quoted as JSON quotes it, so that none
-/// can change the drawing. Takes O(n) time for a text of n bytes.
+/// A request is a node, labeled with its identifier, method and URL. A group is a cluster, a dependency an
+/// arrow, and a level one rank or more, with at most 12 requests each. A text of more than 40 characters
+/// is cut to 38 and two points. Every text is quoted, so that none can change the drawing, and Graphviz
+/// shows it as it is, with blanks for control characters. Takes O(n) time for n bytes of batch and text.
 ///
 /// # Errors
 ///
@@ -226,12 +296,15 @@ pub fn drawing_text(alloc: Global, plan: &Plan<'_>) -> Result<String, AllocError
     ensures { IfOk result (λ text. string_bytes text
         ≡ drawings.drawing_text (plan_records plan.now)) }
 {
+    let greatest = greatest_level(plan);
+    let rows = rows_of(alloc, plan, greatest)?;
     let mut text = String::from_str(
         alloc,
         "digraph plan {\n  compound=true; newrank=true; node [shape=box]\n",
     )?;
-    push_requests(alloc, &mut text, plan)?;
-    push_levels(&mut text, greatest_level(plan))?;
+    push_requests(alloc, &mut text, plan, &rows.of_requests)?;
+    push_rows(&mut text, plan, &rows.of_levels)?;
+    push_levels(&mut text, plan, &rows.of_levels, greatest)?;
     text.push_str("}\n")?;
     Ok(text)
 }

@@ -10,6 +10,8 @@ mod drawing;
 mod json;
 mod lines;
 mod plan;
+mod rows;
+mod shown;
 mod statuses;
 mod trace;
 

@@ -1,6 +1,6 @@
 use Rattle.odb_check.specs.Plans.{plan_graph, plan_records}
 use Rattle.odb_text.proofs.DrawingLemmas.{first_member}
-use Rattle.odb_text.proofs.drawing.first_of_unit.Goals as goal
+use Rattle.odb_text.proofs.rows.first_of_unit.Goals as goal
 
 pub returns : goal.returns
 returns c =
