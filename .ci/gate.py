@@ -31,6 +31,7 @@ PARTS = [
     ("the places of the faults", "tools/places.py"),
     ("the questions of the edits", "tools/edits.py"),
     ("commands and excerpts of pages", "tools/readme.py"),
+    ("options in README and in cases", "tools/options.py"),
     ("docs/faults.md", "tools/faults.py"),
     ("worked cases", "tests cases"),
     ("manual page", "tests manual --mistakes"),
