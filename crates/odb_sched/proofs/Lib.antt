@@ -7,6 +7,7 @@ pub mod PlanLemmas
 pub mod PhaseLemmas
 pub mod SatisfiedLemmas
 pub mod StartLemmas
+pub mod StartedLemmas
 pub mod CauseLemmas
 pub mod OneFaultLemmas
 pub mod StuckLemmas

@@ -3,20 +3,19 @@
 ghost use Rattle.std.specs.Prelude.{◌≡◌, ◌<◌, ◌&&◌, ◌||◌, ◌==◌, ℕ, true, false, not, nat_lt, length, find, replicate, slice_index_or, slice_set, count_by, IfOk, IfSome, IsSome, None, All};
 ghost use Rattle.odb_check.specs.PlanGraph as plan_graphs;
 ghost use Rattle.odb_dense.specs.Lists.{ListsOnce};
-ghost use Rattle.odb_sched.specs.declared.phase.Phase.TheVariants.{Unstarted, Running};
+ghost use Rattle.odb_sched.specs.declared.phase.Phase.TheVariants.{Unstarted};
 ghost use Rattle.odb_sched.specs.invariants.Ends.{IsEndOf};
 ghost use Rattle.odb_sched.specs.invariants.Counts as counts;
-ghost use Rattle.odb_sched.specs.run.State as state;
 ghost use Rattle.odb_check.specs.PlanGraph.{IsNeed};
-ghost use Rattle.odb_sched.specs.invariants.Kept.{state_of, first_of};
+ghost use Rattle.odb_sched.specs.invariants.Kept.{first_of};
 ghost use Rattle.odb_sched.specs.run.Steps.{satisfied_in};
 
+use crate::graph::Graph;
 use crate::order::End;
 use crate::phase::Phase;
 use crate::policy::Policy;
 use odb_check::Need;
 use odb_dense::{MinMaxSet, Worklist};
-use crate::graph::Graph;
 use std::alloc::{AllocError, Global};
 
 /// What is counted of a run beside the phases of its requests, which are read while it changes.
@@ -34,22 +33,13 @@ pub(crate) struct Progress {
     pub(crate) running: MinMaxSet,
 }
 
-/// Returns the number of dependencies of a request.
-fn needs_in(graph: &Graph, i: u32) -> usize
-    requires { i < length graph.now.plan_graph.units }
-    ensures { result ≡ counts.needs_in graph.now.plan_graph i }
-{
-    let needs = graph.needs(i);
-    needs.len()
-}
-
 /// Returns for each request the number of its dependencies.
 fn need_counts(alloc: Global, graph: &Graph) -> Result<Vec<usize>, AllocError>
     ensures { IfOk result (λ found. found.items ≡ counts.need_counts graph.now.plan_graph) }
 {
     let mut counts = Vec::with_capacity(alloc, graph.len() as usize)?;
     for i in 0..graph.len() {
-        counts.push(needs_in(graph, i))?;
+        counts.push(graph.needs(i).len())?;
     }
     Ok(counts)
 }
@@ -115,18 +105,6 @@ fn all_unstarted(alloc: Global, count: u32) -> Result<Vec<Phase>, AllocError>
     Ok(phases)
 }
 
-/// Moves a request that has started from the ready requests to the running ones. `phases[i]` is
-/// `Running` already.
-fn begin(graph: &Graph, phases: &[Phase], i: u32, progress: &mut Progress)
-    requires request { i < length graph.now.plan_graph.units }
-    requires runs { state.is_running (slice_index_or phases.now i Unstarted) ≡ true }
-    requires counts { counts.AreCounts graph.now.plan_graph (slice_set phases.now i Unstarted) progress.old }
-    ensures { counts.AreCounts graph.now.plan_graph phases.now progress.new }
-{
-    progress.ready.remove(i);
-    progress.running.insert(i);
-}
-
 /// How far a run has come: the phases of its requests, what is counted beside them, and whether an
 /// error has stopped it.
 #[derive(Drop)]
@@ -140,10 +118,11 @@ impl Counts {
     ghost use Rattle.odb_sched.specs.invariants.Kept.{IsCounted};
 
     /// Returns the counts before the first event.
-    pub(crate) fn new(alloc: Global, graph: &Graph, policy: Policy) -> Result<Counts, AllocError>
+    pub(crate) fn new(alloc: Global, graph: &Graph) -> Result<Counts, AllocError>
         ensures phases { IfOk result (λ counts. counts.phases.items
             ≡ replicate (length graph.now.plan_graph.units) Unstarted) }
-        ensures counts { IfOk result (IsCounted (first_of graph.now.plan_graph policy)) }
+        ensures counts { IfOk result (λ counts. (policy : Policy)
+            → IsCounted (first_of graph.now.plan_graph policy) counts) }
     {
         Ok(Counts {
             phases: all_unstarted(alloc, graph.len())?,
@@ -159,18 +138,6 @@ impl Counts {
         ensures rest { self.new ≡ record self.old { phases = self.new.phases } }
     {
         self.phases[i as usize] = phase;
-    }
-
-    /// Starts a request.
-    pub(crate) fn start(&mut self, graph: &Graph, policy: Policy, i: u32)
-        requires request { i < length graph.now.plan_graph.units }
-        requires unstarted { state.is_unstarted (slice_index_or self.old.phases.items i Unstarted) ≡ true }
-        requires counts { IsCounted (state_of graph.now.plan_graph policy self.old.phases.items) self.old }
-        ensures phases { self.new.phases.items ≡ slice_set self.old.phases.items i Running }
-        ensures counts { IsCounted (state_of graph.now.plan_graph policy self.new.phases.items) self.new }
-    {
-        self.put(i, Phase::Running);
-        begin(graph, &self.phases, i, &mut self.progress);
     }
 
     /// Returns whether a dependency is satisfied.
@@ -252,24 +219,5 @@ impl Counts {
             return None;
         }
         end.of(&mut self.progress.ready)
-    }
-
-    /// Returns the least or the greatest running position, or `None` if there is none.
-    pub(crate) fn running_at(&mut self, end: End) -> Option<u32>
-        ensures same { self.new ≡ self.old }
-        ensures none { result ≡ None
-            → (i : ℕ) → slice_index_or self.old.progress.running i false ≡ false }
-        ensures some { IfSome result (IsEndOf end self.old.progress.running) }
-    {
-        end.of(&mut self.progress.running)
-    }
-
-    /// Returns the running positions.
-    pub(crate) fn running(&self) -> &[u32]
-        ensures count { length result.now ≡ count_by (λ runs. runs) self.now.progress.running }
-        ensures listed { ListsOnce (length self.now.progress.running)
-            (λ i. slice_index_or self.now.progress.running i false) result.now }
-    {
-        self.progress.running.as_slice()
     }
 }

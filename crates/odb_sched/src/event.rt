@@ -3,8 +3,7 @@
 ghost use Rattle.std.specs.Prelude.{◌≡◌, ◌<◌, true, length, All, OnOk, IfOk, IfErr, IsErr, List, Some};
 ghost use Rattle.odb_check.specs.Plans.{plan_records};
 ghost use Rattle.odb_sched.specs.run.State as state;
-ghost use Rattle.odb_sched.specs.declared.event.Event.TheVariants.{Start, Report};
-ghost use Rattle.odb_sched.specs.run.Steps.{may_come, may_start, may_report};
+ghost use Rattle.odb_sched.specs.run.Steps.{may_come};
 ghost use Rattle.odb_sched.specs.run.Runs.{event_position, after_all, IsRunFrom, IsRun, state_after, RefusesEvent, Refuses};
 ghost use Rattle.odb_sched.specs.run.Laws.{StartsAfterDependencies, HasFewEvents};
 ghost use Rattle.std.specs.List.{AllZip};
@@ -34,37 +33,6 @@ pub enum Event {
     Report(u32, Outcome),
 }
 
-/// Starts request `i`, by the event at index `at` of its list, if it may start.
-fn take_start(scheduler: &mut Scheduler<'_>, at: usize, i: u32) -> Result<(), RunRefusal>
-    requires { i < state.size scheduler.old }
-    ensures allowed { OnOk result (may_start scheduler.old i ≡ true) }
-    ensures state { OnOk result (scheduler.new ≡ state.started scheduler.old i) }
-    ensures refused { IfErr result (RefusesEvent scheduler.old at (Start i)) }
-{
-    match scheduler.start(i) {
-        Ok(()) => Ok(()),
-        Err(cause) => Err(RunRefusal::Start { at, cause }),
-    }
-}
-
-/// Takes the outcome of request `i`, by the event at index `at` of its list, if it may come.
-fn take_report(
-    scheduler: &mut Scheduler<'_>,
-    at: usize,
-    i: u32,
-    outcome: Outcome,
-) -> Result<(), RunRefusal>
-    requires { i < state.size scheduler.old }
-    ensures allowed { OnOk result (may_report scheduler.old i outcome ≡ true) }
-    ensures state { OnOk result (scheduler.new ≡ state.reported scheduler.old i outcome) }
-    ensures refused { IfErr result (RefusesEvent scheduler.old at (Report i outcome)) }
-{
-    match scheduler.report(i, outcome) {
-        Ok(()) => Ok(()),
-        Err((cause, _)) => Err(RunRefusal::Report { at, cause }),
-    }
-}
-
 /// Takes the event at index `at` of its list, if it may come.
 fn take(scheduler: &mut Scheduler<'_>, at: usize, event: Event) -> Result<(), RunRefusal>
     requires { event_position event < state.size scheduler.old }
@@ -73,8 +41,14 @@ fn take(scheduler: &mut Scheduler<'_>, at: usize, event: Event) -> Result<(), Ru
     ensures refused { IfErr result (RefusesEvent scheduler.old at event) }
 {
     match event {
-        Event::Start(i) => take_start(scheduler, at, i),
-        Event::Report(i, outcome) => take_report(scheduler, at, i, outcome),
+        Event::Start(i) => match scheduler.start(i) {
+            Ok(()) => Ok(()),
+            Err(cause) => Err(RunRefusal::Start { at, cause }),
+        },
+        Event::Report(i, outcome) => match scheduler.report(i, outcome) {
+            Ok(()) => Ok(()),
+            Err((cause, _)) => Err(RunRefusal::Report { at, cause }),
+        },
     }
 }
 

@@ -1,6 +1,6 @@
 //! The numbers of a plan, and which requests depend on which.
 
-ghost use Rattle.std.specs.Prelude.{◌≡◌, ◌<◌, ◌≤◌, ◌+◌, ◌++◌, ◌↔◌, ℕ, [], All, length, slice_index_or, IfOk, OnOk, IsTrue};
+ghost use Rattle.std.specs.Prelude.{◌≡◌, ◌<◌, ◌≤◌, ◌+◌, ◌++◌, ◌↔◌, [], All, length, slice_index_or, IfOk, OnOk, IsTrue};
 ghost use Rattle.odb_check.specs.Plans.{plan_graph};
 ghost use Rattle.odb_check.specs.PlanGraph as plan_graphs;
 ghost use Rattle.odb_check.specs.PlanGraph.{IsNeed, IsSpan};
@@ -90,23 +90,15 @@ fn needs_of(alloc: Global, plan: &Plan<'_>) -> Result<Needs, AllocError>
     Ok(Needs { list, offsets })
 }
 
-/// Returns the key of a unit. The keys of units follow those of all requests.
-fn unit_key(plan: &Plan<'_>, u: u32) -> u32
-    requires { u < (plan_graph plan.now).unit_count }
-    ensures { result ≡ length (plan_graph plan.now).units + u }
-{
-    every_plan(plan);
-    plan.len() + u
-}
-
-/// Returns the key of a dependency.
+/// Returns the key of a dependency. The keys of units follow those of all requests.
 fn key_of(plan: &Plan<'_>, need: Need) -> u32
     requires { IsNeed (plan_graph plan.now) need }
     ensures { result ≡ needed.key_of (plan_graph plan.now) need }
 {
+    every_plan(plan);
     match need {
         Need::One(r) => r,
-        Need::Group(u) => unit_key(plan, u),
+        Need::Group(u) => plan.len() + u,
     }
 }
 

@@ -110,8 +110,8 @@ pub fn every_result(plan: &Plan<'_>)
     every_plan(plan);
 }
 
-/// Shows that the definitions above that compute mean what they should: the phase of a request is that
-/// of its start and its first report, `fails` is the least relation closed under its two rules, and a
+/// The definitions that compute agree with plain ones: the phase of a request is that of its start and
+/// its first report, `fails` is the least relation closed under its two rules, and a
 /// unit succeeds under a table of statuses if its members do and the other units that they depend on.
 pub fn definitions_agree(plan: &Plan<'_>)
     ensures phases { (policy : Policy) (events : List Event) (i : ℕ)

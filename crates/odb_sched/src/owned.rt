@@ -1,10 +1,9 @@
 //! A run that borrows nothing: which event may come, and what it changes.
 
-ghost use Rattle.std.specs.Prelude.{◌≡◌, ◌≢◌, ◌==◌, ◌<◌, ◌≤◌, ◌↔◌, ℕ, [], true, false, None, All, length, slice_set, replicate, IsTrue, IsOk, IfOk, IfErr, IfSome, OnOk, OnErr};
+ghost use Rattle.std.specs.Prelude.{◌≡◌, ◌≢◌, ◌==◌, ◌<◌, ◌≤◌, ◌↔◌, ℕ, [], true, false, None, All, length, IsTrue, IsOk, IfOk, IfErr, IfSome, OnOk, OnErr};
 ghost use Rattle.odb_check.specs.Plans.{plan_records};
 ghost use Rattle.odb_check.specs.PlanGraph.{unit_of};
 ghost use Rattle.odb_dense.specs.Lists.{ListsOnce};
-ghost use Rattle.odb_sched.specs.declared.phase.Phase.TheVariants.{Unstarted};
 ghost use Rattle.odb_sched.specs.declared.refusal.StartRefusal.TheVariants.{WidthReached};
 ghost use Rattle.odb_sched.specs.run.Choosing.{IsNext, IsNone, AllowsOrder, ReportsFirst, StartsFirst, ready_set, running_set};
 ghost use Rattle.odb_sched.specs.run.Steps.{IsStartCause, IsReportCause};
@@ -16,6 +15,7 @@ ghost use Rattle.odb_sched.specs.run.Steps as steps;
 
 use crate::counts::Counts;
 use crate::event::Step;
+use crate::graph::Graph;
 use crate::order::{End, Order};
 use crate::phase::Phase;
 use crate::policy::Policy;
@@ -23,7 +23,6 @@ use crate::refusal::{ReportRefusal, StartRefusal};
 use odb_check::Plan;
 use odb_doc::Outcome;
 use odb_doc::status::is_status;
-use crate::graph::Graph;
 use std::alloc::{AllocError, Global};
 use std::marker::Model;
 
@@ -79,7 +78,7 @@ impl OwnedRun {
         ensures { IfOk result (λ run. run ≡ first_of graph.plan_graph policy) }
     {
         graph.laws();
-        let counts = Counts::new(alloc, &graph, policy)?;
+        let counts = Counts::new(alloc, &graph)?;
         Ok(OwnedRun {
             graph,
             policy,
@@ -158,7 +157,9 @@ impl OwnedRun {
         if let Some(cause) = self.start_refusal(i) {
             return Err(cause);
         }
-        self.counts.start(&self.graph, self.policy, i);
+        self.counts.progress.ready.remove(i);
+        self.counts.progress.running.insert(i);
+        self.counts.put(i, Phase::Running);
         Ok(())
     }
 
@@ -212,7 +213,7 @@ impl OwnedRun {
         ensures within { All (λ i. i < state.size self.now) result.now }
         ensures width { length result.now ≤ self.now.policy.width }
     {
-        self.counts.running()
+        self.counts.progress.running.as_slice()
     }
 
     /// Returns the least or the greatest ready position, or `None` if there is none.
@@ -237,7 +238,7 @@ impl OwnedRun {
             × (state.is_running (state.phase_at self.old i) ≡ true)
             × IsAt end (running_set self.old) i) }
     {
-        self.counts.running_at(end)
+        end.of(&mut self.counts.progress.running)
     }
 
     /// Returns the report of the least or the greatest running position, or else the start of that

@@ -26,7 +26,7 @@ pub enum StartRefusal {
     #[error("the request waits for {0:?}")]
     Waiting(Need),
     /// S5: as many requests are running as the width allows.
-    #[error("as many requests run as may")]
+    #[error("the width limit is reached")]
     WidthReached,
 }
 
@@ -34,7 +34,7 @@ pub enum StartRefusal {
 #[derive(Clone, Copy, Debug, PartialEq, Eq, Error)]
 pub enum ReportRefusal {
     /// P1: the request is not running.
-    #[error("the request does not run")]
+    #[error("the request is not running")]
     NotRunning,
     /// P2: the status is not from 200 to 599.
     #[error("the status is not from 200 to 599")]

@@ -12,10 +12,10 @@ ghost use Rattle.odb_sched.specs.invariants.Propagation as propagation;
 ghost use Rattle.odb_sched.specs.run.Steps.{stops};
 
 use crate::counts::{Counts, Progress};
+use crate::graph::Graph;
 use crate::phase::Phase;
 use crate::policy::{Mode, Policy};
 use odb_doc::Outcome;
-use crate::graph::Graph;
 
 /// Counts one need of a request as satisfied. The last one makes the request ready, unless it has
 /// started or its unit has failed.
@@ -88,8 +88,8 @@ fn count_success(u: u32, progress: &mut Progress)
     progress.pending[u as usize] -= 1;
 }
 
-/// Handles a request that has succeeded: satisfies the needs of it, and those of its unit if it was
-/// the last of the members. `phases[i]` already holds the outcome.
+/// Marks each dependency on a request that has succeeded as satisfied, and each on its unit if it was the
+/// last member of the unit to succeed. `phases[i]` already holds the outcome.
 fn succeed(graph: &Graph, phases: &[Phase], i: u32, progress: &mut Progress)
     requires request { i < length graph.now.plan_graph.units }
     requires succeeded { state.has_succeeded (slice_index_or phases.now i Unstarted) ≡ true }

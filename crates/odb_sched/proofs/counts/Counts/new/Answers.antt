@@ -7,7 +7,7 @@ pub returns-clause-phases : goal.returns-clause-phases
 returns-clause-phases c = c.in_ok-all_unstarted.ensures ∙ ap (λ n. replicate n Unstarted) c.len.ensures.size
 
 pub returns-clause-counts : goal.returns-clause-counts
-returns-clause-counts c = record {
+returns-clause-counts c = λ policy. record {
   counts = c.in_ok-new.ensures;
-  stopped = sym (stopped_first c.args.policy.mode (length c.args.graph.now.plan_graph.units));
+  stopped = sym (stopped_first policy.mode (length c.args.graph.now.plan_graph.units));
 }

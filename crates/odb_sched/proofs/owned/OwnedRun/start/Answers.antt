@@ -1,10 +1,14 @@
 -- A start that is not refused may come, and the counts follow.
-use Rattle.std.proofs.Common.{rules, ◌≡◌, sym, subst, true, length, refl, ◌<◌, ◌≤◌, arith, IfSome}
+use Rattle.std.proofs.Common.{rules, ◌≡◌, ◌∙◌, ap, sym, subst, true, length, refl, ◌<◌, ◌≤◌, arith, IfSome}
 use Rattle.std.proofs.lemmas.Bool.{both_ways, false≢true}
 use Rattle.odb_sched.specs.run.State.{size}
 use Rattle.odb_sched.specs.run.Steps.{may_start, IsStartCause}
 use Rattle.odb_sched.specs.invariants.Kept.{state_of, kept_state, IsReached}
+use Rattle.std.proofs.lemmas.List.{length-map}
+use Rattle.odb_sched.specs.declared.counts.Counts.{Counts}
+use Rattle.odb_sched.specs.run.State.{is_running}
 use Rattle.odb_sched.proofs.StartLemmas.{may_start-parts}
+use Rattle.odb_sched.proofs.StartedLemmas.{counted_started}
 use Rattle.odb_sched.proofs.CauseLemmas.{not_held_back, start_barred}
 use Rattle.odb_sched.proofs.ReachedLemmas.{reached_started}
 use Rattle.odb_sched.proofs.owned.OwnedRun.start.Goals as goal
@@ -12,16 +16,26 @@ use Rattle.odb_sched.proofs.owned.OwnedRun.start.Goals as goal
 pub returns-in-Some-clause-allowed : goal.returns-in-Some-clause-allowed
 returns-in-Some-clause-allowed c = ((λ e. absurd (false≢true e)), (λ may. absurd (both_ways _ (start_barred c.args.self.now c.args.i c.in-Some.cause (subst (λ found. IfSome found (IsStartCause c.args.self.now c.args.i)) c.in-Some.is c.start_refusal.ensures.cause)) may)))
 
-pub start-requires-clause-unstarted : goal.start-requires-clause-unstarted
-start-requires-clause-unstarted c = (may_start-parts (kept_state c.self.inside) c.args.i (subst (λ state. may_start state c.args.i ≡ true) (sym c.self.view_is) (c.start_refusal.ensures.none c.in_default.is))).fresh
+pub remove-requires : goal.remove-requires
+remove-requires c = rw c.self.invariant.counts.counts.ready.entries.ready (subst (λ state. c.args.i < size state) (sym c.self.view_is) c.requires)
+
+pub insert-requires : goal.insert-requires
+insert-requires c = rw (ap length c.self.invariant.counts.counts.running ∙ length-map c.self.inside.counts.phases.items is_running ∙ c.self.invariant.reached.each) (subst (λ state. c.args.i < size state) (sym c.self.view_is) c.requires)
+
+pub put-requires : goal.put-requires
+put-requires c = rw c.self.invariant.reached.each (subst (λ state. c.args.i < size state) (sym c.self.view_is) c.requires)
 
 pub invariant_of-self : goal.invariant_of-self
-invariant_of-self c = record {
-  reached = subst (λ phases. IsReached (state_of c.self.inside.graph.plan_graph c.self.inside.policy phases)) (sym c.start.ensures.phases)
-      (reached_started _ c.args.i c.self.invariant.reached (subst (λ state. c.args.i < size state) (sym c.self.view_is) c.requires)
-      (subst (λ state. may_start state c.args.i ≡ true) (sym c.self.view_is) (c.start_refusal.ensures.none c.in_default.is)));
-  counts = c.start.ensures.counts;
-}
+invariant_of-self c =
+    let s = c.self.inside in
+    let within : c.args.i < length s.graph.plan_graph.units = subst (λ state. c.args.i < size state) (sym c.self.view_is) c.requires in
+    let may : may_start (kept_state s) c.args.i ≡ true = subst (λ state. may_start state c.args.i ≡ true) (sym c.self.view_is) (c.start_refusal.ensures.none c.in_default.is) in
+    record {
+      reached = subst (λ phases. IsReached (state_of s.graph.plan_graph s.policy phases)) (sym c.put.ensures.phases) (reached_started _ c.args.i c.self.invariant.reached within may);
+      counts = counted_started s.graph.plan_graph s.policy s.counts.phases.items c.put.new.self.phases.items s.counts c.put.new.self c.args.i c.remove.new.self c.insert.new.self within
+          (may_start-parts (kept_state s) c.args.i may).fresh c.self.invariant.counts c.remove.ensures c.insert.ensures c.put.ensures.phases
+          (ap (λ (t : Counts). t.progress) c.put.ensures.rest) (ap (λ (t : Counts). t.stopped) c.put.ensures.rest);
+    }
 
 pub returns-clause-allowed : goal.returns-clause-allowed
 returns-clause-allowed c = ((λ _. c.start_refusal.ensures.none c.in_default.is), (λ _. refl))
