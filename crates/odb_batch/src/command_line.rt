@@ -192,6 +192,7 @@ fn log_of<'a>(args: &ArgMatches<'a>, task: LineTask, report: Report) -> Option<T
         task,
         report,
         flush: args.get_flag(names::FLUSH),
+        numbered: args.get_flag(names::NUMBER),
     }))
 }
 

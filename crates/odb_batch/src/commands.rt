@@ -98,6 +98,12 @@ const FLUSH: Argument = Argument {
     help: "Write each line at once",
 };
 
+const NUMBER: Argument = Argument {
+    id: names::NUMBER,
+    kind: Kind::FlagOf(names::LINES),
+    help: "Print the number of its line with each fault, counted from 1",
+};
+
 const QUIET: Argument = Argument {
     id: names::QUIET,
     kind: Kind::ShortFlag('q'),
@@ -111,7 +117,7 @@ static CHECK: Row = Row {
     notes: "Example: odb_batch check batch.json\n\n\
         Exit status: 0 for a batch that is accepted, 1 for one with a fault, 2 for wrong arguments, \
         3 if a file or the output fails, 4 if out of memory",
-    arguments: &[FILE, RESULT, LINES, FLUSH, QUIET],
+    arguments: &[FILE, RESULT, LINES, FLUSH, NUMBER, QUIET],
 };
 
 static PLAN: Row = Row {
@@ -131,6 +137,7 @@ static PLAN: Row = Row {
         },
         LINES,
         FLUSH,
+        NUMBER,
         QUIET,
     ],
 };
@@ -142,7 +149,7 @@ static CANON: Row = Row {
     notes: "Example: odb_batch canon batch.json\n\n\
         Exit status: 0 for a text, 1 for a fault of the batch or a number that is not whole, \
         2 for wrong arguments, 3 if a file or the output fails, 4 if out of memory",
-    arguments: &[FILE, FAULT, LINES, FLUSH, QUIET],
+    arguments: &[FILE, FAULT, LINES, FLUSH, NUMBER, QUIET],
 };
 
 static REPLAY: Row = Row {
@@ -176,6 +183,7 @@ static REPLAY: Row = Row {
         FAULT,
         PAIRS,
         FLUSH,
+        NUMBER,
         QUIET,
     ],
 };
@@ -198,6 +206,7 @@ static MATCH: Row = Row {
         RESULT,
         PAIRS,
         FLUSH,
+        NUMBER,
         QUIET,
     ],
 };
@@ -222,6 +231,7 @@ static RUN: Row = Row {
         FAULT,
         PAIRS,
         FLUSH,
+        NUMBER,
         QUIET,
     ],
 };

@@ -6,6 +6,7 @@ use crate::command_line::{Report, Source};
 use crate::devices::{open, writer_of};
 use crate::ending::{Status, failed, finish};
 use crate::engines::Environment;
+use crate::numbered::NumberedLines;
 use crate::progress::Watched;
 use odb_engine::{
     Disposal, EachLine, Ended, EngineFault, LineCommand, LineInput, LineTask, Setup, answer_lines,
@@ -26,18 +27,21 @@ pub struct Log<'a> {
     pub report: Report,
     /// Whether each answer is written at once.
     pub flush: bool,
+    /// Whether each fault has the number of its line.
+    pub numbered: bool,
 }
 
 impl Log<'_> {
     /// Returns the command on each line. It frees the memory of a line before the next one.
-    fn command(&self, environment: Environment) -> EachLine {
-        EachLine {
+    fn command(&self, environment: Environment) -> NumberedLines {
+        let command = EachLine {
             task: self.task,
             setup: Setup {
                 disposal: Disposal::Drop,
                 ..environment.setup(self.report.form)
             },
-        }
+        };
+        NumberedLines::new(command, self.numbered)
     }
 }
 
@@ -70,17 +74,16 @@ fn answer_watched<R: Runtime + AllocGlobal, I: Read + Drop, W: Write>(
 ) -> Result<Ended, EngineFault>
     requires { output.old.failed ≡ false }
 {
-    let command = log.command(environment);
     let flush = log.flush || environment.stdout_is_terminal;
     let is_alone = environment.stderr_is_terminal && !environment.stdout_is_terminal;
     if is_alone && !log.report.quiet {
-        if let Ok(watched) = Watched::new(rt, command) {
+        if let Ok(watched) = Watched::new(rt, log.command(environment)) {
             let ended = answer(rt.alloc(), reader, output, &watched, flush);
             watched.end();
             return ended;
         }
     }
-    answer(rt.alloc(), reader, output, &command, flush)
+    answer(rt.alloc(), reader, output, &log.command(environment), flush)
 }
 
 /// Answers each line of a reader, and returns the exit status.

@@ -16,6 +16,7 @@ mod explain;
 mod log;
 mod man;
 mod names;
+mod numbered;
 mod page;
 mod parser;
 mod progress;

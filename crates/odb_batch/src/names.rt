@@ -37,4 +37,6 @@ pub const LINES: &str = "lines";
 
 pub const FLUSH: &str = "flush";
 
+pub const NUMBER: &str = "number";
+
 pub const QUIET: &str = "quiet";

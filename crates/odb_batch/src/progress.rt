@@ -1,9 +1,12 @@
 //! Shows the progress of a log on standard error.
 
+ghost use Rattle.std.specs.Prelude.{◌≡◌, ◌⊎◌};
+ghost use Rattle.odb_engine.specs.declared.ending.Ended.TheVariants.{Refused};
 ghost use Rattle.odb_engine.specs.Forms.{InForm};
-ghost use Rattle.odb_engine.specs.LineTasks as tasks;
+ghost use Rattle.odb_engine.specs.LineTasks.{OfLine};
 
-use odb_engine::{EachLine, Ended, EngineFault, LineCommand};
+use crate::numbered::NumberedLines;
+use odb_engine::{Ended, EngineFault, LineCommand};
 use odb_io::Output;
 use std::alloc::Global;
 use std::cell::Cell;
@@ -24,7 +27,7 @@ struct Counts {
 #[derive(Drop)]
 pub struct Watched<'r, R> {
     rt: &'r R,
-    command: EachLine,
+    command: NumberedLines,
     begun: Instant,
     /// The second that was shown last, counted from the start.
     shown: Cell<u64>,
@@ -37,7 +40,7 @@ impl<'r, R: Runtime> Watched<'r, R> {
     /// # Errors
     ///
     /// If the clock cannot be read.
-    pub fn new(rt: &'r R, command: EachLine) -> io::Result<Self> {
+    pub fn new(rt: &'r R, command: NumberedLines) -> io::Result<Self> {
         let counts = Counts {
             lines: 0,
             refused: 0,
@@ -100,8 +103,8 @@ impl<'r, R: Runtime> Watched<'r, R> {
 }
 
 impl<'r, R: Runtime> LineCommand for Watched<'r, R> {
-    ghost writes = { λ self line. InForm self.command.setup.form
-        (tasks.OfLine self.command.task self.command.setup.form line) };
+    ghost writes = { λ self line ended text. (ended ≡ Refused) ⊎ InForm self.command.command.setup.form
+        (OfLine self.command.command.task self.command.command.setup.form line) ended text };
 
     fn answer<W: Write>(
         &self,

@@ -1,0 +1,90 @@
+//! The command on each line of a log, which can number the faults.
+
+use odb_engine::{EachLine, Ended, EngineFault, Form, LineCommand, answer_line};
+use odb_io::Output;
+use std::alloc::{AllocError, Global};
+use std::cell::Cell;
+use std::io::Write;
+
+/// A task that is done on each line, and may print the number of the line with a fault.
+#[derive(Drop)]
+pub struct NumberedLines {
+    command: EachLine,
+    /// Whether each fault has the number of its line.
+    numbered: bool,
+    /// How many lines were answered.
+    count: Cell<u64>,
+}
+
+/// Returns the text of a fault with the number of its line: in front of its words, or as a member `line`
+/// beside the member `fault`.
+fn with_number(
+    alloc: Global,
+    form: Form,
+    number: u64,
+    fault: &[u8],
+) -> Result<Vec<u8>, AllocError> {
+    let mut text = Vec::new(alloc);
+    match form {
+        Form::Lines => {
+            text.extend_from_slice(format!(in alloc; "{number} ")?.as_bytes())?;
+            text.extend_from_slice(fault)?;
+        }
+        Form::Json => {
+            let end = fault.len().saturating_sub("}\n".len());
+            text.extend_from_slice(&fault[..end])?;
+            text.extend_from_slice(format!(in alloc; ",\"line\":{number}}}\n")?.as_bytes())?;
+        }
+    }
+    Ok(text)
+}
+
+impl NumberedLines {
+    /// Makes the command, before the first line.
+    pub fn new(command: EachLine, numbered: bool) -> Self {
+        NumberedLines {
+            command,
+            numbered,
+            count: Cell::new(0),
+        }
+    }
+
+    /// Returns the number of the next line, counted from 1.
+    fn next(&self) -> u64 {
+        let number = self.count.get().wrapping_add(1);
+        self.count.set(number);
+        number
+    }
+}
+
+impl LineCommand for NumberedLines {
+    ghost use Rattle.std.specs.Prelude.{◌≡◌, ◌⊎◌};
+    ghost use Rattle.odb_engine.specs.declared.ending.Ended.TheVariants.{Refused};
+    ghost use Rattle.odb_engine.specs.Forms.{InForm};
+    ghost use Rattle.odb_engine.specs.LineTasks.{OfLine};
+
+    ghost writes = { λ self line ended text. (ended ≡ Refused) ⊎ InForm self.command.setup.form
+        (OfLine self.command.task self.command.setup.form line) ended text };
+
+    fn answer<W: Write>(
+        &self,
+        alloc: Global,
+        line: &[u8],
+        output: &mut Output<W>,
+    ) -> Result<Ended, EngineFault> {
+        let EachLine { task, setup } = self.command;
+        let number = self.next();
+        let answer = answer_line(alloc, line, task, setup)?;
+        match answer.ended {
+            Ended::Refused if self.numbered => {
+                let text = with_number(alloc, setup.form, number, &answer.text)?;
+                output.put_all(&text)?;
+                Ok(Ended::Refused)
+            }
+            ended => {
+                output.put_all(&answer.text)?;
+                Ok(ended)
+            }
+        }
+    }
+}
