@@ -1,6 +1,6 @@
 //! The canonical text of one request.
 
-ghost use Rattle.std.specs.Prelude.{◌≡◌, ◌<◌, ◌+◌, ◌++◌, ◌∷◌, false, codes, length, map, option_map, string_bytes, OnOk};
+ghost use Rattle.std.specs.Prelude.{◌≡◌, ◌<◌, ◌+◌, ◌++◌, ◌∷◌, false, codes, length, map, string_bytes, OnOk};
 ghost use Rattle.serde_json.specs.Data.{string};
 ghost use Rattle.serde_json.specs.Written.{comma_if, compact_text};
 ghost use Rattle.odb_doc.specs.batch.Batches.{records};
@@ -9,8 +9,6 @@ ghost use Rattle.odb_doc.specs.Headers.{lent_header};
 ghost use Rattle.odb_doc.specs.canonical.CanonicalParts as canonical_parts;
 ghost use Rattle.odb_doc.specs.Texts.{member_part};
 ghost use Rattle.odb_doc.specs.Names.{texts_in};
-ghost use Rattle.odb_doc.specs.batch.Records.{record_of};
-ghost use Rattle.odb_doc.specs.WholeNumbers.{HasWholeBody};
 
 use crate::batch::Batch;
 use crate::batch::headers::Header;
