@@ -1,6 +1,6 @@
 //! An execution of a plan: its chooser, its service, its steps, and its faults.
 
-ghost use Rattle.std.specs.Prelude.{◌≡◌, ◌≢◌, ◌<◌, ◌≤◌, ◌+◌, ◌*◌, ℕ, true, List, [], length, Result, IfOk, IfErr, OnOk, Option, IfSome, IsSome, None, Some, Ok, Err, All, IsTrue, ◌↔◌};
+ghost use Rattle.std.specs.Prelude.{◌≡◌, ◌≢◌, ◌<◌, ◌≤◌, ◌+◌, ◌*◌, ℕ, true, [], length, Result, IfOk, IfErr, OnOk, Option, IfSome, IsSome, None, Some, Ok, Err, All};
 ghost use Rattle.odb_doc.specs.declared.fault.Place.TheVariants.{Request};
 ghost use Rattle.odb_exec.specs.Faults.{exec_row};
 ghost use Rattle.odb_exec.specs.declared.execution.ExecFault.TheVariants.{OutOfMemory};
@@ -13,8 +13,7 @@ ghost use Rattle.odb_sched.specs.run.State.{size, initial};
 ghost use Rattle.odb_sched.specs.run.Steps.{is_finished};
 ghost use Rattle.odb_sched.specs.run.Choosing.{Positions, positions_of, position_in, ready_set, running_set, MayTake, IsNext};
 ghost use Rattle.odb_exec.specs.Choices.{IsAmong};
-ghost use Rattle.odb_exec.specs.Calls.{Behind, Picks, IsCall, IsExecution, IsCutShort, IsBrokenOff, Faults};
-ghost use Rattle.odb_exec.specs.declared.service.ServiceFault.TheVariants as unanswered;
+ghost use Rattle.odb_exec.specs.Calls.{Behind, Picks, IsExecution, IsCutShort, IsBrokenOff, Faults};
 ghost use Rattle.odb_exec.specs.Courses.{IsReportEnabled, IsCausedBy};
 ghost use Rattle.odb_exec.specs.Advances.{IsTakenBy};
 ghost use Rattle.odb_sched.specs.run.Answers.{reported};
@@ -25,7 +24,7 @@ use crate::service::{Service, ServiceFault};
 use odb_check::Plan;
 use odb_doc::{Fault, Outcome, Place, Refusal};
 use odb_sched::laws::every_run;
-use odb_sched::{Done, Policy, ReportRefusal, Scheduler, Step};
+use odb_sched::{Done, Policy, Scheduler, Step};
 use std::alloc::{AllocError, Global};
 use thiserror::Error;
 
@@ -135,24 +134,6 @@ fn next_step(scheduler: &mut Scheduler<'_>, chooser: &mut dyn Chooser) -> Option
     }
 }
 
-/// Returns the fault of a request whose outcome is not accepted.
-fn bad_status(i: u32, _refused: (ReportRefusal, Outcome)) -> ExecFault
-    ensures { result ≡ faults.BadStatus i }
-{
-    ExecFault::BadStatus(i)
-}
-
-/// Asks the service for the outcome of a request.
-fn perform<S: Service>(plan: &Plan<'_>, service: &mut S, i: u32) -> Result<Outcome, ServiceFault>
-    requires { i < length (plan_records plan.now) }
-    ensures asked { IsCall S.performs (plan_records plan.now) i result service.old service.new }
-    ensures offered { result ≢ Err unanswered.OutOfMemory → S.offers service.old i result }
-    ensures narrows { (j : ℕ) (answer : Result Outcome ServiceFault) → j ≢ i
-        → S.offers service.new j answer → S.offers service.old j answer }
-{
-    service.perform(i, plan.request(i))
-}
-
 /// Asks the service for the outcome of a running request, and reports it.
 fn report<S: Service>(
     scheduler: &mut Scheduler<'_>,
@@ -172,7 +153,7 @@ fn report<S: Service>(
     ensures faulty { IfErr result (λ cause. Faults S.performs (plan_records plan.now)
         (λ j. j ≡ i) cause service.old service.new) }
 {
-    let outcome = match perform(plan, service, i) {
+    let outcome = match service.perform(i, plan.request(i)) {
         Ok(outcome) => outcome,
         Err(ServiceFault::NoOutcome) => return Err(ExecFault::NoOutcome(i)),
         Err(ServiceFault::Failed) => return Err(ExecFault::Service(i)),
@@ -180,7 +161,7 @@ fn report<S: Service>(
     };
     match scheduler.report(i, outcome) {
         Ok(()) => Ok(()),
-        Err(refused) => Err(bad_status(i, refused)),
+        Err(_) => Err(ExecFault::BadStatus(i)),
     }
 }
 

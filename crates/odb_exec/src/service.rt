@@ -1,6 +1,6 @@
 //! What performs the requests of an execution: a service, or a record of outcomes.
 
-ghost use Rattle.std.specs.Prelude.{◌≡◌, ◌<◌, ℕ, None, Some, length, map, replicate, slice_set, string_bytes, IfOk, Err, String};
+ghost use Rattle.std.specs.Prelude.{◌≡◌, ◌<◌, ℕ, None, Some, length, map, replicate, slice_set, IfOk, Err, String};
 ghost use Rattle.std.specs.declared.alloc.Global.{Global};
 ghost use Rattle.odb_check.specs.Plans.{plan_records};
 ghost use Rattle.odb_exec.specs.Recordings.{recorded_for, noted_at};
@@ -91,14 +91,6 @@ fn none_for_each(alloc: Global, count: u32) -> Result<Vec<Option<Outcome>>, Allo
     Ok(outcomes)
 }
 
-/// Records the outcome of the request at a position, in place of one recorded before.
-fn put(outcomes: &mut [Option<Outcome>], i: u32, outcome: Outcome)
-    requires { i < length outcomes.old }
-    ensures { outcomes.new ≡ slice_set outcomes.old i (Some outcome) }
-{
-    outcomes[i as usize] = Some(outcome);
-}
-
 /// Records the outcome of the request with this id. An id that the plan does not have is ignored.
 fn note(plan: &Plan<'_>, outcomes: &mut [Option<Outcome>], id: &str, outcome: Outcome)
     requires { length outcomes.old ≡ length (plan_records plan.now) }
@@ -106,7 +98,7 @@ fn note(plan: &Plan<'_>, outcomes: &mut [Option<Outcome>], id: &str, outcome: Ou
         outcome }
 {
     if let Some(i) = plan.position_of(id) {
-        put(outcomes, i, outcome);
+        outcomes[i as usize] = Some(outcome);
     }
 }
 

@@ -109,26 +109,6 @@ fn buffer_responses<W: Write>(
     Ok(buffer.push_str("]}")?)
 }
 
-/// Writes a response whose bodies hold only whole numbers.
-fn write_whole<W: Write>(
-    alloc: Global,
-    output: &mut Output<W>,
-    done: &Done<'_>,
-) -> Result<(), ReplyFault>
-    requires works { output.old.failed ≡ false }
-    requires whole { HasWholeBodies done.now }
-    ensures ok { OnOk result (Appends (W.contents output.old.writer) (W.contents output.new.writer)
-        (response_text done.now)) }
-    ensures err { OnErr result (AppendsPrefix (W.contents output.old.writer)
-        (W.contents output.new.writer) (response_text done.now)) }
-    ensures write { (result ≡ Err ReplyFault.Write) ↔ IsTrue output.new.failed }
-    ensures whole { (at : ℕ) → result ≢ Err (faults.NotWhole at) }
-{
-    let mut buffer = String::from_str(alloc, "{\"responses\":[")?;
-    buffer_responses(alloc, output, &mut buffer, done)?;
-    Ok(output.put_text(buffer.as_str())?)
-}
-
 /// Writes the response to a batch whose run has finished (OData JSON Format 4.01, section 19.5): the
 /// text that [`crate::response_text`] returns. The writer is not flushed.
 ///
@@ -165,5 +145,7 @@ pub fn write_responses<W: Write>(
     if let Some(at) = first_not_whole(done) {
         return Err(ReplyFault::NotWhole { at: at as usize });
     }
-    write_whole(alloc, output, done)
+    let mut buffer = String::from_str(alloc, "{\"responses\":[")?;
+    buffer_responses(alloc, output, &mut buffer, done)?;
+    Ok(output.put_text(buffer.as_str())?)
 }

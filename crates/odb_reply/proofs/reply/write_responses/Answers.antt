@@ -1,7 +1,9 @@
-use Rattle.std.proofs.Common.{Result, Ok, Err, OnOk, refl}
+use Rattle.std.proofs.Common.{refl, rules, string_bytes, subst}
 use Rattle.odb_reply.specs.Responses.{response_text}
 use Rattle.odb_reply.proofs.ReadableLemmas.{readable-from}
-use Rattle.odb_io.proofs.WriteLemmas.{AppendsPrefix-none}
+use Rattle.odb_io.specs.Devices.{HasWritten, AppendsPrefix}
+use Rattle.odb_reply.proofs.RestLemmas.{response_text-begun}
+use Rattle.odb_io.proofs.WriteLemmas.{AppendsPrefix-none, AppendsPrefix-after, Appends-rest}
 use Rattle.odb_reply.proofs.reply.write_responses.Goals as goal
 
 pub returns-in-Some-clause-err : goal.returns-in-Some-clause-err
@@ -13,10 +15,39 @@ returns-in-Some-clause-write g c = (λ e. absurd (cc (e)), λ failed. absurd (cc
 pub returns-in-Some-clause-unwritten : goal.returns-in-Some-clause-unwritten
 returns-in-Some-clause-unwritten g c = λ at same. refl
 
-on_ok : {T E A : Type 0} (result : Result T E) → A → OnOk result A
-on_ok (Ok x) a = a
-on_ok (Err e) a = tt
-
 pub returns-clause-reads_back : goal.returns-clause-reads_back
-returns-clause-reads_back g c = on_ok c.write_whole.result (λ shallow.
-    c.every_response.ensures.reads_back (readable-from c.args.done.now (c.in_default.ensures.held refl) (c.in_default.ensures.none refl) shallow))
+returns-clause-reads_back g c = λ shallow.
+    c.every_response.ensures.reads_back (readable-from c.args.done.now (c.in_default.ensures.held refl) (c.in_default.ensures.none refl) shallow)
+
+pub returns-in_err-buffer-clause-err : goal.returns-in_err-buffer-clause-err
+returns-in_err-buffer-clause-err g c =
+    let part = AppendsPrefix-none (g.W.Write.contents c.args.output.now.writer) (response_text c.args.done.now) in
+    search (rules, part)
+
+pub returns-in_err-buffer_responses-clause-err : goal.returns-in_err-buffer_responses-clause-err
+returns-in_err-buffer_responses-clause-err g c =
+    let contents = g.W.Write.contents in
+    let begun = response_text-begun c.args.done.now (string_bytes c.in_ok-buffer.buffer) c.in_ok-buffer.ensures.ok in
+    let part = subst (λ text. AppendsPrefix (contents c.args.output.now.writer) (contents c.buffer_responses.new.output.writer) text) begun c.in_err-buffer_responses.ensures.err in
+    search (rules, part)
+
+pub returns-in_err-put_text-clause-err : goal.returns-in_err-put_text-clause-err
+returns-in_err-put_text-clause-err g c =
+    let contents = g.W.Write.contents in
+    let state = c.args.done.now in
+    let old = contents c.args.output.now.writer in
+    let mid = contents c.buffer_responses.new.output.writer in
+    let last = string_bytes c.buffer_responses.new.buffer in
+    let written = subst (λ text. HasWritten old mid text last) (response_text-begun state (string_bytes c.in_ok-buffer.buffer) c.in_ok-buffer.ensures.ok) c.in_ok-buffer_responses.ensures.ok in
+    let part = AppendsPrefix-after old mid (contents c.put_text.new.self.writer) (response_text state) last written (rw c.as_str.ensures.value at c.in_err-put_text.ensures.err) in
+    search (rules, part)
+
+pub returns-clause-ok : goal.returns-clause-ok
+returns-clause-ok g c =
+    let contents = g.W.Write.contents in
+    let state = c.args.done.now in
+    let old = contents c.args.output.now.writer in
+    let mid = contents c.buffer_responses.new.output.writer in
+    let last = string_bytes c.buffer_responses.new.buffer in
+    let written = subst (λ text. HasWritten old mid text last) (response_text-begun state (string_bytes c.in_ok-buffer.buffer) c.in_ok-buffer.ensures.ok) c.in_ok-buffer_responses.ensures.ok in
+    Appends-rest old mid (contents c.put_text.new.self.writer) (response_text state) last written (rw c.as_str.ensures.value at c.in_ok-put_text.ensures.ok)
