@@ -100,7 +100,7 @@ const FLUSH: Argument = Argument {
 
 const NUMBER: Argument = Argument {
     id: names::NUMBER,
-    kind: Kind::FlagOf(names::LINES),
+    kind: Kind::FlagOfLines,
     help: "Print the number of its line with each fault, counted from 1",
 };
 
