@@ -43,6 +43,7 @@ class Runner:
     """Runs cases one after another.
 
     Attributes:
+        requests: How many requests a batch may have; one with more is not sent.
         refused: What the service refuses, with the reason.
         known: What a batch may have, as it has been answered.
         kinds: The ways to fail that the service has.
@@ -50,8 +51,8 @@ class Runner:
         late: How many batches had no answer in time.
     """
 
-    def __init__(self, service: Service, entities: Entities) -> None:
-        self.service, self.entities = service, entities
+    def __init__(self, service: Service, entities: Entities, requests: int) -> None:
+        self.service, self.entities, self.requests = service, entities, requests
         self.refused: Dict[str, str] = {}
         self.known: Set[str] = set()
         self.kinds: List[str] = []
@@ -83,6 +84,8 @@ class Runner:
         stages = [Stage(self.entities) for _ in range(case.at_once)]
         for stage in stages:
             case.write(stage)
+        if len(stages[0].steps) > self.requests:
+            return Result(case, [], f"its batch has more than {self.requests} requests")
         refused = sorted(stages[0].features() & self.refused.keys())
         if refused:
             return Result(case, [], self.refused[refused[0]])

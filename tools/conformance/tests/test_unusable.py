@@ -134,6 +134,41 @@ class Interrupted(unittest.TestCase):
                 self.assertEqual([it[0] for it in rows(os.path.join(folder, "library.sqlite"))], ["dune", "emma"])
 
 
+    def test_a_second_signal_ends_the_removal(self):
+        with service() as (running, folder):
+            words_of_tool = [sys.executable, TOOL, running.url, *ABOUT, "--case", "group-many"]
+            with subprocess.Popen(words_of_tool, stdout=subprocess.PIPE, stderr=subprocess.PIPE, text=True) as process:
+                until(lambda: sum("POST" in it for it in list(running.log)), lambda count: count > 40)
+                process.send_signal(signal.SIGINT)
+                until(lambda: sum("DELETE" in it for it in list(running.log)), lambda count: count > 12)
+                process.send_signal(signal.SIGINT)
+                out, error = process.communicate(timeout=SECONDS)
+            *left, last = error.splitlines()
+            there = {it[0] for it in rows(os.path.join(folder, "library.sqlite"))} - {"dune", "emma"}
+            self.assertEqual((process.returncode, out, last), (3, "", "error: interrupted"))
+            self.assertTrue(there)
+            self.assertLessEqual({f"not removed: Books('{it}')" for it in there}, set(left))
+
+    def test_a_signal_raises_nothing_where_it_comes(self):
+        # in a lock, an exception would leave the lock to nobody
+        program = (
+            "import os, signal, sys, threading\n"
+            "sys.path.insert(0, sys.argv[1])\n"
+            "from interruption import Interrupted, Interruption\n"
+            "found, turn = Interruption(), threading.Condition()\n"
+            "found.catch()\n"
+            "with turn:\n"
+            "    os.kill(os.getpid(), signal.SIGINT)\n"
+            "    turn.wait(0.01)\n"
+            "try:\n"
+            "    found.check()\n"
+            "except Interrupted as error:\n"
+            "    print(found.count, error)\n"
+        )
+        done = subprocess.run([sys.executable, "-c", program, TOOL], capture_output=True, text=True, timeout=SECONDS)
+        self.assertEqual((done.stdout, done.stderr), ("1 interrupted\n", ""))
+
+
 class Arguments(unittest.TestCase):
     def test_wrong_arguments(self):
         good = "http://127.0.0.1:1/"
