@@ -106,6 +106,13 @@ class Unusable(unittest.TestCase):
             self.assertEqual([it for it in os.listdir(folder) if "sqlite" not in it], [])
 
 
+    def test_a_service_that_answers_no_batch_in_time(self):
+        with service("stalls") as (running, folder):
+            done = tool(running.url, *ABOUT, "--timeout", "1", cwd=folder)
+            self.assertEqual((done.status, done.out), (3, ""))
+            self.assertRegex(done.error.splitlines()[-1], r"^error: \w+ \S+: no answer within 1 seconds$")
+
+
 class Interrupted(unittest.TestCase):
     @classmethod
     def setUpClass(cls):

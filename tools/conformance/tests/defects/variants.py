@@ -4,6 +4,7 @@ import json
 import os
 import re
 import secrets
+import time
 
 import entities
 import store
@@ -66,6 +67,18 @@ def ends():
         return answer(self, document, mode, host)
 
     batches.Batches.answer = ending
+
+
+def stalls():
+    """From the sixth batch on, the service takes its time."""
+    answer = batches.Batches.answer
+
+    def stalling(self, document, mode, host):
+        if next(self.numbers) >= 6:
+            time.sleep(3)
+        return answer(self, document, mode, host)
+
+    batches.Batches.answer = stalling
 
 
 def hidden_keys():
