@@ -13,6 +13,8 @@ from service import Answer, Service, Unanswered
 from stage import DONE, FAILS, Stage
 
 REFUSED = (*range(400, 500), 501)
+# What a service may answer to one of some batches at the same time.
+BUSY = (429, 503)
 # After how many batches without an answer in time the run ends.
 MAX_LATE = 3
 
@@ -166,6 +168,8 @@ class Runner:
         """Why a case does not apply: the service refuses the batch, or what no batch before had."""
         if isinstance(answer, Unanswered):
             return None
+        if case.at_once > 1 and answer.status in BUSY:
+            return f"the service refuses batches at the same time with {answer}"
         unknown = sorted(stage.features() - self.known)
         responses = responses_of(answer)
         status = str(answer) if responses is None else "501 of its requests"

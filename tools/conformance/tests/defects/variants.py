@@ -4,6 +4,7 @@ import json
 import os
 import re
 import secrets
+import threading
 import time
 
 import entities
@@ -79,6 +80,21 @@ def stalls():
         return answer(self, document, mode, host)
 
     batches.Batches.answer = stalling
+
+
+def one_batch_at_a_time():
+    """A batch beside another is refused with 503."""
+    answer, turn = batches.Batches.answer, threading.Lock()
+
+    def answering(self, document, mode, host):
+        if not turn.acquire(blocking=False):
+            raise Refusal(503, "Busy", "A batch is being performed; try again")
+        try:
+            return answer(self, document, mode, host)
+        finally:
+            turn.release()
+
+    batches.Batches.answer = answering
 
 
 def hidden_keys():
