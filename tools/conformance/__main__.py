@@ -100,8 +100,9 @@ def judge(options: argparse.Namespace, cases: List[Any]) -> int:
 
     service = Service(options.url, dict(options.header), options.timeout, INTERRUPTION)
     entities = Entities(service, options.set, options.key, options.body)
+    runner = Runner(service, entities, options.requests)
     try:
-        results = Runner(service, entities).run(cases, lambda at, name: progress(at, name, len(cases)))
+        results = runner.run(cases, lambda at, name: progress(at, name, len(cases)))
     except (Unusable, Interrupted) as error:
         progress(0, "", 0)
         for url in [*entities.left, *entities.made.values()]:

@@ -13,6 +13,8 @@ from service import Answer, Service, Unanswered
 from stage import DONE, FAILS, Stage
 
 REFUSED = (*range(400, 500), 501)
+# What a service may answer to one of some batches at the same time.
+BUSY = (429, 503)
 # After how many batches without an answer in time the run ends.
 MAX_LATE = 3
 
@@ -43,6 +45,7 @@ class Runner:
     """Runs cases one after another.
 
     Attributes:
+        requests: How many requests a batch may have; one with more is not sent.
         refused: What the service refuses, with the reason.
         known: What a batch may have, as it has been answered.
         kinds: The ways to fail that the service has.
@@ -50,8 +53,8 @@ class Runner:
         late: How many batches had no answer in time.
     """
 
-    def __init__(self, service: Service, entities: Entities) -> None:
-        self.service, self.entities = service, entities
+    def __init__(self, service: Service, entities: Entities, requests: int) -> None:
+        self.service, self.entities, self.requests = service, entities, requests
         self.refused: Dict[str, str] = {}
         self.known: Set[str] = set()
         self.kinds: List[str] = []
@@ -83,6 +86,8 @@ class Runner:
         stages = [Stage(self.entities) for _ in range(case.at_once)]
         for stage in stages:
             case.write(stage)
+        if len(stages[0].steps) > self.requests:
+            return Result(case, [], f"its batch has more than {self.requests} requests")
         refused = sorted(stages[0].features() & self.refused.keys())
         if refused:
             return Result(case, [], self.refused[refused[0]])
@@ -163,6 +168,8 @@ class Runner:
         """Why a case does not apply: the service refuses the batch, or what no batch before had."""
         if isinstance(answer, Unanswered):
             return None
+        if case.at_once > 1 and answer.status in BUSY:
+            return f"the service refuses batches at the same time with {answer}"
         unknown = sorted(stage.features() - self.known)
         responses = responses_of(answer)
         status = str(answer) if responses is None else "501 of its requests"

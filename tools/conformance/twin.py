@@ -1,8 +1,8 @@
 """Compares what a request of a batch does with what the same request does alone, on entities of their own.
 
 Both are taken apart into parts by name, as the status, a header or a property, in which the keys and marks of the
-entity are replaced. One is sent alone before the batch, and one after it: what differs between these two, as a time does, is
-not compared, but for whether it is there.
+entity are replaced. One is sent alone before the batch, and one after it: what differs between these two, as a time
+does, is not compared, but for whether it is there.
 """
 
 import re
@@ -73,7 +73,10 @@ class Taking:
             found[HOST] = urlsplit(headers["location"]).netloc
         if value is not None:
             found["Content-Type"] = media_type(headers)
-            found.update(self._body(value) if status < 400 else error_parts(value))
+            if "json" not in found["Content-Type"]:
+                found["the body"] = "not JSON"
+            else:
+                found.update(self._body(value) if status < 400 else error_parts(value))
         if url:
             after = self.entities.service.ask("GET", url)
             found["afterwards the status"] = after.status
@@ -146,8 +149,8 @@ def error_parts(value: Any) -> Parts:
 
 def parts_alone(taking: Taking, answer: Answer) -> Parts:
     """The parts of a request that was sent alone."""
-    value = answer.value if answer.text else None
-    return taking.parts(answer.status, answer.headers, value if value is not None or not answer.text else MISSING)
+    # a text that is not JSON is compared by its media type alone
+    return taking.parts(answer.status, answer.headers, (answer.value or "") if answer.text else None)
 
 
 def parts_in_batch(taking: Taking, response: Dict[str, Any]) -> Parts:

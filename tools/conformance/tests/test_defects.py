@@ -108,6 +108,10 @@ VARIANTS = {
     "refuses_groups": ("group", "the service refuses groups with 501 Groups are not supported"),
     "refuses_references": ("reference", "the service refuses references with 501 References are not supported"),
     "always_stops": ("continue", "the service does not apply the preference continue-on-error"),
+    "one_batch_at_a_time": (
+        None,
+        "the service refuses batches at the same time with 503 A batch is being performed; try again",
+    ),
     "own_keys": (None, "alone, no request fails by a key that is taken"),
     "hidden_keys": (None, "the service makes the keys itself"),
     "fixed_titles": (None, "no property of the body takes any text or number"),

@@ -106,6 +106,13 @@ class Unusable(unittest.TestCase):
             self.assertEqual([it for it in os.listdir(folder) if "sqlite" not in it], [])
 
 
+    def test_a_service_that_answers_no_batch_in_time(self):
+        with service("stalls") as (running, folder):
+            done = tool(running.url, *ABOUT, "--timeout", "1", cwd=folder)
+            self.assertEqual((done.status, done.out), (3, ""))
+            self.assertRegex(done.error.splitlines()[-1], r"^error: \w+ \S+: no answer within 1 seconds$")
+
+
 class Interrupted(unittest.TestCase):
     @classmethod
     def setUpClass(cls):
@@ -132,6 +139,41 @@ class Interrupted(unittest.TestCase):
                     self.assertEqual(process.communicate(timeout=SECONDS), ("", "error: interrupted\n"))
                 self.assertEqual(process.returncode, 3)
                 self.assertEqual([it[0] for it in rows(os.path.join(folder, "library.sqlite"))], ["dune", "emma"])
+
+
+    def test_a_second_signal_ends_the_removal(self):
+        with service() as (running, folder):
+            words_of_tool = [sys.executable, TOOL, running.url, *ABOUT, "--case", "group-many"]
+            with subprocess.Popen(words_of_tool, stdout=subprocess.PIPE, stderr=subprocess.PIPE, text=True) as process:
+                until(lambda: sum("POST" in it for it in list(running.log)), lambda count: count > 40)
+                process.send_signal(signal.SIGINT)
+                until(lambda: sum("DELETE" in it for it in list(running.log)), lambda count: count > 12)
+                process.send_signal(signal.SIGINT)
+                out, error = process.communicate(timeout=SECONDS)
+            *left, last = error.splitlines()
+            there = {it[0] for it in rows(os.path.join(folder, "library.sqlite"))} - {"dune", "emma"}
+            self.assertEqual((process.returncode, out, last), (3, "", "error: interrupted"))
+            self.assertTrue(there)
+            self.assertLessEqual({f"not removed: Books('{it}')" for it in there}, set(left))
+
+    def test_a_signal_raises_nothing_where_it_comes(self):
+        # in a lock, an exception would leave the lock to nobody
+        program = (
+            "import os, signal, sys, threading\n"
+            "sys.path.insert(0, sys.argv[1])\n"
+            "from interruption import Interrupted, Interruption\n"
+            "found, turn = Interruption(), threading.Condition()\n"
+            "found.catch()\n"
+            "with turn:\n"
+            "    os.kill(os.getpid(), signal.SIGINT)\n"
+            "    turn.wait(0.01)\n"
+            "try:\n"
+            "    found.check()\n"
+            "except Interrupted as error:\n"
+            "    print(found.count, error)\n"
+        )
+        done = subprocess.run([sys.executable, "-c", program, TOOL], capture_output=True, text=True, timeout=SECONDS)
+        self.assertEqual((done.stdout, done.stderr), ("1 interrupted\n", ""))
 
 
 class Arguments(unittest.TestCase):

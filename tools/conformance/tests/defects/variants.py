@@ -4,6 +4,8 @@ import json
 import os
 import re
 import secrets
+import threading
+import time
 
 import entities
 import store
@@ -66,6 +68,33 @@ def ends():
         return answer(self, document, mode, host)
 
     batches.Batches.answer = ending
+
+
+def stalls():
+    """From the sixth batch on, the service takes its time."""
+    answer = batches.Batches.answer
+
+    def stalling(self, document, mode, host):
+        if next(self.numbers) >= 6:
+            time.sleep(3)
+        return answer(self, document, mode, host)
+
+    batches.Batches.answer = stalling
+
+
+def one_batch_at_a_time():
+    """A batch beside another is refused with 503."""
+    answer, turn = batches.Batches.answer, threading.Lock()
+
+    def answering(self, document, mode, host):
+        if not turn.acquire(blocking=False):
+            raise Refusal(503, "Busy", "A batch is being performed; try again")
+        try:
+            return answer(self, document, mode, host)
+        finally:
+            turn.release()
+
+    batches.Batches.answer = answering
 
 
 def hidden_keys():
