@@ -31,7 +31,6 @@ LINES = [
     ("odb_batch match batch ", [FILE]),
     ("odb_batch run --w", ["--width"]),
     ("odb_batch run --q", ["--quiet"]),
-    ("odb_batch run -q", ["-q"]),
     ("odb_batch run --width ", []),
     ("odb_batch run batch events --st", ["--stop"]),
     ("odb_batch run batch ", [FILE]),
