@@ -24,7 +24,7 @@ use crate::service::{Service, ServiceFault};
 use odb_check::Plan;
 use odb_doc::{Fault, Outcome, Place, Refusal};
 use odb_sched::laws::every_run;
-use odb_sched::{Done, Policy, Scheduler, Step};
+use odb_sched::{Done, Policy, ReportRefusal, Scheduler, Step};
 use std::alloc::{AllocError, Global};
 use thiserror::Error;
 
@@ -134,6 +134,13 @@ fn next_step(scheduler: &mut Scheduler<'_>, chooser: &mut dyn Chooser) -> Option
     }
 }
 
+/// Returns the fault of a request whose outcome is not accepted.
+fn bad_status(i: u32, _refused: (ReportRefusal, Outcome)) -> ExecFault
+    ensures { result ≡ faults.BadStatus i }
+{
+    ExecFault::BadStatus(i)
+}
+
 /// Asks the service for the outcome of a running request, and reports it.
 fn report<S: Service>(
     scheduler: &mut Scheduler<'_>,
@@ -161,7 +168,7 @@ fn report<S: Service>(
     };
     match scheduler.report(i, outcome) {
         Ok(()) => Ok(()),
-        Err(_) => Err(ExecFault::BadStatus(i)),
+        Err(refused) => Err(bad_status(i, refused)),
     }
 }
 
