@@ -1,9 +1,8 @@
 -- A text that is written in parts, one after another.
-use Rattle.std.proofs.Common.{◌≡◌, ℕ, List, ◌++◌, Option, Result, Ok, Err, IsTrue, ap, cc, inr, refl}
+use Rattle.std.proofs.Common.{◌≡◌, ℕ, List, ◌++◌, Option, Result, Ok, Err, inr, refl}
 use Rattle.std.proofs.KnownBytes.{Appends-trans}
 use Rattle.std.specs.Io.KnownBytes.{Appends}
 use Rattle.odb_io.specs.Devices.{Writing}
-use Rattle.odb_engine.specs.declared.ending.Ended.{Ended}
 use Rattle.odb_engine.specs.declared.ending.Ended.TheVariants.{Done}
 use Rattle.odb_engine.specs.declared.ending.EngineFault.{EngineFault}
 use Rattle.odb_engine.specs.declared.ending.EngineFault.TheVariants as faults
@@ -38,19 +37,13 @@ module _ {W : Type 0} (contents : W → Option (List ℕ)) where
   pub Ends-failed : (text : List ℕ) (old new : Writing W) (fault : EngineFault) → Sends contents text old new (Err fault) → Ends contents (Prints text) ⊥ old new (Err fault)
   Ends-failed text old new fault sent = record {
     ended = tt;
-    read = (λ e. absurd (sent.unread (ap Err (is e))), λ none. absurd none);
-    unread = λ e. absurd (sent.unread (ap Err (is e)));
-    write = (λ e. sent.write.0 (ap Err (writes e)), λ failed. ap Err (cc (sent.write.1 failed)));
+    read = (λ e. absurd (sent.unread (cc (e))), λ none. absurd none);
+    unread = λ e. absurd (sent.unread (cc (e)));
+    write = (λ e. sent.write.0 (cc (e)), λ failed. cc (sent.write.1 failed));
     part = λ e. part;
     memory = λ e. inr part;
   }
     where
-      is : Err fault ≡ Err faults.Read → fault ≡ faults.Read
-      is e = cc (e)
-
-      writes : Err fault ≡ Err faults.Write → fault ≡ faults.Write
-      writes e = cc (e)
-
       part : WritesPrefix (contents old.writer) (contents new.writer) (Prints text)
       part = record { ended = Done; text = text; so = (refl, refl); written = sent.part }
 

@@ -1,5 +1,5 @@
 -- A text, the response, and the end of its line.
-use Rattle.std.proofs.Common.{[], ◌∷◌, ◌++◌}
+use Rattle.std.proofs.Common.{[], ◌∷◌, ◌++◌, Err}
 use Rattle.odb_reply.specs.Responses.{response_text}
 use Rattle.odb_check.specs.Texts.{newline}
 use Rattle.odb_text.specs.Lines.{response_line}
@@ -43,8 +43,8 @@ returns-in_err-send_text-2 g c =
     let new = c.send_text-2.new.output in
     let fault = c.in_err-send_text-2.field-0.0 in
     exit-error (Ends contents (Prints (start ++ response_line done)) ⊥ old new) fault _ c.from_residual-in_err-send_text-2.ensures.1
-    (Ends-failed contents (start ++ response_line done) old new fault (Sends-after contents start (response_line done) old first new _ c.in_ok-send_text.ensures.whole
-    (Sends-after contents (response_text done) (newline ∷ []) first second new _ c.in_ok-send_response.ensures.whole c.in_err-send_text-2.ensures)))
+    (Ends-failed contents (start ++ response_line done) old new fault (Sends-after contents start (response_line done) old first new (Err fault) c.in_ok-send_text.ensures.whole
+    (Sends-after contents (response_text done) (newline ∷ []) first second new (Err fault) c.in_ok-send_response.ensures.whole c.in_err-send_text-2.ensures)))
 
 pub returns : goal.returns
 returns g c =
