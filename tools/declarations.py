@@ -17,7 +17,6 @@ import sys
 ROOT = os.path.dirname(os.path.dirname(os.path.realpath(__file__)))
 HEADER = "include/odb_batch.h"
 EXPORTS = "crates/odb_ffi/src"
-CALLS = "crates/odb_calls/src"
 NAME = "libodb_batch.so.0"
 MOST_BYTES = 600_000
 
@@ -108,9 +107,9 @@ def differences():
     for name in sorted({*wanted, *found}):
         if wanted.get(name) != found.get(name):
             yield f"{name}: the header declares {found.get(name)}, and the source exports {wanted.get(name)}"
-    header, calls = text_of(HEADER), source(CALLS)
+    header, calls = text_of(HEADER), source(EXPORTS)
     for name, pattern in NUMBERS.items():
-        if one(rf"\b{name} = (\d+)", header, HEADER) != one(pattern, calls, CALLS):
+        if one(rf"\b{name} = (\d+)", header, HEADER) != one(pattern, calls, EXPORTS):
             yield f"{name}: the header and the source have different numbers"
     for name, path in HANDLES.items():
         struct = rf"#\[repr\(C\)\](?:\s*#\[[^]]*\])*\s*pub struct {name} \{{([^}}]*\}}[^}}]*)\}}"
