@@ -8,10 +8,11 @@ ghost use Rattle.odb_engine.specs.LineTasks.{OfLine};
 
 use crate::engines::devices::{Narrow, Pace, Slow};
 use odb_engine::laws::one_line;
-use odb_engine::{Ended, EngineFault, LineTask, Setup};
-use odb_io::Output;
 use odb_engine::lines::laws::one_text;
-use odb_engine::{EachLine, LineCommand, LineInput, answer_lines};
+use odb_engine::{
+    EachLine, Ended, EngineFault, LineCommand, LineInput, LineTask, Setup, answer_lines,
+};
+use odb_io::Output;
 use std::alloc::{AllocError, Global};
 use std::cell::Cell;
 use std::io::{self, Read, Write, repeat};

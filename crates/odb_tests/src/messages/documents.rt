@@ -60,8 +60,14 @@ const REQUESTS: &[(RequestRule, &str)] = &[
         RequestRule::UnknownRequestMember,
         "the request has an unknown member",
     ),
-    (RequestRule::BadId, "`id` is missing or is not an identifier"),
-    (RequestRule::BadMethod, "`method` is missing or is not a known method"),
+    (
+        RequestRule::BadId,
+        "`id` is missing or is not an identifier",
+    ),
+    (
+        RequestRule::BadMethod,
+        "`method` is missing or is not a known method",
+    ),
     (RequestRule::BadUrl, "`url` is missing or is not a string"),
     (
         RequestRule::BadGroup,
