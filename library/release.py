@@ -295,7 +295,9 @@ class Parts:
 
     def fish(self):
         need("fish")
-        variables = {"PATH": TOOLS, "HOME": self.work, "XDG_DATA_DIRS": self.place("share")}
+        # fish completes no command that it does not find
+        path = f"{self.place('bin')}:{TOOLS}"
+        variables = {"PATH": path, "HOME": self.work, "XDG_DATA_DIRS": self.place("share")}
         found = self.outside("fish", "-c", "complete -C 'odb_batch ch'", **variables)
         wrong_unless(found.startswith("check\t"), f"fish offers {found!r}")
 

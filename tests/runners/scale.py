@@ -132,7 +132,7 @@ def audit_difference(folder, program):
     command, wanted = shown.split("\n", 1)
     place = fresh(folder, "audit", f'exec "{program}" "$@"')
     os.symlink(os.path.join(ROOT, "examples"), os.path.join(place, "examples"))
-    refused = PAIR.replace(b"200", b"404").replace(b'"id":"1","status"', b'"id":"2","status"')
+    refused = PAIR.replace(b'{"id":"1","status":200}', b"")
     with open(os.path.join(place, "log.jsonl"), "wb") as file:
         file.write((b"\n".join([PAIR] * 99 + [refused]) + b"\n") * 200 + b"[1]\n")
     variables = {**os.environ, "PATH": f"{place}/bin:{os.environ['PATH']}"}
