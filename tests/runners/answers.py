@@ -6,6 +6,8 @@ refers to a request, and all outcomes are 2xx.
 
 import json
 
+from . import rules
+
 
 def check_line(requests):
     """The line of `check`."""
@@ -40,6 +42,7 @@ def plan_text(requests):
 def drawing_text(requests):
     """The drawing of `plan --dot`, of names, methods and URLs that are short and need no quotes."""
     rows, begun, units = planned(requests), {}, {}
+    placed, ends = rules.rows_of(rows)
     lines = ["digraph plan {\n  compound=true; newrank=true; node [shape=box]\n"]
     for at, (request, row) in enumerate(zip(requests, rows)):
         id, group = row["id"], row.get("group")
@@ -49,11 +52,9 @@ def drawing_text(requests):
         if group:
             begun.setdefault(group, (at, f" [ltail=cluster_{unit}]"))
             lines.append(f'  subgraph cluster_{unit} {{ label="{group}"; {at} }}\n')
-        lines.append(f'  {{ rank=same; node [shape=plaintext]; "level {row["level"]}"; {at} }}\n')
+        lines.append(rules.rank_line(row["level"], placed[at], at) + "\n")
         lines += [f"  {begun[name][0]} -> {at}{begun[name][1]}\n" for name in row["needs"]]
-    levels = max((row["level"] for row in rows), default=0)
-    lines += [f'  "level {level}" -> "level {level + 1}" [style=invis]\n' for level in range(levels)]
-    return "".join(lines) + "}\n"
+    return "".join([*lines, *(f"{line}\n" for line in rules.order_lines(ends)), "}\n"])
 
 
 def folded(headers):

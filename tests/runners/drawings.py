@@ -18,6 +18,7 @@ from random import Random
 
 from . import agree
 from .program import ROOT, read_arguments
+from .rules import ROW, named_row, rows_of, shown
 
 SECONDS = 60
 EXAMPLE = os.path.join(ROOT, "examples", "usual.json")
@@ -27,7 +28,6 @@ URLS = (
     '"', "\\", '\\"', '"]; x [label="', "x\\", "a\nb", "}", "<b>", "/* x", "// x", "# x", "\\N\\G", "\\l\\r", "ä" * 50, "\x01", "a\tb\r",
     "&", "&amp;", "&lt;&#65;&nbsp;", "X?a=1&b=2", "ä" * 40, "ä" * 41, "&" * 41, "x" * 37 + "&amp;", "x" * 39 + '"y',
 )
-WIDTH = 12
 SIZES = (1, 1, 1, 1, 2, 5, 11, 12, 13, 30)
 LABEL = re.compile(r'(?:[^\\]|\\["\\n])*', re.S)
 TOKEN = re.compile(r'\s+|"(?P<text>(?:[^"\\]|\\.)*)"|(?P<name>[A-Za-z_][A-Za-z_0-9]*|[0-9]+)|(?P<mark>->|[][{}=;])', re.S)
@@ -142,31 +142,6 @@ class Reader:
         if self.tokens:
             raise Unreadable("more than one graph")
         return found
-
-
-def shown(text):
-    """A text as it is shown: at most 40 characters, and a blank for each control character."""
-    cut = text if len(text) <= 40 else text[:38] + ".."
-    return "".join(" " if character < " " else character for character in cut)
-
-
-def rows_of(plan):
-    """The row of each request in its level: a row has 12 at most, and a group larger than that has its rows to itself."""
-    units = [planned.get("group", at) for at, planned in enumerate(plan)]
-    sizes, rows, levels = Counter(units), [], {}
-    for at, planned in enumerate(plan):
-        row, used = levels.get(planned["level"], (0, 0))
-        begins = at == 0 or units[at - 1] != units[at]
-        before = sizes[units[at - 1]] if at else 0
-        if used == WIDTH or used and begins and (used + sizes[units[at]] > WIDTH or before > WIDTH):
-            row, used = row + 1, 0
-        rows.append(row)
-        levels[planned["level"]] = (row, used + 1)
-    return rows, {level: row for level, (row, _) in levels.items()}
-
-
-def named_row(level, row):
-    return f"level {level} row {row}" if row else f"level {level}"
 
 
 def drawn(requests, plan):
@@ -298,7 +273,7 @@ def laid_out(folder, count):
     nodes = [line.split() for line in run_dot("plain", text).splitlines()]
     rows = Counter(words[3] for words in nodes if words[0] == "node" and words[1].isdigit())
     wide = sorted(rows.values(), reverse=True)
-    return None if wide == [WIDTH] * (count // WIDTH) else f"{count} requests have rows of {wide}"
+    return None if wide == [ROW] * (count // ROW) else f"{count} requests have rows of {wide}"
 
 
 def by_graphviz(folder, write):

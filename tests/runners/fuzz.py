@@ -27,7 +27,7 @@ SHOWN = 5
 OFTEN = {"stop": 0.3, "trace": 0.6, "dot": 0.4, "quiet": 0.1, "width": 0.5, "order": 0.8}
 WIDTHS = (1, 1, 2, 3, 10_000)
 # The options that are left to other tests: schemas, and lines.
-ELSEWHERE = {"json", "lines", "flush", "help"}
+ELSEWHERE = {"json", "lines", "flush", "number", "help"}
 
 
 @dataclass

@@ -7,9 +7,12 @@ print for a command and its documents. Runs are in rules_of_runs.py.
 
 import json
 import re
+from collections import Counter
 from urllib.parse import unquote_to_bytes
 
 MOST_BYTES, MOST_LEVELS, MOST_REQUESTS = 16_777_216, 127, 10_000
+# How many requests a row of a drawing has at most.
+ROW = 12
 METHODS = ("delete", "get", "patch", "post", "put")
 MEMBERS = ("id", "method", "url", "atomicityGroup", "dependsOn", "if", "headers", "body")
 RESERVED = ("batch", "crossjoin", "all", "entity", "root", "id", "metadata")
@@ -349,14 +352,61 @@ def group_unit(batch, name):
     return sum(1 for j in range(first) if batch[j].group is None or first_of(batch, batch[j].group) == j)
 
 
-def node_lines(batch, i):
+def shown(text):
+    """A text as a drawing shows it: at most 40 characters, and a blank for each control character."""
+    cut = text if len(text) <= 40 else text[:38] + ".."
+    return "".join(" " if character < " " else character for character in cut)
+
+
+def label(*lines):
+    """The label of these lines, quoted: Graphviz reads entities in it."""
+    return json_text("\n".join(lines).replace("&", "&amp;"))
+
+
+def rows_of(plan):
+    """The row of each request in its level, and the last row of each level.
+
+    A row has 12 requests at most, and a group larger than that has its rows to itself. A plan is a list of levels
+    and groups, as its JSON has them.
+    """
+    units = [planned.get("group", at) for at, planned in enumerate(plan)]
+    sizes, rows, levels = Counter(units), [], {}
+    for at, planned in enumerate(plan):
+        row, used = levels.get(planned["level"], (0, 0))
+        begins = at == 0 or units[at - 1] != units[at]
+        before = sizes[units[at - 1]] if at else 0
+        if used == ROW or used and begins and (used + sizes[units[at]] > ROW or before > ROW):
+            row, used = row + 1, 0
+        rows.append(row)
+        levels[planned["level"]] = (row, used + 1)
+    return rows, {level: row for level, (row, _) in levels.items()}
+
+
+def named_row(level, row):
+    return f"level {level} row {row}" if row else f"level {level}"
+
+
+def rank_line(level, row, i):
+    """Which row of its level a request is in."""
+    shape = "shape=point style=invis" if row else "shape=plaintext"
+    return f'  {{ rank=same; node [{shape}]; "{named_row(level, row)}"; {i} }}'
+
+
+def order_lines(ends):
+    """Which rows and levels are below which, by the last row of each level."""
+    below = [(named_row(at, row), named_row(at, row + 1)) for at, end in sorted(ends.items()) for row in range(end)]
+    below += [(named_row(at, ends[at]), named_row(at + 1, 0)) for at in range(max(ends, default=0))]
+    return [f'  "{upper}" -> "{lower}" [style=invis]' for upper, lower in below]
+
+
+def node_lines(batch, i, row):
     """What a drawing says of a request, and of the arrows to it."""
-    request, at = batch[i], level(batch, i)
-    yield f"  {i} [label={json_text(f'{request.id[:40]}{chr(10)}{request.method} {request.url[:40]}')}]"
+    request = batch[i]
+    yield f"  {i} [label={label(shown(request.id), f'{request.method} {shown(request.url)}')}]"
     if request.group is not None:
         cluster = group_unit(batch, request.group)
-        yield f"  subgraph cluster_{cluster} {{ label={json_text(request.group[:40])}; {i} }}"
-    yield f'  {{ rank=same; node [shape=plaintext]; "level {at}"; {i} }}'
+        yield f"  subgraph cluster_{cluster} {{ label={label(shown(request.group))}; {i} }}"
+    yield rank_line(level(batch, i), row, i)
     for name in needs(batch, i):
         whole = "" if position(batch, name) is not None else f" [ltail=cluster_{group_unit(batch, name)}]"
         yield f"  {first_of(batch, name)} -> {i}{whole}"
@@ -364,11 +414,11 @@ def node_lines(batch, i):
 
 def drawing_text(batch):
     lines = ["digraph plan {", "  compound=true; newrank=true; node [shape=box]"]
-    for i in range(len(batch)):
-        lines += node_lines(batch, i)
-    for at in range(max((level(batch, i) for i in range(len(batch))), default=0)):
-        lines.append(f'  "level {at}" -> "level {at + 1}" [style=invis]')
-    return "\n".join([*lines, "}"]) + "\n"
+    grouped = [{} if request.group is None else {"group": request.group} for request in batch]
+    rows, ends = rows_of([{**it, "level": level(batch, i)} for i, it in enumerate(grouped)])
+    for i, row in enumerate(rows):
+        lines += node_lines(batch, i, row)
+    return "\n".join([*lines, *order_lines(ends), "}"]) + "\n"
 
 
 def json_text(value):
