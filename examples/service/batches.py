@@ -15,7 +15,7 @@ from typing import Any, Callable, Dict, Iterator, List, Optional, Set
 from urllib.parse import unquote
 
 from odata import FAILED, Answer, Refusal, Request
-from odb_batch import Refused, Run, canon, plan
+from odb_batch import Mode, Refused, Run, canon, plan
 from store import Store, Transaction
 
 LOG = logging.getLogger(__name__)
@@ -76,7 +76,7 @@ class Batches:
         self.pool = ThreadPoolExecutor(width, "unit")
         self.numbers = itertools.count(1)
 
-    def answer(self, document: bytes, mode: str, host: str) -> bytes:
+    def answer(self, document: bytes, mode: Mode, host: str) -> bytes:
         """Performs a batch, and returns the response document; raises Fault if the batch is refused."""
         return Execution(self, document, mode, host).respond()
 
@@ -84,7 +84,7 @@ class Batches:
 class Execution:
     """A batch on its way from its document to its response."""
 
-    def __init__(self, batches: Batches, document: bytes, mode: str, host: str) -> None:
+    def __init__(self, batches: Batches, document: bytes, mode: Mode, host: str) -> None:
         self.store, self.pool, self.width = batches.store, batches.pool, batches.width
         self.units = units_of(document)
         # The canonical text has what the library has read: each member once, and lower case where case does not matter.
@@ -135,11 +135,11 @@ class Execution:
 
     def next_unit(self) -> Optional[Unit]:
         """Returns a unit that may begin. A list of what is ready is used up, and then made anew if a unit has ended."""
-        unit = next(filter(Unit.may_begin, self.listed), None)
+        unit = next((it for it in self.listed if it.may_begin()), None)
         if unit is None and self.is_list_old:
             self.is_list_old = False
             self.listed = iter(dict.fromkeys(self.units[id] for id in self.run.ready))
-            unit = next(filter(Unit.may_begin, self.listed), None)
+            unit = next((it for it in self.listed if it.may_begin()), None)
         return unit
 
     # In the threads of the pool

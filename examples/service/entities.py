@@ -14,6 +14,8 @@ with open(os.path.join(os.path.dirname(os.path.abspath(__file__)), "metadata.jso
 
 Properties = Dict[str, Dict[str, Any]]
 
+Action = Callable[[sqlite3.Connection, Target, Request], Answer]
+
 
 def _properties(type_name: str) -> Properties:
     described = METADATA["Library"][type_name.partition(".")[2]]
@@ -30,7 +32,7 @@ def perform(database: sqlite3.Connection, request: Request) -> Answer:
         require_readable(request.headers)
         target = target_of(request.url, request.headers.get("host", ""))
         if target.name == "$metadata":
-            actions = {"get": _metadata}
+            actions: Dict[str, Action] = {"get": _metadata}
         elif target.name in SETS:
             actions = _OF_SET if target.key is None else _OF_ENTITY
         else:
@@ -73,7 +75,7 @@ def _next_version(database: sqlite3.Connection) -> int:
     return int(version)
 
 
-def _list(database: sqlite3.Connection, target: Target, _: Request) -> Answer:
+def _list(database: sqlite3.Connection, target: Target, _request: Request) -> Answer:
     if "$filter" in target.options:
         name, _, text = target.options["$filter"].partition(" eq ")
         if name not in SETS[target.name]:
@@ -94,20 +96,22 @@ def _show(database: sqlite3.Connection, target: Target, _: Request) -> Answer:
 
 
 def _create(database: sqlite3.Connection, target: Target, request: Request) -> Answer:
-    row = {**_given(target.name, request), "Version": _next_version(database)}
+    row: Dict[str, object] = {**_given(target.name, request), "Version": _next_version(database)}
     marks = ", ".join("?" for _ in row)
     done = database.execute(f"INSERT INTO {target.name} ({', '.join(row)}) VALUES ({marks})", tuple(row.values()))
     key = row.get("Id", done.lastrowid)
+    assert isinstance(key, (int, str))
     shown = _show(database, target._replace(key=key), request)
     return Answer(201, shown.body, {"Location": url_of(target.name, key), **shown.headers})
 
 
 def _change(database: sqlite3.Connection, target: Target, request: Request) -> Answer:
-    row = {**_given(target.name, request), "Version": _next_version(database)}
+    version = _next_version(database)
+    row: Dict[str, object] = {**_given(target.name, request), "Version": version}
     changes = ", ".join(f"{name} = ?" for name in row)
     database.execute(f"UPDATE {target.name} SET {changes} WHERE Id = ?", (*row.values(), target.key))
     # A put has no ETag here: the entity is not stored just as it was sent (RFC 9110, section 9.3.4).
-    return Answer(204, None, {"ETag": _tag(row["Version"])} if request.method == "patch" else {})
+    return Answer(204, None, {"ETag": _tag(version)} if request.method == "patch" else {})
 
 
 def _delete(database: sqlite3.Connection, target: Target, _: Request) -> Answer:
@@ -115,7 +119,6 @@ def _delete(database: sqlite3.Connection, target: Target, _: Request) -> Answer:
     return Answer(204)
 
 
-Action = Callable[[sqlite3.Connection, Target, Request], Answer]
 _OF_SET: Dict[str, Action] = {"get": _list, "post": _create}
 _OF_ENTITY: Dict[str, Action] = {"get": _show, "patch": _change, "put": _change, "delete": _delete}
 

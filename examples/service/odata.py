@@ -55,7 +55,7 @@ def media_type(headers: Mapping[str, str]) -> str:
 def preference(headers: Mapping[str, str], name: str) -> Optional[str]:
     """The value of a preference (RFC 7240), empty if it has none, or None if it is not given. The first counts."""
     for part in re.findall(r'(?:[^,"]|"[^"]*"?)+', headers.get("prefer", "")):
-        key, _, value = part.partition(";")[0].partition("=")
+        key, _, value = str(part).partition(";")[0].partition("=")
         if key.strip().lower() in (name, f"odata.{name}"):
             return value.strip().strip('"').lower()
     return None

@@ -60,6 +60,7 @@ class Connection(BaseHTTPRequestHandler):
     disable_nagle_algorithm = True
     server: "Service"
     rfile: LineKeeper
+    raw_requestline: bytes
 
     def setup(self) -> None:
         super().setup()
@@ -143,7 +144,7 @@ class Connection(BaseHTTPRequestHandler):
         *fields, end = self.rfile.lines
         if end != b"\r\n" or not all(map(FIELD.fullmatch, fields)):
             raise Refusal(400, "BadHead", "A line of the head is not a name, a colon and a value, ended by CR LF")
-        hosts = self.headers.get_all("host", [])
+        hosts: List[str] = self.headers.get_all("host", [])
         if len(hosts) > 1 or (not hosts and self.request_version >= "HTTP/1.1"):
             raise Refusal(400, "BadHost", f"A request must have one Host, and has {len(hosts)}")
 
