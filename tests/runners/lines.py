@@ -71,6 +71,13 @@ def answered(program, command, words, log):
     return done.stdout + done.stderr, done.returncode
 
 
+def numbered(part, status, number, words):
+    """An answer with the number of its line, which a fault has."""
+    if status == 0:
+        return part
+    return part[:-2] + b',"line":%d}\n' % number if "--json" in words else b"%d %s" % (number, part)
+
+
 def log_difference(program, listed, command, seed, count):
     """What differs of a log of so many random lines of a command, with the options of the first, or None."""
     trials = [fuzz.trial(Random(f"{seed} {command} {k}"), [command], listed) for k in range(count)]
@@ -79,6 +86,9 @@ def log_difference(program, listed, command, seed, count):
     text, status = b"".join(part for part, _ in parts), max(status for _, status in parts)
     if answered(program, command, words, b"\n".join(lines) + b"\n") != (text, status):
         return f"{command} {' '.join(words)}: the log of seed {seed} is answered otherwise than its lines"
+    text = b"".join(numbered(*part, at + 1, words) for at, part in enumerate(parts))
+    if answered(program, command, [*words, "--number"], b"\n".join(lines) + b"\n") != (text, status):
+        return f"{command} {' '.join(words)}: the log of seed {seed} has other numbers than its lines"
     return None
 
 
