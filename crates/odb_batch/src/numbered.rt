@@ -58,12 +58,14 @@ impl NumberedLines {
 }
 
 impl LineCommand for NumberedLines {
-    ghost use Rattle.std.specs.Prelude.{◌≡◌, ◌⊎◌};
+    ghost use Rattle.std.specs.Prelude.{◌≡◌, ◌⊎◌, true};
     ghost use Rattle.odb_engine.specs.declared.ending.Ended.TheVariants.{Refused};
     ghost use Rattle.odb_engine.specs.Forms.{InForm};
     ghost use Rattle.odb_engine.specs.LineTasks.{OfLine};
 
-    ghost writes = { λ self line ended text. (ended ≡ Refused) ⊎ InForm self.command.setup.form
+    // What the task writes, unless a fault is to be numbered.
+    ghost writes = { λ self line ended text. ((self.numbered ≡ true) × (ended ≡ Refused))
+        ⊎ InForm self.command.setup.form
         (OfLine self.command.task self.command.setup.form line) ended text };
 
     fn answer<W: Write>(

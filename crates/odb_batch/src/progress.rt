@@ -1,6 +1,6 @@
 //! Shows the progress of a log on standard error.
 
-ghost use Rattle.std.specs.Prelude.{◌≡◌, ◌⊎◌};
+ghost use Rattle.std.specs.Prelude.{◌≡◌, ◌⊎◌, true};
 ghost use Rattle.odb_engine.specs.declared.ending.Ended.TheVariants.{Refused};
 ghost use Rattle.odb_engine.specs.Forms.{InForm};
 ghost use Rattle.odb_engine.specs.LineTasks.{OfLine};
@@ -103,7 +103,8 @@ impl<'r, R: Runtime> Watched<'r, R> {
 }
 
 impl<'r, R: Runtime> LineCommand for Watched<'r, R> {
-    ghost writes = { λ self line ended text. (ended ≡ Refused) ⊎ InForm self.command.command.setup.form
+    ghost writes = { λ self line ended text. ((self.command.numbered ≡ true) × (ended ≡ Refused))
+        ⊎ InForm self.command.command.setup.form
         (OfLine self.command.command.task self.command.command.setup.form line) ended text };
 
     fn answer<W: Write>(
