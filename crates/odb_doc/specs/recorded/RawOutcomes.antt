@@ -27,17 +27,9 @@ use Rattle.odb_doc.specs.recorded.LeastEventFault.{BreaksEvent}
 use Rattle.odb_doc.specs.recorded.LeastOutcomeFault.{BreaksOutcome}
 use Rattle.odb_doc.specs.LeastRules.{IsLeast}
 use Rattle.odb_doc.specs.SameTexts.{AreSameTexts}
-use Rattle.odb_doc.specs.Members.{HasOther, is_other, members_of, names_in, text_at}
+use Rattle.odb_doc.specs.Members.{is_other, members_of, names_in, text_at}
 use Rattle.odb_doc.specs.recorded.OutcomeFaults.{rule_number}
 use Rattle.odb_doc.specs.recorded.Outcomes.{HasOutcome, status_of}
-
--- the values at the four members, as far as they have the right types, and there are no other members
-pub record ArePartsOf (kind : Object) (name : List ℕ) (d : Data) (parts : Parts) : Type 0 where
-  pub known : ¬ HasOther kind d
-  pub id : option_map string_bytes parts.id ≡ text_at name d
-  pub status : option_map number_view parts.status ≡ status_of d
-  pub headers : option_map view parts.headers ≡ get (codes "headers") d
-  pub body : option_map view parts.body ≡ get (codes "body") d
 
 -- the values at the four members, as far as they have the right types, and whether there are other members
 pub record AreFoundIn (kind : Object) (name : List ℕ) (d : Data) (parts : Parts) : Type 0 where

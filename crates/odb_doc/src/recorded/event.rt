@@ -80,8 +80,12 @@ fn read_report(alloc: Global, element: &mut Value) -> Result<NamedEvent, Broken<
     let raw = raw_outcome_of(alloc, Object::Report, "report", element, bad)?;
     match status_in(&raw) {
         Ok(status) => {
-            let (id, outcome) = raw.with_status(status);
-            Ok(NamedEvent::Report(id, outcome))
+            let outcome = Outcome {
+                status,
+                headers: raw.headers,
+                body: raw.body,
+            };
+            Ok(NamedEvent::Report(raw.id, outcome))
         }
         Err(rule) => Err(Broken::Rule(rule)),
     }

@@ -1,6 +1,6 @@
 //! An outcome: a status, optional headers and an optional body.
 
-ghost use Rattle.std.specs.Prelude.{◌≡◌, ℕ, List, false, bytes_eq, codes, option_map, MatchOption, IfOk, IfErr};
+ghost use Rattle.std.specs.Prelude.{◌≡◌, ℕ, List, false, bytes_eq, codes, IfOk, IfErr};
 ghost use Rattle.std.specs.BTreeMap.{get_by_text};
 ghost use Rattle.serde_json.specs.Data.{object, no_members};
 ghost use Rattle.serde_json.specs.View.{view, members_view};
@@ -8,7 +8,7 @@ ghost use Rattle.odb_doc.specs.declared.member.Object.{Object};
 ghost use Rattle.odb_doc.specs.BrokenRules.{OnlyIf};
 ghost use Rattle.odb_doc.specs.Headers.{headers_in};
 ghost use Rattle.odb_doc.specs.recorded.Outcomes.{HasOutcome};
-ghost use Rattle.odb_doc.specs.recorded.RawOutcomes.{AreFoundIn, ArePartsOf, HasRawOutcome, PutsPart};
+ghost use Rattle.odb_doc.specs.recorded.RawOutcomes.{AreFoundIn, HasRawOutcome, PutsPart};
 
 use crate::broken::Broken;
 use crate::headers::headers_from;
@@ -66,27 +66,6 @@ pub(crate) struct RawOutcome {
     pub(crate) status: Number,
     pub(crate) headers: BTreeMap<String, String>,
     pub(crate) body: Option<Value>,
-}
-
-impl RawOutcome {
-    /// Returns the id and the outcome, with this status.
-    pub(crate) fn with_status(self, status: u16) -> (String, Outcome)
-        ensures { result ≡ (
-          self.id,
-          record {
-            status = status;
-            headers = headers_in self.headers;
-            body = option_map view self.body;
-          },
-        ) }
-    {
-        let outcome = Outcome {
-            status,
-            headers: self.headers,
-            body: self.body,
-        };
-        (self.id, outcome)
-    }
 }
 
 /// Moves the value at a member out of its object, and leaves null in its place.
@@ -147,19 +126,6 @@ impl Parts {
     }
 }
 
-/// Moves the members of an outcome out of the object, or returns `None` if it has another one. Its id
-/// is at `name`.
-fn parts_of(kind: Object, name: &str, element: &mut Value) -> Option<Parts>
-    requires status { bytes_eq name.now (codes "status") ≡ false }
-    requires headers { bytes_eq name.now (codes "headers") ≡ false }
-    requires body { bytes_eq name.now (codes "body") ≡ false }
-    ensures { MatchOption result (¬ HasOutcome kind name.now (view element.old))
-        (ArePartsOf kind name.now (view element.old)) }
-{
-    let parts = Parts::among(kind, name, element.as_object_mut()?);
-    if parts.has_other { None } else { Some(parts) }
-}
-
 /// Moves the values out of the element, or returns `bad` if it does not have the shape of an outcome
 /// with its id at `name`.
 pub(crate) fn raw_outcome_of<R: Copy>(
@@ -175,9 +141,13 @@ pub(crate) fn raw_outcome_of<R: Copy>(
     ensures has { IfOk result (HasRawOutcome kind name.now (view element.old)) }
     ensures none { IfErr result (OnlyIf bad (¬ HasOutcome kind name.now (view element.old))) }
 {
-    let Some(parts) = parts_of(kind, name, element) else {
+    let Some(members) = element.as_object_mut() else {
         return Err(Broken::Rule(bad));
     };
+    let parts = Parts::among(kind, name, members);
+    if parts.has_other {
+        return Err(Broken::Rule(bad));
+    }
     let headers = headers_from(alloc, parts.headers, bad)?;
     match (parts.id, parts.status) {
         (Some(id), Some(status)) => Ok(RawOutcome {

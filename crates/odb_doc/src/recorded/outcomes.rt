@@ -104,7 +104,12 @@ fn read_outcome(
     let bad = OutcomeRule::BadOutcomes;
     let raw = raw_outcome_of(alloc, Object::Outcome, "id", element, bad)?;
     let status = status_in(seen, &raw)?;
-    Ok(raw.with_status(status))
+    let outcome = Outcome {
+        status,
+        headers: raw.headers,
+        body: raw.body,
+    };
+    Ok((raw.id, outcome))
 }
 
 impl From<Broken<(usize, OutcomeRule)>> for OutcomeFault {

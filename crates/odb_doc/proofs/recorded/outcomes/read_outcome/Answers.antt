@@ -22,17 +22,17 @@ returns-clause-unbroken c = λ before rest watched.
 pub returns-clause-says : goal.returns-clause-says
 returns-clause-says c =
     let has = c.in_ok-raw.ensures.has in
-    rw c.with_status.ensures (record {
+    record {
       id = has.id;
       status = rw (← c.in_ok-status.ensures.status.1) has.status;
       headers = has.headers;
       body = has.body;
-    })
+    }
 
 pub returns-clause-is_new : goal.returns-clause-is_new
 returns-clause-is_new c = λ before rest watched.
-    rw c.with_status.ensures (c.in_ok-status.ensures.is_new before (ids rest) (rw c.in_ok-raw.ensures.has.id at watched))
+    c.in_ok-status.ensures.is_new before (ids rest) (rw c.in_ok-raw.ensures.has.id at watched)
 
 pub returns-clause-noted : goal.returns-clause-noted
 returns-clause-noted c = λ before rest watched.
-    rw c.with_status.ensures (c.in_ok-status.ensures.noted before (ids rest) (rw c.in_ok-raw.ensures.has.id at watched))
+    c.in_ok-status.ensures.noted before (ids rest) (rw c.in_ok-raw.ensures.has.id at watched)
