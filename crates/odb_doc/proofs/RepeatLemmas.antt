@@ -1,20 +1,24 @@
 -- Texts that rise once they are sorted are distinct, and distinct names stay as they are.
-use Rattle.std.proofs.Common.{◌≡◌, ◌∙◌, ◌+◌, ◌<◌, ◌≤◌, ℕ, Bool, true, false, List, [], ◌∷◌, ◌++◌, length, get_or, take, fold, bytes_eq, refl, ap, subst, sym, append_assoc, append-nil, arith, Bor, IsPermutation}
+use Rattle.std.proofs.Common.{◌≡◌, ◌∙◌, ◌+◌, ◌<◌, ◌≤◌, ℕ, Bool, true, false, List, [], ◌∷◌, ◌++◌, length, get_or, take, fold, bytes_eq, refl, ap, ap₂, inl, inr, subst, sym, append_assoc, append-nil, arith, Bor, IsPermutation}
 use Rattle.std.specs.declared.cmp.Ordering.{Ordering}
 use Rattle.std.specs.declared.cmp.Ordering.TheVariants.{Less, Equal, Greater}
+use Rattle.std.specs.BTreeSet.{insert_key}
 use Rattle.std.specs.Cmp.{IsTotalOrder}
 use Rattle.std.specs.Cmp.Lexicographic.{slice_cmp}
 use Rattle.std.specs.List.{AllByRecursion, IsAllAdjacentAnswer, IsDistinct, list_any}
 use Rattle.std.specs.List.Sorted.{IsStrictlySortedBy}
 use Rattle.std.specs.Ordering.{is_eq, is_lt, nat_cmp, eq_by_cmp}
+use Rattle.std.proofs.lemmas.Bool.{cases_order}
+use Rattle.std.proofs.Math.Seq.{get_or-append_seam, take-append_seam}
 use Rattle.std.proofs.lemmas.Cmp.{nat_list_cmp_total, nat_list_eq_equiv}
-use Rattle.std.proofs.lemmas.List.{map-append, take_more}
+use Rattle.std.proofs.lemmas.List.{get_or-map, length-append, map-append, take-map, take_more}
 use Rattle.std.proofs.lemmas.List.Sorted.{IsPermutation-sym}
 use Rattle.std.proofs.lemmas.Map.Keys.{sorted_from_all_adjacent, IsDistinct-from_sorted, IsDistinct-IsPermutation, IsDistinct-push}
 use Rattle.std.proofs.lemmas.Map.Text.{is_eq-slice_cmp}
 use Rattle.odb_doc.specs.Names.{distinct, texts_in, with_name}
 use Rattle.odb_doc.proofs.NameLemmas.{fold-with_name-nil, list_any-texts_in, list_any-comm}
-use Rattle.odb_doc.proofs.SetLemmas.{none_when_new}
+use Rattle.odb_doc.specs.SameTexts.{AreSameTexts, IsFirstRepeat, RepeatNoneBefore}
+use Rattle.odb_doc.proofs.SetLemmas.{none_when_new, same_texts_more}
 use Rattle.odb_doc.proofs.DistinctLemmas.{distinct_new}
 
 -- what a place past the end has
@@ -76,13 +80,55 @@ distinct_as_sorted xs sorted same apart =
 
 -- ---- texts that are compared one by one
 
+texts_more : (xs : List (Bor (List ℕ))) (k : ℕ) (x : Bor (List ℕ)) → k < length xs → get_or xs k no_text ≡ x → texts_in (take (k + 1) xs) ≡ texts_in (take k xs) ++ x.now ∷ []
+texts_more xs k x within is =
+    ap texts_in (take_more xs k no_text within ∙ ap (λ (y : Bor (List ℕ)). take k xs ++ y ∷ []) is) ∙ map-append (λ (t : Bor (List ℕ)). t.now) (take k xs) (x ∷ [])
+
 -- one text more, which none before is
 pub distinct_more : (xs : List (Bor (List ℕ))) (k : ℕ) (x : Bor (List ℕ)) → k < length xs → get_or xs k no_text ≡ x → IsDistinct bytes_eq (texts_in (take k xs))
     → list_any (λ key. bytes_eq key.now x.now) (take k xs) ≡ false → IsDistinct bytes_eq (texts_in (take (k + 1) xs))
 distinct_more xs k x within is before none =
-    let more : texts_in (take (k + 1) xs) ≡ texts_in (take k xs) ++ x.now ∷ [] =
-    ap texts_in (take_more xs k no_text within ∙ ap (λ (y : Bor (List ℕ)). take k xs ++ y ∷ []) is) ∙ map-append (λ (t : Bor (List ℕ)). t.now) (take k xs) (x ∷ []) in
-    rw more (IsDistinct-push nat_list_eq_equiv (texts_in (take k xs)) x.now before (list_any-texts_in x.now (take k xs) ∙ sym (list_any-comm x.now (take k xs)) ∙ none))
+    rw (texts_more xs k x within is) (IsDistinct-push nat_list_eq_equiv (texts_in (take k xs)) x.now before (list_any-texts_in x.now (take k xs) ∙ sym (list_any-comm x.now (take k xs)) ∙ none))
+
+-- ---- the first text that repeats
+
+-- a set of the texts so far has one more
+pub seen_more : (xs keys : List (Bor (List ℕ))) (k : ℕ) (x : Bor (List ℕ)) → k < length xs → get_or xs k no_text ≡ x → AreSameTexts (texts_in keys) (texts_in (take k xs))
+    → AreSameTexts (texts_in (insert_key (λ y z. slice_cmp nat_cmp y.now z.now) keys x)) (texts_in (take (k + 1) xs))
+seen_more xs keys k x within is same = rw (texts_more xs k x within is) (same_texts_more (λ (t : Bor (List ℕ)). t.now) keys x (texts_in (take k xs)) same)
+
+-- what is found of the text at a position, of a name there
+pub at_split : (xs : List (Bor (List ℕ))) (k : ℕ) (x : Bor (List ℕ)) (b : Bool) → k < length xs → get_or xs k no_text ≡ x → list_any (bytes_eq x.now) (texts_in (take k xs)) ≡ b
+    → (before rest : List (List ℕ)) (name : List ℕ) → texts_in xs ≡ before ++ name ∷ rest → length before ≡ k → list_any (bytes_eq name) before ≡ b
+at_split xs k x b within there found before rest name is long =
+    let front : texts_in (take k xs) ≡ before =
+    sym (take-map (λ (t : Bor (List ℕ)). t.now) k xs) ∙ ap (take k) is ∙ ap (λ n. take n (before ++ name ∷ rest)) (sym long) ∙ take-append_seam before (name ∷ rest) in
+    let text : x.now ≡ name =
+    ap (λ (t : Bor (List ℕ)). t.now) (sym there) ∙ sym (get_or-map (λ (t : Bor (List ℕ)). t.now) xs k no_text [] within) ∙ ap (λ ns. get_or ns k []) is
+    ∙ ap (λ n. get_or (before ++ name ∷ rest) n []) (sym long) ∙ get_or-append_seam before name rest [] in
+    ap₂ (λ n bs. list_any (bytes_eq n) bs) (sym text) (sym front) ∙ found
+
+-- one more name that is none before it
+pub apart_more : (names : List (List ℕ)) (k : ℕ) → RepeatNoneBefore names k
+    → ((before rest : List (List ℕ)) (name : List ℕ) → names ≡ before ++ name ∷ rest → length before ≡ k → list_any (bytes_eq name) before ≡ false) → RepeatNoneBefore names (k + 1)
+apart_more names k apart here = λ before rest name is less.
+    elim (cases_order (length before) k) [
+      | inl same ↦ here before rest name is same
+      | inr other ↦ elim other [
+        | inl within ↦ apart before rest name is within
+        | inr past ↦ absurd (omega (arith, past, less))
+      ]
+    ]
+
+-- no name is past the end
+pub none_repeats : (names : List (List ℕ)) (k : ℕ) → k ≡ length names → RepeatNoneBefore names k → IsFirstRepeat names k
+none_repeats names k end apart = record {
+  apart = apart;
+  again = λ before rest name is long. absurd (omega (arith, ap length is, length-append before (name ∷ rest), end, long));
+}
+
+pub apart_distinct : (names : List (List ℕ)) (k : ℕ) → IsDistinct bytes_eq names → RepeatNoneBefore names k
+apart_distinct names k apart = λ before rest name is less. none_when_new true _ (distinct_new before name rest (subst (IsDistinct bytes_eq) is apart)) refl
 
 -- ---- distinct names stay as they are
 

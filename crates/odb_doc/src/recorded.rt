@@ -7,4 +7,3 @@ pub mod outcome;
 pub mod outcome_fault;
 pub mod outcomes;
 pub mod parts;
-pub mod seen;

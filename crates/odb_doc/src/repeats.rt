@@ -1,11 +1,11 @@
-//! Whether a list holds a text twice, and each text of it once.
+//! Whether and where a list holds a text twice, and each text of it once.
 
 ghost use Rattle.std.specs.Prelude.{◌≡◌, ◌<◌, true, false, bytes_eq, length, IfOk, OnOk, OnErr};
 ghost use Rattle.std.specs.Cmp.Lexicographic.{slice_cmp};
 ghost use Rattle.std.specs.List.{IsDistinct};
 ghost use Rattle.std.specs.Ordering.{is_lt, nat_cmp};
 ghost use Rattle.odb_doc.specs.Names.{distinct, texts_in, with_name};
-ghost use Rattle.odb_doc.specs.SameTexts.{AreSameTexts, rises_by_length};
+ghost use Rattle.odb_doc.specs.SameTexts.{AreSameTexts, IsFirstRepeat, rises_by_length};
 
 use smallvec::SmallVec;
 use std::alloc::{AllocError, Global};
@@ -132,4 +132,27 @@ pub(crate) fn without_repeats<'a>(alloc: Global, texts: Names<'a>) -> Result<Nam
     } else {
         Ok(texts)
     }
+}
+
+/// Returns the position of the first text that an earlier one equals, or how many texts there are.
+///
+/// It takes O(n log n) for texts of n bytes, whatever they are. A set is made only if a text may repeat.
+///
+/// # Errors
+///
+/// If memory for a sorted list, or for the set, cannot be allocated.
+pub(crate) fn first_repeat(alloc: Global, texts: &[&str]) -> Result<usize, AllocError>
+    ensures first { IfOk result (IsFirstRepeat (texts_in texts.now)) }
+    ensures some { OnErr result (0 < length texts.now) }
+{
+    if !may_repeat(alloc, texts)? {
+        return Ok(texts.len());
+    }
+    let mut seen = BTreeSet::new(alloc);
+    for k in 0..texts.len() {
+        if !seen.insert(texts[k])? {
+            return Ok(k);
+        }
+    }
+    Ok(texts.len())
 }

@@ -1,9 +1,7 @@
--- What is moved out of an element of `outcomes`, or out of a report of `events`, while it is read, and the ids that are
--- watched for a repeat: for private clauses, nothing to believe.
-use Rattle.std.specs.Prelude.{◌≡◌, ◌||◌, ℕ, List, ◌++◌, Option, Some, None, map, option_map, codes, bytes_eq, string_bytes, if◌then◌else◌, String}
-use Rattle.std.specs.declared.alloc.Global.{Global}
-use Rattle.std.specs.BTreeSet.{BTreeSet}
-use Rattle.std.specs.List.{IsDistinct, list_any}
+-- What is moved out of an element of `outcomes`, or out of a report of `events`, while it is read: for private clauses,
+-- nothing to believe.
+use Rattle.std.specs.Prelude.{◌≡◌, ◌||◌, ℕ, Bool, List, Some, None, option_map, codes, bytes_eq, string_bytes, if◌then◌else◌}
+use Rattle.std.specs.List.{list_any}
 use Rattle.serde_json.specs.Data.{Data}
 use Rattle.serde_json.specs.Find.{as_number, as_str, get}
 use Rattle.serde_json.specs.View.{view, number_view}
@@ -19,17 +17,15 @@ use Rattle.odb_doc.specs.declared.recorded.event_fault.EventFault.TheVariants as
 use Rattle.odb_doc.specs.declared.recorded.outcome_fault.OutcomeRule.{OutcomeRule}
 use Rattle.odb_doc.specs.declared.recorded.outcome_fault.OutcomeFault.{OutcomeFault}
 use Rattle.odb_doc.specs.declared.recorded.outcome_fault.OutcomeFault.TheVariants as faults
-use Rattle.odb_doc.specs.declared.recorded.seen.SeenIds.{SeenIds}
 use Rattle.odb_doc.specs.batch.Bodies.{body_of}
 use Rattle.odb_doc.specs.Headers.{HasHeaders, headers_in}
 use Rattle.odb_doc.specs.recorded.EventFaults as event_table
 use Rattle.odb_doc.specs.recorded.LeastEventFault.{BreaksEvent}
 use Rattle.odb_doc.specs.recorded.LeastOutcomeFault.{BreaksOutcome}
 use Rattle.odb_doc.specs.LeastRules.{IsLeast}
-use Rattle.odb_doc.specs.SameTexts.{AreSameTexts}
 use Rattle.odb_doc.specs.Members.{is_other, members_of, names_in, text_at}
 use Rattle.odb_doc.specs.recorded.OutcomeFaults.{rule_number}
-use Rattle.odb_doc.specs.recorded.Outcomes.{HasOutcome, status_of}
+use Rattle.odb_doc.specs.recorded.Outcomes.{HasOutcome, id_of, status_of}
 
 -- the values at the four members, as far as they have the right types, and whether there are other members
 pub record AreFoundIn (kind : Object) (name : List ℕ) (d : Data) (parts : Parts) : Type 0 where
@@ -82,10 +78,6 @@ abbrev pub event_fault : Broken (ℕ × EventRule) → EventFault
 event_fault (broken.Rule place) = event_faults.Event place.0 place.1
 event_fault broken.OutOfMemory = event_faults.OutOfMemory
 
--- the set has the ids so far; without a set these and those to come are distinct
-abbrev pub Watches : Option (BTreeSet (String Global)) → List (List ℕ) → List (List ℕ) → Type 0
-Watches (Some set) before coming = AreSameTexts (map string_bytes set.keys) before
-Watches None before coming = IsDistinct bytes_eq (before ++ coming)
-
-abbrev pub IsWatched : SeenIds → List (List ℕ) → List (List ℕ) → Type 0
-IsWatched seen before coming = Watches seen.ids before coming
+-- whether the id of the element, if it has one, is among these
+abbrev pub Repeats : Bool → List (List ℕ) → Data → Type 0
+Repeats repeats before d = (id : List ℕ) → id_of d ≡ Some id → list_any (bytes_eq id) before ≡ repeats

@@ -1,7 +1,7 @@
 //! A document of recorded outcomes, by id.
 
-ghost use Rattle.std.specs.Prelude.{◌==◌, ◌≡◌, ◌++◌, ◌∷◌, ◌<◌, ℕ, List, length, slice_get, Some, [], false, not, map, option_map, string_bytes, bytes_eq, IfSome, MatchOption, IfOk, IfErr, OnOk, OnErr, All};
-ghost use Rattle.std.specs.List.{AllZip, IsDistinct, list_any};
+ghost use Rattle.std.specs.Prelude.{◌==◌, ◌≡◌, ◌<◌, ℕ, List, length, slice_get, Some, false, map, option_map, bytes_eq, IfSome, MatchOption, IfOk, IfErr, OnOk, OnErr, All};
+ghost use Rattle.std.specs.List.{AllZip, IsDistinct};
 ghost use Rattle.std.specs.Map.{keys_of};
 ghost use Rattle.std.proofs.Props.{props};
 ghost use Rattle.serde_json.specs.Data.{Data, unsigned};
@@ -10,19 +10,21 @@ ghost use Rattle.odb_doc.specs.declared.recorded.outcome_fault.OutcomeRule.{Outc
 ghost use Rattle.odb_doc.specs.declared.recorded.outcome_fault.OutcomeFault.TheVariants as faults;
 ghost use Rattle.odb_doc.specs.BrokenRules.{OnPlace, OnRule};
 ghost use Rattle.odb_doc.specs.recorded.LeastOutcomeFault.{AreOutcomes, BreaksOutcome, IsLeastOutcomeRule, IsOutcomesDocument, RefusesOutcomes};
-ghost use Rattle.odb_doc.specs.recorded.RawOutcomes.{IsLeastBroken, IsRawOutcomeOf, outcome_fault, IsWatched};
+ghost use Rattle.odb_doc.specs.recorded.RawOutcomes.{IsLeastBroken, IsRawOutcomeOf, Repeats, outcome_fault};
 ghost use Rattle.odb_doc.specs.recorded.Outcomes.{AreOutcomesOf, IsOutcomesObject, IsStatus, IsWellFormedOutcome, ReadsAs, elements, ids, recorded};
+ghost use Rattle.odb_doc.specs.Names.{texts_in};
+ghost use Rattle.odb_doc.specs.SameTexts.{IsFirstRepeat};
 ghost use Rattle.odb_doc.specs.WholeNumbers.{IsWhole};
 
 use crate::broken::Broken;
-use crate::member::Object;
+use crate::member::{Object, text_at};
 use crate::recorded::outcome::{Outcome, RawOutcome, raw_outcome_of};
 use crate::recorded::outcome_fault::{OutcomeFault, OutcomeRule};
-use crate::recorded::seen::SeenIds;
+use crate::repeats::first_repeat;
 use crate::status::is_status;
 use crate::whole::has_whole_body;
 use serde_json::{Number, Value};
-use std::alloc::Global;
+use std::alloc::{AllocError, Global};
 
 /// Recorded outcomes of requests, in the order of their document. No two have one id, each status is
 /// from 200 to 599, and each body holds whole numbers alone.
@@ -49,25 +51,42 @@ fn status_of(status: Number) -> Option<u16>
     is_status(code).then_some(code)
 }
 
+/// Returns the ids of the elements that have one.
+fn ids_of<'a>(alloc: Global, elements: &'a [Value]) -> Result<Vec<&'a str>, AllocError>
+    ensures ids { IfOk result (λ found. texts_in found.items ≡ ids (map view elements.now)) }
+    ensures some { OnErr result (0 < length elements.now) }
+{
+    let mut found = Vec::with_capacity(alloc, elements.len())?;
+    for element in elements {
+        if let Some(id) = text_at(element, "id") {
+            found.push(id)?;
+        }
+    }
+    Ok(found)
+}
+
+/// Returns where an id repeats first, among the ids of the elements, or how many ids there are.
+fn first_repeated_id(alloc: Global, elements: &[Value]) -> Result<usize, AllocError>
+    ensures first { IfOk result (IsFirstRepeat (ids (map view elements.now))) }
+    ensures some { OnErr result (0 < length elements.now) }
+{
+    let ids = ids_of(alloc, elements)?;
+    first_repeat(alloc, ids.as_slice())
+}
+
 /// Returns the status of the outcome, or the first of the rules F61 to F63 that it breaks.
-fn status_in(seen: &mut SeenIds, raw: &RawOutcome) -> Result<u16, Broken<OutcomeRule>>
-    ensures unbroken { OnOk result ((d : Data) (before rest : List (List ℕ)) → IsRawOutcomeOf d raw.now
-        → IsWatched seen.old before (string_bytes raw.now.id ∷ rest)
-        → (rule : OutcomeRule) → ¬ BreaksOutcome rule before d) }
+fn status_in(repeats: bool, raw: &RawOutcome) -> Result<u16, Broken<OutcomeRule>>
+    ensures unbroken { OnOk result ((d : Data) (before : List (List ℕ)) → IsRawOutcomeOf d raw.now
+        → Repeats repeats before d → (rule : OutcomeRule) → ¬ BreaksOutcome rule before d) }
     ensures status { IfOk result (λ code. IsStatus (number_view raw.now.status)
         × (number_view raw.now.status ≡ unsigned code)) }
     ensures whole { OnOk result (IfSome (option_map view raw.now.body) IsWhole) }
-    ensures is_new { OnOk result ((before rest : List (List ℕ))
-        → IsWatched seen.old before (string_bytes raw.now.id ∷ rest)
-        → list_any (bytes_eq (string_bytes raw.now.id)) before ≡ false) }
-    ensures noted { OnOk result ((before rest : List (List ℕ))
-        → IsWatched seen.old before (string_bytes raw.now.id ∷ rest)
-        → IsWatched seen.new (before ++ string_bytes raw.now.id ∷ []) rest) }
-    ensures first { IfErr result (λ broken. (d : Data) (before rest : List (List ℕ))
-        → IsRawOutcomeOf d raw.now → IsWatched seen.old before (string_bytes raw.now.id ∷ rest)
+    ensures is_new { OnOk result (repeats ≡ false) }
+    ensures first { IfErr result (λ broken. (d : Data) (before : List (List ℕ))
+        → IsRawOutcomeOf d raw.now → Repeats repeats before d
         → OnRule (IsLeastBroken before d) broken) }
 {
-    if !seen.note(&raw.id)? {
+    if repeats {
         return Err(Broken::Rule(OutcomeRule::OutcomeTwice));
     }
     let Some(status) = status_of(raw.status) else {
@@ -79,31 +98,25 @@ fn status_in(seen: &mut SeenIds, raw: &RawOutcome) -> Result<u16, Broken<Outcome
     Ok(status)
 }
 
-/// Reads one element, moving its values out, or returns the first rule that it breaks. `seen` has the
-/// ids of the elements before it.
+/// Reads one element, moving its values out, or returns the first rule that it breaks. `repeats` says
+/// whether an earlier element has its id.
 fn read_outcome(
     alloc: Global,
-    seen: &mut SeenIds,
+    repeats: bool,
     element: &mut Value,
 ) -> Result<(String, Outcome), Broken<OutcomeRule>>
-    ensures unbroken { OnOk result ((before : List (List ℕ)) (rest : List Data)
-        → IsWatched seen.old before (ids (view element.old ∷ rest))
+    ensures unbroken { OnOk result ((before : List (List ℕ)) → Repeats repeats before (view element.old)
         → (rule : OutcomeRule) → ¬ BreaksOutcome rule before (view element.old)) }
     ensures says { IfOk result (λ entry. ReadsAs (view element.old) (recorded entry)) }
     ensures well_formed { IfOk result (λ entry. IsWellFormedOutcome (recorded entry)) }
-    ensures is_new { IfOk result (λ entry. (before : List (List ℕ)) (rest : List Data)
-        → IsWatched seen.old before (ids (view element.old ∷ rest))
-        → list_any (bytes_eq (string_bytes entry.0)) before ≡ false) }
-    ensures noted { IfOk result (λ entry. (before : List (List ℕ)) (rest : List Data)
-        → IsWatched seen.old before (ids (view element.old ∷ rest))
-        → IsWatched seen.new (before ++ string_bytes entry.0 ∷ []) (ids rest)) }
-    ensures first { IfErr result (λ broken. (before : List (List ℕ)) (rest : List Data)
-        → IsWatched seen.old before (ids (view element.old ∷ rest))
+    ensures is_new { OnOk result (repeats ≡ false) }
+    ensures first { IfErr result (λ broken. (before : List (List ℕ))
+        → Repeats repeats before (view element.old)
         → OnRule (IsLeastBroken before (view element.old)) broken) }
 {
     let bad = OutcomeRule::BadOutcomes;
     let raw = raw_outcome_of(alloc, Object::Outcome, "id", element, bad)?;
-    let status = status_in(seen, &raw)?;
+    let status = status_in(repeats, &raw)?;
     let outcome = Outcome {
         status,
         headers: raw.headers,
@@ -137,10 +150,10 @@ fn outcomes_from(
     ensures first { IfErr result (OnPlace (IsLeastOutcomeRule (map view elements.old.items))) }
     ensures some { OnErr result (0 < length elements.old.items) }
 {
-    let mut seen = SeenIds::before(alloc, elements.as_slice())?;
+    let repeat = first_repeated_id(alloc, elements.as_slice())?;
     let mut entries = Vec::with_capacity(alloc, elements.len())?;
     for element in elements {
-        match read_outcome(alloc, &mut seen, element) {
+        match read_outcome(alloc, entries.len() == repeat, element) {
             Ok(entry) => entries.push(entry)?,
             Err(broken) => return Err(broken.at(entries.len())),
         }
