@@ -7,6 +7,7 @@ ghost use Rattle.odb_sched.specs.run.State as state;
 ghost use Rattle.odb_sched.specs.run.Steps as steps;
 ghost use Rattle.odb_sched.specs.run.Laws as laws;
 
+use crate::answer::Answer;
 use crate::phase::Phase;
 use crate::scheduler::Scheduler;
 use odb_check::Plan;
@@ -14,31 +15,6 @@ use odb_doc::Outcome;
 use odb_doc::status::is_success;
 use std::alloc::{AllocError, Global};
 use std::marker::Model;
-
-/// The answer to a request of a finished run (OData JSON Format 4.01, section 19.5).
-#[derive(Clone, Copy, Debug)]
-pub enum Answer<'a> {
-    /// The outcome that was reported.
-    Reported(&'a Outcome),
-    /// It did not start, or it reported a success that has to be undone, since its unit did not
-    /// succeed.
-    FailedDependency,
-}
-
-impl Answer<'_> {
-    ghost use Rattle.odb_sched.specs.run.Answers.{shown, status_of};
-
-    /// Returns the HTTP status, which is 424 for a failed dependency. That of an answer of a finished
-    /// run is from 200 to 599 ([`Done::answer`]).
-    pub fn status(&self) -> u16
-        ensures { result ≡ status_of (shown self.now) }
-    {
-        match self {
-            Answer::Reported(outcome) => outcome.status,
-            Answer::FailedDependency => 424,
-        }
-    }
-}
 
 /// A finished run, with its answers (OData JSON Format 4.01, section 19.5).
 #[derive(Drop)]

@@ -12,7 +12,11 @@ ghost use Rattle.odb_sched.specs.run.Answers as answers;
 ghost use Rattle.odb_sched.specs.run.State as state;
 ghost use Rattle.odb_sched.specs.invariants.Kept.{first_of, IsReached};
 ghost use Rattle.odb_sched.specs.run.Steps as steps;
+ghost use Rattle.odb_sched.specs.run.Laws as laws;
+ghost use Rattle.odb_sched.specs.declared.policy.Mode.TheVariants as modes;
+ghost use Rattle.odb_doc.specs.Statuses.{is_status};
 
+use crate::answer::Answer;
 use crate::counts::Counts;
 use crate::event::Step;
 use crate::graph::Graph;
@@ -22,7 +26,7 @@ use crate::policy::Policy;
 use crate::refusal::{ReportRefusal, StartRefusal};
 use odb_check::Plan;
 use odb_doc::Outcome;
-use odb_doc::status::is_status;
+use odb_doc::status::{is_status, is_success};
 use std::alloc::{AllocError, Global};
 use std::marker::Model;
 
@@ -341,6 +345,43 @@ impl OwnedRun {
             }
         }
         Ok(positions)
+    }
+
+    /// Returns the answer to request `i`, counted from 0, of a finished run. Its status is from 200 to
+    /// 599.
+    pub fn answer(&self, i: u32) -> Answer<'_>
+        requires finished { steps.is_finished self.now ≡ true }
+        requires request { i < state.size self.now }
+        ensures value { answers.shown result ≡ answers.answer self.now i }
+        ensures status { IsTrue (is_status (answers.status_of (answers.shown result))) }
+    {
+        self.reached();
+        match self.phase(i) {
+            Phase::Reported(outcome) => {
+                if is_success(outcome.status) && !self.unit_succeeded(i) {
+                    Answer::FailedDependency
+                } else {
+                    Answer::Reported(outcome)
+                }
+            }
+            _ => Answer::FailedDependency,
+        }
+    }
+
+    /// What holds of the answers of every finished run, as [`crate::laws::every_result`] states it of
+    /// lists of events. It changes nothing.
+    pub fn laws(&self)
+        requires { steps.is_finished self.now ≡ true }
+        ensures one_result { self.now.policy.mode ≡ modes.Continue → laws.HasOneResult self.now }
+        ensures by_statuses { self.now.policy.mode ≡ modes.Continue
+            → laws.HasResultByStatuses self.now }
+        ensures agrees_with_table { laws.AgreesWithTable self.now }
+        ensures all_or_none { laws.IsAllOrNone self.now }
+        ensures rests_on_successes { laws.RestsOnSuccesses self.now }
+        ensures statuses { answers.HasStatuses self.now }
+        ensures answered { (i : ℕ) → is_status (answers.status_of (answers.answer self.now i)) ≡ true }
+    {
+        self.reached();
     }
 
     /// What holds of every state that a run comes to. It changes nothing.
