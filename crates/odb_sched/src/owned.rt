@@ -1,6 +1,6 @@
 //! A run that borrows nothing: which event may come, and what it changes.
 
-ghost use Rattle.std.specs.Prelude.{◌≡◌, ◌≢◌, ◌==◌, ◌<◌, ◌≤◌, ◌↔◌, ℕ, [], true, false, None, All, length, IsTrue, IsOk, IfOk, IfErr, IfSome, OnOk, OnErr};
+ghost use Rattle.std.specs.Prelude.{◌≡◌, ◌≢◌, ◌==◌, ◌<◌, ◌≤◌, ◌↔◌, ℕ, [], true, false, None, All, length, IsTrue, IsOk, IfOk, IfErr, IfSome, OnOk, OnErr, option_map};
 ghost use Rattle.odb_check.specs.Plans.{plan_records};
 ghost use Rattle.odb_check.specs.PlanGraph.{unit_of};
 ghost use Rattle.odb_dense.specs.Lists.{ListsOnce};
@@ -34,8 +34,8 @@ use std::marker::Model;
 /// the outcomes that were reported (OData Protocol 4.01, section 11.7).
 ///
 /// It knows its requests by their positions alone. So it outlives the document and the plan that it
-/// was made for, and [`crate::Scheduler::of`] puts it to a plan again. Its calls cost what those of a
-/// scheduler do.
+/// was made for, and [`crate::Done::of`] shows it beside a plan again when it is finished. Its calls cost
+/// what those of a scheduler do.
 #[derive(Drop)]
 pub struct OwnedRun {
     graph: Graph,
@@ -302,7 +302,7 @@ impl OwnedRun {
     }
 
     /// Returns what has happened to a request.
-    pub(crate) fn phase(&self, i: u32) -> &Phase
+    fn phase(&self, i: u32) -> &Phase
         requires { i < state.size self.now }
         ensures { result.now ≡ state.phase_at self.now i }
     {
@@ -310,7 +310,7 @@ impl OwnedRun {
     }
 
     /// Returns whether all members of the request's unit have succeeded.
-    pub(crate) fn unit_succeeded(&self, i: u32) -> bool
+    fn unit_succeeded(&self, i: u32) -> bool
         requires { i < state.size self.now }
         ensures { result ≡ steps.unit_succeeded self.now (unit_of self.now.plan_graph i) }
     {
@@ -365,6 +365,17 @@ impl OwnedRun {
                 }
             }
             _ => Answer::FailedDependency,
+        }
+    }
+
+    /// Returns the outcome that request `i` reported, if it did: also one that has to be undone.
+    pub fn reported(&self, i: u32) -> Option<&Outcome>
+        requires { i < state.size self.now }
+        ensures { option_map (λ outcome. outcome.now) result ≡ answers.reported self.now i }
+    {
+        match self.phase(i) {
+            Phase::Reported(outcome) => Some(outcome),
+            _ => None,
         }
     }
 
