@@ -17,7 +17,7 @@ ghost use Rattle.odb_sched.specs.declared.policy.Mode.TheVariants as modes;
 ghost use Rattle.odb_doc.specs.Statuses.{is_status};
 
 use crate::answer::Answer;
-use crate::counts::Counts;
+use crate::counts::Progress;
 use crate::event::Step;
 use crate::graph::Graph;
 use crate::order::{End, Order};
@@ -40,7 +40,7 @@ use std::marker::Model;
 pub struct OwnedRun {
     graph: Graph,
     policy: Policy,
-    counts: Counts,
+    progress: Progress,
 }
 
 impl Model for OwnedRun {
@@ -82,11 +82,11 @@ impl OwnedRun {
         ensures { IfOk result (λ run. run ≡ first_of graph.plan_graph policy) }
     {
         graph.laws();
-        let counts = Counts::new(alloc, &graph)?;
+        let progress = Progress::new(alloc, &graph)?;
         Ok(OwnedRun {
             graph,
             policy,
-            counts,
+            progress,
         })
     }
 
@@ -117,7 +117,7 @@ impl OwnedRun {
         requires { i < state.size self.now }
         ensures { result ≡ steps.unit_failed self.now (unit_of self.now.plan_graph i) }
     {
-        self.counts.progress.units.is_visited(self.graph.unit_of(i))
+        self.progress.counts.failed.is_visited(self.graph.unit_of(i))
     }
 
     /// Returns the first cause why a request may not start.
@@ -129,16 +129,16 @@ impl OwnedRun {
         if !self.phase(i).is_unstarted() {
             return Some(StartRefusal::AlreadyStarted);
         }
-        if self.counts.stopped {
+        if self.progress.stopped {
             return Some(StartRefusal::Stopped);
         }
         if self.unit_failed(i) {
             return Some(StartRefusal::UnitFailed);
         }
-        if let Some(need) = self.counts.first_unmet(&self.graph, i) {
+        if let Some(need) = self.progress.first_unmet(&self.graph, i) {
             return Some(StartRefusal::Waiting(need));
         }
-        if self.counts.is_full(self.policy) {
+        if self.progress.is_full(self.policy) {
             return Some(StartRefusal::WidthReached);
         }
         None
@@ -161,9 +161,9 @@ impl OwnedRun {
         if let Some(cause) = self.start_refusal(i) {
             return Err(cause);
         }
-        self.counts.progress.ready.remove(i);
-        self.counts.progress.running.insert(i);
-        self.counts.put(i, Phase::Running);
+        self.progress.counts.ready.remove(i);
+        self.progress.counts.running.insert(i);
+        self.progress.put(i, Phase::Running);
         Ok(())
     }
 
@@ -198,7 +198,7 @@ impl OwnedRun {
         if let Some(cause) = self.report_refusal(i, &outcome) {
             return Err((cause, outcome));
         }
-        self.counts.report(&self.graph, self.policy, i, outcome);
+        self.progress.report(&self.graph, self.policy, i, outcome);
         Ok(())
     }
 
@@ -207,7 +207,7 @@ impl OwnedRun {
         ensures listed { ListsOnce (state.size self.now) (steps.may_start self.now) result.now }
         ensures within { All (λ i. i < state.size self.now) result.now }
     {
-        self.counts.ready(self.policy)
+        self.progress.ready(self.policy)
     }
 
     /// Returns the running positions, each once, in no particular order.
@@ -217,7 +217,7 @@ impl OwnedRun {
         ensures within { All (λ i. i < state.size self.now) result.now }
         ensures width { length result.now ≤ self.now.policy.width }
     {
-        self.counts.progress.running.as_slice()
+        self.progress.counts.running.as_slice()
     }
 
     /// Returns the least or the greatest ready position, or `None` if there is none.
@@ -229,7 +229,7 @@ impl OwnedRun {
         ensures some { IfSome result (λ i. (i < state.size self.old)
             × (steps.may_start self.old i ≡ true) × IsAt end (ready_set self.old) i) }
     {
-        self.counts.ready_at(self.policy, end)
+        self.progress.ready_at(self.policy, end)
     }
 
     /// Returns the least or the greatest running position, or `None` if there is none.
@@ -242,7 +242,7 @@ impl OwnedRun {
             × (state.is_running (state.phase_at self.old i) ≡ true)
             × IsAt end (running_set self.old) i) }
     {
-        end.of(&mut self.counts.progress.running)
+        end.of(&mut self.progress.counts.running)
     }
 
     /// Returns the report of the least or the greatest running position, or else the start of that
@@ -298,7 +298,7 @@ impl OwnedRun {
             → (steps.may_start self.now i ≡ false)
             × (state.is_running (state.phase_at self.now i) ≡ false)) }
     {
-        self.counts.is_finished()
+        self.progress.is_finished()
     }
 
     /// Returns what has happened to a request.
@@ -306,7 +306,7 @@ impl OwnedRun {
         requires { i < state.size self.now }
         ensures { result.now ≡ state.phase_at self.now i }
     {
-        &self.counts.phases[i as usize]
+        &self.progress.phases[i as usize]
     }
 
     /// Returns whether all members of the request's unit have succeeded.
@@ -314,7 +314,7 @@ impl OwnedRun {
         requires { i < state.size self.now }
         ensures { result ≡ steps.unit_succeeded self.now (unit_of self.now.plan_graph i) }
     {
-        self.counts.progress.pending[self.graph.unit_of(i) as usize] == 0
+        self.progress.counts.pending[self.graph.unit_of(i) as usize] == 0
     }
 
     /// Returns whether a request reported a success that has to be undone.

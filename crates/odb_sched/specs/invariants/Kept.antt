@@ -8,7 +8,7 @@ use Rattle.odb_sched.specs.declared.phase.Phase.TheVariants.{Unstarted}
 use Rattle.odb_sched.specs.run.State.{State, is_unstarted, size, phase_at, plan_graph, with_requests}
 use Rattle.odb_sched.specs.run.Steps.{all_satisfied, running_count, is_stopped, is_finished}
 use Rattle.odb_sched.specs.run.Answers.{HasStatuses}
-use Rattle.odb_sched.specs.declared.counts.Counts.{Counts}
+use Rattle.odb_sched.specs.declared.counts.Progress.{Progress}
 use Rattle.odb_check.specs.Plans.{plan_records}
 use Rattle.odb_sched.specs.declared.owned.OwnedRun.TheInside.{Inside}
 use Rattle.odb_sched.specs.declared.scheduler.Scheduler.TheInside as scheduler
@@ -36,18 +36,18 @@ pub record IsReached (state : State) : Type 0 where
   pub statuses : HasStatuses state
 
 -- the counts and the stop are those of the state
-pub record IsCounted (state : State) (counted : Counts) : Type 0 where
-  pub counts : AreCounts state.plan_graph state.phases counted.progress
+pub record IsCounted (state : State) (counted : Progress) : Type 0 where
+  pub counts : AreCounts state.plan_graph state.phases counted.counts
   pub stopped : counted.stopped ≡ is_stopped state
 
 -- the state of a run, of no requests
 abbrev pub kept_state : Inside → State
-kept_state s = state_of s.graph.plan_graph s.policy s.counts.phases.items
+kept_state s = state_of s.graph.plan_graph s.policy s.progress.phases.items
 
 -- what a run keeps
 pub record IsKept (s : Inside) : Type 0 where
   pub reached : IsReached (kept_state s)
-  pub counts : IsCounted (kept_state s) s.counts
+  pub counts : IsCounted (kept_state s) s.progress
 
 -- the state of the run that a scheduler drives, of the requests of its plan
 abbrev pub planned_state : scheduler.Inside → State

@@ -11,6 +11,6 @@ use Rattle.odb_sched.proofs.owned.OwnedRun.unit_failed.Goals as goal
 
 pub returns : goal.returns
 returns c =
-    c.is_visited.ensures ∙ ap (λ u. is_visited (get_or c.self.inside.counts.progress.units u Unvisited)) c.unit_of.ensures.unit
-    ∙ skipped_is (kept_state c.self.inside) c.self.inside.counts c.args.i c.self.invariant.reached c.self.invariant.counts (subst (λ state. c.args.i < size state) (sym c.self.view_is) c.requires)
+    c.is_visited.ensures ∙ ap (λ u. is_visited (get_or c.self.inside.progress.counts.failed u Unvisited)) c.unit_of.ensures.unit
+    ∙ skipped_is (kept_state c.self.inside) c.self.inside.progress c.args.i c.self.invariant.reached c.self.invariant.counts (subst (λ state. c.args.i < size state) (sym c.self.view_is) c.requires)
     ∙ ap (λ (state : State). unit_failed state (unit_of state.plan_graph c.args.i)) c.self.view_is

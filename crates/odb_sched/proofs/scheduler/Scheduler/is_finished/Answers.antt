@@ -1,6 +1,6 @@
 use Rattle.std.proofs.Common.{◌↔◌, ◌≡◌, ◌<◌, ℕ, false, subst, IsTrue}
 use Rattle.odb_sched.specs.run.State.{is_running, size, phase_at}
-use Rattle.odb_sched.specs.run.Steps.{is_finished, may_start}
+use Rattle.odb_sched.specs.run.Steps.{may_start}
 use Rattle.odb_sched.proofs.scheduler.Scheduler.is_finished.Goals as goal
 
 pub returns-clause-idle : goal.returns-clause-idle

@@ -6,13 +6,13 @@ use Rattle.odb_sched.specs.declared.phase.Phase.TheVariants.{Unstarted}
 use Rattle.odb_sched.specs.run.State.{has_succeeded}
 use Rattle.odb_sched.specs.run.Steps.{satisfied_in}
 use Rattle.odb_sched.proofs.UnmetLemmas.{none_pending}
-use Rattle.odb_sched.proofs.counts.Counts.is_satisfied.Goals as goal
+use Rattle.odb_sched.proofs.counts.Progress.is_satisfied.Goals as goal
 
 pub returns-in-Group : goal.returns-in-Group
 returns-in-Group c =
     let known = subst (IsNeed c.args.graph.now.plan_graph) c.in-Group.is c.requires.known in
-    let within : c.in-Group.u < length c.args.self.now.progress.pending.items = rw c.requires.counts.ready.entries.pending known in
-    ap (λ left. left == 0) (get_or_read c.args.self.now.progress.pending.items c.in-Group.u c.index-in-Group.result.now within c.index-in-Group.ensures 0 ∙ c.requires.counts.pending c.in-Group.u known)
+    let within : c.in-Group.u < length c.args.self.now.counts.pending.items = rw c.requires.counts.ready.entries.pending known in
+    ap (λ left. left == 0) (get_or_read c.args.self.now.counts.pending.items c.in-Group.u c.index-in-Group.result.now within c.index-in-Group.ensures 0 ∙ c.requires.counts.pending c.in-Group.u known)
     ∙ none_pending c.args.graph.now.plan_graph c.args.self.now.phases.items c.in-Group.u
     ∙ sym (ap (satisfied_in c.args.graph.now.plan_graph c.args.self.now.phases.items) c.in-Group.is)
 

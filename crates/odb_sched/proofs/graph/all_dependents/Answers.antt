@@ -2,7 +2,7 @@
 use Rattle.std.proofs.Common.{◌≡◌, ◌+◌, ◌∙◌, arith, length}
 use Rattle.odb_check.specs.Plans.{plan_graph}
 use Rattle.odb_sched.proofs.NeedPairLemmas.{pairs_keyed, dependents_are}
-use Rattle.odb_sched.proofs.graph.dependents_of.Goals as goal
+use Rattle.odb_sched.proofs.graph.all_dependents.Goals as goal
 
 pub of-requires : goal.of-requires
 of-requires c =
