@@ -12,7 +12,7 @@ use Rattle.odb_sched.specs.run.Steps.{stopped_in}
 use Rattle.odb_sched.specs.invariants.Counts.{AreCounts, HasReady, is_skipped}
 use Rattle.odb_sched.specs.invariants.Kept.{IsCounted, state_of}
 use Rattle.odb_sched.proofs.KeptLemmas.{written_at, written_back}
-use Rattle.odb_sched.proofs.PhaseLemmas.{Running-from, Unstarted-from}
+use Rattle.odb_sched.proofs.PhaseLemmas.{Unstarted-from}
 use Rattle.odb_sched.proofs.SameLemmas.{as_before, unmet_same, pending_same, propagated_same, running_same}
 use Rattle.odb_sched.proofs.ReadyLemmas.{as_long, ready_without}
 use Rattle.odb_sched.proofs.StopLemmas.{stopped_by_start}
