@@ -117,7 +117,10 @@ impl OwnedRun {
         requires { i < state.size self.now }
         ensures { result ≡ steps.unit_failed self.now (unit_of self.now.plan_graph i) }
     {
-        self.progress.counts.failed.is_visited(self.graph.unit_of(i))
+        self.progress
+            .counts
+            .failed
+            .is_visited(self.graph.unit_of(i))
     }
 
     /// Returns the first cause why a request may not start.
