@@ -89,91 +89,6 @@ fn greatest_place(positions: &[u32]) -> usize
     greatest
 }
 
-/// The chooser that follows [`Order::First`].
-#[derive(Clone, Copy, Debug)]
-pub struct First;
-
-impl Chooser for First {
-    ghost use Rattle.std.specs.Prelude.{◌≡◌, Some};
-    ghost use Rattle.odb_sched.specs.declared.order.Order.TheVariants as order;
-    ghost use Rattle.odb_sched.specs.run.Choosing.{AllowsOrder};
-
-    ghost allows = { λ _. AllowsOrder order.First };
-
-    ghost chooses = { λ old _ _ _ new. new ≡ old };
-
-    ghost names = { λ _. Some order.First };
-
-    fn choose(&mut self, ready: &[u32], running: &[u32]) -> Choice {
-        if running.is_empty() {
-            Choice::Start(least_place(ready))
-        } else {
-            Choice::Report(least_place(running))
-        }
-    }
-
-    fn order(&self) -> Option<Order> {
-        Some(Order::First)
-    }
-}
-
-/// The chooser that follows [`Order::Last`].
-#[derive(Clone, Copy, Debug)]
-pub struct Last;
-
-impl Chooser for Last {
-    ghost use Rattle.std.specs.Prelude.{◌≡◌, Some};
-    ghost use Rattle.odb_sched.specs.declared.order.Order.TheVariants as order;
-    ghost use Rattle.odb_sched.specs.run.Choosing.{AllowsOrder};
-
-    ghost allows = { λ _. AllowsOrder order.Last };
-
-    ghost chooses = { λ old _ _ _ new. new ≡ old };
-
-    ghost names = { λ _. Some order.Last };
-
-    fn choose(&mut self, ready: &[u32], running: &[u32]) -> Choice {
-        if running.is_empty() {
-            Choice::Start(greatest_place(ready))
-        } else {
-            Choice::Report(greatest_place(running))
-        }
-    }
-
-    fn order(&self) -> Option<Order> {
-        Some(Order::Last)
-    }
-}
-
-/// The chooser that follows [`Order::Wide`].
-#[derive(Clone, Copy, Debug)]
-pub struct Wide;
-
-impl Chooser for Wide {
-    ghost use Rattle.std.specs.Prelude.{◌≡◌, Some};
-    ghost use Rattle.odb_sched.specs.declared.order.Order.TheVariants as order;
-    ghost use Rattle.odb_sched.specs.run.Choosing.{AllowsOrder};
-
-    ghost allows = { λ _. AllowsOrder order.Wide };
-
-    ghost chooses = { λ old _ _ _ new. new ≡ old };
-
-    ghost names = { λ _. Some order.Wide };
-
-    fn choose(&mut self, ready: &[u32], running: &[u32]) -> Choice {
-        if ready.is_empty() {
-            Choice::Report(least_place(running))
-        } else {
-            Choice::Start(least_place(ready))
-        }
-    }
-
-    fn order(&self) -> Option<Order> {
-        Some(Order::Wide)
-    }
-}
-
-/// Each order is also a chooser, which does what the type of this name does.
 impl Chooser for Order {
     ghost use Rattle.std.specs.Prelude.{◌≡◌, Some};
     ghost use Rattle.odb_sched.specs.run.Choosing.{AllowsOrder};
@@ -186,9 +101,12 @@ impl Chooser for Order {
 
     fn choose(&mut self, ready: &[u32], running: &[u32]) -> Choice {
         match *self {
-            Order::First => First.choose(ready, running),
-            Order::Last => Last.choose(ready, running),
-            Order::Wide => Wide.choose(ready, running),
+            Order::First if running.is_empty() => Choice::Start(least_place(ready)),
+            Order::First => Choice::Report(least_place(running)),
+            Order::Last if running.is_empty() => Choice::Start(greatest_place(ready)),
+            Order::Last => Choice::Report(greatest_place(running)),
+            Order::Wide if ready.is_empty() => Choice::Report(least_place(running)),
+            Order::Wide => Choice::Start(least_place(ready)),
         }
     }
 

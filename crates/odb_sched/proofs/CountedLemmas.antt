@@ -7,7 +7,7 @@ use Rattle.std.proofs.lemmas.List.{get_or_default, get_or_past, length-map}
 use Rattle.std.proofs.lemmas.List.Sums.{sum_by-cons, get_or-le-sum_by}
 use Rattle.odb_check.specs.PlanGraph.{unit_of, needs_of}
 use Rattle.odb_sched.specs.declared.phase.Phase.TheVariants.{Unstarted}
-use Rattle.odb_sched.specs.declared.counts.Counts.{Counts}
+use Rattle.odb_sched.specs.declared.counts.Progress.{Progress}
 use Rattle.odb_dense.specs.Lists.{ListsOnce}
 use Rattle.odb_check.specs.Firsts.{any_below}
 use Rattle.odb_sched.specs.run.State.{is_unstarted, is_running, State, size, phase_at}
@@ -47,7 +47,7 @@ none_pass test xs d = elim (cases_Bool (any_below (length xs) (λ i. test (get_o
         ne_eqb _ 0 (λ none. omega arith)
 
 -- how many run
-pub running_is : (state : State) (counted : Counts) → IsCounted state counted → count_by (λ runs. runs) counted.progress.running ≡ running_count state
+pub running_is : (state : State) (counted : Progress) → IsCounted state counted → count_by (λ runs. runs) counted.counts.running ≡ running_count state
 running_is state counted are = ap (count_by (λ runs. runs)) are.counts.running ∙ count_map is_running state.phases
 
 -- as many run as may exactly when no fewer do
@@ -58,10 +58,10 @@ full_is count width = elim (cases_lt count width) [
 ]
 
 -- whether the unit of a request has failed
-pub skipped_is : (state : State) (counted : Counts) (i : ℕ) → IsReached state → IsCounted state counted → i < size state → is_skipped state.plan_graph counted.progress.units i ≡ unit_failed state (unit_of state.plan_graph i)
+pub skipped_is : (state : State) (counted : Progress) (i : ℕ) → IsReached state → IsCounted state counted → i < size state → is_skipped state.plan_graph counted.counts.failed i ≡ unit_failed state (unit_of state.plan_graph i)
 skipped_is state counted i reached are within = are.counts.units.failed (unit_of state.plan_graph i) (reached.laws.counted i within)
 
-unmet_is : (state : State) (counted : Counts) (i : ℕ) → IsCounted state counted → i < size state → (get_or counted.progress.unmet.items i 0 == 0) ≡ all_satisfied state i
+unmet_is : (state : State) (counted : Progress) (i : ℕ) → IsCounted state counted → i < size state → (get_or counted.counts.unmet.items i 0 == 0) ≡ all_satisfied state i
 unmet_is state counted i are within = ap (λ n. n == 0) (are.counts.unmet i within) ∙ none_unmet (satisfied_in state.plan_graph state.phases) (needs_of state.plan_graph i)
 
 regroup : (fresh stopped failed satisfied room : Bool) → ((fresh && not failed && satisfied) && not stopped && room) ≡ (fresh && not stopped && not failed && satisfied && room)
@@ -74,26 +74,26 @@ regroup true false false false room = refl
 regroup false stopped failed satisfied room = refl
 
 -- which positions may start
-pub starts_is : (state : State) (counted : Counts) (i : ℕ) → IsReached state → IsCounted state counted → i < size state
-    → (get_or counted.progress.ready i false && not counted.stopped && nat_lt (count_by (λ runs. runs) counted.progress.running) state.policy.width) ≡ may_start state i
+pub starts_is : (state : State) (counted : Progress) (i : ℕ) → IsReached state → IsCounted state counted → i < size state
+    → (get_or counted.counts.ready i false && not counted.stopped && nat_lt (count_by (λ runs. runs) counted.counts.running) state.policy.width) ≡ may_start state i
 starts_is state counted i reached are within =
     rw (are.counts.ready.exact i within, skipped_is state counted i reached are within, unmet_is state counted i are within, are.stopped, running_is state counted are)
     (regroup (is_unstarted (phase_at state i)) (is_stopped state) (unit_failed state (unit_of state.plan_graph i)) (all_satisfied state i) (nat_lt (running_count state) state.policy.width))
 
 -- which positions run
-pub runs_is : (state : State) (counted : Counts) (i : ℕ) → IsCounted state counted → get_or counted.progress.running i false ≡ is_running (phase_at state i)
+pub runs_is : (state : State) (counted : Progress) (i : ℕ) → IsCounted state counted → get_or counted.counts.running i false ≡ is_running (phase_at state i)
 runs_is state counted i are = ap (λ running. get_or running i false) are.counts.running ∙ get_or-map is_running state.phases i Unstarted
 
 -- the positions that may start are listed
-pub ready_listed : (state : State) (counted : Counts) (xs : List ℕ) → IsReached state → IsCounted state counted
-    → ListsOnce (length counted.progress.ready) (λ i. get_or counted.progress.ready i false && not counted.stopped && nat_lt (count_by (λ runs. runs) counted.progress.running) state.policy.width) xs → ListsOnce (size state) (may_start state) xs
+pub ready_listed : (state : State) (counted : Progress) (xs : List ℕ) → IsReached state → IsCounted state counted
+    → ListsOnce (length counted.counts.ready) (λ i. get_or counted.counts.ready i false && not counted.stopped && nat_lt (count_by (λ runs. runs) counted.counts.running) state.policy.width) xs → ListsOnce (size state) (may_start state) xs
 ready_listed state counted xs reached are listed = lists_alike (size state) _ (may_start state) xs (λ i within. starts_is state counted i reached are within)
-    (subst (λ n. ListsOnce n (λ i. get_or counted.progress.ready i false && not counted.stopped && nat_lt (count_by (λ runs. runs) counted.progress.running) state.policy.width) xs) are.counts.ready.entries.ready listed)
+    (subst (λ n. ListsOnce n (λ i. get_or counted.counts.ready i false && not counted.stopped && nat_lt (count_by (λ runs. runs) counted.counts.running) state.policy.width) xs) are.counts.ready.entries.ready listed)
 
 -- the positions that run are listed
-pub running_listed : (state : State) (counted : Counts) (xs : List ℕ) → IsReached state → IsCounted state counted → ListsOnce (length counted.progress.running) (λ i. get_or counted.progress.running i false) xs → ListsOnce (size state) (λ i. is_running (phase_at state i)) xs
+pub running_listed : (state : State) (counted : Progress) (xs : List ℕ) → IsReached state → IsCounted state counted → ListsOnce (length counted.counts.running) (λ i. get_or counted.counts.running i false) xs → ListsOnce (size state) (λ i. is_running (phase_at state i)) xs
 running_listed state counted xs reached are listed = lists_alike (size state) _ _ xs (λ i within. runs_is state counted i are)
-    (subst (λ n. ListsOnce n (λ i. get_or counted.progress.running i false) xs) (ap length are.counts.running ∙ length-map state.phases is_running ∙ reached.each) listed)
+    (subst (λ n. ListsOnce n (λ i. get_or counted.counts.running i false) xs) (ap length are.counts.running ∙ length-map state.phases is_running ∙ reached.each) listed)
 
 -- of an empty set no position is a member
 none_in : (members : List Bool) (i : ℕ) → (count_by (λ b. b) members == 0) ≡ true → get_or members i false ≡ false
@@ -107,22 +107,22 @@ empty_from : (members : List Bool) → ((i : ℕ) → i < length members → get
 empty_from members none = eq-eqb _ 0 (count_none (λ b. b) members (λ k d within. get_or_default members k d false within ∙ none k within))
 
 -- nothing runs, and the run was stopped or nothing is ready, exactly when the run is finished
-pub finished_is : (state : State) (counted : Counts) → IsReached state → IsCounted state counted → ((count_by (λ runs. runs) counted.progress.running == 0) && (counted.stopped || (count_by (λ ready. ready) counted.progress.ready == 0))) ≡ is_finished state
+pub finished_is : (state : State) (counted : Progress) → IsReached state → IsCounted state counted → ((count_by (λ runs. runs) counted.counts.running == 0) && (counted.stopped || (count_by (λ ready. ready) counted.counts.ready == 0))) ≡ is_finished state
 finished_is state counted reached are = same_test _ _
-    (λ over. let parts = and_parts (count_by (λ runs. runs) counted.progress.running == 0) _ over in (finished_idle state reached).1 (λ i within. (bars i within parts.1, sym (runs_is state counted i are) ∙ none_in counted.progress.running i parts.0)))
+    (λ over. let parts = and_parts (count_by (λ runs. runs) counted.counts.running == 0) _ over in (finished_idle state reached).1 (λ i within. (bars i within parts.1, sym (runs_is state counted i are) ∙ none_in counted.counts.running i parts.0)))
     (λ finished. let idle = (finished_idle state reached).0 finished in and_from _ _ (still idle) (waits idle (cases_Bool counted.stopped)))
   where
-    bars : (i : ℕ) → i < size state → (counted.stopped || (count_by (λ ready. ready) counted.progress.ready == 0)) ≡ true → may_start state i ≡ false
+    bars : (i : ℕ) → i < size state → (counted.stopped || (count_by (λ ready. ready) counted.counts.ready == 0)) ≡ true → may_start state i ≡ false
     bars i within over = sym (starts_is state counted i reached are within) ∙ elim (or_cases counted.stopped _ over) [
       | inl stopped ↦ and_left _ _ (and_right _ _ (not_from_true _ stopped))
-      | inr none ↦ and_left _ _ (and_left _ _ (none_in counted.progress.ready i none))
+      | inr none ↦ and_left _ _ (and_left _ _ (none_in counted.counts.ready i none))
     ]
 
-    still : ((i : ℕ) → i < size state → (may_start state i ≡ false) × (is_running (phase_at state i) ≡ false)) → (count_by (λ runs. runs) counted.progress.running == 0) ≡ true
-    still idle = empty_from counted.progress.running (λ i within. runs_is state counted i are ∙ (idle i (subst (λ n. i < n) (ap length are.counts.running ∙ length-map state.phases is_running ∙ reached.each) within)).1)
+    still : ((i : ℕ) → i < size state → (may_start state i ≡ false) × (is_running (phase_at state i) ≡ false)) → (count_by (λ runs. runs) counted.counts.running == 0) ≡ true
+    still idle = empty_from counted.counts.running (λ i within. runs_is state counted i are ∙ (idle i (subst (λ n. i < n) (ap length are.counts.running ∙ length-map state.phases is_running ∙ reached.each) within)).1)
 
-    waits : ((i : ℕ) → i < size state → (may_start state i ≡ false) × (is_running (phase_at state i) ≡ false)) → (counted.stopped ≡ true) ⊎ (counted.stopped ≡ false) → (counted.stopped || (count_by (λ ready. ready) counted.progress.ready == 0)) ≡ true
+    waits : ((i : ℕ) → i < size state → (may_start state i ≡ false) × (is_running (phase_at state i) ≡ false)) → (counted.stopped ≡ true) ⊎ (counted.stopped ≡ false) → (counted.stopped || (count_by (λ ready. ready) counted.counts.ready == 0)) ≡ true
     waits idle (inl stopped) = or_left _ _ stopped
-    waits idle (inr unstopped) = or_right _ _ (empty_from counted.progress.ready (λ i inside. false_from_ne_true _ (λ ready.
+    waits idle (inr unstopped) = or_right _ _ (empty_from counted.counts.ready (λ i inside. false_from_ne_true _ (λ ready.
         let within : i < size state = subst (λ n. i < n) are.counts.ready.entries.ready inside in
         both_ways _ (idle i within).0 (sym (starts_is state counted i reached are within) ∙ rw (ready, unstopped, eqb-true _ _ (still idle)) (lt-ltb 0 state.policy.width state.policy.wide)))))

@@ -8,7 +8,7 @@ use Rattle.odb_sched.specs.declared.order.End.TheVariants.{Least, Greatest}
 use Rattle.odb_check.specs.Firsts.{passing_below}
 use Rattle.odb_sched.specs.run.Choosing.{positions_of, IsNone, ready_set, running_set}
 use Rattle.odb_sched.specs.invariants.Ends.{IsNearer, IsEndOf, IsAt}
-use Rattle.odb_sched.specs.declared.counts.Counts.{Counts}
+use Rattle.odb_sched.specs.declared.counts.Progress.{Progress}
 use Rattle.odb_sched.specs.run.State.{is_running, State, size, phase_at}
 use Rattle.odb_sched.specs.run.Steps.{may_start, is_finished}
 use Rattle.odb_sched.specs.invariants.Kept.{IsReached, IsCounted}
@@ -59,16 +59,16 @@ pub finished_none : (state : State) → IsReached state → IsNone (ready_set st
 finished_none state reached ready running = (finished_idle state reached).1 (λ i within. (none_below (size state) (may_start state) i ready within, none_below (size state) (λ j. is_running (phase_at state j)) i running within))
 
 -- no position may start
-pub none_starts : (state : State) (counted : Counts) → IsReached state → IsCounted state counted → ((i : ℕ) → (get_or counted.progress.ready i false && not counted.stopped && nat_lt (count_by (λ runs. runs) counted.progress.running) state.policy.width) ≡ false) → IsNone (ready_set state)
+pub none_starts : (state : State) (counted : Progress) → IsReached state → IsCounted state counted → ((i : ℕ) → (get_or counted.counts.ready i false && not counted.stopped && nat_lt (count_by (λ runs. runs) counted.counts.running) state.policy.width) ≡ false) → IsNone (ready_set state)
 none_starts state counted reached are none = none_at (size state) (may_start state) (λ i within. sym (starts_is state counted i reached are within) ∙ none i)
 
 -- no position runs
-pub none_runs : (state : State) (counted : Counts) → IsCounted state counted → ((i : ℕ) → get_or counted.progress.running i false ≡ false) → IsNone (running_set state)
+pub none_runs : (state : State) (counted : Progress) → IsCounted state counted → ((i : ℕ) → get_or counted.counts.running i false ≡ false) → IsNone (running_set state)
 none_runs state counted are none = none_at (size state) (λ j. is_running (phase_at state j)) (λ i within. sym (runs_is state counted i are) ∙ none i)
 
 -- the position at the end of the ready ones may start, and is at the end of those that may
-pub starts_at : (state : State) (counted : Counts) (end : End) (found : Option ℕ) → IsReached state → IsCounted state counted → IfSome found (IsEndOf end counted.progress.ready)
-    → (IsSome found → (counted.stopped ≡ false) × (nat_lt (count_by (λ runs. runs) counted.progress.running) state.policy.width ≡ true))
+pub starts_at : (state : State) (counted : Progress) (end : End) (found : Option ℕ) → IsReached state → IsCounted state counted → IfSome found (IsEndOf end counted.counts.ready)
+    → (IsSome found → (counted.stopped ≡ false) × (nat_lt (count_by (λ runs. runs) counted.counts.running) state.policy.width ≡ true))
     → IfSome found (λ i. (i < size state) × (may_start state i ≡ true) × IsAt end (ready_set state) i)
 starts_at state counted end None reached are at allowed = tt
 starts_at state counted end (Some i) reached are at allowed =
@@ -78,7 +78,7 @@ starts_at state counted end (Some i) reached are at allowed =
     (within, may, end_at end (size state) (may_start state) i within may (λ j inside nearer. sym (starts_is state counted j reached are inside) ∙ rw (at.nearest j nearer) refl))
 
 -- the last or first of the running positions is running, and is the last or first in the order of positions
-pub runs_at : (state : State) (counted : Counts) (end : End) (found : Option ℕ) → IsReached state → IsCounted state counted → IfSome found (IsEndOf end counted.progress.running)
+pub runs_at : (state : State) (counted : Progress) (end : End) (found : Option ℕ) → IsReached state → IsCounted state counted → IfSome found (IsEndOf end counted.counts.running)
     → IfSome found (λ i. (i < size state) × (is_running (phase_at state i) ≡ true) × IsAt end (running_set state) i)
 runs_at state counted end None reached are at = tt
 runs_at state counted end (Some i) reached are at =

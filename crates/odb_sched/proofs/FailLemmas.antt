@@ -7,7 +7,7 @@ use Rattle.odb_dense.specs.declared.worklist.Mark.{Mark}
 use Rattle.odb_dense.specs.declared.worklist.Mark.TheVariants.{Unvisited, Queued, Visited}
 use Rattle.odb_sched.specs.declared.phase.Phase.{Phase}
 use Rattle.odb_sched.specs.declared.phase.Phase.TheVariants.{Unstarted, Running}
-use Rattle.odb_sched.specs.declared.counts.Progress.{Progress}
+use Rattle.odb_sched.specs.declared.counts.Counts.{Counts}
 use Rattle.odb_sched.specs.run.State.{is_running, has_succeeded, has_failed}
 use Rattle.odb_sched.specs.run.Failing.{own}
 use Rattle.odb_sched.specs.run.Steps.{failed_in}
@@ -116,8 +116,8 @@ propagating_failed plan phases units i laws within failed are = record {
     taken v below bad = marks.kept v (are.marked v ∙ are.failed v below ∙ bad)
 
 -- the counts are right again
-pub counts_failed : (plan : PlanGraph) (phases : List Phase) (i : ℕ) (before t : Progress) → has_failed (get_or phases i Unstarted) ≡ true → AreCounts plan (set phases i Running) before
-    → t.unmet.items ≡ before.unmet.items → t.pending.items ≡ before.pending.items → t.running ≡ map is_running phases → ArePropagated plan phases t.units → HasReady plan phases t → AreCounts plan phases t
+pub counts_failed : (plan : PlanGraph) (phases : List Phase) (i : ℕ) (before t : Counts) → has_failed (get_or phases i Unstarted) ≡ true → AreCounts plan (set phases i Running) before
+    → t.unmet.items ≡ before.unmet.items → t.pending.items ≡ before.pending.items → t.running ≡ map is_running phases → ArePropagated plan phases t.failed → HasReady plan phases t → AreCounts plan phases t
 counts_failed plan phases i before t failed counts unmet pending running units ready = record {
   ready = ready;
   unmet = λ j below. ap (λ xs. get_or xs j 0) unmet ∙ counts.unmet j below ∙ unmet_same plan (set phases i Running) phases same j;

@@ -12,7 +12,7 @@ use Rattle.odb_dense.specs.declared.worklist.Mark.TheVariants.{Unvisited}
 use Rattle.odb_dense.specs.Marks.{is_marked, is_visited}
 use Rattle.odb_sched.specs.declared.phase.Phase.{Phase}
 use Rattle.odb_sched.specs.declared.phase.Phase.TheVariants.{Unstarted}
-use Rattle.odb_sched.specs.declared.counts.Progress.{Progress}
+use Rattle.odb_sched.specs.declared.counts.Counts.{Counts}
 use Rattle.odb_sched.specs.run.State.{is_running, is_unstarted, has_succeeded, has_failed}
 use Rattle.odb_sched.specs.run.Failing.{Fails, own, propagated, unit_needed}
 use Rattle.odb_sched.specs.invariants.Counts.{needs_in, members_in, need_counts, member_counts, AreCounts, ArePropagated, is_skipped, pending_in, unmet_in}
@@ -123,7 +123,7 @@ none_running zero = refl
 none_running (suc n) = ap (λ (bs : List Bool). false ∷ bs) (none_running n)
 
 -- the counts of needs and members are right before any event
-pub first_counts : (plan : PlanGraph) (t : Progress) → IsPlan plan → t.unmet.items ≡ need_counts plan → t.pending.items ≡ member_counts plan → All (λ count. 0 < count) t.pending.items → t.units ≡ replicate plan.unit_count Unvisited
+pub first_counts : (plan : PlanGraph) (t : Counts) → IsPlan plan → t.unmet.items ≡ need_counts plan → t.pending.items ≡ member_counts plan → All (λ count. 0 < count) t.pending.items → t.failed ≡ replicate plan.unit_count Unvisited
     → length t.ready ≡ length plan.units → ((i : ℕ) → i < length plan.units → get_or t.ready i false ≡ (needs_in plan i == 0)) → t.running ≡ replicate (length plan.units) false
     → AreCounts plan (fresh plan) t
 first_counts plan t laws unmet pending some units each exact running = record {

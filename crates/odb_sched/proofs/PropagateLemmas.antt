@@ -11,7 +11,7 @@ use Rattle.odb_sched.specs.run.State.{has_failed}
 use Rattle.odb_sched.specs.run.Failing.{Fails, own, propagated, unit_needed}
 use Rattle.odb_sched.specs.run.Steps.{failed_in}
 use Rattle.odb_dense.specs.Marks.{is_marked, is_visited}
-use Rattle.odb_sched.specs.declared.counts.Progress.{Progress}
+use Rattle.odb_sched.specs.declared.counts.Counts.{Counts}
 use Rattle.odb_sched.specs.invariants.Counts.{ArePropagated}
 use Rattle.odb_sched.specs.invariants.Propagation.{NeedsUnit, HaveMarked, ArePropagating}
 use Rattle.odb_sched.proofs.CountLemmas.{count_same, count_less}
@@ -107,7 +107,7 @@ all_propagated plan phases units are none = record {
 }
 
 -- two fields have changed at most
-pub others_kept : (before t : Progress) → t.unmet ≡ before.unmet → t.pending ≡ before.pending → t.running ≡ before.running → t ≡ record before { units = t.units; ready = t.ready }
+pub others_kept : (before t : Counts) → t.unmet ≡ before.unmet → t.pending ≡ before.pending → t.running ≡ before.running → t ≡ record before { failed = t.failed; ready = t.ready }
 others_kept before t unmet pending running =
     ap (λ x. record t { unmet = x }) unmet
     ∙ ap (λ x. record t { unmet = before.unmet; pending = x }) pending

@@ -3,7 +3,7 @@ use Rattle.std.proofs.Common.{◌≡◌, ◌≢◌, ℕ, ◌<◌, ◌==◌, ◌�
 use Rattle.std.proofs.lemmas.Bool.{cases_eq}
 use Rattle.odb_check.specs.PlanGraph.{PlanGraph, unit_of}
 use Rattle.odb_dense.specs.declared.worklist.Mark.{Mark}
-use Rattle.odb_sched.specs.declared.counts.Progress.{Progress}
+use Rattle.odb_sched.specs.declared.counts.Counts.{Counts}
 use Rattle.odb_sched.specs.declared.phase.Phase.{Phase}
 use Rattle.odb_sched.specs.declared.phase.Phase.TheVariants.{Unstarted}
 use Rattle.odb_sched.specs.run.State.{is_unstarted}
@@ -11,25 +11,25 @@ use Rattle.odb_sched.specs.invariants.Counts.{AreCounts, AreReady, HasReady}
 use Rattle.odb_sched.specs.invariants.Propagation.{HaveMarked}
 
 -- the phases are as many as before one was written
-pub as_long : (plan : PlanGraph) (phases : List Phase) (i : ℕ) (phase : Phase) (t : Progress) → AreCounts plan (set phases i phase) t → length phases ≡ length plan.units
+pub as_long : (plan : PlanGraph) (phases : List Phase) (i : ℕ) (phase : Phase) (t : Counts) → AreCounts plan (set phases i phase) t → length phases ≡ length plan.units
 as_long plan phases i phase t are = sym (length-set phases i phase) ∙ are.ready.entries.phased
 
 -- if the same requests are skipped, the same are ready
-pub ready_same : (plan : PlanGraph) (skipped other : ℕ → Bool) (phases : List Phase) (t : Progress) → ((i : ℕ) → i < length plan.units → skipped i ≡ other i) → AreReady plan skipped phases t → AreReady plan other phases t
+pub ready_same : (plan : PlanGraph) (skipped other : ℕ → Bool) (phases : List Phase) (t : Counts) → ((i : ℕ) → i < length plan.units → skipped i ≡ other i) → AreReady plan skipped phases t → AreReady plan other phases t
 ready_same plan skipped other phases t same are = record {
   entries = are.entries;
   exact = λ i within. are.exact i within ∙ ap (λ b. is_unstarted (get_or phases i Unstarted) && not b && (get_or t.unmet.items i 0 == 0)) (same i within);
 }
 
 -- marking units skips no request
-pub ready_marked : (plan : PlanGraph) (phases : List Phase) (t : Progress) (units : List Mark) → HaveMarked t.units units → HasReady plan phases t → HasReady plan phases (record t { units = units })
+pub ready_marked : (plan : PlanGraph) (phases : List Phase) (t : Counts) (units : List Mark) → HaveMarked t.failed units → HasReady plan phases t → HasReady plan phases (record t { failed = units })
 ready_marked plan phases t units marks are = record {
   entries = record { phased = are.entries.phased; unmet = are.entries.unmet; pending = are.entries.pending; units = marks.each ∙ are.entries.units; ready = are.entries.ready };
   exact = λ i within. are.exact i within ∙ ap (λ b. is_unstarted (get_or phases i Unstarted) && not b && (get_or t.unmet.items i 0 == 0)) (sym (marks.same (unit_of plan i)));
 }
 
 -- one request is ready no longer
-pub ready_without : (plan : PlanGraph) (skipped other : ℕ → Bool) (phases later : List Phase) (t : Progress) (i : ℕ) (running : List Bool) → length later ≡ length plan.units → i < length plan.units
+pub ready_without : (plan : PlanGraph) (skipped other : ℕ → Bool) (phases later : List Phase) (t : Counts) (i : ℕ) (running : List Bool) → length later ≡ length plan.units → i < length plan.units
     → (is_unstarted (get_or later i Unstarted) && not (other i)) ≡ false → ((j : ℕ) → j ≢ i → (get_or phases j Unstarted ≡ get_or later j Unstarted) × (skipped j ≡ other j)) → AreReady plan skipped phases t
     → AreReady plan other later (record t { ready = set t.ready i false; running = running })
 ready_without plan skipped other phases later t i running long within out same are = record {

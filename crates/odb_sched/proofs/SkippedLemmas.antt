@@ -5,7 +5,7 @@ use Rattle.odb_check.specs.PlanGraph.{PlanGraph, unit_of, IsSpan}
 use Rattle.odb_dense.specs.declared.worklist.Mark.{Mark}
 use Rattle.odb_dense.specs.declared.worklist.Mark.TheVariants.{Unvisited}
 use Rattle.odb_sched.specs.declared.phase.Phase.{Phase}
-use Rattle.odb_sched.specs.declared.counts.Progress.{Progress}
+use Rattle.odb_sched.specs.declared.counts.Counts.{Counts}
 use Rattle.odb_dense.specs.Marks.{is_visited}
 use Rattle.odb_sched.specs.invariants.Counts.{is_skipped, AreReady}
 use Rattle.odb_sched.specs.invariants.Propagation.{is_skipped_until}
@@ -29,17 +29,17 @@ skipped_other plan units u i j elsewhere = elim (cases_lt j i) [
 ]
 
 -- the members of a unit before a position are not ready, and nothing else has changed
-pub record AreSkipped (plan : PlanGraph) (phases : List Phase) (u i : ℕ) (before t : Progress) : Type 0 where
-  pub ready : AreReady plan (is_skipped_until plan before.units u i) phases t
+pub record AreSkipped (plan : PlanGraph) (phases : List Phase) (u i : ℕ) (before t : Counts) : Type 0 where
+  pub ready : AreReady plan (is_skipped_until plan before.failed u i) phases t
   pub rest : t ≡ record before { ready = t.ready }
 
 -- after a turn one member more is not ready
-pub skipped_more : (plan : PlanGraph) (phases : List Phase) (u i : ℕ) (before t : Progress) (ready : List Bool) → i < length plan.units → unit_of plan i ≡ u → is_visited (get_or before.units u Unvisited) ≡ true → AreSkipped plan phases u i before t
+pub skipped_more : (plan : PlanGraph) (phases : List Phase) (u i : ℕ) (before t : Counts) (ready : List Bool) → i < length plan.units → unit_of plan i ≡ u → is_visited (get_or before.failed u Unvisited) ≡ true → AreSkipped plan phases u i before t
     → ready ≡ set t.ready i false → AreSkipped plan phases u (i + 1) before (record t { ready = ready })
 skipped_more plan phases u i before t ready within here visited were out = record {
-  ready = rw out (ready_without plan (is_skipped_until plan before.units u i) (is_skipped_until plan before.units u (i + 1)) phases phases t i t.running were.ready.entries.phased within (and_right _ _ (not_from_true _ (skipped_now plan before.units u i here visited)))
-      (λ j elsewhere. (refl, skipped_other plan before.units u i j elsewhere)) were.ready);
-  rest = ap (λ (x : Progress). record x { ready = ready }) were.rest;
+  ready = rw out (ready_without plan (is_skipped_until plan before.failed u i) (is_skipped_until plan before.failed u (i + 1)) phases phases t i t.running were.ready.entries.phased within (and_right _ _ (not_from_true _ (skipped_now plan before.failed u i here visited)))
+      (λ j elsewhere. (refl, skipped_other plan before.failed u i j elsewhere)) were.ready);
+  rest = ap (λ (x : Counts). record x { ready = ready }) were.rest;
 }
 
 -- the position of the walk is one of the unit

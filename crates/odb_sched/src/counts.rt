@@ -5,7 +5,7 @@ ghost use Rattle.odb_check.specs.PlanGraph as plan_graphs;
 ghost use Rattle.odb_dense.specs.Lists.{ListsOnce};
 ghost use Rattle.odb_sched.specs.declared.phase.Phase.TheVariants.{Unstarted};
 ghost use Rattle.odb_sched.specs.invariants.Ends.{IsEndOf};
-ghost use Rattle.odb_sched.specs.invariants.Counts as counts;
+ghost use Rattle.odb_sched.specs.invariants.Counts as counted;
 ghost use Rattle.odb_check.specs.PlanGraph.{IsNeed};
 ghost use Rattle.odb_sched.specs.invariants.Kept.{first_of};
 ghost use Rattle.odb_sched.specs.run.Steps.{satisfied_in};
@@ -20,13 +20,13 @@ use std::alloc::{AllocError, Global};
 
 /// What is counted of a run beside the phases of its requests, which are read while it changes.
 #[derive(Drop)]
-pub(crate) struct Progress {
+pub(crate) struct Counts {
     /// Of each request, how many of its needs are not satisfied.
     pub(crate) unmet: Vec<usize>,
     /// For each unit the number of its members that have not succeeded.
     pub(crate) pending: Vec<u32>,
     /// The units that have failed.
-    pub(crate) units: Worklist,
+    pub(crate) failed: Worklist,
     /// The ready requests, without regard to the stop and the width.
     pub(crate) ready: MinMaxSet,
     /// The running requests.
@@ -35,7 +35,7 @@ pub(crate) struct Progress {
 
 /// Returns for each request the number of its dependencies.
 fn need_counts(alloc: Global, graph: &Graph) -> Result<Vec<usize>, AllocError>
-    ensures { IfOk result (λ found. found.items ≡ counts.need_counts graph.now.plan_graph) }
+    ensures { IfOk result (λ found. found.items ≡ counted.need_counts graph.now.plan_graph) }
 {
     let mut counts = Vec::with_capacity(alloc, graph.len() as usize)?;
     for i in 0..graph.len() {
@@ -46,7 +46,7 @@ fn need_counts(alloc: Global, graph: &Graph) -> Result<Vec<usize>, AllocError>
 
 /// Returns for each unit the number of its members.
 fn member_counts(alloc: Global, graph: &Graph) -> Result<Vec<u32>, AllocError>
-    ensures counts { IfOk result (λ found. found.items ≡ counts.member_counts graph.now.plan_graph) }
+    ensures counts { IfOk result (λ found. found.items ≡ counted.member_counts graph.now.plan_graph) }
     ensures some { IfOk result (λ counts. All (λ count. 0 < count) counts.items) }
 {
     let mut counts = Vec::with_capacity(alloc, graph.unit_count() as usize)?;
@@ -61,7 +61,7 @@ fn member_counts(alloc: Global, graph: &Graph) -> Result<Vec<u32>, AllocError>
 fn without_needs(alloc: Global, graph: &Graph) -> Result<MinMaxSet, AllocError>
     ensures each { IfOk result (λ free. length free ≡ length graph.now.plan_graph.units) }
     ensures exact { IfOk result (λ free. (i : ℕ) → i < length graph.now.plan_graph.units
-        → slice_index_or free i false ≡ (counts.needs_in graph.now.plan_graph i == 0)) }
+        → slice_index_or free i false ≡ (counted.needs_in graph.now.plan_graph i == 0)) }
 {
     let mut free = MinMaxSet::new(alloc, graph.len())?;
     for i in 0..graph.len() {
@@ -72,22 +72,22 @@ fn without_needs(alloc: Global, graph: &Graph) -> Result<MinMaxSet, AllocError>
     Ok(free)
 }
 
-impl Progress {
+impl Counts {
     /// Returns the counts before the first event of a run: no dependency is satisfied, and no
     /// request is running or has failed.
     ///
     /// # Errors
     ///
     /// If memory for the requests and the units cannot be allocated.
-    pub(crate) fn new(alloc: Global, graph: &Graph) -> Result<Progress, AllocError>
-        ensures { IfOk result (counts.AreCounts graph.now.plan_graph
+    pub(crate) fn new(alloc: Global, graph: &Graph) -> Result<Counts, AllocError>
+        ensures { IfOk result (counted.AreCounts graph.now.plan_graph
             (replicate (length graph.now.plan_graph.units) Unstarted)) }
     {
         graph.laws();
-        Ok(Progress {
+        Ok(Counts {
             unmet: need_counts(alloc, graph)?,
             pending: member_counts(alloc, graph)?,
-            units: Worklist::new(alloc, graph.unit_count())?,
+            failed: Worklist::new(alloc, graph.unit_count())?,
             ready: without_needs(alloc, graph)?,
             running: MinMaxSet::new(alloc, graph.len())?,
         })
@@ -108,25 +108,25 @@ fn all_unstarted(alloc: Global, count: u32) -> Result<Vec<Phase>, AllocError>
 /// How far a run has come: the phases of its requests, what is counted beside them, and whether an
 /// error has stopped it.
 #[derive(Drop)]
-pub(crate) struct Counts {
+pub(crate) struct Progress {
     pub(crate) phases: Vec<Phase>,
-    pub(crate) progress: Progress,
+    pub(crate) counts: Counts,
     pub(crate) stopped: bool,
 }
 
-impl Counts {
+impl Progress {
     ghost use Rattle.odb_sched.specs.invariants.Kept.{IsCounted};
 
     /// Returns the counts before the first event.
-    pub(crate) fn new(alloc: Global, graph: &Graph) -> Result<Counts, AllocError>
-        ensures phases { IfOk result (λ counts. counts.phases.items
+    pub(crate) fn new(alloc: Global, graph: &Graph) -> Result<Progress, AllocError>
+        ensures phases { IfOk result (λ progress. progress.phases.items
             ≡ replicate (length graph.now.plan_graph.units) Unstarted) }
-        ensures counts { IfOk result (λ counts. (policy : Policy)
-            → IsCounted (first_of graph.now.plan_graph policy) counts) }
+        ensures counts { IfOk result (λ progress. (policy : Policy)
+            → IsCounted (first_of graph.now.plan_graph policy) progress) }
     {
-        Ok(Counts {
+        Ok(Progress {
             phases: all_unstarted(alloc, graph.len())?,
-            progress: Progress::new(alloc, graph)?,
+            counts: Counts::new(alloc, graph)?,
             stopped: false,
         })
     }
@@ -142,19 +142,19 @@ impl Counts {
 
     /// Returns whether a dependency is satisfied.
     fn is_satisfied(&self, graph: &Graph, need: Need) -> bool
-        requires counts { counts.AreCounts graph.now.plan_graph self.now.phases.items self.now.progress }
+        requires counts { counted.AreCounts graph.now.plan_graph self.now.phases.items self.now.counts }
         requires known { IsNeed graph.now.plan_graph need }
         ensures { result ≡ satisfied_in graph.now.plan_graph self.now.phases.items need }
     {
         match need {
             Need::One(r) => self.phases[r as usize].has_succeeded(),
-            Need::Group(u) => self.progress.pending[u as usize] == 0,
+            Need::Group(u) => self.counts.pending[u as usize] == 0,
         }
     }
 
     /// Returns the first dependency of a request that is not satisfied.
     pub(crate) fn first_unmet(&self, graph: &Graph, i: u32) -> Option<Need>
-        requires counts { counts.AreCounts graph.now.plan_graph self.now.phases.items self.now.progress }
+        requires counts { counted.AreCounts graph.now.plan_graph self.now.phases.items self.now.counts }
         requires request { i < length graph.now.plan_graph.units }
         ensures { result
             ≡ find (λ need. not (satisfied_in graph.now.plan_graph self.now.phases.items need))
@@ -171,53 +171,53 @@ impl Counts {
 
     /// Returns whether as many requests are running as the width allows.
     pub(crate) fn is_full(&self, policy: Policy) -> bool
-        ensures { result ≡ not (nat_lt (count_by (λ runs. runs) self.now.progress.running) policy.width) }
+        ensures { result ≡ not (nat_lt (count_by (λ runs. runs) self.now.counts.running) policy.width) }
     {
-        self.progress.running.len() >= policy.width as usize
+        self.counts.running.len() >= policy.width as usize
     }
 
     /// Returns whether nothing may start now: the run is stopped, or as many requests are running
     /// as the width allows.
     fn is_closed(&self, policy: Policy) -> bool
         ensures { result ≡ (self.now.stopped
-            || not (nat_lt (count_by (λ runs. runs) self.now.progress.running) policy.width)) }
+            || not (nat_lt (count_by (λ runs. runs) self.now.counts.running) policy.width)) }
     {
         self.stopped || self.is_full(policy)
     }
 
     /// Returns whether no request is running and none may start any more.
     pub(crate) fn is_finished(&self) -> bool
-        ensures { result ≡ ((count_by (λ runs. runs) self.now.progress.running == 0)
-            && (self.now.stopped || (count_by (λ ready. ready) self.now.progress.ready == 0))) }
+        ensures { result ≡ ((count_by (λ runs. runs) self.now.counts.running == 0)
+            && (self.now.stopped || (count_by (λ ready. ready) self.now.counts.ready == 0))) }
     {
-        self.progress.running.is_empty() && (self.stopped || self.progress.ready.is_empty())
+        self.counts.running.is_empty() && (self.stopped || self.counts.ready.is_empty())
     }
 
     /// Returns the ready positions.
     pub(crate) fn ready(&self, policy: Policy) -> &[u32]
-        ensures { ListsOnce (length self.now.progress.ready)
-            (λ i. slice_index_or self.now.progress.ready i false && not self.now.stopped
-            && nat_lt (count_by (λ runs. runs) self.now.progress.running) policy.width) result.now }
+        ensures { ListsOnce (length self.now.counts.ready)
+            (λ i. slice_index_or self.now.counts.ready i false && not self.now.stopped
+            && nat_lt (count_by (λ runs. runs) self.now.counts.running) policy.width) result.now }
     {
         if self.is_closed(policy) {
             return &[];
         }
-        self.progress.ready.as_slice()
+        self.counts.ready.as_slice()
     }
 
     /// Returns the least or the greatest ready position, or `None` if there is none.
     pub(crate) fn ready_at(&mut self, policy: Policy, end: End) -> Option<u32>
         ensures same { self.new ≡ self.old }
         ensures none { result ≡ None → (i : ℕ)
-            → (slice_index_or self.old.progress.ready i false && not self.old.stopped
-            && nat_lt (count_by (λ runs. runs) self.old.progress.running) policy.width) ≡ false }
-        ensures some { IfSome result (IsEndOf end self.old.progress.ready) }
+            → (slice_index_or self.old.counts.ready i false && not self.old.stopped
+            && nat_lt (count_by (λ runs. runs) self.old.counts.running) policy.width) ≡ false }
+        ensures some { IfSome result (IsEndOf end self.old.counts.ready) }
         ensures allowed { IsSome result → (self.old.stopped ≡ false)
-            × (nat_lt (count_by (λ runs. runs) self.old.progress.running) policy.width ≡ true) }
+            × (nat_lt (count_by (λ runs. runs) self.old.counts.running) policy.width ≡ true) }
     {
         if self.is_closed(policy) {
             return None;
         }
-        end.of(&mut self.progress.ready)
+        end.of(&mut self.counts.ready)
     }
 }

@@ -1,49 +1,31 @@
-//! A finished run, and what each of its requests is answered.
+//! A finished run beside its plan.
 
-ghost use Rattle.std.specs.Prelude.{All, option_map, ℕ, ◌≡◌, ◌<◌, true, length, IfOk};
+ghost use Rattle.std.specs.Prelude.{All, option_map, ℕ, ◌≡◌, ◌<◌, ◌↔◌, true, length, IfOk, IfSome, IsSome};
 ghost use Rattle.odb_check.specs.Plans.{plan_records};
 ghost use Rattle.odb_sched.specs.declared.policy.Mode.TheVariants.{Continue};
 ghost use Rattle.odb_sched.specs.run.State as state;
 ghost use Rattle.odb_sched.specs.run.Steps as steps;
 ghost use Rattle.odb_sched.specs.run.Laws as laws;
 
-use crate::phase::Phase;
-use crate::scheduler::Scheduler;
+use crate::answer::Answer;
+use crate::owned::OwnedRun;
 use odb_check::Plan;
 use odb_doc::Outcome;
-use odb_doc::status::is_success;
 use std::alloc::{AllocError, Global};
 use std::marker::Model;
 
-/// The answer to a request of a finished run (OData JSON Format 4.01, section 19.5).
-#[derive(Clone, Copy, Debug)]
-pub enum Answer<'a> {
-    /// The outcome that was reported.
-    Reported(&'a Outcome),
-    /// It did not start, or it reported a success that has to be undone, since its unit did not
-    /// succeed.
-    FailedDependency,
-}
-
-impl Answer<'_> {
-    ghost use Rattle.odb_sched.specs.run.Answers.{shown, status_of};
-
-    /// Returns the HTTP status, which is 424 for a failed dependency. That of an answer of a finished
-    /// run is from 200 to 599 ([`Done::answer`]).
-    pub fn status(&self) -> u16
-        ensures { result ≡ status_of (shown self.now) }
-    {
-        match self {
-            Answer::Reported(outcome) => outcome.status,
-            Answer::FailedDependency => 424,
-        }
-    }
+/// A run that is owned or lent.
+#[derive(Drop)]
+pub(crate) enum Held<'p> {
+    Own(OwnedRun),
+    Lent(&'p OwnedRun),
 }
 
 /// A finished run, with its answers (OData JSON Format 4.01, section 19.5).
 #[derive(Drop)]
 pub struct Done<'p> {
-    pub(crate) run: Scheduler<'p>,
+    pub(crate) plan: &'p Plan<'p>,
+    pub(crate) run: Held<'p>,
 }
 
 impl<'p> Model for Done<'p> {
@@ -70,11 +52,34 @@ impl<'p> Done<'p> {
     ghost use Rattle.odb_sched.specs.run.Answers as answers;
     ghost use Rattle.odb_doc.specs.Statuses.{is_status};
 
-    /// Returns the finished run, which a caller keeps that has read its answers.
-    pub fn into_scheduler(self) -> Scheduler<'p>
-        ensures { result ≡ self.entry }
+    /// Returns a finished run beside a plan, or `None` if the run is not finished or its numbers are not
+    /// those of the plan: which unit each request belongs to, and what each needs, in order.
+    ///
+    /// Costs O(requests + dependencies), and copies nothing.
+    pub fn of<'a: 'p>(plan: &'p Plan<'a>, run: &'p OwnedRun) -> Option<Done<'p>>
+        ensures some { IsSome result ↔ ((steps.is_finished run.now ≡ true)
+            × (run.now.plan_graph ≡ state.plan_graph plan.now)) }
+        ensures state { IfSome result (λ done. done
+            ≡ state.with_requests (plan_records plan.now) run.now) }
     {
-        self.run
+        if !run.is_finished() || !run.is_of(plan) {
+            return None;
+        }
+        Some(Done {
+            plan,
+            run: Held::Lent(run),
+        })
+    }
+
+    /// Returns the run without its plan.
+    fn run(&self) -> &OwnedRun
+        ensures state { state.with_requests self.now.requests result.now ≡ self.now }
+        ensures finished { steps.is_finished result.now ≡ true }
+    {
+        match &self.run {
+            Held::Own(run) => run,
+            Held::Lent(run) => run,
+        }
     }
 
     /// Returns a plan of the requests that were run, with the units and needs of the plan that was run.
@@ -83,7 +88,7 @@ impl<'p> Done<'p> {
         ensures plan_graph { state.plan_graph result.now ≡ self.now.plan_graph }
         ensures size { state.size self.now ≡ length self.now.requests }
     {
-        self.run.plan()
+        self.plan
     }
 
     /// What holds of the answers of every finished run, as [`crate::laws::every_result`] states it of
@@ -99,7 +104,7 @@ impl<'p> Done<'p> {
         ensures statuses { answers.HasStatuses self.now }
         ensures answered { (i : ℕ) → is_status (answers.status_of (answers.answer self.now i)) ≡ true }
     {
-        self.run.reached();
+        self.run().laws();
     }
 
     /// Returns the answer to request `i`, counted from 0. Its status is from 200 to 599.
@@ -108,17 +113,7 @@ impl<'p> Done<'p> {
         ensures value { answers.shown result ≡ answers.answer self.now i }
         ensures status { IsTrue (is_status (answers.status_of (answers.shown result))) }
     {
-        self.run.reached();
-        match self.run.phase(i) {
-            Phase::Reported(outcome) => {
-                if is_success(outcome.status) && !self.run.unit_succeeded(i) {
-                    Answer::FailedDependency
-                } else {
-                    Answer::Reported(outcome)
-                }
-            }
-            _ => Answer::FailedDependency,
-        }
+        self.run().answer(i)
     }
 
     /// Returns the outcome that request `i` reported, if it did: also one that has to be undone.
@@ -126,10 +121,7 @@ impl<'p> Done<'p> {
         requires { i < state.size self.now }
         ensures { option_map (λ outcome. outcome.now) result ≡ answers.reported self.now i }
     {
-        match self.run.phase(i) {
-            Phase::Reported(outcome) => Some(outcome),
-            _ => None,
-        }
+        self.run().reported(i)
     }
 
     /// Returns the positions of the requests that reported a success but are answered 424, since
@@ -139,6 +131,6 @@ impl<'p> Done<'p> {
         ensures within { IfOk result (λ positions.
             All (λ i. i < state.size self.now) positions.items) }
     {
-        self.run.undone(alloc)
+        self.run().undone(alloc)
     }
 }

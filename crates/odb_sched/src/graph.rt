@@ -125,7 +125,7 @@ fn pairs_of(alloc: Global, plan: &Plan<'_>) -> Result<Vec<(u32, u32)>, AllocErro
 }
 
 /// Returns the dependents of each request and of each unit, by their keys.
-fn dependents_of(alloc: Global, plan: &Plan<'_>) -> Result<Rows, AllocError>
+fn all_dependents(alloc: Global, plan: &Plan<'_>) -> Result<Rows, AllocError>
     ensures { IfOk result (AreDependents (plan_graph plan.now)) }
 {
     every_plan(plan);
@@ -147,7 +147,7 @@ impl Graph {
             units: units_of(alloc, plan)?,
             members: members_of(alloc, plan)?,
             needs: needs_of(alloc, plan)?,
-            dependents: dependents_of(alloc, plan)?,
+            dependents: all_dependents(alloc, plan)?,
         })
     }
 
@@ -204,7 +204,7 @@ impl Graph {
     }
 
     /// Returns the requests that depend on a request.
-    pub fn of_request(&self, i: u32) -> &[u32]
+    pub fn dependents_of(&self, i: u32) -> &[u32]
         requires { i < length self.now.plan_graph.units }
         ensures row { result.now ≡ slice_index_or self.now.dependents i [] }
         ensures within { All (λ j. j < length self.now.plan_graph.units) result.now }
@@ -213,7 +213,7 @@ impl Graph {
     }
 
     /// Returns the requests that depend on a unit.
-    pub fn of_unit(&self, u: u32) -> &[u32]
+    pub fn dependents_of_unit(&self, u: u32) -> &[u32]
         requires { u < self.now.plan_graph.unit_count }
         ensures row { result.now ≡ slice_index_or self.now.dependents (length self.now.plan_graph.units + u) [] }
         ensures within { All (λ j. j < length self.now.plan_graph.units) result.now }

@@ -8,6 +8,7 @@
 //! answers (section 19.5). What holds of every run is in [`laws`].
 #![tactic(auto)]
 
+mod answer;
 mod counts;
 mod done;
 mod event;
@@ -21,7 +22,8 @@ mod refusal;
 mod report;
 mod scheduler;
 
-pub use done::{Answer, Done};
+pub use answer::Answer;
+pub use done::Done;
 pub use event::{Event, ResolveFault, Step, resolve, run};
 pub use order::Order;
 pub use owned::OwnedRun;

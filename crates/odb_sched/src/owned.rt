@@ -1,6 +1,6 @@
 //! A run that borrows nothing: which event may come, and what it changes.
 
-ghost use Rattle.std.specs.Prelude.{◌≡◌, ◌≢◌, ◌==◌, ◌<◌, ◌≤◌, ◌↔◌, ℕ, [], true, false, None, All, length, IsTrue, IsOk, IfOk, IfErr, IfSome, OnOk, OnErr};
+ghost use Rattle.std.specs.Prelude.{◌≡◌, ◌≢◌, ◌==◌, ◌<◌, ◌≤◌, ◌↔◌, ℕ, [], true, false, None, All, length, IsTrue, IsOk, IfOk, IfErr, IfSome, OnOk, OnErr, option_map};
 ghost use Rattle.odb_check.specs.Plans.{plan_records};
 ghost use Rattle.odb_check.specs.PlanGraph.{unit_of};
 ghost use Rattle.odb_dense.specs.Lists.{ListsOnce};
@@ -12,8 +12,12 @@ ghost use Rattle.odb_sched.specs.run.Answers as answers;
 ghost use Rattle.odb_sched.specs.run.State as state;
 ghost use Rattle.odb_sched.specs.invariants.Kept.{first_of, IsReached};
 ghost use Rattle.odb_sched.specs.run.Steps as steps;
+ghost use Rattle.odb_sched.specs.run.Laws as laws;
+ghost use Rattle.odb_sched.specs.declared.policy.Mode.TheVariants as modes;
+ghost use Rattle.odb_doc.specs.Statuses.{is_status};
 
-use crate::counts::Counts;
+use crate::answer::Answer;
+use crate::counts::Progress;
 use crate::event::Step;
 use crate::graph::Graph;
 use crate::order::{End, Order};
@@ -22,7 +26,7 @@ use crate::policy::Policy;
 use crate::refusal::{ReportRefusal, StartRefusal};
 use odb_check::Plan;
 use odb_doc::Outcome;
-use odb_doc::status::is_status;
+use odb_doc::status::{is_status, is_success};
 use std::alloc::{AllocError, Global};
 use std::marker::Model;
 
@@ -30,13 +34,13 @@ use std::marker::Model;
 /// the outcomes that were reported (OData Protocol 4.01, section 11.7).
 ///
 /// It knows its requests by their positions alone. So it outlives the document and the plan that it
-/// was made for, and [`crate::Scheduler::of`] puts it to a plan again. Its calls cost what those of a
-/// scheduler do.
+/// was made for, and [`crate::Done::of`] shows it beside a plan again when it is finished. Its calls cost
+/// what those of a scheduler do.
 #[derive(Drop)]
 pub struct OwnedRun {
     graph: Graph,
     policy: Policy,
-    counts: Counts,
+    progress: Progress,
 }
 
 impl Model for OwnedRun {
@@ -78,11 +82,11 @@ impl OwnedRun {
         ensures { IfOk result (λ run. run ≡ first_of graph.plan_graph policy) }
     {
         graph.laws();
-        let counts = Counts::new(alloc, &graph)?;
+        let progress = Progress::new(alloc, &graph)?;
         Ok(OwnedRun {
             graph,
             policy,
-            counts,
+            progress,
         })
     }
 
@@ -113,7 +117,10 @@ impl OwnedRun {
         requires { i < state.size self.now }
         ensures { result ≡ steps.unit_failed self.now (unit_of self.now.plan_graph i) }
     {
-        self.counts.progress.units.is_visited(self.graph.unit_of(i))
+        self.progress
+            .counts
+            .failed
+            .is_visited(self.graph.unit_of(i))
     }
 
     /// Returns the first cause why a request may not start.
@@ -125,16 +132,16 @@ impl OwnedRun {
         if !self.phase(i).is_unstarted() {
             return Some(StartRefusal::AlreadyStarted);
         }
-        if self.counts.stopped {
+        if self.progress.stopped {
             return Some(StartRefusal::Stopped);
         }
         if self.unit_failed(i) {
             return Some(StartRefusal::UnitFailed);
         }
-        if let Some(need) = self.counts.first_unmet(&self.graph, i) {
+        if let Some(need) = self.progress.first_unmet(&self.graph, i) {
             return Some(StartRefusal::Waiting(need));
         }
-        if self.counts.is_full(self.policy) {
+        if self.progress.is_full(self.policy) {
             return Some(StartRefusal::WidthReached);
         }
         None
@@ -157,9 +164,9 @@ impl OwnedRun {
         if let Some(cause) = self.start_refusal(i) {
             return Err(cause);
         }
-        self.counts.progress.ready.remove(i);
-        self.counts.progress.running.insert(i);
-        self.counts.put(i, Phase::Running);
+        self.progress.counts.ready.remove(i);
+        self.progress.counts.running.insert(i);
+        self.progress.put(i, Phase::Running);
         Ok(())
     }
 
@@ -194,7 +201,7 @@ impl OwnedRun {
         if let Some(cause) = self.report_refusal(i, &outcome) {
             return Err((cause, outcome));
         }
-        self.counts.report(&self.graph, self.policy, i, outcome);
+        self.progress.report(&self.graph, self.policy, i, outcome);
         Ok(())
     }
 
@@ -203,7 +210,7 @@ impl OwnedRun {
         ensures listed { ListsOnce (state.size self.now) (steps.may_start self.now) result.now }
         ensures within { All (λ i. i < state.size self.now) result.now }
     {
-        self.counts.ready(self.policy)
+        self.progress.ready(self.policy)
     }
 
     /// Returns the running positions, each once, in no particular order.
@@ -213,7 +220,7 @@ impl OwnedRun {
         ensures within { All (λ i. i < state.size self.now) result.now }
         ensures width { length result.now ≤ self.now.policy.width }
     {
-        self.counts.progress.running.as_slice()
+        self.progress.counts.running.as_slice()
     }
 
     /// Returns the least or the greatest ready position, or `None` if there is none.
@@ -225,7 +232,7 @@ impl OwnedRun {
         ensures some { IfSome result (λ i. (i < state.size self.old)
             × (steps.may_start self.old i ≡ true) × IsAt end (ready_set self.old) i) }
     {
-        self.counts.ready_at(self.policy, end)
+        self.progress.ready_at(self.policy, end)
     }
 
     /// Returns the least or the greatest running position, or `None` if there is none.
@@ -238,7 +245,7 @@ impl OwnedRun {
             × (state.is_running (state.phase_at self.old i) ≡ true)
             × IsAt end (running_set self.old) i) }
     {
-        end.of(&mut self.counts.progress.running)
+        end.of(&mut self.progress.counts.running)
     }
 
     /// Returns the report of the least or the greatest running position, or else the start of that
@@ -294,23 +301,23 @@ impl OwnedRun {
             → (steps.may_start self.now i ≡ false)
             × (state.is_running (state.phase_at self.now i) ≡ false)) }
     {
-        self.counts.is_finished()
+        self.progress.is_finished()
     }
 
     /// Returns what has happened to a request.
-    pub(crate) fn phase(&self, i: u32) -> &Phase
+    fn phase(&self, i: u32) -> &Phase
         requires { i < state.size self.now }
         ensures { result.now ≡ state.phase_at self.now i }
     {
-        &self.counts.phases[i as usize]
+        &self.progress.phases[i as usize]
     }
 
     /// Returns whether all members of the request's unit have succeeded.
-    pub(crate) fn unit_succeeded(&self, i: u32) -> bool
+    fn unit_succeeded(&self, i: u32) -> bool
         requires { i < state.size self.now }
         ensures { result ≡ steps.unit_succeeded self.now (unit_of self.now.plan_graph i) }
     {
-        self.counts.progress.pending[self.graph.unit_of(i) as usize] == 0
+        self.progress.counts.pending[self.graph.unit_of(i) as usize] == 0
     }
 
     /// Returns whether a request reported a success that has to be undone.
@@ -341,6 +348,54 @@ impl OwnedRun {
             }
         }
         Ok(positions)
+    }
+
+    /// Returns the answer to request `i`, counted from 0, of a finished run. Its status is from 200 to
+    /// 599.
+    pub fn answer(&self, i: u32) -> Answer<'_>
+        requires finished { steps.is_finished self.now ≡ true }
+        requires request { i < state.size self.now }
+        ensures value { answers.shown result ≡ answers.answer self.now i }
+        ensures status { IsTrue (is_status (answers.status_of (answers.shown result))) }
+    {
+        self.reached();
+        match self.phase(i) {
+            Phase::Reported(outcome) => {
+                if is_success(outcome.status) && !self.unit_succeeded(i) {
+                    Answer::FailedDependency
+                } else {
+                    Answer::Reported(outcome)
+                }
+            }
+            _ => Answer::FailedDependency,
+        }
+    }
+
+    /// Returns the outcome that request `i` reported, if it did: also one that has to be undone.
+    pub fn reported(&self, i: u32) -> Option<&Outcome>
+        requires { i < state.size self.now }
+        ensures { option_map (λ outcome. outcome.now) result ≡ answers.reported self.now i }
+    {
+        match self.phase(i) {
+            Phase::Reported(outcome) => Some(outcome),
+            _ => None,
+        }
+    }
+
+    /// What holds of the answers of every finished run, as [`crate::laws::every_result`] states it of
+    /// lists of events. It changes nothing.
+    pub fn laws(&self)
+        requires { steps.is_finished self.now ≡ true }
+        ensures one_result { self.now.policy.mode ≡ modes.Continue → laws.HasOneResult self.now }
+        ensures by_statuses { self.now.policy.mode ≡ modes.Continue
+            → laws.HasResultByStatuses self.now }
+        ensures agrees_with_table { laws.AgreesWithTable self.now }
+        ensures all_or_none { laws.IsAllOrNone self.now }
+        ensures rests_on_successes { laws.RestsOnSuccesses self.now }
+        ensures statuses { answers.HasStatuses self.now }
+        ensures answered { (i : ℕ) → is_status (answers.status_of (answers.answer self.now i)) ≡ true }
+    {
+        self.reached();
     }
 
     /// What holds of every state that a run comes to. It changes nothing.

@@ -7,7 +7,7 @@ ghost use Rattle.odb_dense.specs.Marks.{is_marked, is_visited};
 ghost use Rattle.odb_sched.specs.declared.phase.Phase.TheVariants.{Unstarted, Running, Reported};
 ghost use Rattle.odb_sched.specs.run.State as state;
 ghost use Rattle.odb_sched.specs.invariants.Kept.{state_of};
-ghost use Rattle.odb_sched.specs.invariants.Counts as counts;
+ghost use Rattle.odb_sched.specs.invariants.Counts as counted;
 ghost use Rattle.odb_sched.specs.invariants.Propagation as propagation;
 ghost use Rattle.odb_sched.specs.run.Steps.{stops};
 
@@ -19,174 +19,174 @@ use odb_doc::Outcome;
 
 /// Counts one need of a request as satisfied. The last one makes the request ready, unless it has
 /// started or its unit has failed.
-fn satisfy(graph: &Graph, phases: &[Phase], i: u32, progress: &mut Progress)
+fn satisfy(graph: &Graph, phases: &[Phase], i: u32, counts: &mut Counts)
     requires request { i < length graph.now.plan_graph.units }
-    requires some { 0 < slice_index_or progress.old.unmet.items i 0 }
-    requires ready { counts.HasReady graph.now.plan_graph phases.now progress.old }
-    ensures ready { counts.HasReady graph.now.plan_graph phases.now progress.new }
-    ensures unmet { progress.new.unmet.items
-        ≡ slice_set progress.old.unmet.items i (slice_index_or progress.old.unmet.items i 0 - 1) }
-    ensures rest { progress.new ≡ record progress.old { unmet = progress.new.unmet; ready = progress.new.ready } }
+    requires some { 0 < slice_index_or counts.old.unmet.items i 0 }
+    requires ready { counted.HasReady graph.now.plan_graph phases.now counts.old }
+    ensures ready { counted.HasReady graph.now.plan_graph phases.now counts.new }
+    ensures unmet { counts.new.unmet.items
+        ≡ slice_set counts.old.unmet.items i (slice_index_or counts.old.unmet.items i 0 - 1) }
+    ensures rest { counts.new ≡ record counts.old { unmet = counts.new.unmet; ready = counts.new.ready } }
 {
     let at = i as usize;
-    progress.unmet[at] -= 1;
-    if progress.unmet[at] == 0
+    counts.unmet[at] -= 1;
+    if counts.unmet[at] == 0
         && phases[at].is_unstarted()
-        && !progress.units.is_visited(graph.unit_of(i))
+        && !counts.failed.is_visited(graph.unit_of(i))
     {
-        progress.ready.insert(i);
+        counts.ready.insert(i);
     }
 }
 
 /// Counts one need of the request of each entry of a list as satisfied.
-fn satisfy_each(graph: &Graph, phases: &[Phase], list: &[u32], progress: &mut Progress)
+fn satisfy_each(graph: &Graph, phases: &[Phase], list: &[u32], counts: &mut Counts)
     requires within { All (λ i. i < length graph.now.plan_graph.units) list.now }
     requires enough { (i : ℕ) → i < length graph.now.plan_graph.units
-        → count_by (λ j. j == i) list.now ≤ slice_index_or progress.old.unmet.items i 0 }
-    requires ready { counts.HasReady graph.now.plan_graph phases.now progress.old }
-    ensures ready { counts.HasReady graph.now.plan_graph phases.now progress.new }
+        → count_by (λ j. j == i) list.now ≤ slice_index_or counts.old.unmet.items i 0 }
+    requires ready { counted.HasReady graph.now.plan_graph phases.now counts.old }
+    ensures ready { counted.HasReady graph.now.plan_graph phases.now counts.new }
     ensures fallen { (i : ℕ) → i < length graph.now.plan_graph.units
-        → slice_index_or progress.new.unmet.items i 0 + count_by (λ j. j == i) list.now
-        ≡ slice_index_or progress.old.unmet.items i 0 }
-    ensures rest { progress.new ≡ record progress.old { unmet = progress.new.unmet; ready = progress.new.ready } }
+        → slice_index_or counts.new.unmet.items i 0 + count_by (λ j. j == i) list.now
+        ≡ slice_index_or counts.old.unmet.items i 0 }
+    ensures rest { counts.new ≡ record counts.old { unmet = counts.new.unmet; ready = counts.new.ready } }
 {
     for i in list {
-        satisfy(graph, phases, *i, progress);
+        satisfy(graph, phases, *i, counts);
     }
 }
 
 /// Counts the needs of a unit as satisfied, if all its members have succeeded.
-fn satisfy_unit(graph: &Graph, phases: &[Phase], u: u32, progress: &mut Progress)
+fn satisfy_unit(graph: &Graph, phases: &[Phase], u: u32, counts: &mut Counts)
     requires unit { u < graph.now.plan_graph.unit_count }
-    requires pending { slice_index_or progress.old.pending.items u 0
-        ≡ counts.pending_in graph.now.plan_graph phases.now u }
+    requires pending { slice_index_or counts.old.pending.items u 0
+        ≡ counted.pending_in graph.now.plan_graph phases.now u }
     requires enough { (i : ℕ) → i < length graph.now.plan_graph.units
-        → counts.satisfied_by_unit graph.now.plan_graph phases.now u i
-        ≤ slice_index_or progress.old.unmet.items i 0 }
-    requires ready { counts.HasReady graph.now.plan_graph phases.now progress.old }
-    ensures ready { counts.HasReady graph.now.plan_graph phases.now progress.new }
+        → counted.satisfied_by_unit graph.now.plan_graph phases.now u i
+        ≤ slice_index_or counts.old.unmet.items i 0 }
+    requires ready { counted.HasReady graph.now.plan_graph phases.now counts.old }
+    ensures ready { counted.HasReady graph.now.plan_graph phases.now counts.new }
     ensures fallen { (i : ℕ) → i < length graph.now.plan_graph.units
-        → slice_index_or progress.new.unmet.items i 0
-        + counts.satisfied_by_unit graph.now.plan_graph phases.now u i
-        ≡ slice_index_or progress.old.unmet.items i 0 }
-    ensures rest { progress.new ≡ record progress.old { unmet = progress.new.unmet; ready = progress.new.ready } }
+        → slice_index_or counts.new.unmet.items i 0
+        + counted.satisfied_by_unit graph.now.plan_graph phases.now u i
+        ≡ slice_index_or counts.old.unmet.items i 0 }
+    ensures rest { counts.new ≡ record counts.old { unmet = counts.new.unmet; ready = counts.new.ready } }
 {
     graph.laws();
-    if progress.pending[u as usize] == 0 {
-        satisfy_each(graph, phases, graph.of_unit(u), progress);
+    if counts.pending[u as usize] == 0 {
+        satisfy_each(graph, phases, graph.dependents_of_unit(u), counts);
     }
 }
 
 /// Counts a member of a unit as succeeded.
-fn count_success(u: u32, progress: &mut Progress)
-    requires unit { u < length progress.old.pending.items }
-    requires some { 0 < slice_index_or progress.old.pending.items u 0 }
-    ensures pending { progress.new.pending.items
-        ≡ slice_set progress.old.pending.items u (slice_index_or progress.old.pending.items u 0 - 1) }
-    ensures rest { progress.new ≡ record progress.old { pending = progress.new.pending } }
+fn count_success(u: u32, counts: &mut Counts)
+    requires unit { u < length counts.old.pending.items }
+    requires some { 0 < slice_index_or counts.old.pending.items u 0 }
+    ensures pending { counts.new.pending.items
+        ≡ slice_set counts.old.pending.items u (slice_index_or counts.old.pending.items u 0 - 1) }
+    ensures rest { counts.new ≡ record counts.old { pending = counts.new.pending } }
 {
-    progress.pending[u as usize] -= 1;
+    counts.pending[u as usize] -= 1;
 }
 
 /// Marks each dependency on a request that has succeeded as satisfied, and each on its unit if it was the
 /// last member of the unit to succeed. `phases[i]` already holds the outcome.
-fn succeed(graph: &Graph, phases: &[Phase], i: u32, progress: &mut Progress)
+fn succeed(graph: &Graph, phases: &[Phase], i: u32, counts: &mut Counts)
     requires request { i < length graph.now.plan_graph.units }
     requires succeeded { state.has_succeeded (slice_index_or phases.now i Unstarted) ≡ true }
-    requires counts { counts.AreCounts graph.now.plan_graph (slice_set phases.now i Running) progress.old }
-    ensures { counts.AreCounts graph.now.plan_graph phases.now progress.new }
+    requires counts { counted.AreCounts graph.now.plan_graph (slice_set phases.now i Running) counts.old }
+    ensures { counted.AreCounts graph.now.plan_graph phases.now counts.new }
 {
     graph.laws();
-    progress.running.remove(i);
+    counts.running.remove(i);
     let unit = graph.unit_of(i);
-    count_success(unit, progress);
-    satisfy_each(graph, phases, graph.of_request(i), progress);
-    satisfy_unit(graph, phases, unit, progress);
+    count_success(unit, counts);
+    satisfy_each(graph, phases, graph.dependents_of(i), counts);
+    satisfy_unit(graph, phases, unit, counts);
 }
 
 /// Removes the members of a unit that has failed from the ready requests.
-fn skip_members(graph: &Graph, phases: &[Phase], u: u32, progress: &mut Progress)
+fn skip_members(graph: &Graph, phases: &[Phase], u: u32, counts: &mut Counts)
     requires unit { u < graph.now.plan_graph.unit_count }
-    requires visited { is_visited (slice_index_or progress.old.units u Unvisited) ≡ true }
-    requires ready { counts.AreReady graph.now.plan_graph
-        (λ i. counts.is_skipped graph.now.plan_graph progress.old.units i && not (plan_graphs.unit_of graph.now.plan_graph i == u))
-        phases.now progress.old }
-    ensures ready { counts.HasReady graph.now.plan_graph phases.now progress.new }
-    ensures rest { progress.new ≡ record progress.old { ready = progress.new.ready } }
+    requires visited { is_visited (slice_index_or counts.old.failed u Unvisited) ≡ true }
+    requires ready { counted.AreReady graph.now.plan_graph
+        (λ i. counted.is_skipped graph.now.plan_graph counts.old.failed i && not (plan_graphs.unit_of graph.now.plan_graph i == u))
+        phases.now counts.old }
+    ensures ready { counted.HasReady graph.now.plan_graph phases.now counts.new }
+    ensures rest { counts.new ≡ record counts.old { ready = counts.new.ready } }
 {
     let members = graph.members(u);
     for i in members.start..members.end {
-        progress.ready.remove(i);
+        counts.ready.remove(i);
     }
 }
 
 /// Marks the unit of each request of the list as failed.
-fn mark_units(graph: &Graph, list: &[u32], progress: &mut Progress)
-    requires units { length progress.old.units ≡ graph.now.plan_graph.unit_count }
+fn mark_units(graph: &Graph, list: &[u32], counts: &mut Counts)
+    requires units { length counts.old.failed ≡ graph.now.plan_graph.unit_count }
     requires within { All (λ i. i < length graph.now.plan_graph.units) list.now }
-    ensures marks { propagation.HaveMarked progress.old.units progress.new.units }
+    ensures marks { propagation.HaveMarked counts.old.failed counts.new.failed }
     ensures marked { (k : ℕ) → k < length list.now
-        → is_marked (slice_index_or progress.new.units
+        → is_marked (slice_index_or counts.new.failed
         (plan_graphs.unit_of graph.now.plan_graph (slice_index_or list.now k 0)) Unvisited) ≡ true }
-    ensures only { (v : ℕ) → is_marked (slice_index_or progress.new.units v Unvisited) ≡ true
-        → (is_marked (slice_index_or progress.old.units v Unvisited) ≡ true)
+    ensures only { (v : ℕ) → is_marked (slice_index_or counts.new.failed v Unvisited) ≡ true
+        → (is_marked (slice_index_or counts.old.failed v Unvisited) ≡ true)
         ⊎ ((k : ℕ) × (k < length list.now)
         × (plan_graphs.unit_of graph.now.plan_graph (slice_index_or list.now k 0) ≡ v)) }
-    ensures rest { progress.new ≡ record progress.old { units = progress.new.units } }
+    ensures rest { counts.new ≡ record counts.old { failed = counts.new.failed } }
 {
     for i in list {
-        progress.units.put(graph.unit_of(*i));
+        counts.failed.put(graph.unit_of(*i));
     }
 }
 
 /// Puts each unit that depends on a unit on the worklist.
-fn mark_dependents(graph: &Graph, u: u32, progress: &mut Progress)
-    requires units { length progress.old.units ≡ graph.now.plan_graph.unit_count }
+fn mark_dependents(graph: &Graph, u: u32, counts: &mut Counts)
+    requires units { length counts.old.failed ≡ graph.now.plan_graph.unit_count }
     requires unit { u < graph.now.plan_graph.unit_count }
-    ensures marks { propagation.HaveMarked progress.old.units progress.new.units }
+    ensures marks { propagation.HaveMarked counts.old.failed counts.new.failed }
     ensures marked { (w : ℕ) → propagation.NeedsUnit graph.now.plan_graph w u
-        → is_marked (slice_index_or progress.new.units w Unvisited) ≡ true }
-    ensures only { (v : ℕ) → is_marked (slice_index_or progress.new.units v Unvisited) ≡ true
-        → (is_marked (slice_index_or progress.old.units v Unvisited) ≡ true)
+        → is_marked (slice_index_or counts.new.failed w Unvisited) ≡ true }
+    ensures only { (v : ℕ) → is_marked (slice_index_or counts.new.failed v Unvisited) ≡ true
+        → (is_marked (slice_index_or counts.old.failed v Unvisited) ≡ true)
         ⊎ propagation.NeedsUnit graph.now.plan_graph v u }
-    ensures rest { progress.new ≡ record progress.old { units = progress.new.units } }
+    ensures rest { counts.new ≡ record counts.old { failed = counts.new.failed } }
 {
     graph.laws();
     let members = graph.members(u);
     for r in members.start..members.end {
-        mark_units(graph, graph.of_request(r), progress);
+        mark_units(graph, graph.dependents_of(r), counts);
     }
-    mark_units(graph, graph.of_unit(u), progress);
+    mark_units(graph, graph.dependents_of_unit(u), counts);
 }
 
 /// Takes units from the worklist, and puts those that depend on them on it, until it is empty.
-fn propagate(graph: &Graph, phases: &[Phase], progress: &mut Progress)
-    requires propagating { propagation.ArePropagating graph.now.plan_graph phases.now progress.old.units }
-    requires ready { counts.HasReady graph.now.plan_graph phases.now progress.old }
-    ensures propagated { counts.ArePropagated graph.now.plan_graph phases.now progress.new.units }
-    ensures ready { counts.HasReady graph.now.plan_graph phases.now progress.new }
-    ensures rest { progress.new
-        ≡ record progress.old { units = progress.new.units; ready = progress.new.ready } }
+fn propagate(graph: &Graph, phases: &[Phase], counts: &mut Counts)
+    requires propagating { propagation.ArePropagating graph.now.plan_graph phases.now counts.old.failed }
+    requires ready { counted.HasReady graph.now.plan_graph phases.now counts.old }
+    ensures propagated { counted.ArePropagated graph.now.plan_graph phases.now counts.new.failed }
+    ensures ready { counted.HasReady graph.now.plan_graph phases.now counts.new }
+    ensures rest { counts.new
+        ≡ record counts.old { failed = counts.new.failed; ready = counts.new.ready } }
 {
     graph.laws();
-    while let Some(u) = progress.units.take() {
-        skip_members(graph, phases, u, progress);
-        mark_dependents(graph, u, progress);
+    while let Some(u) = counts.failed.take() {
+        skip_members(graph, phases, u, counts);
+        mark_dependents(graph, u, counts);
     }
 }
 
 /// Handles a failed request: marks its unit as failed, and propagates the failure to every unit that
 /// depends on it, directly or not. `phases[i]` already holds the outcome.
-fn fail(graph: &Graph, phases: &[Phase], i: u32, progress: &mut Progress)
+fn fail(graph: &Graph, phases: &[Phase], i: u32, counts: &mut Counts)
     requires request { i < length graph.now.plan_graph.units }
     requires failed { state.has_failed (slice_index_or phases.now i Unstarted) ≡ true }
-    requires counts { counts.AreCounts graph.now.plan_graph (slice_set phases.now i Running) progress.old }
-    ensures { counts.AreCounts graph.now.plan_graph phases.now progress.new }
+    requires counts { counted.AreCounts graph.now.plan_graph (slice_set phases.now i Running) counts.old }
+    ensures { counted.AreCounts graph.now.plan_graph phases.now counts.new }
 {
     graph.laws();
-    progress.running.remove(i);
-    progress.units.put(graph.unit_of(i));
-    propagate(graph, phases, progress);
+    counts.running.remove(i);
+    counts.failed.put(graph.unit_of(i));
+    propagate(graph, phases, counts);
 }
 
 /// Returns whether the run was stopped before, or this report stops it.
@@ -197,20 +197,20 @@ fn is_stopped(stopped: bool, policy: Policy, phase: &Phase) -> bool
 }
 
 /// Handles the report of a request. `phases[i]` already holds the outcome.
-fn take_report(graph: &Graph, phases: &[Phase], i: u32, progress: &mut Progress)
+fn take_report(graph: &Graph, phases: &[Phase], i: u32, counts: &mut Counts)
     requires request { i < length graph.now.plan_graph.units }
     requires reported { state.is_reported (slice_index_or phases.now i Unstarted) ≡ true }
-    requires counts { counts.AreCounts graph.now.plan_graph (slice_set phases.now i Running) progress.old }
-    ensures { counts.AreCounts graph.now.plan_graph phases.now progress.new }
+    requires counts { counted.AreCounts graph.now.plan_graph (slice_set phases.now i Running) counts.old }
+    ensures { counted.AreCounts graph.now.plan_graph phases.now counts.new }
 {
     if phases[i as usize].has_succeeded() {
-        succeed(graph, phases, i, progress);
+        succeed(graph, phases, i, counts);
     } else {
-        fail(graph, phases, i, progress);
+        fail(graph, phases, i, counts);
     }
 }
 
-impl Counts {
+impl Progress {
     ghost use Rattle.odb_sched.specs.invariants.Kept.{IsCounted};
 
     /// Takes the outcome of a running request.
@@ -222,7 +222,7 @@ impl Counts {
         ensures counts { IsCounted (state_of graph.now.plan_graph policy self.new.phases.items) self.new }
     {
         self.put(i, Phase::Reported(outcome));
-        take_report(graph, &self.phases, i, &mut self.progress);
+        take_report(graph, &self.phases, i, &mut self.counts);
         self.stopped = is_stopped(self.stopped, policy, &self.phases[i as usize]);
     }
 }

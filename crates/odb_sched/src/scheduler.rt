@@ -2,24 +2,20 @@
 
 ghost use Rattle.std.specs.Prelude.{◌≡◌, ◌≢◌, ◌<◌, ◌≤◌, ◌↔◌, ℕ, true, false, List, Some, length, slice_set, replicate, IsTrue, IsOk, IfOk, IfErr, IfSome, OnOk, OnErr, None, All};
 ghost use Rattle.odb_check.specs.Plans.{plan_records};
-ghost use Rattle.odb_check.specs.PlanGraph.{unit_of};
 ghost use Rattle.odb_sched.specs.declared.policy.Mode.TheVariants as modes;
 ghost use Rattle.odb_sched.specs.declared.refusal.StartRefusal.TheVariants.{WidthReached};
 ghost use Rattle.odb_dense.specs.Lists.{ListsOnce};
-ghost use Rattle.odb_sched.specs.run.Answers as answers;
 ghost use Rattle.odb_sched.specs.run.State as state;
 ghost use Rattle.odb_sched.specs.run.Steps as steps;
 ghost use Rattle.odb_sched.specs.run.Steps.{IsStartCause, IsReportCause};
 ghost use Rattle.odb_sched.specs.run.Choosing.{IsNext, AllowsOrder};
 ghost use Rattle.odb_sched.specs.run.Laws as laws;
-ghost use Rattle.odb_sched.specs.invariants.Kept.{IsReached};
 
-use crate::done::Done;
+use crate::done::{Done, Held};
 use crate::event::Step;
 use crate::laws::every_start;
 use crate::order::Order;
 use crate::owned::OwnedRun;
-use crate::phase::Phase;
 use crate::policy::Policy;
 use crate::refusal::{ReportRefusal, StartRefusal};
 use odb_check::Plan;
@@ -70,26 +66,6 @@ impl<'p> Scheduler<'p> {
             ≡ length (plan_records plan.now)) }
     {
         let run = OwnedRun::new(alloc, plan, policy)?;
-        Ok(Scheduler { plan, run })
-    }
-
-    /// Returns a run with the requests of a plan, if its numbers are those of the plan: which unit
-    /// each request belongs to, and what each needs, in order.
-    ///
-    /// Costs O(requests + dependencies).
-    ///
-    /// # Errors
-    ///
-    /// The run, unchanged, if its numbers are not those of the plan.
-    pub fn of<'a: 'p>(plan: &'p Plan<'a>, run: OwnedRun) -> Result<Scheduler<'p>, OwnedRun>
-        ensures allowed { IsOk result ↔ (run.plan_graph ≡ state.plan_graph plan.now) }
-        ensures state { IfOk result (λ scheduler. scheduler
-            ≡ state.with_requests (plan_records plan.now) run) }
-        ensures back { IfErr result (λ back. back ≡ run) }
-    {
-        if !run.is_of(plan) {
-            return Err(run);
-        }
         Ok(Scheduler { plan, run })
     }
 
@@ -185,50 +161,11 @@ impl<'p> Scheduler<'p> {
         ensures all_or_none { laws.IsAllOrNone result }
         ensures rests_on_successes { laws.RestsOnSuccesses result }
     {
-        let done = Done { run: self };
+        let done = Done {
+            plan: self.plan,
+            run: Held::Own(self.run),
+        };
         done.laws();
         done
-    }
-
-    /// Returns the plan of the run.
-    pub(crate) fn plan(&self) -> &'p Plan<'p>
-        ensures plan { plan_records result.now ≡ self.now.requests }
-        ensures plan_graph { state.plan_graph result.now ≡ self.now.plan_graph }
-        ensures size { state.size self.now ≡ length self.now.requests }
-    {
-        self.plan
-    }
-
-    /// Returns what has happened to a request.
-    pub(crate) fn phase(&self, i: u32) -> &Phase
-        requires { i < state.size self.now }
-        ensures { result.now ≡ state.phase_at self.now i }
-    {
-        self.run.phase(i)
-    }
-
-    /// Returns whether all members of the request's unit have succeeded.
-    pub(crate) fn unit_succeeded(&self, i: u32) -> bool
-        requires { i < state.size self.now }
-        ensures { result ≡ steps.unit_succeeded self.now (unit_of self.now.plan_graph i) }
-    {
-        self.run.unit_succeeded(i)
-    }
-
-    /// Returns the positions of the requests that reported a success but whose unit did not succeed:
-    /// from the last to the first.
-    pub(crate) fn undone(&self, alloc: Global) -> Result<Vec<u32>, AllocError>
-        ensures value { IfOk result (λ positions. positions.items ≡ answers.undone self.now) }
-        ensures within { IfOk result (λ positions.
-            All (λ i. i < state.size self.now) positions.items) }
-    {
-        self.run.undone(alloc)
-    }
-
-    /// What holds of every state that a run comes to. It changes nothing.
-    pub(crate) fn reached(&self)
-        ensures { IsReached self.now }
-    {
-        self.run.reached();
     }
 }

@@ -7,7 +7,7 @@ use Rattle.odb_check.specs.Firsts.{count_below, list_below}
 use Rattle.odb_check.specs.PlanGraph.{PlanGraph, unit_of, needs_of}
 use Rattle.odb_sched.specs.declared.phase.Phase.{Phase}
 use Rattle.odb_sched.specs.declared.phase.Phase.TheVariants.{Unstarted}
-use Rattle.odb_sched.specs.declared.counts.Progress.{Progress}
+use Rattle.odb_sched.specs.declared.counts.Counts.{Counts}
 use Rattle.odb_sched.specs.run.State.{is_unstarted, is_running, has_succeeded}
 use Rattle.odb_sched.specs.run.Steps.{succeeded_in, satisfied_in, failed_in}
 use Rattle.odb_sched.specs.invariants.Dependents.{need_count}
@@ -37,21 +37,21 @@ abbrev pub is_skipped : PlanGraph → List Mark → ℕ → Bool
 is_skipped plan units i = is_visited (slice_index_or units (unit_of plan i) Unvisited)
 
 -- each list has an entry for each request or unit
-pub record HaveEntries (plan : PlanGraph) (phases : List Phase) (t : Progress) : Type 0 where
+pub record HaveEntries (plan : PlanGraph) (phases : List Phase) (t : Counts) : Type 0 where
   pub phased : length phases ≡ length plan.units
   pub unmet : length t.unmet.items ≡ length plan.units
   pub pending : length t.pending.items ≡ plan.unit_count
-  pub units : length t.units ≡ plan.unit_count
+  pub units : length t.failed ≡ plan.unit_count
   pub ready : length t.ready ≡ length plan.units
 
 -- the ready requests are those that are unstarted, are not skipped and have no unmet need
-pub record AreReady (plan : PlanGraph) (skipped : ℕ → Bool) (phases : List Phase) (t : Progress) : Type 0 where
+pub record AreReady (plan : PlanGraph) (skipped : ℕ → Bool) (phases : List Phase) (t : Counts) : Type 0 where
   pub entries : HaveEntries plan phases t
   pub exact : (i : ℕ) → i < length plan.units → slice_index_or t.ready i false ≡ (is_unstarted (slice_index_or phases i Unstarted) && not (skipped i) && (slice_index_or t.unmet.items i 0 == 0))
 
 -- the ready requests, where those of the units that were taken from the worklist are skipped
-abbrev pub HasReady : PlanGraph → List Phase → Progress → Type 0
-HasReady plan phases t = AreReady plan (is_skipped plan t.units) phases t
+abbrev pub HasReady : PlanGraph → List Phase → Counts → Type 0
+HasReady plan phases t = AreReady plan (is_skipped plan t.failed) phases t
 
 -- the units that have failed were taken from the worklist, and no others were ever on it
 pub record ArePropagated (plan : PlanGraph) (phases : List Phase) (units : List Mark) : Type 0 where
@@ -60,11 +60,11 @@ pub record ArePropagated (plan : PlanGraph) (phases : List Phase) (units : List 
   pub marked : (u : ℕ) → is_marked (slice_index_or units u Unvisited) ≡ is_visited (slice_index_or units u Unvisited)
 
 -- the counts are those of the requests in these phases
-pub record AreCounts (plan : PlanGraph) (phases : List Phase) (t : Progress) : Type 0 where
+pub record AreCounts (plan : PlanGraph) (phases : List Phase) (t : Counts) : Type 0 where
   pub ready : HasReady plan phases t
   pub unmet : AreUnmet plan phases t.unmet.items
   pub pending : ArePending plan phases t.pending.items
-  pub units : ArePropagated plan phases t.units
+  pub units : ArePropagated plan phases t.failed
   pub running : t.running ≡ map is_running phases
 
 -- how many needs a request has

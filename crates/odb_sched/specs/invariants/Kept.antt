@@ -8,11 +8,13 @@ use Rattle.odb_sched.specs.declared.phase.Phase.TheVariants.{Unstarted}
 use Rattle.odb_sched.specs.run.State.{State, is_unstarted, size, phase_at, plan_graph, with_requests}
 use Rattle.odb_sched.specs.run.Steps.{all_satisfied, running_count, is_stopped, is_finished}
 use Rattle.odb_sched.specs.run.Answers.{HasStatuses}
-use Rattle.odb_sched.specs.declared.counts.Counts.{Counts}
+use Rattle.odb_sched.specs.declared.counts.Progress.{Progress}
 use Rattle.odb_check.specs.Plans.{plan_records}
 use Rattle.odb_sched.specs.declared.owned.OwnedRun.TheInside.{Inside}
 use Rattle.odb_sched.specs.declared.scheduler.Scheduler.TheInside as scheduler
 use Rattle.odb_sched.specs.declared.done.Done.TheInside as done
+use Rattle.odb_sched.specs.declared.done.Held.{Held}
+use Rattle.odb_sched.specs.declared.done.Held.TheVariants.{Own, Lent}
 use Rattle.odb_sched.specs.invariants.Counts.{AreCounts}
 
 -- the state, without its requests, of a run of this plan under this policy, with these phases
@@ -34,18 +36,18 @@ pub record IsReached (state : State) : Type 0 where
   pub statuses : HasStatuses state
 
 -- the counts and the stop are those of the state
-pub record IsCounted (state : State) (counted : Counts) : Type 0 where
-  pub counts : AreCounts state.plan_graph state.phases counted.progress
+pub record IsCounted (state : State) (counted : Progress) : Type 0 where
+  pub counts : AreCounts state.plan_graph state.phases counted.counts
   pub stopped : counted.stopped ≡ is_stopped state
 
 -- the state of a run, of no requests
 abbrev pub kept_state : Inside → State
-kept_state s = state_of s.graph.plan_graph s.policy s.counts.phases.items
+kept_state s = state_of s.graph.plan_graph s.policy s.progress.phases.items
 
 -- what a run keeps
 pub record IsKept (s : Inside) : Type 0 where
   pub reached : IsReached (kept_state s)
-  pub counts : IsCounted (kept_state s) s.counts
+  pub counts : IsCounted (kept_state s) s.progress
 
 -- the state of the run that a scheduler drives, of the requests of its plan
 abbrev pub planned_state : scheduler.Inside → State
@@ -55,9 +57,16 @@ planned_state s = with_requests (plan_records s.plan.now) s.run
 abbrev pub IsOfPlan : scheduler.Inside → Type 0
 IsOfPlan s = s.run.plan_graph ≡ plan_graph s.plan.now
 
--- the state in which a run has ended, and what a finished run keeps
-abbrev pub last_state : done.Inside → State
-last_state d = d.run
+-- the state of a run that is owned or lent
+abbrev pub held_state : Held → State
+held_state (Own run) = run
+held_state (Lent run) = run.now
 
-abbrev pub HasFinished : done.Inside → Type 0
-HasFinished d = is_finished d.run ≡ true
+-- the state in which a run has ended, of the requests of its plan
+abbrev pub last_state : done.Inside → State
+last_state d = with_requests (plan_records d.plan.now) (held_state d.run)
+
+-- the run is finished, and its numbers are those of the plan
+pub record HasFinished (d : done.Inside) : Type 0 where
+  pub of_plan : (held_state d.run).plan_graph ≡ plan_graph d.plan.now
+  pub finished : is_finished (held_state d.run) ≡ true

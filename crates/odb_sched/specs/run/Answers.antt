@@ -4,8 +4,8 @@ use Rattle.odb_doc.specs.declared.recorded.outcome.Outcome.{Outcome}
 use Rattle.odb_check.specs.PlanGraph.{unit_of}
 use Rattle.odb_sched.specs.declared.phase.Phase.{Phase}
 use Rattle.odb_sched.specs.declared.phase.Phase.TheVariants.{Unstarted, Running, Reported}
-use Rattle.odb_sched.specs.declared.done.Answer.{Answer}
-use Rattle.odb_sched.specs.declared.done.Answer.TheVariants as answers
+use Rattle.odb_sched.specs.declared.answer.Answer.{Answer}
+use Rattle.odb_sched.specs.declared.answer.Answer.TheVariants as answers
 use Rattle.odb_check.specs.Firsts.{passing_below}
 use Rattle.odb_doc.specs.Statuses.{is_success, is_status}
 use Rattle.odb_sched.specs.run.State.{has_succeeded, State, size, phase_at}

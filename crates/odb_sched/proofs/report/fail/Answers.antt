@@ -1,6 +1,6 @@
 -- The request completes, its unit is put on the worklist, and the failure is propagated.
 use Rattle.std.proofs.Common.{ap, ◌∙◌, refl, sym, subst, false, set}
-use Rattle.odb_sched.specs.declared.counts.Progress.{Progress}
+use Rattle.odb_sched.specs.declared.counts.Counts.{Counts}
 use Rattle.odb_sched.specs.invariants.Propagation.{ArePropagating}
 use Rattle.odb_sched.proofs.PhaseLemmas.{failed_idle}
 use Rattle.odb_sched.proofs.SameLemmas.{running_same}
@@ -11,13 +11,13 @@ use Rattle.odb_sched.proofs.report.fail.Goals as goal
 pub propagate-requires-clause-propagating : goal.propagate-requires-clause-propagating
 propagate-requires-clause-propagating c =
     subst (ArePropagating c.args.graph.now.plan_graph c.args.phases.now)
-    (sym (put_unit c.args.graph.now.plan_graph c.args.progress.now.units _ c.put.new.self c.args.i c.unit_of.result refl c.unit_of.ensures.unit c.put.ensures))
-    (propagating_failed c.args.graph.now.plan_graph c.args.phases.now c.args.progress.now.units c.args.i c.laws.ensures.order c.requires.request c.requires.failed c.requires.counts.units)
+    (sym (put_unit c.args.graph.now.plan_graph c.args.counts.now.failed _ c.put.new.self c.args.i c.unit_of.result refl c.unit_of.ensures.unit c.put.ensures))
+    (propagating_failed c.args.graph.now.plan_graph c.args.phases.now c.args.counts.now.failed c.args.i c.laws.ensures.order c.requires.request c.requires.failed c.requires.counts.units)
 
 pub returns : goal.returns
 returns c =
-    counts_failed c.args.graph.now.plan_graph c.args.phases.now c.args.i c.args.progress.now c.propagate.new.progress c.requires.failed c.requires.counts
-    (ap (λ (t : Progress). t.unmet.items) c.propagate.ensures.rest)
-    (ap (λ (t : Progress). t.pending.items) c.propagate.ensures.rest)
-    (ap (λ (t : Progress). t.running) c.propagate.ensures.rest ∙ c.remove.ensures ∙ ap (λ b. set b c.args.i false) c.requires.counts.running ∙ running_same c.args.phases.now c.args.i Running false (failed_idle _ c.requires.failed))
+    counts_failed c.args.graph.now.plan_graph c.args.phases.now c.args.i c.args.counts.now c.propagate.new.counts c.requires.failed c.requires.counts
+    (ap (λ (t : Counts). t.unmet.items) c.propagate.ensures.rest)
+    (ap (λ (t : Counts). t.pending.items) c.propagate.ensures.rest)
+    (ap (λ (t : Counts). t.running) c.propagate.ensures.rest ∙ c.remove.ensures ∙ ap (λ b. set b c.args.i false) c.requires.counts.running ∙ running_same c.args.phases.now c.args.i Running false (failed_idle _ c.requires.failed))
     c.propagate.ensures.propagated c.propagate.ensures.ready

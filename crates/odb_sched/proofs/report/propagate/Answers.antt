@@ -1,6 +1,6 @@
 -- A turn takes one unit and marks those that depend on it; when the worklist is empty, all failed ones were taken.
 use Rattle.std.proofs.Common.{◌≡◌, ◌⊎◌, ℕ, true, ◌∙◌, ap, subst, sym, get_or}
-use Rattle.odb_sched.specs.declared.counts.Progress.{Progress}
+use Rattle.odb_sched.specs.declared.counts.Counts.{Counts}
 use Rattle.odb_dense.specs.declared.worklist.Mark.TheVariants.{Unvisited}
 use Rattle.odb_dense.specs.Marks.{is_marked}
 use Rattle.odb_sched.specs.invariants.Counts.{HasReady, ArePropagated}
@@ -13,28 +13,28 @@ use Rattle.odb_sched.proofs.report.propagate.Goals as goal
 pub loop-u-smaller : goal.loop-u-smaller
 loop-u-smaller c =
     let (within, waits, taken) = c.in-Some.ensures in
-    fewer_wait c.args.graph.now.plan_graph c.loop-u.progress.units c.mark_dependents.new.progress.units c.in-Some.u c.loop-u.invariant.propagating.each within waits
-    (subst (λ units. HaveMarked units c.mark_dependents.new.progress.units) (ap (λ (t : Progress). t.units) c.skip_members.ensures.rest ∙ taken) c.mark_dependents.ensures.marks)
+    fewer_wait c.args.graph.now.plan_graph c.loop-u.counts.failed c.mark_dependents.new.counts.failed c.in-Some.u c.loop-u.invariant.propagating.each within waits
+    (subst (λ units. HaveMarked units c.mark_dependents.new.counts.failed) (ap (λ (t : Counts). t.failed) c.skip_members.ensures.rest ∙ taken) c.mark_dependents.ensures.marks)
 
 pub loop-u-preserved : goal.loop-u-preserved
 loop-u-preserved c =
     let (within, waits, taken) = c.in-Some.ensures in
-    let units_are = ap (λ (t : Progress). t.units) c.skip_members.ensures.rest in
-    let marks = subst (λ units. HaveMarked units c.mark_dependents.new.progress.units) units_are c.mark_dependents.ensures.marks in
+    let units_are = ap (λ (t : Counts). t.failed) c.skip_members.ensures.rest in
+    let marks = subst (λ units. HaveMarked units c.mark_dependents.new.counts.failed) units_are c.mark_dependents.ensures.marks in
     record {
-      propagating = propagating_on c.args.graph.now.plan_graph c.args.phases.now c.loop-u.progress.units c.mark_dependents.new.progress.units c.in-Some.u c.laws.ensures.order c.loop-u.invariant.propagating within waits
-          (subst (λ units. HaveMarked units c.mark_dependents.new.progress.units) taken marks)
+      propagating = propagating_on c.args.graph.now.plan_graph c.args.phases.now c.loop-u.counts.failed c.mark_dependents.new.counts.failed c.in-Some.u c.laws.ensures.order c.loop-u.invariant.propagating within waits
+          (subst (λ units. HaveMarked units c.mark_dependents.new.counts.failed) taken marks)
           c.mark_dependents.ensures.marked
-          (subst (λ units. (v : ℕ) → is_marked (get_or c.mark_dependents.new.progress.units v Unvisited) ≡ true → (is_marked (get_or units v Unvisited) ≡ true) ⊎ NeedsUnit c.args.graph.now.plan_graph v c.in-Some.u) (units_are ∙ taken) c.mark_dependents.ensures.only);
+          (subst (λ units. (v : ℕ) → is_marked (get_or c.mark_dependents.new.counts.failed v Unvisited) ≡ true → (is_marked (get_or units v Unvisited) ≡ true) ⊎ NeedsUnit c.args.graph.now.plan_graph v c.in-Some.u) (units_are ∙ taken) c.mark_dependents.ensures.only);
       ready = subst (HasReady c.args.graph.now.plan_graph c.args.phases.now) (sym c.mark_dependents.ensures.rest)
-          (ready_marked c.args.graph.now.plan_graph c.args.phases.now c.skip_members.new.progress c.mark_dependents.new.progress.units c.mark_dependents.ensures.marks c.skip_members.ensures.ready);
-      rest = others_kept c.args.progress.now c.mark_dependents.new.progress
-          (ap (λ (t : Progress). t.unmet) c.mark_dependents.ensures.rest ∙ ap (λ (t : Progress). t.unmet) c.skip_members.ensures.rest ∙ ap (λ (t : Progress). t.unmet) c.loop-u.invariant.rest)
-          (ap (λ (t : Progress). t.pending) c.mark_dependents.ensures.rest ∙ ap (λ (t : Progress). t.pending) c.skip_members.ensures.rest ∙ ap (λ (t : Progress). t.pending) c.loop-u.invariant.rest)
-          (ap (λ (t : Progress). t.running) c.mark_dependents.ensures.rest ∙ ap (λ (t : Progress). t.running) c.skip_members.ensures.rest ∙ ap (λ (t : Progress). t.running) c.loop-u.invariant.rest);
+          (ready_marked c.args.graph.now.plan_graph c.args.phases.now c.skip_members.new.counts c.mark_dependents.new.counts.failed c.mark_dependents.ensures.marks c.skip_members.ensures.ready);
+      rest = others_kept c.args.counts.now c.mark_dependents.new.counts
+          (ap (λ (t : Counts). t.unmet) c.mark_dependents.ensures.rest ∙ ap (λ (t : Counts). t.unmet) c.skip_members.ensures.rest ∙ ap (λ (t : Counts). t.unmet) c.loop-u.invariant.rest)
+          (ap (λ (t : Counts). t.pending) c.mark_dependents.ensures.rest ∙ ap (λ (t : Counts). t.pending) c.skip_members.ensures.rest ∙ ap (λ (t : Counts). t.pending) c.loop-u.invariant.rest)
+          (ap (λ (t : Counts). t.running) c.mark_dependents.ensures.rest ∙ ap (λ (t : Counts). t.running) c.skip_members.ensures.rest ∙ ap (λ (t : Counts). t.running) c.loop-u.invariant.rest);
     }
 
 pub returns-clause-propagated : goal.returns-clause-propagated
 returns-clause-propagated c =
     let (same, none) = c.in_default.ensures in
-    subst (ArePropagated c.args.graph.now.plan_graph c.args.phases.now) (sym same) (all_propagated c.args.graph.now.plan_graph c.args.phases.now c.loop-u.progress.units c.loop-u.invariant.propagating none)
+    subst (ArePropagated c.args.graph.now.plan_graph c.args.phases.now) (sym same) (all_propagated c.args.graph.now.plan_graph c.args.phases.now c.loop-u.counts.failed c.loop-u.invariant.propagating none)

@@ -4,9 +4,9 @@ use Rattle.odb_sched.proofs.GraphLemmas.{graph_is, kept_is}
 use Rattle.odb_sched.proofs.graph.Graph.new.Goals as goal
 
 pub invariant_of-result : goal.invariant_of-result
-invariant_of-result c = graph_is _ (plan_graph c.args.plan.now) c.every_plan.ensures.order c.in_ok-units_of.ensures c.in_ok-members_of.ensures.len c.in_ok-needs_of.ensures c.in_ok-members_of.ensures.spans c.in_ok-dependents_of.ensures
+invariant_of-result c = graph_is _ (plan_graph c.args.plan.now) c.every_plan.ensures.order c.in_ok-units_of.ensures c.in_ok-members_of.ensures.len c.in_ok-needs_of.ensures c.in_ok-members_of.ensures.spans c.in_ok-all_dependents.ensures
 
 pub returns : goal.returns
 returns c =
-    let graph : Inside = record { units = c.in_ok-units_of.field-0; members = c.in_ok-members_of.field-0; needs = c.in_ok-needs_of.field-0; dependents = c.in_ok-dependents_of.field-0 } in
+    let graph : Inside = record { units = c.in_ok-units_of.field-0; members = c.in_ok-members_of.field-0; needs = c.in_ok-needs_of.field-0; dependents = c.in_ok-all_dependents.field-0 } in
     kept_is graph (plan_graph c.args.plan.now) c.every_plan.ensures.order c.in_ok-units_of.ensures c.in_ok-members_of.ensures.len c.in_ok-needs_of.ensures

@@ -6,6 +6,6 @@ use Rattle.odb_sched.proofs.owned.OwnedRun.of_graph.Goals as goal
 
 pub invariant_of-result : goal.invariant_of-result
 invariant_of-result c = record {
-  reached = subst (λ phases. IsReached (state_of c.args.graph.plan_graph c.args.policy phases)) (sym c.in_ok-counts.ensures.phases) (reached_first c.args.graph.plan_graph c.args.policy c.laws.ensures.order);
-  counts = subst (λ phases. IsCounted (state_of c.args.graph.plan_graph c.args.policy phases) c.in_ok-counts.counts) (sym c.in_ok-counts.ensures.phases) (c.in_ok-counts.ensures.counts c.args.policy);
+  reached = subst (λ phases. IsReached (state_of c.args.graph.plan_graph c.args.policy phases)) (sym c.in_ok-progress.ensures.phases) (reached_first c.args.graph.plan_graph c.args.policy c.laws.ensures.order);
+  counts = subst (λ phases. IsCounted (state_of c.args.graph.plan_graph c.args.policy phases) c.in_ok-progress.progress) (sym c.in_ok-progress.ensures.phases) (c.in_ok-progress.ensures.counts c.args.policy);
 }

@@ -5,7 +5,7 @@ use Rattle.odb_sched.specs.run.State.{size}
 use Rattle.odb_sched.specs.run.Steps.{may_start, IsStartCause}
 use Rattle.odb_sched.specs.invariants.Kept.{state_of, kept_state, IsReached}
 use Rattle.std.proofs.lemmas.List.{length-map}
-use Rattle.odb_sched.specs.declared.counts.Counts.{Counts}
+use Rattle.odb_sched.specs.declared.counts.Progress.{Progress}
 use Rattle.odb_sched.specs.run.State.{is_running}
 use Rattle.odb_sched.proofs.StartLemmas.{may_start-parts}
 use Rattle.odb_sched.proofs.StartedLemmas.{counted_started}
@@ -20,7 +20,7 @@ pub remove-requires : goal.remove-requires
 remove-requires c = rw c.self.invariant.counts.counts.ready.entries.ready (subst (λ state. c.args.i < size state) (sym c.self.view_is) c.requires)
 
 pub insert-requires : goal.insert-requires
-insert-requires c = rw (ap length c.self.invariant.counts.counts.running ∙ length-map c.self.inside.counts.phases.items is_running ∙ c.self.invariant.reached.each) (subst (λ state. c.args.i < size state) (sym c.self.view_is) c.requires)
+insert-requires c = rw (ap length c.self.invariant.counts.counts.running ∙ length-map c.self.inside.progress.phases.items is_running ∙ c.self.invariant.reached.each) (subst (λ state. c.args.i < size state) (sym c.self.view_is) c.requires)
 
 pub put-requires : goal.put-requires
 put-requires c = rw c.self.invariant.reached.each (subst (λ state. c.args.i < size state) (sym c.self.view_is) c.requires)
@@ -32,9 +32,9 @@ invariant_of-self c =
     let may : may_start (kept_state s) c.args.i ≡ true = subst (λ state. may_start state c.args.i ≡ true) (sym c.self.view_is) (c.start_refusal.ensures.none c.in_default.is) in
     record {
       reached = subst (λ phases. IsReached (state_of s.graph.plan_graph s.policy phases)) (sym c.put.ensures.phases) (reached_started _ c.args.i c.self.invariant.reached within may);
-      counts = counted_started s.graph.plan_graph s.policy s.counts.phases.items c.put.new.self.phases.items s.counts c.put.new.self c.args.i c.remove.new.self c.insert.new.self within
+      counts = counted_started s.graph.plan_graph s.policy s.progress.phases.items c.put.new.self.phases.items s.progress c.put.new.self c.args.i c.remove.new.self c.insert.new.self within
           (may_start-parts (kept_state s) c.args.i may).fresh c.self.invariant.counts c.remove.ensures c.insert.ensures c.put.ensures.phases
-          (ap (λ (t : Counts). t.progress) c.put.ensures.rest) (ap (λ (t : Counts). t.stopped) c.put.ensures.rest);
+          (ap (λ (t : Progress). t.counts) c.put.ensures.rest) (ap (λ (t : Progress). t.stopped) c.put.ensures.rest);
     }
 
 pub returns-clause-allowed : goal.returns-clause-allowed

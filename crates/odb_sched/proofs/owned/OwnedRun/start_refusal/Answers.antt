@@ -16,7 +16,7 @@ returns-then-is_full-clause-cause c =
     let sound : unit_failed c.args.self.now (unit_of c.args.self.now.plan_graph c.args.i) ≡ false = sym c.unit_failed.ensures ∙ c.if-unit_failed.false in
     let met : find (λ need. not (is_satisfied c.args.self.now need)) (needs_of c.args.self.now.plan_graph c.args.i) ≡ None =
     ap (λ (state : State). find (λ need. not (is_satisfied state need)) (needs_of state.plan_graph c.args.i)) (sym c.self.view_is) ∙ sym c.first_unmet.ensures ∙ c.in_default.is in
-    let counted = running_is (kept_state c.self.inside) c.self.inside.counts c.self.invariant.counts ∙ ap running_count c.self.view_is in
+    let counted = running_is (kept_state c.self.inside) c.self.inside.progress c.self.invariant.counts ∙ ap running_count c.self.view_is in
     let width : c.self.inside.policy.width ≡ c.args.self.now.policy.width = ap (λ (state : State). state.policy.width) c.self.view_is in
     let full : c.args.self.now.policy.width ≤ running_count c.args.self.now = omega (arith, ltb-false _ _ (not-true _ (sym c.is_full.ensures ∙ c.if-is_full.true))) in
     first_full c.args.self.now c.args.i fresh going sound met full
@@ -28,7 +28,7 @@ returns-clause-none c is =
     let sound : unit_failed c.args.self.now (unit_of c.args.self.now.plan_graph c.args.i) ≡ false = sym c.unit_failed.ensures ∙ c.if-unit_failed.false in
     let met : find (λ need. not (is_satisfied c.args.self.now need)) (needs_of c.args.self.now.plan_graph c.args.i) ≡ None =
     ap (λ (state : State). find (λ need. not (is_satisfied state need)) (needs_of state.plan_graph c.args.i)) (sym c.self.view_is) ∙ sym c.first_unmet.ensures ∙ c.in_default.is in
-    let counted = running_is (kept_state c.self.inside) c.self.inside.counts c.self.invariant.counts ∙ ap running_count c.self.view_is in
+    let counted = running_is (kept_state c.self.inside) c.self.inside.progress c.self.invariant.counts ∙ ap running_count c.self.view_is in
     let width : c.self.inside.policy.width ≡ c.args.self.now.policy.width = ap (λ (state : State). state.policy.width) c.self.view_is in
     let room : running_count c.args.self.now < c.args.self.now.policy.width = omega (arith, ltb-true _ _ (not-false _ (sym c.is_full.ensures ∙ c.if-is_full.false))) in
     none_bars c.args.self.now c.args.i fresh going sound met room

@@ -13,9 +13,6 @@ pub returns-clause-ok : goal.returns-clause-ok
 returns-clause-ok c = rw (← c.self.view_is)
     (on_ok_weaker c.report.result (ap (with_requests (plan_records c.self.inside.plan.now))) c.report.ensures.ok)
 
-pub returns-clause-allowed : goal.returns-clause-allowed
-returns-clause-allowed c = rw (← c.self.view_is) c.report.ensures.allowed
-
 pub returns-clause-cause : goal.returns-clause-cause
 returns-clause-cause c = rw (← c.self.view_is)
     (IfErr-weaker c.report.result _ _ (λ e. report_cause_with (plan_records c.self.inside.plan.now) c.self.inside.run c.args.i c.args.outcome e.0) c.report.ensures.cause)

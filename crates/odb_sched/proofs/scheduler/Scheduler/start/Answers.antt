@@ -31,6 +31,3 @@ returns-clause-dependencies_first c = ok_so c.start.result (λ is_ok.
     let same : c.args.self.now.plan_graph ≡ plan_graph c.self.inside.plan.now = ap (λ (s : State). s.plan_graph) (sym c.self.view_is) ∙ c.self.invariant in
     subst (λ requests. HaveSucceeded requests c.args.self.now c.args.i) (ap (λ (s : State). s.requests) c.self.view_is)
     (c.every_start.ensures.dependencies_first c.args.self.now c.args.i same ((returns-clause-allowed c).0 is_ok)))
-
-pub returns-clause-free : goal.returns-clause-free
-returns-clause-free c = rw (← c.self.view_is) c.start.ensures.free
