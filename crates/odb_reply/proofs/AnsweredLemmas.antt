@@ -19,7 +19,7 @@ use Rattle.odb_sched.specs.run.State.{State, size}
 use Rattle.odb_doc.specs.Statuses.{is_success, is_status}
 use Rattle.odb_reply.specs.Fits.{id_in, Responds, Succeeds, IsSatisfied, Fits, ListsFit}
 use Rattle.odb_reply.specs.ResponseDocuments.{Entry, IsResponse, IsResponseDocument, IsStatus, ReadsAs}
-use Rattle.odb_reply.specs.Responses.{response, responses_from, response_value}
+use Rattle.odb_reply.specs.Responses.{LabelValue, label_of, labels_of, response, responses_from, response_value, value_of}
 use Rattle.odb_check.proofs.PositionLemmas.{id_within}
 use Rattle.odb_reply.specs.Places.{IsOnce}
 use Rattle.odb_reply.proofs.OneLemmas.{entry_for, says_entry, responses_in-value}
@@ -28,21 +28,21 @@ use Rattle.odb_reply.proofs.SliceLemmas.{map_some}
 -- ---- what the responses say
 
 -- the entries of these requests, of which the first is at a position
-abbrev entries_from : State → ℕ → List Record → List Entry
-entries_from state i [] = []
-entries_from state i (request ∷ requests) = entry_for request (answer state i) ∷ entries_from state (i + 1) requests
+abbrev entries_from : (ℕ → Option Outcome) → ℕ → List Record → List Entry
+entries_from answers i [] = []
+entries_from answers i (request ∷ requests) = entry_for (label_of request) (answers i) ∷ entries_from answers (i + 1) requests
 
-says_entries : (state : State) (i : ℕ) (requests : List Record) → AllZip ReadsAs (responses_from state i requests) (entries_from state i requests)
-says_entries state i [] = tt
-says_entries state i (request ∷ requests) = (says_entry request (answer state i), says_entries state (i + 1) requests)
+says_entries : (answers : ℕ → Option Outcome) (i : ℕ) (requests : List Record) → AllZip ReadsAs (responses_from answers i (labels_of requests)) (entries_from answers i requests)
+says_entries answers i [] = tt
+says_entries answers i (request ∷ requests) = (says_entry (label_of request) (answers i), says_entries answers (i + 1) requests)
 
 -- the entry at a place is that of the request at the position
-entry_at : (state : State) (i : ℕ) (requests : List Record) (k : ℕ) → slice_get (entries_from state i requests) k ≡ option_map (λ request. entry_for request (answer state (i + k))) (slice_get requests k)
-entry_at state i [] k = refl
-entry_at state i (request ∷ requests) zero = let same : i ≡ i + 0 = omega arith in ap (λ j. Some (entry_for request (answer state j))) same
-entry_at state i (request ∷ requests) (suc k) =
+entry_at : (answers : ℕ → Option Outcome) (i : ℕ) (requests : List Record) (k : ℕ) → slice_get (entries_from answers i requests) k ≡ option_map (λ request. entry_for (label_of request) (answers (i + k))) (slice_get requests k)
+entry_at answers i [] k = refl
+entry_at answers i (request ∷ requests) zero = let same : i ≡ i + 0 = omega arith in ap (λ j. Some (entry_for (label_of request) (answers j))) same
+entry_at answers i (request ∷ requests) (suc k) =
     let same : i + 1 + k ≡ i + suc k = omega arith in
-    entry_at state (i + 1) requests k ∙ ap (λ j. option_map (λ r. entry_for r (answer state j)) (slice_get requests k)) same
+    entry_at answers (i + 1) requests k ∙ ap (λ j. option_map (λ r. entry_for (label_of r) (answers j)) (slice_get requests k)) same
 
 -- ---- whether they fit
 
@@ -56,19 +56,19 @@ answered_success (Some outcome) success = success
 
 -- all entries
 abbrev listed : State → List Entry
-listed state = entries_from state 0 state.requests
+listed state = entries_from (answer state) 0 state.requests
 
 -- the entry at a place, by its request
 record IsEntryOf (state : State) (k : ℕ) (e : Entry) : Type 0 where
   request : Record
   at_place : slice_get state.requests k ≡ Some request
-  same : entry_for request (answer state k) ≡ e
+  same : entry_for (label_of request) (answer state k) ≡ e
 
 entry_of_place : (state : State) (k : ℕ) (e : Entry) → slice_get (listed state) k ≡ Some e → IsEntryOf state k e
 entry_of_place state k e is =
-    let found = map_some (λ request. entry_for request (answer state (0 + k))) (slice_get state.requests k) e (sym (entry_at state 0 state.requests k) ∙ is) in
+    let found = map_some (λ request. entry_for (label_of request) (answer state (0 + k))) (slice_get state.requests k) e (sym (entry_at (answer state) 0 state.requests k) ∙ is) in
     let place : 0 + k ≡ k = omega arith in
-    record { request = found.0; at_place = found.1; same = ap (λ j. entry_for found.0 (answer state j)) (sym place) ∙ found.2 }
+    record { request = found.0; at_place = found.1; same = ap (λ j. entry_for (label_of found.0) (answer state j)) (sym place) ∙ found.2 }
 
 -- a response to a request shows its answer, and its group
 record ShowsAnswer (state : State) (i : ℕ) (e : Entry) : Type 0 where
@@ -95,8 +95,8 @@ id_of_place state k id is =
 place_of_id : (state : State) (i : ℕ) (id : List ℕ) → id_at state.requests i ≡ Some id → id_in (listed state) i ≡ Some id
 place_of_id state i id is =
     let found = map_some (λ (r : Record). r.id) (slice_get state.requests i) id is in
-    let entry = entry_at state 0 state.requests i in
-    ap (option_map (λ (e : Entry). e.id)) (entry ∙ ap (option_map (λ (request : Record). entry_for request (answer state (0 + i)))) found.1) ∙ ap Some found.2
+    let entry = entry_at (answer state) 0 state.requests i in
+    ap (option_map (λ (e : Entry). e.id)) (entry ∙ ap (option_map (λ (request : Record). entry_for (label_of request) (answer state (0 + i)))) found.1) ∙ ap Some found.2
 
 -- what is answered with a success succeeds
 succeeds_answered : (state : State) (r : ℕ) → IsOnce state.requests → is_answered_2xx (answer state r) ≡ true → Succeeds state.requests (listed state) r
@@ -139,7 +139,7 @@ pub ListsFit-answered : (state : State) → IsOnce state.requests → RestsOnSuc
     → ListsFit state.requests (response_value state)
 ListsFit-answered state once sound same count = record {
   listed = listed state;
-  says = rw (responses_in-value state) (says_entries state 0 state.requests);
+  says = rw (responses_in-value (labels_of state.requests) (answer state)) (says_entries (answer state) 0 state.requests);
   fits = fits_answered state once sound same count;
 }
 
@@ -156,16 +156,12 @@ response_of d entry says status = record {
   group = rw says.group (group_is_text entry.group);
 }
 
-all_responses : (state : State) (i : ℕ) (requests : List Record) → ((k : ℕ) → k < length requests → IsStatus (unsigned (status_of (answer state (i + k))))) → All IsResponse (responses_from state i requests)
-all_responses state i [] statuses = All-nil IsResponse
-all_responses state i (request ∷ requests) statuses =
-    let first : i + 0 ≡ i = omega arith in
-    let here = subst (λ (j : ℕ). IsStatus (unsigned (status_of (answer state j)))) first (statuses 0 (omega arith)) in
-    All-cons IsResponse (response request (answer state i)) (responses_from state (i + 1) requests)
-    (response_of (response request (answer state i)) (entry_for request (answer state i)) (says_entry request (answer state i)) here)
-    (all_responses state (i + 1) requests (λ k within.
-    let next : i + suc k ≡ i + 1 + k = omega arith in
-    subst (λ (j : ℕ). IsStatus (unsigned (status_of (answer state j)))) next (statuses (suc k) (omega arith))))
+all_responses : (answers : ℕ → Option Outcome) (i : ℕ) (labels : List LabelValue) → ((k : ℕ) → IsStatus (unsigned (status_of (answers k)))) → All IsResponse (responses_from answers i labels)
+all_responses answers i [] statuses = All-nil IsResponse
+all_responses answers i (label ∷ labels) statuses =
+    All-cons IsResponse (response label (answers i)) (responses_from answers (i + 1) labels)
+    (response_of (response label (answers i)) (entry_for label (answers i)) (says_entry label (answers i)) (statuses i))
+    (all_responses answers (i + 1) labels statuses)
 
 -- a status from 200 to 599 is one that a response may have
 in_range : (n : ℕ) → is_status n ≡ true → IsStatus (unsigned n)
@@ -175,8 +171,8 @@ in_range n e =
     let below : n < 600 = ltb-true n 600 high in
     (omega arith, omega arith)
 
-pub IsResponseDocument-answered : (state : State) → ((i : ℕ) → is_status (status_of (answer state i)) ≡ true) → IsResponseDocument (response_value state)
-IsResponseDocument-answered state statuses = record {
+pub IsResponseDocument-answered : (labels : List LabelValue) (answers : ℕ → Option Outcome) → ((i : ℕ) → is_status (status_of (answers i)) ≡ true) → IsResponseDocument (value_of labels answers)
+IsResponseDocument-answered labels answers statuses = record {
   array = refl;
-  each = rw (responses_in-value state) (all_responses state 0 state.requests (λ k within. in_range (status_of (answer state (0 + k))) (statuses (0 + k))));
+  each = rw (responses_in-value labels answers) (all_responses answers 0 labels (λ k. in_range (status_of (answers k)) (statuses k)));
 }

@@ -12,3 +12,4 @@ pub mod RuleLemmas
 pub mod FitLemmas
 pub mod AnsweredLemmas
 pub mod OneFaultLemmas
+mod DoneLemmas

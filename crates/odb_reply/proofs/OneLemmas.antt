@@ -8,10 +8,9 @@ use Rattle.odb_doc.specs.Members.{text_at}
 use Rattle.odb_doc.specs.batch.Records.{Record}
 use Rattle.odb_doc.specs.declared.recorded.outcome.Outcome.{Outcome}
 use Rattle.odb_check.specs.Positions.{id_at, IsId}
-use Rattle.odb_sched.specs.run.Answers.{answer, status_of}
-use Rattle.odb_sched.specs.run.State.{State}
+use Rattle.odb_sched.specs.run.Answers.{status_of}
 use Rattle.odb_doc.specs.canonical.Canonical.{headers_value, with_some}
-use Rattle.odb_reply.specs.Responses.{answer_body, answer_headers, response, responses_from, responses, response_value}
+use Rattle.odb_reply.specs.Responses.{LabelValue, label_of, labels_of, answer_body, answer_headers, response, responses_from, value_of}
 use Rattle.odb_reply.specs.Places.{IsOnce}
 use Rattle.odb_reply.specs.OnePerId.{has_id, HasOnePerId}
 use Rattle.odb_reply.specs.ResponseDocuments.{Entry, ReadsAs, responses_in}
@@ -30,29 +29,29 @@ says_members (Some group) None (Some headers) id status = record { id = refl; st
 says_members (Some group) (Some body) None id status = record { id = refl; status = refl; group = refl }
 says_members (Some group) (Some body) (Some headers) id status = record { id = refl; status = refl; group = refl }
 
--- the entry of a request with this answer
-abbrev pub entry_for : Record → Option Outcome → Entry
-entry_for request answered = record { id = request.id; group = request.group; status = status_of answered }
+-- the entry of a request with this id and group, and with this answer
+abbrev pub entry_for : LabelValue → Option Outcome → Entry
+entry_for label answered = record { id = label.id; group = label.group; status = status_of answered }
 
-pub says_entry : (request : Record) (answered : Option Outcome) → ReadsAs (response request answered) (entry_for request answered)
-says_entry request answered = says_members request.group (answer_body answered) (headers_value (answer_headers answered)) request.id (status_of answered)
+pub says_entry : (label : LabelValue) (answered : Option Outcome) → ReadsAs (response label answered) (entry_for label answered)
+says_entry label answered = says_members label.group (answer_body answered) (headers_value (answer_headers answered)) label.id (status_of answered)
 
-id_of_response : (request : Record) (answer : Option Outcome) → text_at (codes "id") (response request answer) ≡ Some request.id
-id_of_response request answer = (says_entry request answer).id
+id_of_response : (request : Record) (answer : Option Outcome) → text_at (codes "id") (response (label_of request) answer) ≡ Some request.id
+id_of_response request answer = (says_entry (label_of request) answer).id
 
-pub responses_in-value : (state : State) → responses_in (response_value state) ≡ responses state
-responses_in-value state = list_of-items_of (responses state)
+pub responses_in-value : (labels : List LabelValue) (answers : ℕ → Option Outcome) → responses_in (value_of labels answers) ≡ responses_from answers 0 labels
+responses_in-value labels answers = list_of-items_of (responses_from answers 0 labels)
 
-has_id-response : (id : List ℕ) (request : Record) (answer : Option Outcome) → has_id id (response request answer) ≡ bytes_eq id request.id
+has_id-response : (id : List ℕ) (request : Record) (answer : Option Outcome) → has_id id (response (label_of request) answer) ≡ bytes_eq id request.id
 has_id-response id request answer = ap (λ found. unwrap_or (option_map (bytes_eq id) found) false) (id_of_response request answer)
 
 -- as many responses have an id as requests
-count_by-responses : (id : List ℕ) (state : State) (i : ℕ) (requests : List Record) → count_by (has_id id) (responses_from state i requests) ≡ count_by (λ request. bytes_eq id request.id) requests
-count_by-responses id state i [] = refl
-count_by-responses id state i (request ∷ requests) =
+count_by-responses : (id : List ℕ) (answers : ℕ → Option Outcome) (i : ℕ) (requests : List Record) → count_by (has_id id) (responses_from answers i (labels_of requests)) ≡ count_by (λ request. bytes_eq id request.id) requests
+count_by-responses id answers i [] = refl
+count_by-responses id answers i (request ∷ requests) =
     let named : List ℕ → ℕ = λ other. cond (bytes_eq id other) 1 0 in
-    sum_by-cons (λ d. cond (has_id id d) 1 0) (response request (answer state i)) (responses_from state (i + 1) requests)
-    ∙ rw (has_id-response id request (answer state i), count_by-responses id state (i + 1) requests) (sym (sum_by-cons (λ (r : Record). named r.id) request requests))
+    sum_by-cons (λ d. cond (has_id id d) 1 0) (response (label_of request) (answers i)) (responses_from answers (i + 1) (labels_of requests))
+    ∙ rw (has_id-response id request (answers i), count_by-responses id answers (i + 1) requests) (sym (sum_by-cons (λ (r : Record). named r.id) request requests))
 
 unlike : (id other : List ℕ) (same : Bool) → bytes_eq id other ≡ same → id ≢ other → same ≡ false
 unlike id other true is apart = absurd (apart ((bytes_eq-Decides id other).0 is))
@@ -80,18 +79,16 @@ some_further : (found : Option (List ℕ)) (request : Record) (requests : List R
 some_further None request requests known = known
 some_further (Some id) request requests known = (suc known.0, known.1)
 
-known_from : (state : State) (i : ℕ) (requests : List Record) (k : ℕ) (d : Data) → k < length (responses_from state i requests) → get_or (responses_from state i requests) k d ≡ d
+known_from : (answers : ℕ → Option Outcome) (i : ℕ) (requests : List Record) (k : ℕ) (d : Data) → k < length (responses_from answers i (labels_of requests)) → get_or (responses_from answers i (labels_of requests)) k d ≡ d
     → IsSomeAnd (text_at (codes "id") d) (IsId requests)
-known_from state i [] k d within is = absurd (omega arith)
-known_from state i (request ∷ requests) zero d within is =
-    let named : text_at (codes "id") d ≡ Some request.id = ap (λ e. text_at (codes "id") e) (sym is) ∙ id_of_response request (answer state i) in
+known_from answers i [] k d within is = absurd (omega arith)
+known_from answers i (request ∷ requests) zero d within is =
+    let named : text_at (codes "id") d ≡ Some request.id = ap (λ e. text_at (codes "id") e) (sym is) ∙ id_of_response request (answers i) in
     rw named (0, refl)
-known_from state i (request ∷ requests) (suc k) d within is = some_further (text_at (codes "id") d) request requests (known_from state (i + 1) requests k d (omega arith) is)
+known_from answers i (request ∷ requests) (suc k) d within is = some_further (text_at (codes "id") d) request requests (known_from answers (i + 1) requests k d (omega arith) is)
 
-pub one_per_id : (state : State) → IsOnce state.requests → HasOnePerId state.requests (response_value state)
-one_per_id state once =
-    let requests = state.requests in
-    record {
-      one = λ i id is. rw (responses_in-value state, count_by-responses id state 0 requests) (count_one requests i id once is);
-      known = λ d among. let found = rw responses_in-value at among in known_from state 0 requests found.0 d found.1 found.2;
-    }
+pub one_per_id : (requests : List Record) (answers : ℕ → Option Outcome) → IsOnce requests → HasOnePerId requests (value_of (labels_of requests) answers)
+one_per_id requests answers once = record {
+  one = λ i id is. rw (responses_in-value (labels_of requests) answers, count_by-responses id answers 0 requests) (count_one requests i id once is);
+  known = λ d among. let found = rw (responses_in-value (labels_of requests) answers) at among in known_from answers 0 requests found.0 d found.1 found.2;
+}

@@ -3,11 +3,10 @@ use Rattle.std.proofs.Common.{◌≡◌, ℕ, List, ◌++◌, Option, Some, None
 use Rattle.serde_json.specs.Data.{Data, unsigned, number, string, object, put, no_members}
 use Rattle.serde_json.specs.Written.{compact_text, comma_if}
 use Rattle.serde_json.proofs.OnLiterals.{serde_json_on_literals}
-use Rattle.odb_doc.specs.batch.Records.{Record}
 use Rattle.odb_doc.specs.declared.recorded.outcome.Outcome.{Outcome}
 use Rattle.odb_sched.specs.run.Answers.{status_of}
 use Rattle.odb_doc.specs.canonical.Canonical.{with_some, headers_value}
-use Rattle.odb_reply.specs.Responses.{response, answer_body, answer_headers}
+use Rattle.odb_reply.specs.Responses.{LabelValue, response, answer_body, answer_headers}
 use Rattle.odb_doc.specs.Texts.{member_part}
 use Rattle.odb_reply.specs.Parts.{end_part}
 
@@ -25,11 +24,11 @@ members_text_of (Some group) (Some body) None id status = simp append_assoc
 members_text_of (Some group) (Some body) (Some headers) id status = simp append_assoc
 
 -- the text of a response, with the comma before it, is that of its parts
-pub response-parts : (later : Bool) (request : Record) (answer : Option Outcome)
-    → comma_if later ++ compact_text (response request answer)
-    ≡ comma_if later ++ (codes "{" ++ (member_part (codes "\"atomicityGroup\":") (option_map string request.group) ++ (member_part (codes "\"body\":") (answer_body answer) ++ (member_part (codes "\"headers\":") (headers_value (answer_headers answer)) ++ end_part request.id (status_of answer)))))
-response-parts later request answer =
-    ap (λ text. comma_if later ++ text) (members_text_of request.group (answer_body answer) (headers_value (answer_headers answer)) request.id (status_of answer))
+pub response-parts : (later : Bool) (label : LabelValue) (answer : Option Outcome)
+    → comma_if later ++ compact_text (response label answer)
+    ≡ comma_if later ++ (codes "{" ++ (member_part (codes "\"atomicityGroup\":") (option_map string label.group) ++ (member_part (codes "\"body\":") (answer_body answer) ++ (member_part (codes "\"headers\":") (headers_value (answer_headers answer)) ++ end_part label.id (status_of answer)))))
+response-parts later label answer =
+    ap (λ text. comma_if later ++ text) (members_text_of label.group (answer_body answer) (headers_value (answer_headers answer)) label.id (status_of answer))
 
 -- what five steps have appended, if the last of them succeeds, and then the rest
 pub five_parts : {E : Type 0} (result : Result (Unit {0}) E) (start first second third fourth last a b c d e f rest next : List ℕ)

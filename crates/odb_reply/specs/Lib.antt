@@ -1,6 +1,7 @@
 -- What public clauses cite: it has to be believed.
 pub mod Readable
 pub mod Responses
+pub mod Labels
 pub mod OnePerId
 pub mod NotWhole
 pub mod ResponseDocuments

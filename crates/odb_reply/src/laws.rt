@@ -3,11 +3,16 @@
 //!
 //! The laws are clauses of functions that change nothing.
 
-ghost use Rattle.std.specs.Prelude.{◌≡◌, ◌↔◌, ◌++◌, ℕ, List, Some, IsSome, codes};
+ghost use Rattle.std.specs.Prelude.{◌≡◌, ◌↔◌, ◌++◌, ℕ, true, List, Some, IsSome, codes, length};
 ghost use Rattle.std.specs.List.{AllZip};
 ghost use Rattle.serde_json.specs.Data.{Data};
 ghost use Rattle.serde_json.specs.Read.{read};
 ghost use Rattle.odb_doc.specs.batch.Records.{Record};
+ghost use Rattle.odb_check.specs.Laws.{HasPositions};
+ghost use Rattle.odb_check.specs.PlanGraph.{IsPlanGraphOf};
+ghost use Rattle.odb_sched.specs.run.Answers.{answer};
+ghost use Rattle.odb_sched.specs.run.State.{size};
+ghost use Rattle.odb_sched.specs.run.Steps.{is_finished};
 ghost use Rattle.odb_reply.specs.declared.match_fault.MatchFault.{MatchFault};
 ghost use Rattle.odb_reply.specs.declared.response_fault.ResponseFault.{ResponseFault};
 ghost use Rattle.odb_reply.specs.Fits.{Fits, IsTableOf, ListsFit};
@@ -17,9 +22,10 @@ ghost use Rattle.odb_reply.specs.ResponseDocuments.{Entry, IsResponseDocument, R
 ghost use Rattle.odb_reply.specs.ResponseDocuments as response_documents;
 ghost use Rattle.odb_reply.specs.OnePerId.{HasOnePerId};
 ghost use Rattle.odb_reply.specs.Readable.{AnswersBy, IsReadable};
-ghost use Rattle.odb_reply.specs.Responses.{response_text, response_value};
+ghost use Rattle.odb_reply.specs.Responses.{labels_of, response_text, response_value, text_of, value_of};
 
-use odb_sched::Done;
+use crate::labels::Labels;
+use odb_sched::{Done, OwnedRun};
 
 /// A response document has one first fault at most, none if it is good, and one list of responses.
 pub fn one_document()
@@ -51,11 +57,37 @@ pub fn one_match()
         → (places ≡ others) × (statuses ≡ different) }
 {}
 
-/// Each id of the batch is the id of exactly one response, and no response has another id. The
-/// responses fit the batch, as [`crate::match_responses`] checks those of a service: each has the
-/// group of its request, and none is a success if a dependency of its request is not. The response is
-/// a response document, as [`crate::Responses::read`] accepts it. If each answer can be read again,
-/// `serde_json` reads the text of the response as the response, also with a newline at its end.
+/// What is true of the response to a finished run by these ids and groups.
+///
+/// For each batch that has them: each id of the batch is the id of exactly one response, and no
+/// response has another id. The responses fit the batch, as [`crate::match_responses`] checks those of
+/// a service, if the units and dependencies of the run are those of the batch: each has the group of
+/// its request, and none is a success if a dependency of its request is not. The response is a response
+/// document, as [`crate::Responses::read`] accepts it. If each answer can be read again, `serde_json`
+/// reads the text of the response as the response, also with a newline at its end.
+pub fn every_labeled<L: Labels>(labels: &L, run: &OwnedRun)
+    requires labels { length (L.labels labels.now) ≡ size run.now }
+    requires finished { is_finished run.now ≡ true }
+    ensures one_per_id { (batch : List Record) → labels_of batch ≡ L.labels labels.now
+        → HasPositions batch → HasOnePerId batch (value_of (L.labels labels.now) (answer run.now)) }
+    ensures fits { (batch : List Record) → labels_of batch ≡ L.labels labels.now
+        → HasPositions batch → IsPlanGraphOf batch run.now.plan_graph
+        → ListsFit batch (value_of (L.labels labels.now) (answer run.now)) }
+    ensures document { IsResponseDocument (value_of (L.labels labels.now) (answer run.now)) }
+    ensures reads_back { AnswersBy IsReadable run.now
+        → read (text_of (L.labels labels.now) (answer run.now))
+        ≡ Some (value_of (L.labels labels.now) (answer run.now)) }
+    ensures line { AnswersBy IsReadable run.now
+        → read (text_of (L.labels labels.now) (answer run.now) ++ codes "\n")
+        ≡ Some (value_of (L.labels labels.now) (answer run.now)) }
+{
+    run.laws();
+    odb_doc::laws::every_value();
+    let _labels = labels;
+}
+
+/// What is true of the response to a finished run of a plan, as [`every_labeled`] states it by the ids
+/// and groups of the plan.
 pub fn every_response(done: &Done<'_>)
     ensures one_per_id { HasOnePerId done.now.requests (response_value done.now) }
     ensures fits { ListsFit done.now.requests (response_value done.now) }
@@ -65,7 +97,6 @@ pub fn every_response(done: &Done<'_>)
     ensures line { AnswersBy IsReadable done.now
         → read (response_text done.now ++ codes "\n") ≡ Some (response_value done.now) }
 {
-    done.laws();
-    odb_doc::laws::every_value();
     odb_check::laws::every_plan(done.plan());
+    every_labeled(done.plan(), done.run());
 }

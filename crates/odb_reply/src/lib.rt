@@ -10,6 +10,7 @@
 #![tactic(auto)]
 
 mod fits;
+mod labels;
 pub mod laws;
 mod match_fault;
 mod parts;
@@ -22,9 +23,10 @@ mod text;
 mod whole;
 
 pub use fits::match_responses;
+pub use labels::{Label, Labels};
 pub use match_fault::{MatchFault, MatchRule};
 pub use reply::{ReplyFault, write_responses};
 pub use response_fault::ResponseFault;
 pub use responses::{Response, Responses};
 pub use table::Table;
-pub use text::response_text;
+pub use text::{push_response_text, response_of, response_text};

@@ -1,16 +1,19 @@
 //! The text of one response.
 
-ghost use Rattle.std.specs.Prelude.{◌≡◌, ◌<◌, ◌+◌, ◌++◌, codes, length, option_map, string_bytes, OnOk};
+ghost use Rattle.std.specs.Prelude.{◌≡◌, ◌<◌, ◌+◌, ◌++◌, codes, true, length, option_map, string_bytes, OnOk};
 ghost use Rattle.serde_json.specs.View.{view};
 ghost use Rattle.odb_doc.specs.canonical.Canonical.{headers_value};
 ghost use Rattle.odb_doc.specs.Texts.{member_part};
-ghost use Rattle.odb_sched.specs.run.Answers.{shown};
+ghost use Rattle.odb_sched.specs.run.Answers.{answer, shown};
+ghost use Rattle.odb_sched.specs.run.State.{size};
+ghost use Rattle.odb_sched.specs.run.Steps.{is_finished};
 ghost use Rattle.odb_reply.specs.NotWhole.{HasWholeBodies};
 ghost use Rattle.odb_reply.specs.Parts as parts;
 ghost use Rattle.odb_reply.specs.Responses as responses;
 
+use crate::labels::Labels;
 use odb_doc::text::{push_body, push_group, push_headers, push_open, push_quoted};
-use odb_sched::{Answer, Done};
+use odb_sched::{Answer, OwnedRun};
 use serde_json::Value;
 use std::alloc::{AllocError, Global};
 use std::fmt::Write;
@@ -52,22 +55,25 @@ fn push_end(alloc: Global, text: &mut String, id: &str, status: u16) -> Result<(
 }
 
 /// Appends the response to request `i`, with a comma first unless it is the first response.
-pub(crate) fn push_response(
+pub(crate) fn push_response<L: Labels>(
     alloc: Global,
     text: &mut String,
-    done: &Done<'_>,
+    labels: &L,
+    run: &OwnedRun,
     i: u32,
 ) -> Result<(), AllocError>
-    requires request { i < length done.now.requests }
-    requires whole { HasWholeBodies done.now }
-    ensures { OnOk result (string_bytes text.old ++ parts.rest_text done.now i
-        ≡ string_bytes text.new ++ parts.rest_text done.now (i + 1)) }
+    requires labels { length (L.labels labels.now) ≡ size run.now }
+    requires finished { is_finished run.now ≡ true }
+    requires request { i < size run.now }
+    requires whole { HasWholeBodies run.now }
+    ensures { OnOk result (string_bytes text.old ++ parts.rest_text (L.labels labels.now) (answer run.now) i
+        ≡ string_bytes text.new ++ parts.rest_text (L.labels labels.now) (answer run.now) (i + 1)) }
 {
-    let request = done.plan().request(i);
-    let answer = done.answer(i);
+    let label = labels.label(i);
+    let answer = run.answer(i);
     push_open(text, i > 0)?;
-    push_group(alloc, text, request.group)?;
+    push_group(alloc, text, label.group)?;
     push_body(alloc, text, body_of(&answer))?;
     push_answer_headers(alloc, text, &answer)?;
-    push_end(alloc, text, request.id, answer.status())
+    push_end(alloc, text, label.id, answer.status())
 }

@@ -1,6 +1,6 @@
 //! Writes the response of a finished run through a buffer.
 
-ghost use Rattle.std.specs.Prelude.{◌≡◌, ◌≢◌, ◌↔◌, ◌++◌, ℕ, false, Some, string_bytes, IsErr, IsTrue, OnOk, OnErr};
+ghost use Rattle.std.specs.Prelude.{◌≡◌, ◌≢◌, ◌↔◌, ◌++◌, ℕ, true, false, Some, length, string_bytes, IsErr, IsTrue, OnOk, OnErr};
 ghost use Rattle.std.specs.Io.KnownBytes.{Appends};
 ghost use Rattle.serde_json.specs.Read.{read};
 ghost use Rattle.odb_reply.specs.declared.reply.ReplyFault.TheVariants as faults;
@@ -9,16 +9,20 @@ ghost use Rattle.odb_reply.specs.NotWhole.{HasWholeBodies, IsFirstNotWhole, repl
 ghost use Rattle.odb_reply.specs.OnePerId.{HasOnePerId};
 ghost use Rattle.odb_io.specs.Devices.{HasWritten, AppendsPrefix};
 ghost use Rattle.odb_reply.specs.Parts.{rest_text};
+ghost use Rattle.odb_sched.specs.run.Answers.{answer};
+ghost use Rattle.odb_sched.specs.run.State.{size};
+ghost use Rattle.odb_sched.specs.run.Steps.{is_finished};
 ghost use Rattle.odb_reply.specs.Readable.{HasShallowBodies};
 ghost use Rattle.odb_reply.specs.ResponseDocuments.{IsResponseDocument};
 ghost use Rattle.odb_reply.specs.Responses.{response_text, response_value};
 
+use crate::labels::Labels;
 use crate::laws::every_response;
 use crate::parts::push_response;
-use crate::whole::first_not_whole;
+use crate::whole::first_not_whole_of;
 use odb_doc::{Fault, Refusal, TextFault};
 use odb_io::{DeviceFault, Output};
-use odb_sched::Done;
+use odb_sched::{Done, OwnedRun};
 use std::alloc::{AllocError, Global};
 use std::io::Write;
 use thiserror::Error;
@@ -86,24 +90,29 @@ fn write_full<W: Write>(output: &mut Output<W>, buffer: &mut String) -> Result<(
 
 /// Appends all responses and the end of the text to the buffer, and writes it out whenever it is
 /// full.
-fn buffer_responses<W: Write>(
+fn buffer_responses<W: Write, L: Labels>(
     alloc: Global,
     output: &mut Output<W>,
     buffer: &mut String,
-    done: &Done<'_>,
+    labels: &L,
+    run: &OwnedRun,
 ) -> Result<(), ReplyFault>
     requires works { output.old.failed ≡ false }
-    requires whole { HasWholeBodies done.now }
+    requires labels { length (L.labels labels.now) ≡ size run.now }
+    requires finished { is_finished run.now ≡ true }
+    requires whole { HasWholeBodies run.now }
     ensures ok { OnOk result (HasWritten (W.contents output.old.writer)
-        (W.contents output.new.writer) (string_bytes buffer.old ++ rest_text done.now 0)
+        (W.contents output.new.writer)
+        (string_bytes buffer.old ++ rest_text (L.labels labels.now) (answer run.now) 0)
         (string_bytes buffer.new)) }
     ensures err { OnErr result (AppendsPrefix (W.contents output.old.writer)
-        (W.contents output.new.writer) (string_bytes buffer.old ++ rest_text done.now 0)) }
+        (W.contents output.new.writer)
+        (string_bytes buffer.old ++ rest_text (L.labels labels.now) (answer run.now) 0)) }
     ensures write { (result ≡ Err ReplyFault.Write) ↔ IsTrue output.new.failed }
     ensures whole { (at : ℕ) → result ≢ Err (faults.NotWhole at) }
 {
-    for i in 0..done.plan().len() {
-        push_response(alloc, buffer, done, i)?;
+    for i in 0..run.len() {
+        push_response(alloc, buffer, labels, run, i)?;
         write_full(output, buffer)?;
     }
     Ok(buffer.push_str("]}")?)
@@ -142,10 +151,10 @@ pub fn write_responses<W: Write>(
         → read (response_text done.now) ≡ Some (response_value done.now)) }
 {
     every_response(done);
-    if let Some(at) = first_not_whole(done) {
+    if let Some(at) = first_not_whole_of(done) {
         return Err(ReplyFault::NotWhole { at: at as usize });
     }
     let mut buffer = String::from_str(alloc, "{\"responses\":[")?;
-    buffer_responses(alloc, output, &mut buffer, done)?;
+    buffer_responses(alloc, output, &mut buffer, done.plan(), done.run())?;
     Ok(output.put_text(buffer.as_str())?)
 }

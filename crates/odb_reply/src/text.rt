@@ -1,8 +1,14 @@
 //! The text of the response of a finished run.
 
-ghost use Rattle.std.specs.Prelude.{◌≡◌, ◌↔◌, ℕ, Some, string_bytes, IfOk};
+ghost use Rattle.std.specs.Prelude.{◌≡◌, ◌↔◌, ◌++◌, ℕ, List, Some, true, length, string_bytes, IfOk, OnOk};
 ghost use Rattle.serde_json.specs.Read.{read};
+ghost use Rattle.odb_doc.specs.batch.Records.{Record};
 ghost use Rattle.odb_doc.specs.declared.fault.TextFault.TheVariants as faults;
+ghost use Rattle.odb_check.specs.Laws.{HasPositions};
+ghost use Rattle.odb_check.specs.PlanGraph.{IsPlanGraphOf};
+ghost use Rattle.odb_sched.specs.run.Answers.{answer};
+ghost use Rattle.odb_sched.specs.run.State.{size};
+ghost use Rattle.odb_sched.specs.run.Steps.{is_finished};
 ghost use Rattle.odb_reply.specs.Fits.{ListsFit};
 ghost use Rattle.odb_reply.specs.NotWhole.{HasWholeBodies, IsFirstNotWhole};
 ghost use Rattle.odb_reply.specs.OnePerId.{HasOnePerId};
@@ -10,43 +16,116 @@ ghost use Rattle.odb_reply.specs.Readable.{HasShallowBodies};
 ghost use Rattle.odb_reply.specs.ResponseDocuments.{IsResponseDocument};
 ghost use Rattle.odb_reply.specs.Responses as responses;
 
-use crate::laws::every_response;
+use crate::labels::Labels;
+use crate::laws::{every_labeled, every_response};
 use crate::parts::push_response;
 use crate::whole::first_not_whole;
 use odb_doc::TextFault;
-use odb_sched::Done;
+use odb_sched::{Done, OwnedRun};
 use std::alloc::{AllocError, Global};
 
 /// The capacity for each response: enough for an answer with a header and a short body.
 const RESPONSE_BYTES: usize = 128;
 
-/// Returns the text of a response whose bodies hold only whole numbers.
-fn whole_text(alloc: Global, done: &Done<'_>) -> Result<String, AllocError>
-    requires { HasWholeBodies done.now }
-    ensures { IfOk result (λ text. string_bytes text ≡ responses.response_text done.now) }
+/// Appends the text of a response whose bodies hold only whole numbers.
+fn push_whole<L: Labels>(
+    alloc: Global,
+    text: &mut String,
+    labels: &L,
+    run: &OwnedRun,
+) -> Result<(), AllocError>
+    requires labels { length (L.labels labels.now) ≡ size run.now }
+    requires finished { is_finished run.now ≡ true }
+    requires whole { HasWholeBodies run.now }
+    ensures { OnOk result (string_bytes text.new ≡ string_bytes text.old
+        ++ responses.text_of (L.labels labels.now) (answer run.now)) }
 {
-    let count = done.plan().len();
-    let mut text = String::with_capacity(alloc, RESPONSE_BYTES * (count as usize))?;
+    let count = run.len();
+    text.reserve(RESPONSE_BYTES * (count as usize))?;
     text.push_str("{\"responses\":[")?;
     for i in 0..count {
-        push_response(alloc, &mut text, done, i)?;
+        push_response(alloc, text, labels, run, i)?;
     }
-    text.push_str("]}")?;
-    Ok(text)
+    text.push_str("]}")
 }
 
-/// Returns the text of the response to a batch whose run has finished (OData JSON Format 4.01,
-/// section 19.5): compact JSON, with one response per request in the order of the requests.
+/// Appends the text that [`response_of`] returns. If the call is refused, `text` is unchanged.
 ///
-/// Allocates the text, and the text of one body or header at a time.
+/// # Errors
+///
+/// As those of [`response_of`]. If an allocation fails, `text` has received a prefix of the response.
+fn push_response_of<L: Labels>(
+    alloc: Global,
+    text: &mut String,
+    labels: &L,
+    run: &OwnedRun,
+) -> Result<(), TextFault>
+    requires labels { length (L.labels labels.now) ≡ size run.now }
+    requires finished { is_finished run.now ≡ true }
+    ensures text { OnOk result (string_bytes text.new ≡ string_bytes text.old
+        ++ responses.text_of (L.labels labels.now) (answer run.now)) }
+    ensures not_whole { (at : ℕ) → (result ≡ Err (faults.NotWhole at)) ↔ IsFirstNotWhole run.now at }
+    ensures unchanged { (at : ℕ) → result ≡ Err (faults.NotWhole at) → text.new ≡ text.old }
+    ensures reads_back { OnOk result (HasShallowBodies run.now
+        → read (responses.text_of (L.labels labels.now) (answer run.now))
+        ≡ Some (responses.value_of (L.labels labels.now) (answer run.now))) }
+{
+    every_labeled(labels, run);
+    if let Some(at) = first_not_whole(run) {
+        return Err(TextFault::NotWhole { at: at as usize });
+    }
+    Ok(push_whole(alloc, text, labels, run)?)
+}
+
+/// Returns the text of the response to a batch whose requests have these ids and groups, and whose run
+/// has finished (OData JSON Format 4.01, section 19.5): compact JSON, with one response per request in
+/// the order of the requests. It needs nothing else of the batch, so that a caller may keep a run
+/// without its document and plan.
+///
+/// There must be as many labels as requests of the run. Allocates the text, and the text of one body
+/// or header at a time. Takes O(n) for a text of n bytes.
 ///
 /// If no body of the response nests more than 124 deep, `serde_json` reads the text as the response,
-/// which [`crate::Responses::read`] accepts and whose responses fit the batch.
+/// which [`crate::Responses::read`] accepts. It fits every batch that has these labels and the units
+/// and dependencies of the run.
 ///
 /// # Errors
 ///
 /// `NotWhole` if and only if a body of the response holds a number that is not whole, with the first
 /// such request; else `OutOfMemory` if an allocation fails.
+pub fn response_of<L: Labels>(
+    alloc: Global,
+    labels: &L,
+    run: &OwnedRun,
+) -> Result<String, TextFault>
+    requires labels { length (L.labels labels.now) ≡ size run.now }
+    requires finished { is_finished run.now ≡ true }
+    ensures text { IfOk result (λ text. string_bytes text
+        ≡ responses.text_of (L.labels labels.now) (answer run.now)) }
+    ensures not_whole { (at : ℕ) → (result ≡ Err (faults.NotWhole at)) ↔ IsFirstNotWhole run.now at }
+    ensures one_per_id { (batch : List Record) → responses.labels_of batch ≡ L.labels labels.now
+        → HasPositions batch
+        → HasOnePerId batch (responses.value_of (L.labels labels.now) (answer run.now)) }
+    ensures fits { (batch : List Record) → responses.labels_of batch ≡ L.labels labels.now
+        → HasPositions batch → IsPlanGraphOf batch run.now.plan_graph
+        → ListsFit batch (responses.value_of (L.labels labels.now) (answer run.now)) }
+    ensures document { IsResponseDocument
+        (responses.value_of (L.labels labels.now) (answer run.now)) }
+    ensures reads_back { IfOk result (λ text. HasShallowBodies run.now → read (string_bytes text)
+        ≡ Some (responses.value_of (L.labels labels.now) (answer run.now))) }
+{
+    every_labeled(labels, run);
+    let mut text = String::new(alloc);
+    push_response_of(alloc, &mut text, labels, run)?;
+    Ok(text)
+}
+
+/// Returns the text of the response to a batch whose run has finished (OData JSON Format 4.01,
+/// section 19.5): that of [`response_of`] for the ids and groups of the plan.
+///
+/// # Errors
+///
+/// As those of [`response_of`].
 pub fn response_text(alloc: Global, done: &Done<'_>) -> Result<String, TextFault>
     ensures text { IfOk result (λ text. string_bytes text ≡ responses.response_text done.now) }
     ensures not_whole { (at : ℕ) → (result ≡ Err (faults.NotWhole at)) ↔ IsFirstNotWhole done.now at }
@@ -58,8 +137,26 @@ pub fn response_text(alloc: Global, done: &Done<'_>) -> Result<String, TextFault
         → read (string_bytes text) ≡ Some (responses.response_value done.now)) }
 {
     every_response(done);
-    if let Some(at) = first_not_whole(done) {
-        return Err(TextFault::NotWhole { at: at as usize });
-    }
-    Ok(whole_text(alloc, done)?)
+    response_of(alloc, done.plan(), done.run())
+}
+
+/// Appends the text of the response that [`response_text`] returns.
+///
+/// # Errors
+///
+/// As those of [`response_of`]. `text` is unchanged after `NotWhole`, and may have received a part of
+/// the response if an allocation fails.
+pub fn push_response_text(
+    alloc: Global,
+    text: &mut String,
+    done: &Done<'_>,
+) -> Result<(), TextFault>
+    ensures text { OnOk result (string_bytes text.new
+        ≡ string_bytes text.old ++ responses.response_text done.now) }
+    ensures not_whole { (at : ℕ) → (result ≡ Err (faults.NotWhole at)) ↔ IsFirstNotWhole done.now at }
+    ensures unchanged { (at : ℕ) → result ≡ Err (faults.NotWhole at) → text.new ≡ text.old }
+    ensures reads_back { OnOk result (HasShallowBodies done.now
+        → read (responses.response_text done.now) ≡ Some (responses.response_value done.now)) }
+{
+    push_response_of(alloc, text, done.plan(), done.run())
 }

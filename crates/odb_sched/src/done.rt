@@ -72,7 +72,7 @@ impl<'p> Done<'p> {
     }
 
     /// Returns the run without its plan.
-    fn run(&self) -> &OwnedRun
+    pub fn run(&self) -> &OwnedRun
         ensures state { state.with_requests self.now.requests result.now ≡ self.now }
         ensures finished { steps.is_finished result.now ≡ true }
     {

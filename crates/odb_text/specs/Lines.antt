@@ -1,6 +1,8 @@
 -- The lines that are printed.
-use Rattle.std.specs.Prelude.{ℕ, List, [], ◌∷◌, ◌++◌, codes}
+use Rattle.std.specs.Prelude.{ℕ, List, [], ◌∷◌, ◌++◌, codes, length, slice_index, unwrap_or}
 use Rattle.std.specs.Fmt.{decimal}
+use Rattle.odb_check.specs.Firsts.{joined_below}
+use Rattle.odb_check.specs.Positions.{id_at}
 use Rattle.odb_check.specs.Texts.{newline}
 use Rattle.odb_sched.specs.run.State.{State}
 use Rattle.odb_reply.specs.Responses.{response_text}
@@ -30,15 +32,17 @@ accepted_line requests groups = codes "ok " ++ decimal requests ++ codes " reque
 abbrev pub fit_line : ℕ → List ℕ
 fit_line responses = codes "ok " ++ decimal responses ++ codes " responses" ++ newline ∷ []
 
--- `ID STATUS`
-abbrev pub status_line : List ℕ → ℕ → List ℕ
-status_line id status = id ++ codes " " ++ decimal status ++ newline ∷ []
+-- the id of the request at a position
+abbrev pub id_text : List Record → ℕ → List ℕ
+id_text rs i = unwrap_or (id_at rs i) []
+
+-- `ID STATUS`, of the request at a position and its response
+abbrev pub status_line : List Record → List ℕ → ℕ → List ℕ
+status_line rs statuses i = id_text rs i ++ codes " " ++ decimal (slice_index statuses i) ++ newline ∷ []
 
 -- a line for each request, with the status of its response
 abbrev pub status_lines : List Record → List ℕ → List ℕ
-status_lines [] statuses = []
-status_lines (r ∷ rs) [] = []
-status_lines (r ∷ rs) (status ∷ statuses) = status_line r.id status ++ status_lines rs statuses
+status_lines rs statuses = joined_below (length rs) (status_line rs statuses)
 
 -- the response as a line
 abbrev pub response_line : State → List ℕ

@@ -1,17 +1,13 @@
 -- The steps of an execution, as they are printed.
-use Rattle.std.specs.Prelude.{ℕ, Bool, List, [], ◌∷◌, ◌++◌, unwrap_or, codes, if◌then◌else◌}
+use Rattle.std.specs.Prelude.{ℕ, Bool, List, [], ◌∷◌, ◌++◌, codes, if◌then◌else◌}
 use Rattle.std.specs.List.{flat_map}
 use Rattle.std.specs.Fmt.{decimal}
-use Rattle.odb_check.specs.Positions.{id_at}
 use Rattle.odb_sched.specs.declared.event.Step.{Step}
 use Rattle.odb_sched.specs.declared.event.Step.TheVariants as step
 use Rattle.odb_sched.specs.run.State.{State}
 use Rattle.odb_sched.specs.run.Answers.{reported, status_of, undone}
 use Rattle.odb_check.specs.Texts.{newline}
-
--- the id of the request at a position
-abbrev pub id_text : State → ℕ → List ℕ
-id_text state i = unwrap_or (id_at state.requests i) []
+use Rattle.odb_text.specs.Lines.{id_text}
 
 -- `report ID STATUS`
 abbrev pub report_line : List ℕ → ℕ → List ℕ
@@ -19,12 +15,12 @@ report_line id status = codes "report " ++ id ++ codes " " ++ decimal status ++ 
 
 -- `start ID`, or `report ID STATUS` with the status that was reported
 abbrev pub step_line : State → Step → List ℕ
-step_line state (step.Start i) = codes "start " ++ id_text state i ++ newline ∷ []
-step_line state (step.Report i) = report_line (id_text state i) (status_of (reported state i))
+step_line state (step.Start i) = codes "start " ++ id_text state.requests i ++ newline ∷ []
+step_line state (step.Report i) = report_line (id_text state.requests i) (status_of (reported state i))
 
 -- `undo ID`
 abbrev pub undo_line : State → ℕ → List ℕ
-undo_line state i = codes "undo " ++ id_text state i ++ newline ∷ []
+undo_line state i = codes "undo " ++ id_text state.requests i ++ newline ∷ []
 
 -- the steps in their order, and then what is undone
 abbrev pub trace_text : State → List Step → List ℕ

@@ -1,13 +1,11 @@
 //! The results of check and match, and faults, as one line of compact JSON.
 
-ghost use Rattle.std.specs.Prelude.{◌≡◌, ◌<◌, ◌+◌, ◌++◌, codes, length, slice_get, Some, IfOk, OnOk, string_bytes};
-ghost use Rattle.serde_json.specs.Data.{string};
-ghost use Rattle.serde_json.specs.Written.{compact_text};
+ghost use Rattle.std.specs.Prelude.{◌≡◌, ◌<◌, ◌++◌, length, IfOk, OnOk, string_bytes};
 ghost use Rattle.odb_check.specs.Plans.{plan_records};
 ghost use Rattle.odb_reply.specs.Fits.{statuses};
 ghost use Rattle.odb_doc.specs.Refusals.{printed};
-ghost use Rattle.odb_text.specs.Results.{fault_value, json_line, counts_value, match_value};
-ghost use Rattle.odb_text.specs.ResultParts as result_parts;
+ghost use Rattle.odb_text.specs.Results.{fault_value, json_line, counts_value, match_value, matched};
+ghost use Rattle.odb_text.specs.ResultParts.{element, string_part};
 
 use crate::lines::place_text;
 use odb_check::Plan;
@@ -18,28 +16,17 @@ use std::alloc::{AllocError, Global};
 use std::fmt::Write;
 
 /// Appends a piece, and then the JSON text of a string.
-fn push_member(alloc: Global, text: &mut String, start: &str, value: &str) -> Result<(), AllocError>
+pub(crate) fn push_string(
+    alloc: Global,
+    text: &mut String,
+    piece: &str,
+    value: &str,
+) -> Result<(), AllocError>
     ensures { OnOk result (string_bytes text.new
-        ≡ string_bytes text.old ++ (start.now ++ compact_text (string value.now))) }
+        ≡ string_bytes text.old ++ string_part piece.now value.now) }
 {
-    text.push_str(start)?;
+    text.push_str(piece)?;
     push_quoted(alloc, text, value)
-}
-
-/// Appends the members of a fault, and the end of the line.
-fn push_fault(alloc: Global, text: &mut String, refusal: Refusal) -> Result<(), AllocError>
-    ensures { OnOk result (string_bytes text.new
-        ≡ string_bytes text.old ++ result_parts.fault_part (printed refusal)) }
-{
-    push_member(alloc, text, "{\"fault\":{\"code\":", refusal.code)?;
-    push_member(alloc, text, ",\"name\":", refusal.name)?;
-    push_member(
-        alloc,
-        text,
-        ",\"place\":",
-        place_text(alloc, refusal.place)?.as_str(),
-    )?;
-    text.push_str("}}\n")
 }
 
 /// Returns a fault as a line of JSON: `{"fault":{"code":CODE,"name":NAME,"place":PLACE}}`.
@@ -50,16 +37,13 @@ fn push_fault(alloc: Global, text: &mut String, refusal: Refusal) -> Result<(), 
 pub fn fault_json(alloc: Global, refusal: Refusal) -> Result<String, AllocError>
     ensures { IfOk result (λ line. string_bytes line ≡ json_line (fault_value (printed refusal))) }
 {
+    let place = place_text(alloc, refusal.place)?;
     let mut text = String::new(alloc);
-    push_fault(alloc, &mut text, refusal)?;
+    push_string(alloc, &mut text, "{\"fault\":{\"code\":", refusal.code)?;
+    push_string(alloc, &mut text, ",\"name\":", refusal.name)?;
+    push_string(alloc, &mut text, ",\"place\":", place.as_str())?;
+    text.push_str("}}\n")?;
     Ok(text)
-}
-
-/// Returns the counts and the end of their line.
-fn counts_part(alloc: Global, requests: u32, groups: u32) -> Result<String, AllocError>
-    ensures { IfOk result (λ line. string_bytes line ≡ result_parts.counts_part requests groups) }
-{
-    format!(in alloc; "{{\"groups\":{groups},\"requests\":{requests}}}\n")
 }
 
 /// Returns the counts of a batch that the check accepts as a line of JSON: `{"groups":M,"requests":N}`.
@@ -70,22 +54,25 @@ fn counts_part(alloc: Global, requests: u32, groups: u32) -> Result<String, Allo
 pub fn counts_json(alloc: Global, requests: u32, groups: u32) -> Result<String, AllocError>
     ensures { IfOk result (λ line. string_bytes line ≡ json_line (counts_value requests groups)) }
 {
-    counts_part(alloc, requests, groups)
+    format!(in alloc; "{{\"groups\":{groups},\"requests\":{requests}}}\n")
 }
 
-/// Appends a request with its status, with a comma first if it is a later one.
+/// Appends request `i` with its status, with a comma first unless it is the first request.
 fn push_matched(
     alloc: Global,
     text: &mut String,
-    later: bool,
-    id: &str,
-    status: u16,
+    plan: &Plan<'_>,
+    table: &Table,
+    i: u32,
 ) -> Result<(), AllocError>
-    ensures { OnOk result (string_bytes text.new
-        ≡ string_bytes text.old ++ result_parts.matched_part later id.now status) }
+    requires within { i < length (plan_records plan.now) }
+    requires table { length (statuses table.now) ≡ length (plan_records plan.now) }
+    ensures { OnOk result (string_bytes text.new ≡ string_bytes text.old
+        ++ element (matched (plan_records plan.now) (statuses table.now)) i) }
 {
-    push_if(text, later, ",")?;
-    push_member(alloc, text, "{\"id\":", id)?;
+    push_if(text, i > 0, ",")?;
+    push_string(alloc, text, "{\"id\":", plan.request(i).id)?;
+    let status = table.status(i);
     write!(text, ",\"status\":{status}}}").map_err(|_| AllocError)
 }
 
@@ -104,7 +91,7 @@ pub fn match_json(alloc: Global, plan: &Plan<'_>, table: &Table) -> Result<Strin
 {
     let mut text = String::from_str(alloc, "{\"responses\":[")?;
     for i in 0..plan.len() {
-        push_matched(alloc, &mut text, i > 0, plan.request(i).id, table.status(i))?;
+        push_matched(alloc, &mut text, plan, table, i)?;
     }
     text.push_str("]}\n")?;
     Ok(text)

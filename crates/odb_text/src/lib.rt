@@ -12,12 +12,10 @@ mod lines;
 mod plan;
 mod rows;
 mod shown;
-mod statuses;
 mod trace;
 
 pub use drawing::drawing_text;
 pub use json::{counts_json, fault_json, match_json};
-pub use lines::{accepted_line, fault_line, fit_line};
+pub use lines::{accepted_line, fault_line, match_lines};
 pub use plan::plan_json;
-pub use statuses::match_lines;
 pub use trace::trace_part;

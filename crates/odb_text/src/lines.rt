@@ -1,10 +1,15 @@
 //! The lines that commands print.
 
-ghost use Rattle.std.specs.Prelude.{◌≡◌, IfOk, string_bytes};
+ghost use Rattle.std.specs.Prelude.{◌≡◌, ◌<◌, ◌++◌, length, IfOk, OnOk, string_bytes};
+ghost use Rattle.odb_check.specs.Plans.{plan_records};
+ghost use Rattle.odb_reply.specs.Fits.{statuses};
 ghost use Rattle.odb_text.specs.Lines as lines;
 
+use odb_check::Plan;
 use odb_doc::Place;
+use odb_reply::Table;
 use std::alloc::{AllocError, Global};
+use std::fmt::Write;
 
 /// Returns the text of a place.
 pub fn place_text(alloc: Global, place: Place) -> Result<String, AllocError>
@@ -36,14 +41,40 @@ pub fn fault_line(alloc: Global, code: &str, name: &str, place: Place) -> Result
 }
 
 /// Returns the line of responses that fit their batch: `ok N responses`.
+fn fit_line(alloc: Global, responses: u32) -> Result<String, AllocError>
+    ensures { IfOk result (λ line. string_bytes line ≡ lines.fit_line responses) }
+{
+    format!(in alloc; "ok {responses} responses\n")
+}
+
+/// Appends the id of a request and the status of its response as a line.
+fn push_status(text: &mut String, plan: &Plan<'_>, table: &Table, i: u32) -> Result<(), AllocError>
+    requires within { i < length (plan_records plan.now) }
+    requires table { length (statuses table.now) ≡ length (plan_records plan.now) }
+    ensures { OnOk result (string_bytes text.new
+        ≡ string_bytes text.old ++ lines.status_line (plan_records plan.now) (statuses table.now) i) }
+{
+    let id = plan.request(i).id;
+    let status = table.status(i);
+    write!(text, "{id} {status}\n").map_err(|_| AllocError)
+}
+
+/// Returns the line of responses that fit their batch, `ok N responses`, and then for each request a line
+/// `ID STATUS`, in the order of the batch. The table must be one of this plan.
 ///
 /// # Errors
 ///
 /// `AllocError` if an allocation fails.
-pub fn fit_line(alloc: Global, responses: u32) -> Result<String, AllocError>
-    ensures { IfOk result (λ line. string_bytes line ≡ lines.fit_line responses) }
+pub fn match_lines(alloc: Global, plan: &Plan<'_>, table: &Table) -> Result<String, AllocError>
+    requires { length (statuses table.now) ≡ length (plan_records plan.now) }
+    ensures { IfOk result (λ text. string_bytes text ≡ lines.fit_line (length (plan_records plan.now))
+        ++ lines.status_lines (plan_records plan.now) (statuses table.now)) }
 {
-    format!(in alloc; "ok {responses} responses\n")
+    let mut text = fit_line(alloc, plan.len())?;
+    for i in 0..plan.len() {
+        push_status(&mut text, plan, table, i)?;
+    }
+    Ok(text)
 }
 
 /// Returns the line of a batch that the check accepts: `ok N requests M groups`.

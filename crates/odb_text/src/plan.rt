@@ -6,11 +6,12 @@ ghost use Rattle.serde_json.specs.View.{items_of};
 ghost use Rattle.serde_json.specs.Written.{items_text};
 ghost use Rattle.odb_check.specs.Plans.{plan_records, plan_graph};
 ghost use Rattle.odb_check.specs.PlanGraph.{IsNeed};
-ghost use Rattle.odb_text.specs.Results.{json_line, need_values, plan_value};
-ghost use Rattle.odb_text.specs.ResultParts as result_parts;
+ghost use Rattle.odb_text.specs.Results.{json_line, need_values, plan_value, planned};
+ghost use Rattle.odb_text.specs.ResultParts.{element, group_part, id_part};
 
+use crate::json::push_string;
 use odb_check::{Need, Plan};
-use odb_doc::text::{push_if, push_quoted};
+use odb_doc::text::{push_if, push_open, push_quoted};
 use std::alloc::{AllocError, Global};
 use std::fmt::Write;
 
@@ -32,15 +33,14 @@ fn push_needs(
     text.push_str("]")
 }
 
-/// Appends the member `group`.
+/// Appends the member `group`, if there is a group.
 fn push_group(alloc: Global, text: &mut String, group: Option<&str>) -> Result<(), AllocError>
     ensures { OnOk result (string_bytes text.new ≡ string_bytes text.old
-        ++ result_parts.group_part (option_copied group.entry)) }
+        ++ group_part (option_copied group.entry)) }
 {
     match group {
         Some(name) => {
-            text.push_str("\"group\":")?;
-            push_quoted(alloc, text, name)?;
+            push_string(alloc, text, "\"group\":", name)?;
             text.push_str(",")
         }
         None => Ok(()),
@@ -49,23 +49,21 @@ fn push_group(alloc: Global, text: &mut String, group: Option<&str>) -> Result<(
 
 /// Appends the members `id` and `level`.
 fn push_id(alloc: Global, text: &mut String, id: &str, level: u32) -> Result<(), AllocError>
-    ensures { OnOk result (string_bytes text.new ≡ string_bytes text.old ++ result_parts.id_part id.now level) }
+    ensures { OnOk result (string_bytes text.new ≡ string_bytes text.old ++ id_part id.now level) }
 {
-    text.push_str("\"id\":")?;
-    push_quoted(alloc, text, id)?;
+    push_string(alloc, text, "\"id\":", id)?;
     write!(text, ",\"level\":{level},").map_err(|_| AllocError)
 }
 
 /// Appends request `i`, with a comma first unless it is the first request.
 fn push_planned(alloc: Global, text: &mut String, plan: &Plan<'_>, i: u32) -> Result<(), AllocError>
     requires { i < length (plan_records plan.now) }
-    ensures { OnOk result (string_bytes text.old ++ result_parts.planned_left (plan_records plan.now) i
-        ≡ string_bytes text.new ++ result_parts.planned_left (plan_records plan.now) (i + 1)) }
+    ensures { OnOk result (string_bytes text.new ≡ string_bytes text.old
+        ++ element (planned (plan_records plan.now)) i) }
 {
     let _count = plan.len();
     let request = plan.request(i);
-    push_if(text, i > 0, ",")?;
-    text.push_str("{")?;
+    push_open(text, i > 0)?;
     push_group(alloc, text, request.group)?;
     push_id(alloc, text, request.id, plan.level(i))?;
     text.push_str("\"needs\":[")?;

@@ -1,6 +1,6 @@
 //! The trace of a replay: its steps, and which requests have to be undone.
 
-ghost use Rattle.std.specs.Prelude.{◌≡◌, ◌<◌, All, IfOk, string_bytes};
+ghost use Rattle.std.specs.Prelude.{◌≡◌, ◌<◌, ◌++◌, All, IfOk, OnOk, string_bytes};
 ghost use Rattle.odb_sched.specs.run.Answers.{reported, status_of};
 ghost use Rattle.std.specs.List.{flat_map};
 ghost use Rattle.odb_sched.specs.run.State.{size};
@@ -10,6 +10,7 @@ ghost use Rattle.odb_text.specs.Traces as traces;
 use odb_exec::Trace;
 use odb_sched::{Done, Step};
 use std::alloc::{AllocError, Global};
+use std::fmt::Write;
 
 /// Returns the status that a request reported, or 424 if it did not report.
 fn reported_status(done: &Done<'_>, i: u32) -> u16
@@ -22,72 +23,75 @@ fn reported_status(done: &Done<'_>, i: u32) -> u16
     }
 }
 
-/// Returns the line of the report of this request.
-fn report_line(alloc: Global, id: &str, status: u16) -> Result<String, AllocError>
-    ensures { IfOk result (λ line. string_bytes line ≡ traces.report_line id.now status) }
-{
-    format!(in alloc; "report {id} {status}\n")
-}
-
-/// Returns the line of a step.
-fn step_line(alloc: Global, done: &Done<'_>, step: Step) -> Result<String, AllocError>
+/// Appends the line of a step.
+fn push_step(text: &mut String, done: &Done<'_>, step: Step) -> Result<(), AllocError>
     requires { position_in step < size done.now }
-    ensures { IfOk result (λ line. string_bytes line ≡ traces.step_line done.now step) }
+    ensures { OnOk result (string_bytes text.new ≡ string_bytes text.old ++ traces.step_line done.now step) }
 {
     let plan = done.plan();
     match step {
-        Step::Start(i) => format!(in alloc; "start {}\n", plan.request(i).id),
+        Step::Start(i) => {
+            let id = plan.request(i).id;
+            write!(text, "start {id}\n").map_err(|_| AllocError)
+        }
         Step::Report(i) => {
+            let id = plan.request(i).id;
             let status = reported_status(done, i);
-            report_line(alloc, plan.request(i).id, status)
+            write!(text, "report {id} {status}\n").map_err(|_| AllocError)
         }
     }
 }
 
-/// Returns the line of a request that has to be undone.
-fn undo_line(alloc: Global, done: &Done<'_>, i: u32) -> Result<String, AllocError>
-    requires { i < size done.now }
-    ensures { IfOk result (λ line. string_bytes line ≡ traces.undo_line done.now i) }
-{
-    format!(in alloc; "undo {}\n", done.plan().request(i).id)
-}
-
-/// Returns the lines of the steps.
-fn step_lines(alloc: Global, done: &Done<'_>, steps: &[Step]) -> Result<String, AllocError>
+/// Appends the lines of the steps.
+fn push_steps(text: &mut String, done: &Done<'_>, steps: &[Step]) -> Result<(), AllocError>
     requires { All (λ step. position_in step < size done.now) steps.now }
-    ensures { IfOk result (λ text. string_bytes text
-        ≡ flat_map (traces.step_line done.now) steps.now) }
+    ensures { OnOk result (string_bytes text.new
+        ≡ string_bytes text.old ++ flat_map (traces.step_line done.now) steps.now) }
 {
-    let mut text = String::new(alloc);
     for step in steps {
-        text.push_str(&step_line(alloc, done, *step)?)?;
+        push_step(text, done, *step)?;
     }
-    Ok(text)
+    Ok(())
 }
 
-/// Returns the lines of the requests that have to be undone.
-fn undo_lines(alloc: Global, done: &Done<'_>, positions: &[u32]) -> Result<String, AllocError>
+/// Appends the line of a request that has to be undone.
+fn push_undo(text: &mut String, done: &Done<'_>, i: u32) -> Result<(), AllocError>
+    requires { i < size done.now }
+    ensures { OnOk result (string_bytes text.new ≡ string_bytes text.old ++ traces.undo_line done.now i) }
+{
+    let id = done.plan().request(i).id;
+    write!(text, "undo {id}\n").map_err(|_| AllocError)
+}
+
+/// Appends the lines of the requests that have to be undone.
+fn push_undone(text: &mut String, done: &Done<'_>, positions: &[u32]) -> Result<(), AllocError>
     requires { All (λ i. i < size done.now) positions.now }
-    ensures { IfOk result (λ text. string_bytes text
-        ≡ flat_map (traces.undo_line done.now) positions.now) }
+    ensures { OnOk result (string_bytes text.new
+        ≡ string_bytes text.old ++ flat_map (traces.undo_line done.now) positions.now) }
 {
-    let mut text = String::new(alloc);
     for i in positions {
-        text.push_str(&undo_line(alloc, done, *i)?)?;
+        push_undo(text, done, *i)?;
     }
-    Ok(text)
+    Ok(())
 }
 
-/// Returns the steps of an execution, a line each, and a line for each request that has to be undone.
-fn trace_text(alloc: Global, trace: &Trace<'_>) -> Result<String, AllocError>
+/// Appends the trace of an execution if it is wanted.
+fn push_trace(
+    alloc: Global,
+    text: &mut String,
+    trace: &Trace<'_>,
+    traced: bool,
+) -> Result<(), AllocError>
     requires { All (λ step. position_in step < size trace.now.done) trace.now.steps.items }
-    ensures { IfOk result (λ text. string_bytes text
-        ≡ traces.trace_text trace.now.done trace.now.steps.items) }
+    ensures { OnOk result (string_bytes text.new ≡ string_bytes text.old
+        ++ traces.trace_part traced trace.now.done trace.now.steps.items) }
 {
+    if !traced {
+        return Ok(());
+    }
     let undone = trace.done.undone(alloc)?;
-    let mut text = step_lines(alloc, &trace.done, &trace.steps)?;
-    text.push_str(&undo_lines(alloc, &trace.done, &undone)?)?;
-    Ok(text)
+    push_steps(text, &trace.done, &trace.steps)?;
+    push_undone(text, &trace.done, &undone)
 }
 
 /// Returns the trace of an execution if it is wanted, and else the empty text.
@@ -103,9 +107,7 @@ pub fn trace_part(alloc: Global, trace: &Trace<'_>, traced: bool) -> Result<Stri
     ensures { IfOk result (λ text. string_bytes text
         ≡ traces.trace_part traced trace.now.done trace.now.steps.items) }
 {
-    if traced {
-        trace_text(alloc, trace)
-    } else {
-        Ok(String::new(alloc))
-    }
+    let mut text = String::new(alloc);
+    push_trace(alloc, &mut text, trace, traced)?;
+    Ok(text)
 }

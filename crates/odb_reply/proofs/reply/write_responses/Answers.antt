@@ -1,8 +1,9 @@
-use Rattle.std.proofs.Common.{refl, rules, string_bytes, subst}
+use Rattle.std.proofs.Common.{◌∙◌, refl, rules, string_bytes, subst}
 use Rattle.odb_reply.specs.Responses.{response_text}
 use Rattle.odb_reply.proofs.ReadableLemmas.{readable-from}
 use Rattle.odb_io.specs.Devices.{HasWritten, AppendsPrefix}
-use Rattle.odb_reply.proofs.RestLemmas.{response_text-begun}
+use Rattle.odb_reply.proofs.DoneLemmas.{labels_count, text_beside}
+use Rattle.odb_reply.proofs.RestLemmas.{text_of-begun}
 use Rattle.odb_io.proofs.WriteLemmas.{AppendsPrefix-none, AppendsPrefix-after, Appends-rest}
 use Rattle.odb_reply.proofs.reply.write_responses.Goals as goal
 
@@ -27,7 +28,7 @@ returns-in_err-buffer-clause-err g c =
 pub returns-in_err-buffer_responses-clause-err : goal.returns-in_err-buffer_responses-clause-err
 returns-in_err-buffer_responses-clause-err g c =
     let contents = g.W.Write.contents in
-    let begun = response_text-begun c.args.done.now (string_bytes c.in_ok-buffer.buffer) c.in_ok-buffer.ensures.ok in
+    let begun = (text_of-begun _ _ (string_bytes c.in_ok-buffer.buffer) c.in_ok-buffer.ensures.ok ∙ text_beside c.args.done.now c.run.result.now _ c.run.ensures.state c.plan.ensures.plan) in
     let part = subst (λ text. AppendsPrefix (contents c.args.output.now.writer) (contents c.buffer_responses.new.output.writer) text) begun c.in_err-buffer_responses.ensures.err in
     search (rules, part)
 
@@ -38,7 +39,7 @@ returns-in_err-put_text-clause-err g c =
     let old = contents c.args.output.now.writer in
     let mid = contents c.buffer_responses.new.output.writer in
     let last = string_bytes c.buffer_responses.new.buffer in
-    let written = subst (λ text. HasWritten old mid text last) (response_text-begun state (string_bytes c.in_ok-buffer.buffer) c.in_ok-buffer.ensures.ok) c.in_ok-buffer_responses.ensures.ok in
+    let written = subst (λ text. HasWritten old mid text last) (text_of-begun _ _ (string_bytes c.in_ok-buffer.buffer) c.in_ok-buffer.ensures.ok ∙ text_beside state c.run.result.now _ c.run.ensures.state c.plan.ensures.plan) c.in_ok-buffer_responses.ensures.ok in
     let part = AppendsPrefix-after old mid (contents c.put_text.new.self.writer) (response_text state) last written (rw c.as_str.ensures.value at c.in_err-put_text.ensures.err) in
     search (rules, part)
 
@@ -49,5 +50,8 @@ returns-clause-ok g c =
     let old = contents c.args.output.now.writer in
     let mid = contents c.buffer_responses.new.output.writer in
     let last = string_bytes c.buffer_responses.new.buffer in
-    let written = subst (λ text. HasWritten old mid text last) (response_text-begun state (string_bytes c.in_ok-buffer.buffer) c.in_ok-buffer.ensures.ok) c.in_ok-buffer_responses.ensures.ok in
+    let written = subst (λ text. HasWritten old mid text last) (text_of-begun _ _ (string_bytes c.in_ok-buffer.buffer) c.in_ok-buffer.ensures.ok ∙ text_beside state c.run.result.now _ c.run.ensures.state c.plan.ensures.plan) c.in_ok-buffer_responses.ensures.ok in
     Appends-rest old mid (contents c.put_text.new.self.writer) (response_text state) last written (rw c.as_str.ensures.value at c.in_ok-put_text.ensures.ok)
+
+pub buffer_responses-requires-clause-labels : goal.buffer_responses-requires-clause-labels
+buffer_responses-requires-clause-labels g c = labels_count c.args.done.now c.run.result.now _ c.run.ensures.state c.plan.ensures.plan c.plan.ensures.size

@@ -7,6 +7,6 @@ use Rattle.odb_reply.proofs.whole.first_not_whole.Given as goal
 
 abbrev pub invariant-loop-i : goal.invariant-loop-i
 invariant-loop-i l = record {
-  whole : (k : ℕ) → k < l.i → HasWholeBody (answer l.done k);
-  held : (k : ℕ) → k < l.i → (outcome : Outcome) → answer l.done k ≡ Some outcome → IsHeldOutcome outcome;
+  whole : (k : ℕ) → k < l.i → HasWholeBody (answer l.run k);
+  held : (k : ℕ) → k < l.i → (outcome : Outcome) → answer l.run k ≡ Some outcome → IsHeldOutcome outcome;
 }

@@ -1,17 +1,14 @@
-use Rattle.std.proofs.Common.{◌∙◌, ◌≤◌, ◌++◌, ap, length}
+use Rattle.std.proofs.Common.{◌≡◌, ◌++◌, codes, length, string_bytes, subst, arith, ℕ}
+use Rattle.odb_check.specs.Firsts.{joined_below}
 use Rattle.odb_check.specs.Plans.{plan_records}
-use Rattle.odb_text.specs.ResultParts.{planned_left}
-use Rattle.odb_text.proofs.PlanLemmas.{planned_left-first, planned_left-none}
+use Rattle.odb_text.specs.Results.{planned}
+use Rattle.odb_text.specs.ResultParts.{element}
+use Rattle.odb_text.proofs.ResultLemmas.{array_line, requests-line}
 use Rattle.odb_text.proofs.plan.plan_json.Goals as goal
-
-pub loop-i-init : goal.loop-i-init
-loop-i-init c =
-    let batch = plan_records c.args.plan.now in
-    ap (λ text. text ++ planned_left batch 0) c.in_ok-text.ensures.ok ∙ planned_left-first batch
 
 pub returns : goal.returns
 returns c =
     let batch = plan_records c.args.plan.now in
-    let past : length batch ≤ c.loop-i.i = rw c.len-i-end.ensures.count at c.loop-i-test.false in
-    let whole = rw (planned_left-none batch c.loop-i.i past) at c.loop-i.invariant in
-    c.in_ok-push_str.ensures.bytes ∙ whole
+    let all : c.loop-i.i ≡ length batch = omega (arith, c.loop-i.auto.i-end, c.loop-i-test.false, c.len-i-end.ensures.count) in
+    let text = subst (λ (n : ℕ). string_bytes c.loop-i.text ≡ codes "{\"requests\":[" ++ joined_below n (element (planned batch))) all c.loop-i.invariant in
+    array_line (length batch) (planned batch) (codes "{\"requests\":[") _ (string_bytes c.loop-i.text) _ (requests-line _) text c.in_ok-push_str.ensures.bytes
