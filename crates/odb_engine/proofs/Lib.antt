@@ -1,9 +1,8 @@
 mod ReadLemmas
+mod SourceLemmas
 pub mod EngineLemmas
 pub mod MemoryLemmas
 pub mod AnswerLemmas
-pub mod PhaseLemmas
-mod SendLemmas
 mod ReplayLemmas
 mod RunLemmas
 mod RunLawLemmas
@@ -18,7 +17,7 @@ mod MatchLawLemmas
 mod LiveLemmas
 mod IdLemmas
 mod LiveLawLemmas
-mod LineLawLemmas
+mod TaskLawLemmas
 mod ByteLemmas
 mod LineLemmas
 mod EachLineLemmas

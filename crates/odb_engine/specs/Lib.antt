@@ -9,7 +9,8 @@ pub mod ReadAgain
 pub mod Replays
 pub mod Runs
 pub mod Matches
-pub mod LineTasks
+pub mod Contents
+pub mod Tasks
 pub mod Ids
 pub mod Live
 pub mod lines
