@@ -15,7 +15,7 @@ mod MatchLemmas
 mod CanonLawLemmas
 mod MatchLawLemmas
 mod LiveLemmas
-mod IdLemmas
+mod LabelLemmas
 mod LiveLawLemmas
 mod TaskLawLemmas
 mod ByteLemmas

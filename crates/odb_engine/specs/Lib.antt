@@ -11,6 +11,9 @@ pub mod Runs
 pub mod Matches
 pub mod Contents
 pub mod Tasks
-pub mod Ids
+pub mod Labels
 pub mod Live
 pub mod lines
+-- For invariants and private clauses.
+pub mod LabelTables
+pub mod LiveRuns

@@ -10,7 +10,7 @@ ghost use Rattle.odb_sched.specs.declared.order.Order.{Order};
 ghost use Rattle.odb_sched.specs.declared.event.Event.{Event};
 ghost use Rattle.odb_sched.specs.declared.policy.Policy.{Policy};
 ghost use Rattle.odb_sched.specs.run.Runs.{event_position};
-ghost use Rattle.odb_sched.specs.run.State.{State, after, size};
+ghost use Rattle.odb_sched.specs.run.State.{after, size};
 ghost use Rattle.odb_sched.specs.run.Steps.{may_come};
 ghost use Rattle.odb_engine.specs.Cascade.{Accepts, Answers, IsOne};
 ghost use Rattle.odb_engine.specs.declared.ending.Ended.{Ended};
@@ -19,7 +19,7 @@ ghost use Rattle.odb_engine.specs.Contents.Given.{ByReader, InMemory};
 ghost use Rattle.odb_engine.specs.Inputs.{IsDocumentOf};
 ghost use Rattle.odb_engine.specs.declared.task.Task.{Task};
 ghost use Rattle.odb_engine.specs.Tasks.{OfLine, OfTask};
-ghost use Rattle.odb_engine.specs.Live.{Opens, RecordsOneMore, Shows};
+ghost use Rattle.odb_engine.specs.Live.{Live, Opens, RecordsOneMore, Shows, with_run};
 ghost use Rattle.odb_engine.specs.declared.ending.Ended.TheVariants.{Done};
 ghost use Rattle.odb_engine.specs.ReadAgain.{IsReadAgain};
 ghost use Rattle.odb_engine.specs.Replays.{Replays};
@@ -78,18 +78,18 @@ pub fn read_again()
 /// recorded events writes of the same events.
 ///
 /// `events` and `more` are documents of events, of which `more` records one event more than `events`.
-/// The relations are those of [`crate::open_run`], [`crate::text_of_run`] and [`crate::run_batch`].
+/// The relations are those of [`crate::open_run`], [`crate::LiveRun::response`] and
+/// [`crate::run_batch`].
 pub fn one_live_run()
-    ensures text { (policy : Policy) (batch events text different : List ℕ) (run : State)
-        (ended other : Ended) → Opens policy batch events run
-        → Answers (Shows run) batch ended text
+    ensures text { (policy : Policy) (batch events text different : List ℕ) (live : Live)
+        (ended other : Ended) → Opens policy batch events live → Shows live ended text
         → Answers (Runs policy (Some events)) batch other different
         → (ended ≡ other) × (text ≡ different) }
-    ensures goes_on { (policy : Policy) (batch events more : List ℕ) (run : State) (event : Event)
-        → Opens policy batch events run
+    ensures goes_on { (policy : Policy) (batch events more : List ℕ) (live : Live) (event : Event)
+        → Opens policy batch events live
         → Accepts batch (λ requests. RecordsOneMore requests events more event)
-        → event_position event < size run → may_come run event ≡ true
-        → Opens policy batch more (after run event) }
+        → event_position event < size live.run → may_come live.run event ≡ true
+        → Opens policy batch more (with_run live (after live.run event)) }
 {
     odb_doc::laws::one_batch();
     odb_doc::laws::one_fault();
