@@ -160,7 +160,7 @@ uint32_t odb_replay_as(const uint8_t *batch, size_t batch_size, const uint8_t *o
  *              and is not closed; nothing checks that.
  *   Threads    One thread at a time may be in the calls on one handle, on any thread; runs of their own need
  *              no lock.
- *   Memory     A handle owns a copy of the batch document, its ids and all outcomes that were reported. No call
+ *   Memory     A handle owns a copy of the ids and groups of the batch, and all outcomes that were reported. No call
  *              keeps what it was passed.
  *   NULL       `run`, `count` and `position` must not be NULL. `positions` and `id` may be, which are a buffer
  *              and an id of size 0.
@@ -198,6 +198,10 @@ uint32_t odb_run_undone(odb_live_run *run, uint32_t *positions, size_t positions
  * `*position` is as it was. A handle as above. Takes O(log n) comparisons of ids, and allocates nothing. */
 uint32_t odb_run_position(odb_live_run *run, const uint8_t *id, size_t id_size, uint32_t *position);
 
+/* Writes the ids of the requests, one a line, in the order of their positions. Returns ODB_DONE, ODB_OUT_OF_MEMORY or
+ * ODB_SMALL_BUFFER. A handle as above. Takes O(n) time for ids of n bytes. */
+uint32_t odb_run_ids(odb_live_run *run, uint8_t *text, size_t text_size, size_t *text_length);
+
 /* Starts a request. Returns ODB_DONE; or, with the run as it was, ODB_WRONG_OPTION if there is no such position,
  * or the cause, from ODB_ALREADY_STARTED to ODB_WIDTH_REACHED. A handle as above. Takes O(dependencies of the
  * request) time, and allocates nothing. */
@@ -218,8 +222,8 @@ uint32_t odb_run_report(odb_live_run *run, uint32_t position, uint32_t status,
 uint32_t odb_run_finished(odb_live_run *run);
 
 /* Writes what `odb_run` writes of the batch and the events so far: the response and a newline, or the line of F66
- * if the run is not finished. Returns what `odb_check` does. A handle as above, whose run stays as it is. The
- * document is read again: takes O(n log n) time for n bytes of document and text. */
+ * if the run is not finished. Returns what `odb_check` does. A handle as above, whose run stays as it is. Takes O(n)
+ * time for a text of n bytes: nothing is read again. */
 uint32_t odb_run_response(odb_live_run *run, uint8_t *text, size_t text_size, size_t *text_length);
 
 /* Frees a run. Neither the handle nor a copy of it may be passed to a call any more. */
@@ -362,6 +366,12 @@ static inline uint32_t odb_inline_run_position(odb_live_run *run, ODB_INLINE_IN(
     return odb_run_position(run, ODB_INLINE_SLICE(id), position);
 }
 
+static inline uint32_t odb_inline_run_ids(odb_live_run *run, ODB_INLINE_TEXT)
+{
+    uint8_t none = 0;
+    return odb_run_ids(run, ODB_INLINE_SLICE(text), text_length);
+}
+
 static inline uint32_t odb_inline_run_report(odb_live_run *run, uint32_t position, uint32_t status,
                                              ODB_INLINE_IN(headers), ODB_INLINE_IN(body))
 {
@@ -392,6 +402,7 @@ static inline uint32_t odb_inline_run_response(odb_live_run *run, ODB_INLINE_TEX
 #define odb_run_running odb_inline_run_running
 #define odb_run_undone odb_inline_run_undone
 #define odb_run_position odb_inline_run_position
+#define odb_run_ids odb_inline_run_ids
 #define odb_run_report odb_inline_run_report
 #define odb_run_response odb_inline_run_response
 

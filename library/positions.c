@@ -1,4 +1,4 @@
-/* Tries the look-ups of positions by ids in a live run, and without memory.
+/* Tries the ids of a live run and the look-ups of positions by them, and without memory.
  *
  * The last line that it prints is `N tries, M wrong`; a wrong one is shown before it. Ids are blocks of just
  * their size, so that valgrind and the sanitizers see what goes beyond. */
@@ -46,6 +46,26 @@ static int is_at(odb_live_run *run, const char *id, size_t size, uint32_t wanted
     return right && status == (wanted == UNSET ? ODB_WRONG_OPTION : ODB_DONE);
 }
 
+/* Asks for all ids with buffers of each length, and without memory. */
+static void try_lines(odb_live_run *run, const char *wanted)
+{
+    size_t length = UNSET;
+    for (size_t size = 0; size <= strlen(wanted) + 3; size++) {
+        uint8_t *text = malloc(size);
+        if (text == NULL && size > 0)
+            exit(70);
+        uint32_t status = odb_run_ids(run, text, size, &length);
+        int fits = size >= strlen(wanted);
+        count("ids into a buffer of size", (long)size, length == strlen(wanted) && status == (fits ? ODB_DONE : ODB_SMALL_BUFFER)
+              && (!fits || memcmp(text, wanted, strlen(wanted)) == 0));
+        free(text);
+    }
+    count("ids into no buffer", 0, odb_run_ids(run, NULL, 0, &length) == ODB_SMALL_BUFFER && length == strlen(wanted));
+    refuse_after(0, 1);
+    uint32_t status = odb_run_ids(run, NULL, 0, &length);
+    count("ids without memory", 0, allow_all() && status == ODB_OUT_OF_MEMORY && length == 0);
+}
+
 static void try_ids(odb_live_run *run)
 {
     static const struct { const char *id; size_t size; uint32_t position; } ids[] = {
@@ -63,6 +83,7 @@ static void try_states(void)
 {
     odb_live_run run = opened(BATCH);
     try_ids(&run);
+    try_lines(&run, "b\na\nAbc\n1\n");
     for (uint32_t at = 0; at < 4; at++) {
         count("a start", at, odb_run_start(&run, at) == ODB_DONE);
         try_ids(&run);
@@ -100,6 +121,8 @@ int main(void)
     try_states();
     odb_live_run run = opened("{\"requests\":[]}");
     count("an id of none", 0, is_at(&run, "a", 1, UNSET));
+    size_t length = UNSET;
+    count("ids of none", 0, odb_run_ids(&run, NULL, 0, &length) == ODB_DONE && length == 0);
     odb_run_close(run);
     try_many();
     return ended();

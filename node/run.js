@@ -3,7 +3,7 @@
 // Live runs. index.d.ts says what each call takes and returns.
 
 const addon = require('./odb_batch.node')
-const { OF_RUN, numbersOf, optionsOf, plan, run } = require('./commands.js')
+const { OF_RUN, numbersOf, optionsOf, run } = require('./commands.js')
 const { arrayOf, bytesOf, eventsOf, headersOf, jsonOf } = require('./documents.js')
 const { DONE, Fault, REFUSED, Refused, errorOf, settle } = require('./faults.js')
 
@@ -49,7 +49,7 @@ function faultOf(headers, body) {
 
 class Run {
   #run
-  #plan
+  #ids
   #positions
   #listed
   #size
@@ -58,15 +58,18 @@ class Run {
     const { mode, width, events = [] } = optionsOf(options, OF_LIVE)
     const [modeNumber, widthNumber] = numbersOf({ mode, width })
     const [given, happened] = [bytesOf(batch), eventsOf(events)]
-    this.#plan = plan(given)
-    this.#positions = new Map(this.#plan.map(({ id, position }) => [id, position]))
-    // Room for all positions, so that a list of some always fits.
-    this.#listed = new Uint32Array(Math.max(this.#plan.length, 1))
     // How many bytes the response is made of.
     this.#size = given.length + happened.length
     const [status, text, opened] = addon.open(given, happened, modeNumber, widthNumber)
     settle('open', status, text)
     this.#run = opened
+    const [listed, lines] = addon.ids(opened, given.length >> 3)
+    settle('ids', listed, lines)
+    // The ids of the requests by their positions, and the positions by the ids.
+    this.#ids = lines.toString('latin1').split('\n').slice(0, -1)
+    this.#positions = new Map(this.#ids.map((id, position) => [id, position]))
+    // Room for all positions, so that a list of some always fits.
+    this.#listed = new Uint32Array(Math.max(this.#ids.length, 1))
   }
 
   /** The run, or an error if it is closed. */
@@ -92,7 +95,7 @@ class Run {
 
   /** The ids of the requests at positions. */
   #idsOf(positions) {
-    return Array.from(positions, (position) => this.#plan[position].id)
+    return Array.from(positions, (position) => this.#ids[position])
   }
 
   /** The ids of the requests that a call lists, in the order of the batch. */

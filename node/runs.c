@@ -4,7 +4,7 @@
  *   open(batch, events, mode, width) -> [status, text, run]
  *   ready(run, positions), running(run, positions), undone(run, positions) -> [status, count]
  *   start(run, position), report(run, position, status, headers, body), finished(run) -> status
- *   response(run, size) -> [status, text]
+ *   ids(run, size), response(run, size) -> [status, text]
  *   close(run)
  *
  * Documents are Uint8Arrays, `positions` is a Uint32Array with room for all positions, and `size` a guess of
@@ -245,20 +245,37 @@ static napi_value finished(napi_env env, napi_callback_info info)
     return number_of(env, odb_run_finished(&live->run));
 }
 
+/* Writes the ids: a writer. */
+static uint32_t list_ids(void *live, struct bytes text, size_t *length)
+{
+    return odb_run_ids(&((struct live *)live)->run, text.at, text.size, length);
+}
+
 /* Writes the response: a writer. */
 static uint32_t respond(void *live, struct bytes text, size_t *length)
 {
     return odb_run_response(&((struct live *)live)->run, text.at, text.size, length);
 }
 
-static napi_value response(napi_env env, napi_callback_info info)
+/* Has a writer write of a run. */
+static napi_value text_of(napi_env env, napi_callback_info info, writer *write)
 {
     struct live *live;
     uint32_t size;
     napi_value it[2];
     if (!read_arguments(env, info, it, 2) || !read_live(env, it[0], &live) || !read_number(env, it[1], &size))
         return wrong_arguments(env);
-    return written(env, respond, live, (size_t)size + 1);
+    return written(env, write, live, (size_t)size + 1);
+}
+
+static napi_value ids(napi_env env, napi_callback_info info)
+{
+    return text_of(env, info, list_ids);
+}
+
+static napi_value response(napi_env env, napi_callback_info info)
+{
+    return text_of(env, info, respond);
 }
 
 static napi_value close_run(napi_env env, napi_callback_info info)
@@ -279,7 +296,8 @@ napi_status export_runs(napi_env env, napi_value exports)
     } calls[] = {
         {"open", open_run},     {"ready", ready},       {"running", running},
         {"start", start},       {"report", report},     {"finished", finished},
-        {"undone", undone},     {"response", response}, {"close", close_run},
+        {"undone", undone},     {"ids", ids},           {"response", response},
+        {"close", close_run},
     };
     for (size_t i = 0; i < sizeof calls / sizeof *calls; i++) {
         napi_property_descriptor it = {calls[i].name, NULL, calls[i].call, NULL, NULL, NULL, napi_enumerable, NULL};

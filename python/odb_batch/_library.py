@@ -46,6 +46,7 @@ _PARAMETERS: Dict[str, List[Any]] = {
     "odb_run_ready": [*_RUN, *_POSITIONS],
     "odb_run_running": [*_RUN, *_POSITIONS],
     "odb_run_undone": [*_RUN, *_POSITIONS],
+    "odb_run_ids": [*_RUN, *_TEXT],
     "odb_run_start": [*_RUN, *_NUMBER],
     "odb_run_report": [*_RUN, *_NUMBER * 2, *_BYTES, *_BYTES],
     "odb_run_finished": [*_RUN],

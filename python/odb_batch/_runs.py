@@ -7,7 +7,7 @@ from types import TracebackType
 from typing import Any, List, Mapping, NoReturn, Optional, SupportsIndex, Tuple, Type
 
 from . import _library
-from ._commands import MAX_WIDTH, Mode, answer, failure_of, plan, policy
+from ._commands import MAX_WIDTH, Mode, answer, failure_of, policy
 from ._documents import Document, Events, bytes_of, events_of, json_of
 from ._faults import Fault, Refused
 
@@ -64,15 +64,12 @@ class Run:
         MemoryError: An allocation failed.
     """
 
-    __slots__ = ("_lock", "_handle", "_release", "_plan", "_listed", "_size", "__weakref__")
+    __slots__ = ("_lock", "_handle", "_release", "_ids", "_at", "_listed", "_size", "__weakref__")
 
     def __init__(
         self, batch: Document, *, mode: Mode = "continue", width: int = MAX_WIDTH, events: Events = ()
     ) -> None:
         options, given, happened = policy(mode, width), bytes_of(batch), events_of(events)
-        self._plan = plan(given)
-        # Room for all positions, so that a list of some always fits.
-        self._listed = (ctypes.c_uint32 * max(len(self._plan), 1))()
         # How many bytes the response is made of.
         self._size = len(given) + len(happened)
         self._lock = threading.Lock()
@@ -81,6 +78,12 @@ class Run:
         self._release = weakref.finalize(self, _library.close_run, self._handle)
         # A thread may still be in a call when the process ends, and then all memory goes.
         self._release.atexit = False
+        ids = answer("odb_run_ids", options=(ctypes.byref(self._handle),), more=len(given) // 8)
+        # The ids of the requests by their positions, and the positions by the ids.
+        self._ids = ids.decode().splitlines()
+        self._at = {id: position for position, id in enumerate(self._ids)}
+        # Room for all positions, so that a list of some always fits.
+        self._listed = (ctypes.c_uint32 * max(len(self._ids), 1))()
 
     def __reduce_ex__(self, protocol: SupportsIndex) -> NoReturn:
         # A copy would share the handle, and one of the two would free it under the other.
@@ -91,7 +94,7 @@ class Run:
         if release is None:
             return "<Run: not open>"
         with self._lock:
-            return f"<Run of {len(self._plan)} requests: {self._state() if release.alive else 'closed'}>"
+            return f"<Run of {len(self._ids)} requests: {self._state() if release.alive else 'closed'}>"
 
     def __enter__(self) -> "Run":
         with self._lock:
@@ -131,7 +134,7 @@ class Run:
         if status == _library.REFUSED:
             raise Fault("F66", "Unfinished", "events")
         _settle("odb_run_undone", status, "")
-        return tuple(self._plan[position].id for position in positions)
+        return tuple(self._ids[position] for position in positions)
 
     @property
     def finished(self) -> bool:
@@ -147,7 +150,7 @@ class Run:
             KeyError: No request of the batch has this id.
             ValueError: The run is closed.
         """
-        position = self._plan.request(id).position
+        position = self._at[id]
         with self._lock:
             status = self._call("odb_run_start", position)
         _settle("odb_run_start", status, id)
@@ -173,7 +176,7 @@ class Run:
         """
         if isinstance(status, bool) or not isinstance(status, int):
             raise TypeError(f"a status is a whole number, not {status!r}")
-        position = self._plan.request(id).position
+        position = self._at[id]
         heads = b"" if headers is None else json_of(dict(headers))
         text = _body(body)
         number = min(max(status, 0), _MOST)
@@ -232,7 +235,7 @@ class Run:
         """The ids of the requests that a function lists, in the order of the batch."""
         status, positions = self._positions(name)
         _settle(name, status, "")
-        return tuple(self._plan[position].id for position in sorted(positions))
+        return tuple(self._ids[position] for position in sorted(positions))
 
 
 def _settle(name: str, status: int, id: str) -> None:

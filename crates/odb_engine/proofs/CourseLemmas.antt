@@ -52,9 +52,3 @@ pub replays_value_one : (order : Order) → ((recorded : List (Option Outcome)) 
 replays_value_one order courses law policy traced batch =
     reading_one outcome_faults.outcome_row RefusesOutcomes IsOutcomesDocument AreOutcomesOf law (ReplaysEntries (AllowsOrder order) policy traced batch)
     (λ entries. one_replay order policy traced batch entries (courses (recorded_for batch entries) (first_state batch policy)))
-
--- a batch and the reader of outcomes have one text
-pub replays_one : (order : Order) → ((recorded : List (Option Outcome)) (first : State) → HasOrder order recorded first) → AreOneRecord
-    → (policy : Policy) (traced : Bool) (outcomes : List ℕ) (batch : List Record) → IsOne (Replays (AllowsOrder order) policy traced (Some outcomes) batch)
-replays_one order courses law policy traced outcomes batch = some_document_one outcomes (ReplaysBatch (AllowsOrder order) policy traced batch) (λ bytes.
-    document_one places.Outcomes (ReplaysValue (AllowsOrder order) policy traced batch) bytes (replays_value_one order courses law policy traced batch))

@@ -1,9 +1,8 @@
 mod ReadLemmas
+mod SourceLemmas
 pub mod EngineLemmas
 pub mod MemoryLemmas
 pub mod AnswerLemmas
-pub mod PhaseLemmas
-mod SendLemmas
 mod ReplayLemmas
 mod RunLemmas
 mod RunLawLemmas
@@ -16,9 +15,9 @@ mod MatchLemmas
 mod CanonLawLemmas
 mod MatchLawLemmas
 mod LiveLemmas
-mod IdLemmas
+mod LabelLemmas
 mod LiveLawLemmas
-mod LineLawLemmas
+mod TaskLawLemmas
 mod ByteLemmas
 mod LineLemmas
 mod EachLineLemmas

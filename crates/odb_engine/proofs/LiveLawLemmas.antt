@@ -21,15 +21,18 @@ use Rattle.odb_sched.specs.declared.event.Event.TheVariants as event
 use Rattle.odb_sched.specs.declared.policy.Policy.{Policy}
 use Rattle.odb_sched.specs.run.Resolving.{IsResolved}
 use Rattle.odb_sched.specs.run.Runs.{IsRunFrom, event_position}
-use Rattle.odb_sched.specs.run.State.{State, after, first_state, size, with_requests, without_requests}
+use Rattle.odb_sched.specs.run.State.{State, after, first_state, size, without_requests}
+use Rattle.odb_sched.specs.run.Answers.{answer}
 use Rattle.odb_sched.specs.run.Steps.{is_finished, may_come}
+use Rattle.odb_check.specs.Texts.{newline}
 use Rattle.odb_reply.specs.NotWhole.{HasWholeBodies}
+use Rattle.odb_reply.specs.Responses.{labels_of, text_of}
 use Rattle.odb_engine.specs.declared.ending.Ended.{Ended}
 use Rattle.odb_engine.specs.declared.ending.Ended.TheVariants.{Done}
 use Rattle.odb_doc.specs.Refusals.{Printed}
 use Rattle.odb_engine.specs.Cascade.{Accepts, Answers}
 use Rattle.odb_text.specs.Lines.{response_line}
-use Rattle.odb_engine.specs.Live.{IsAfter, IsLeastOfState, Opens, RecordsOneMore, Shows, ShowsState}
+use Rattle.odb_engine.specs.Live.{IsAfter, IsLeastOfState, IsOpened, Live, Opens, RecordsOneMore, Shows, with_run}
 use Rattle.odb_engine.specs.Live.IsLeastOfState.{OfBody, OfEnd as AtEnd}
 use Rattle.odb_engine.specs.Runs.{AreEventsIn, AreResolved, IsHistoryOf, IsLeastOfRun, Runs, RunsBatch, RunsEvents, RunsValue, end_of}
 use Rattle.odb_engine.specs.Runs.IsLeastOfRun.{OfIds, OfEvent, OfEnd}
@@ -89,49 +92,48 @@ module _ (causes : HaveOneCause) (policy : Policy) (batch : List Record) (good :
   finished-one finished ended text (inr y) =
       (sym y.ends, ap (λ (l : List Event). response_line (end_of policy batch l)) (same-events causes policy batch good ns es y.events resolved y.resolved) ∙ sym y.result)
 
-  pub live-one : (a b : Ended) (s t : List ℕ) → ShowsState last a s → RunsEvents policy batch ns b t → (a ≡ b) × (s ≡ t)
+  -- the live run after the events
+  abbrev pub lived : Live
+  lived = record { labels = labels_of batch; run = without_requests last }
+
+  pub live-one : (a b : Ended) (s t : List ℕ) → Shows lived a s → RunsEvents policy batch ns b t → (a ≡ b) × (s ≡ t)
   live-one a b s t (inl x) y = at x.is
     where
-      at : IsLeastOfState last x.refusal → (a ≡ b) × (s ≡ t)
+      at : IsLeastOfState lived.run x.refusal → (a ≡ b) × (s ≡ t)
       at (AtEnd goes is) = one-run causes policy batch good ns a b s t (inl (record { refusal = x.refusal; is = OfEnd es resolved run goes is; ends = x.ends; line = x.line })) y
       at (OfBody i finished body row) = absurd (body.holds (whole i body.within))
   live-one a b s t (inr (finished, (ends, is))) y =
       let same = finished-one finished b t y in
-      (ends ∙ same.0, is ∙ same.1)
+      let lines = ap (λ (rs : List Record). text_of (labels_of rs) (answer last) ++ newline ∷ []) (sym (requests-after_all first es)) in
+      (ends ∙ same.0, is ∙ lines ∙ same.1)
 
 -- ---- from bytes
 
--- the state that knows its requests again
-with-requests : (batch : List Record) (policy : Policy) (es : List Event) → with_requests batch (without_requests (end_of policy batch es)) ≡ end_of policy batch es
-with-requests batch policy es = ap (λ rs. with_requests rs (end_of policy batch es)) (sym (requests-after_all (first_state batch policy) es))
-
 module _ (law : AreFunctional) (causes : HaveOneCause) (history : AreOneHistory) (policy : Policy) where
-  after-one : (batch : List Record) → HasGoodNames batch → (events : List ℕ) (run : State) → IsAfter policy batch events run → (a b : Ended) (s t : List ℕ) → ShowsState (with_requests batch run) a s
+  after-one : (batch : List Record) → HasGoodNames batch → (events : List ℕ) (live : Live) → IsOpened policy batch events live → (a b : Ended) (s t : List ℕ) → Shows live a s
       → RunsBatch policy batch events b t → (a ≡ b) × (s ≡ t)
-  after-one batch good events run is a b s t shows (inl x) = absurd (refused_no_value places.Events events x.refusal _ x.is is.named_in)
-  after-one batch good events run is a b s t shows (inr has) = at has.holds
+  after-one batch good events live opened a b s t shows (inl x) = absurd (refused_no_value places.Events events x.refusal _ x.is opened.after.named_in)
+  after-one batch good events live opened a b s t shows (inr has) = at has.holds
     where
       at : RunsValue policy batch has.value b t → (a ≡ b) × (s ≡ t)
       at (inl x) =
-          let same = one_value events is.named_in.value has.value is.named_in.document has.document in
-          absurd (second.least_not event_faults.event_row RefusesEvents IsEventsDocument AreEventsOf history has.value is.named x.refusal x.is (subst (λ v. IsHistoryOf v is.named) same is.named_in.holds))
+          let same = one_value events opened.after.named_in.value has.value opened.after.named_in.document has.document in
+          absurd (second.least_not event_faults.event_row RefusesEvents IsEventsDocument AreEventsOf history has.value opened.after.named x.refusal x.is (subst (λ v. IsHistoryOf v opened.after.named) same opened.after.named_in.holds))
       at (inr (ns, lists, writes)) =
           let in_document : AreEventsIn events ns = record { value = has.value; document = has.document; holds = lists } in
-          let same = second.one_reading event_faults.event_row RefusesEvents IsEventsDocument AreEventsOf history events ns is.named in_document is.named_in in
-          let sound = well-formed (elements is.named_in.value) is.named is.named_in.holds.0.1 is.named_in.holds.1 in
-          live-one causes policy batch good is.named is.events is.resolved is.may_come (whole-bodies policy batch is.named is.events is.resolved sound) a b s t
-          (subst (λ (x : State). ShowsState x a s) (ap (with_requests batch) is.state ∙ with-requests batch policy is.events) shows)
+          let same = second.one_reading event_faults.event_row RefusesEvents IsEventsDocument AreEventsOf history events ns opened.after.named in_document opened.after.named_in in
+          let sound = well-formed (elements opened.after.named_in.value) opened.after.named opened.after.named_in.holds.0.1 opened.after.named_in.holds.1 in
+          live-one causes policy batch good opened.after.named opened.after.events opened.after.resolved opened.after.may_come (whole-bodies policy batch opened.after.named opened.after.events opened.after.resolved sound) a b s t
+          (subst (λ (x : Live). Shows x a s) (λ k. record { labels = opened.labels k; run = opened.after.state k }) shows)
           (subst (λ xs. RunsEvents policy batch xs b t) same writes)
 
-  pub live-text : (batch events : List ℕ) (run : State) (a b : Ended) (s t : List ℕ) → Opens policy batch events run → Answers (Shows run) batch a s → Answers (Runs policy (Some events)) batch b t → (a ≡ b) × (s ≡ t)
-  live-text batch events run a b s t opens live recorded =
-      let x = answers_accepted law (Shows run) _ batch a s opens live in
-      let y = answers_accepted law (Runs policy (Some events)) _ batch b t opens recorded in
+  pub live-text : (batch events : List ℕ) (live : Live) (a b : Ended) (s t : List ℕ) → Opens policy batch events live → Shows live a s → Answers (Runs policy (Some events)) batch b t → (a ≡ b) × (s ≡ t)
+  live-text batch events live a b s t opens shows recorded =
+      let x = answers_accepted law (Runs policy (Some events)) _ batch b t opens recorded in
       let is = opens.holds.holds.1 in
-      let shown = subst (λ rs. Shows run rs a s) (same_batch law batch _ _ x opens) x.holds.holds.1 in
-      let (document, gives, writes) = subst (λ rs. Runs policy (Some events) rs b t) (same_batch law batch _ _ y opens) y.holds.holds.1 in
-      let whole = one_document events document events gives (whole-document events _ is.named_in) in
-      after-one opens.holds.batch opens.holds.holds.0 events run is a b s t shown (subst (λ bytes. RunsBatch policy opens.holds.batch bytes b t) whole writes)
+      let (document, gives, writes) = subst (λ rs. Runs policy (Some events) rs b t) (same_batch law batch _ _ x opens) x.holds.holds.1 in
+      let whole = one_document events document events gives (whole-document events _ is.after.named_in) in
+      after-one opens.holds.batch opens.holds.holds.0 events live is a b s t shows (subst (λ bytes. RunsBatch policy opens.holds.batch bytes b t) whole writes)
 
 -- ---- one event more
 
@@ -160,10 +162,11 @@ module _ (law : AreFunctional) (history : AreOneHistory) (policy : Policy) where
         state = ap (λ (x : State). after x e) is.state ∙ after-without last e ∙ ap without_requests (sym (after_all-push (first_state batch policy) is.events e));
       }
 
-  pub live-next : (batch events more : List ℕ) (run : State) (e : Event) → Opens policy batch events run → Accepts batch (λ rs. RecordsOneMore rs events more e) → event_position e < size run → may_come run e ≡ true
-      → Opens policy batch more (after run e)
-  live-next batch events more run e opens next within may =
+  pub live-next : (batch events more : List ℕ) (live : Live) (e : Event) → Opens policy batch events live → Accepts batch (λ rs. RecordsOneMore rs events more e) → event_position e < size live.run → may_come live.run e ≡ true
+      → Opens policy batch more (with_run live (after live.run e))
+  live-next batch events more live e opens next within may =
       let batched = opens.holds in
+      let is = batched.holds.1 in
       record {
         value = opens.value;
         document = opens.document;
@@ -171,6 +174,6 @@ module _ (law : AreFunctional) (history : AreOneHistory) (policy : Policy) where
           batch = batched.batch;
           plan_graph = batched.plan_graph;
           is_batch = batched.is_batch;
-          holds = (batched.holds.0, after-next batched.batch events more run e batched.holds.1 (subst (λ rs. RecordsOneMore rs events more e) (same_batch law batch _ _ next opens) next.holds.holds.1) within may);
+          holds = (batched.holds.0, record { labels = is.labels; after = after-next batched.batch events more live.run e is.after (subst (λ rs. RecordsOneMore rs events more e) (same_batch law batch _ _ next opens) next.holds.holds.1) within may });
         };
       }

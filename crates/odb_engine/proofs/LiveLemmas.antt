@@ -1,6 +1,5 @@
 -- Runs that go on after recorded events.
-use Rattle.std.proofs.Common.{◌≡◌, ℕ, List, Some, Result, Ok, Err, IfOk, IfErr, String, string_bytes, true, inl, inr, refl}
-use Rattle.std.specs.declared.alloc.Global.{Global}
+use Rattle.std.proofs.Common.{◌≡◌, ◌∙◌, ℕ, List, length, Some, Result, Ok, Err, OnOk, OnErr, true, inl, inr, refl, sym, ap}
 use Rattle.serde_json.specs.Data.{Data}
 use Rattle.odb_doc.specs.declared.fault.DocFault.{DocFault}
 use Rattle.odb_doc.specs.declared.fault.TextFault.{TextFault}
@@ -12,6 +11,7 @@ use Rattle.odb_doc.specs.batch.LeastFault.{IsWellShaped, IsLeastFault}
 use Rattle.odb_doc.specs.batch.Records.{Record, IsBatchOf}
 use Rattle.odb_doc.specs.recorded.Events.{EventValue}
 use Rattle.odb_check.specs.LeastNameFault.{HasGoodNames}
+use Rattle.odb_check.specs.PlanGraph.{PlanGraph}
 use Rattle.odb_sched.specs.declared.event.Event.{Event}
 use Rattle.odb_sched.specs.declared.policy.Policy.{Policy}
 use Rattle.odb_sched.specs.declared.refusal.RunRefusal.{RunRefusal}
@@ -28,11 +28,12 @@ use Rattle.odb_engine.specs.declared.ending.Ended.TheVariants.{Refused}
 use Rattle.odb_engine.specs.declared.halt.Halt.{Halt}
 use Rattle.odb_engine.specs.Cascade.{Accepts, IsLeast, line_of}
 use Rattle.odb_engine.specs.Halts.{Found, Halted, RefusesNamesOf}
-use Rattle.odb_text.specs.Lines.{response_line}
-use Rattle.odb_engine.specs.Live.{IsLeastAfter, IsLeastOfState, ShowsState}
+use Rattle.odb_engine.specs.Live.{IsLeastAfter, IsLeastOfState, Live, Shows}
 use Rattle.odb_engine.specs.Live.IsLeastAfter.{OfIds, OfEvent}
 use Rattle.odb_engine.specs.Live.IsLeastOfState.{OfBody}
+use Rattle.odb_engine.specs.LiveRuns.{IsOfOneBatch}
 use Rattle.odb_engine.specs.Runs.{AreEventsIn, AreResolved}
+use Rattle.odb_engine.specs.declared.live.LiveRun.TheInside.{Inside}
 use Rattle.odb_engine.proofs.EngineLemmas.{Halted-weaker, accepted-value, reports}
 
 -- an event that names no request
@@ -54,11 +55,18 @@ pub not-whole : (state : State) → is_finished state ≡ true → (fault : Text
 not-whole state finished (texts.NotWhole at) first shown row = OfBody at finished (first at refl) row
 not-whole state finished texts.OutOfMemory first shown row = absurd (cc row)
 
--- what is found of a state that is finished is what is shown of it
-pub found-of : (state : State) (found : Result (String Global) Halt) → is_finished state ≡ true → IfOk found (λ text. string_bytes text ≡ response_line state) → IfErr found (Halted (IsLeastOfState state)) → Found (ShowsState state) found
-found-of state (Ok text) finished is least = inr (finished, (refl, is))
-found-of state (Err halt) finished is least =
-    Halted-weaker (IsLeastOfState state) (λ refusal. ShowsState state Refused (line_of refusal)) (λ refusal so. inl (reports (IsLeastOfState state) refusal so)) halt least
+-- the fault of a run is shown of it
+pub refused : (live : Live) (halt : Halt) → Halted (IsLeastOfState live.run) halt → Found (Shows live) (Err halt)
+refused live halt = Halted-weaker (IsLeastOfState live.run) (λ refusal. Shows live Refused (line_of refusal)) (λ refusal so. inl (reports (IsLeastOfState live.run) refusal so)) halt
+
+-- a run that has gone on is of the same batch
+pub kept-with : (kept : Inside) (run : State) → run.plan_graph ≡ kept.run.plan_graph → IsOfOneBatch kept → IsOfOneBatch (record kept { run = run })
+kept-with kept run same of = record { batch = of.batch; good = of.good; labels = of.labels; plan_graph = same ∙ of.plan_graph; each = of.each ∙ ap (λ (g : PlanGraph). length g.units) (sym same) }
+
+-- an event keeps the units and needs, whether it comes or not
+pub same-graph : {E : Type 0} (result : Result (Unit {0}) E) (old next new : State) → next.plan_graph ≡ old.plan_graph → OnOk result (new ≡ next) → OnErr result (new ≡ old) → new.plan_graph ≡ old.plan_graph
+same-graph (Ok done) old next new same ok err = ap (λ (s : State). s.plan_graph) ok ∙ same
+same-graph (Err cause) old next new same ok err = ap (λ (s : State). s.plan_graph) err
 
 -- the batch that was read is accepted
 pub accepted : (bytes : List ℕ) (value : Data) (batch planned : List Record) (P : List Record → Type 0) → IsDocument bytes value → IsWellShaped value → IsBatchOf value batch → HasGoodNames batch

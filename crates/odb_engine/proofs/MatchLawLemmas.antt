@@ -47,10 +47,3 @@ entries_one law form batch entries a b s t (inr x) (inr y) =
 pub matches_value_one : AreOneMatch → (form : Form) (batch : List Record) (value : Data) → IsOne (MatchesValue form batch value)
 matches_value_one law form batch = reading_one response_documents.responses_row RefusesResponses IsResponseDocument (λ value. AllZip ReadsAs (responses_in value))
     (record { one_fault = law.one_fault; no_fault = law.no_fault; one_reading = λ value. law.one_list (responses_in value) }) (MatchesEntries form batch) (entries_one law form batch)
-
-matches_one : AreOneMatch → (form : Form) (batch : List Record) (bytes : List ℕ) → IsOne (MatchesIn form batch bytes)
-matches_one law form batch bytes = document_one places.Responses (MatchesValue form batch) bytes (matches_value_one law form batch)
-
--- also by the reader of a response document
-pub match_one : AreOneMatch → (form : Form) (responses : List ℕ) (batch : List Record) → IsOne (BySecond (Some responses) (MatchesIn form) batch)
-match_one law form responses batch = some_document_one responses (MatchesIn form batch) (matches_one law form batch)

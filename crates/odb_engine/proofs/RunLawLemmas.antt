@@ -140,8 +140,3 @@ AreOneHistory = IsOneKind event_faults.event_row RefusesEvents IsEventsDocument 
 -- a batch and the value of a document of events have one text
 pub runs_value_one : HaveOneCause → AreOneHistory → (policy : Policy) (batch : List Record) → HasGoodNames batch → (value : Data) → IsOne (RunsValue policy batch value)
 runs_value_one causes law policy batch good = reading_one event_faults.event_row RefusesEvents IsEventsDocument AreEventsOf law (RunsEvents policy batch) (one-run causes policy batch good)
-
--- a batch and the reader of events have one text
-pub runs_one : HaveOneCause → AreOneHistory → (policy : Policy) (events : List ℕ) (batch : List Record) → HasGoodNames batch → IsOne (Runs policy (Some events) batch)
-runs_one causes law policy events batch good = some_document_one events (RunsBatch policy batch) (λ bytes.
-    document_one places.Events (RunsValue policy batch) bytes (runs_value_one causes law policy batch good))

@@ -35,18 +35,6 @@ abbrev pub Found : Writes → Result (String Global) Halt → Type 0
 Found P (Ok text) = P Done (string_bytes text)
 Found P (Err halt) = Refuses P halt
 
--- what a phase of an engine that writes its result itself returns: how it ended, or why nothing was written
-abbrev pub Sent : {W : Type 0} → (W → Option (List ℕ)) → Form → Writes → Type 0 → Writing W → Writing W → Result (Result Ended EngineFault) Halt → Type 0
-Sent contents form P ReadFailed old new (Ok result) = Ends contents (InForm form P) ReadFailed old new result
-Sent contents form P ReadFailed old new (Err halt) = (new ≡ old) × Refuses P halt
-
--- The writer has received the text, or a prefix of it. Write means exactly that the output failed, and no input did.
-pub record Sends {W : Type 0} (contents : W → Option (List ℕ)) (text : List ℕ) (old new : Writing W) (result : Result (Unit {0}) EngineFault) : Type 0 where
-  pub whole : OnOk result (Appends (contents old.writer) (contents new.writer) text)
-  pub part : OnErr result (AppendsPrefix (contents old.writer) (contents new.writer) text)
-  pub write : (result ≡ Err faults.Write) ↔ IsTrue new.failed
-  pub unread : result ≢ Err faults.Read
-
 -- what is written of what was found
 abbrev pub text_found : Form → Result (String Global) Halt → Writes
 text_found form (Ok found) ended text = Prints (string_bytes found) ended text

@@ -9,7 +9,11 @@ pub mod ReadAgain
 pub mod Replays
 pub mod Runs
 pub mod Matches
-pub mod LineTasks
-pub mod Ids
+pub mod Contents
+pub mod Tasks
+pub mod Labels
 pub mod Live
 pub mod lines
+-- For invariants and private clauses.
+pub mod LabelTables
+pub mod LiveRuns

@@ -1,5 +1,6 @@
 -- A run that goes on after recorded events, and what is written of it.
 use Rattle.std.specs.Prelude.{◌≡◌, ◌⊎◌, ℕ, List, [], ◌∷◌, ◌++◌, Option, Some, None, true, false, if◌then◌else◌}
+use Rattle.odb_check.specs.Texts.{newline}
 use Rattle.odb_doc.specs.declared.fault.TextFault.TheVariants.{NotWhole}
 use Rattle.odb_doc.specs.batch.Records.{Record}
 use Rattle.odb_doc.specs.Faults.{text_row}
@@ -12,12 +13,22 @@ use Rattle.odb_sched.specs.declared.event.ResolveFault.TheVariants.{UnknownEvent
 use Rattle.odb_sched.specs.run.Refusals.{run_row, resolve_row}
 use Rattle.odb_sched.specs.run.Resolving.{IsFirstUnknown, IsResolved}
 use Rattle.odb_sched.specs.run.Runs.{IsRunFrom, StopsAt}
-use Rattle.odb_sched.specs.run.State.{State, first_state, with_requests, without_requests}
+use Rattle.odb_sched.specs.run.Answers.{answer}
+use Rattle.odb_sched.specs.run.State.{State, first_state, without_requests}
 use Rattle.odb_sched.specs.run.Steps.{is_finished}
 use Rattle.odb_reply.specs.NotWhole.{IsFirstNotWhole}
+use Rattle.odb_reply.specs.Responses.{LabelValue, labels_of, text_of}
 use Rattle.odb_engine.specs.Cascade.{Writes, Prints, Reports, IsLeast, Accepts}
-use Rattle.odb_text.specs.Lines.{response_line}
 use Rattle.odb_engine.specs.Runs.{AreEventsIn, AreResolved, IsLeastOfEvents, end_of, unfinished}
+
+-- a run, and the ids and groups of the requests of its batch
+pub record Live : Type 0 where
+  pub labels : List LabelValue
+  pub run : State
+
+-- the same with its run in this state
+abbrev pub with_run : Live → State → Live
+with_run live run = record live { run = run }
 
 -- The bytes are a document of events, which are a run of the batch, and this is the state after them, of no requests.
 pub record IsAfter (policy : Policy) (batch : List Record) (bytes : List ℕ) (run : State) : Type 0 where
@@ -35,9 +46,14 @@ pub data IsLeastAfter (policy : Policy) (batch : List Record) (bytes : List ℕ)
   OfIds : (named : List EventValue) → AreEventsIn bytes named → (at : ℕ) → IsFirstUnknown batch named at → resolve_row (UnknownEvent at) ≡ Some refusal → IsLeastAfter policy batch bytes refusal
   OfEvent : (named : List EventValue) → AreEventsIn bytes named → (events : List Event) (cause : RunRefusal) → AreResolved batch named events → StopsAt (first_state batch policy) events cause → run_row cause ≡ Some refusal → IsLeastAfter policy batch bytes refusal
 
--- the batch in a document, after the events in another, is in this state
-abbrev pub Opens : Policy → List ℕ → List ℕ → State → Type 0
-Opens policy batch events run = Accepts batch (λ records. IsAfter policy records events run)
+-- the ids and groups are those of the batch, and the run is that after the events in these bytes
+pub record IsOpened (policy : Policy) (batch : List Record) (bytes : List ℕ) (live : Live) : Type 0 where
+  pub labels : live.labels ≡ labels_of batch
+  pub after : IsAfter policy batch bytes live.run
+
+-- the live run of the batch in a document, after the events in another
+abbrev pub Opens : Policy → List ℕ → List ℕ → Live → Type 0
+Opens policy batch events live = Accepts batch (λ records. IsOpened policy records events live)
 
 -- the least fault of a batch document and an events document that open no run
 abbrev pub IsLeastOfOpening : Policy → List ℕ → List ℕ → Printed → Type 0
@@ -52,13 +68,9 @@ pub data IsLeastOfState (state : State) (refusal : Printed) : Type 0 where
   OfEnd : is_finished state ≡ false → refusal ≡ unfinished → IsLeastOfState state refusal
   OfBody : (at : ℕ) → is_finished state ≡ true → IsFirstNotWhole state at → text_row (NotWhole at) ≡ Some refusal → IsLeastOfState state refusal
 
--- what is written of a state: the response if it is finished
-abbrev pub ShowsState : State → Writes
-ShowsState state ended text = Reports (IsLeastOfState state) ended text ⊎ ((is_finished state ≡ true) × Prints (response_line state) ended text)
-
--- what is written of a run of the batch, which knows its requests by their positions alone
-abbrev pub Shows : State → List Record → Writes
-Shows run batch = ShowsState (with_requests batch run)
+-- what is written of a live run: the response if it is finished
+abbrev pub Shows : Live → Writes
+Shows live ended text = Reports (IsLeastOfState live.run) ended text ⊎ ((is_finished live.run ≡ true) × Prints (text_of live.labels (answer live.run) ++ newline ∷ []) ended text)
 
 -- A document of events records one event more than another, at its end, which is this event of the batch.
 pub record RecordsOneMore (batch : List Record) (events more : List ℕ) (event : Event) : Type 0 where

@@ -1,11 +1,19 @@
 //! What a command writes, in memory.
 
 ghost use Rattle.std.specs.Prelude.{◌≡◌, ◌≤◌, ◌++◌, ◌↔◌, true, false, length, drop, IfOk, IsTrue};
+ghost use Rattle.odb_engine.specs.Cascade.{Answers};
+ghost use Rattle.odb_engine.specs.Contents.Given.{InMemory};
+ghost use Rattle.odb_engine.specs.Forms.{InForm};
 ghost use Rattle.odb_engine.specs.Halts.{text_found};
+ghost use Rattle.odb_engine.specs.Tasks.{OfLine, OfTask};
 
+use crate::command::text_of;
 use crate::ending::{Ended, fault_text};
 use crate::form::Form;
 use crate::halt::Halt;
+use crate::lines::text_of_line;
+use crate::setup::Setup;
+use crate::task::Task;
 use std::alloc::{AllocError, Global};
 
 /// How a command ended, and the whole text that it wrote.
@@ -52,4 +60,44 @@ impl Answer {
         buffer[..length].copy_from_slice(&self.text);
         true
     }
+}
+
+/// Does a task on a batch document in memory, and on a second document if the task takes one: returns what
+/// is written, in the form of the setup. The documents are not copied.
+///
+/// # Errors
+///
+/// `AllocError` if an allocation fails.
+pub fn answer_in_memory(
+    alloc: Global,
+    batch: &[u8],
+    second: &[u8],
+    task: Task,
+    setup: Setup,
+) -> Result<Answer, AllocError>
+    ensures { IfOk result (λ answer. InForm setup.form
+        (Answers (OfTask task setup.form (InMemory second.now)) batch.now) answer.ended answer.text.items) }
+{
+    let (mut first, mut second, mut task) = (batch, second, task);
+    let found = text_of(alloc, &mut first, &mut second, &mut task, setup);
+    Answer::of(alloc, setup.form, found)
+}
+
+/// Does a task on a line of a log: returns what is written of the document in it, or of the two documents in it if
+/// the task takes two, in the form of the setup. The line may be any bytes; they are not copied.
+///
+/// # Errors
+///
+/// `AllocError` if an allocation fails.
+pub fn answer_line(
+    alloc: Global,
+    line: &[u8],
+    task: Task,
+    setup: Setup,
+) -> Result<Answer, AllocError>
+    ensures { IfOk result (λ answer. InForm setup.form (OfLine task setup.form line.now)
+        answer.ended answer.text.items) }
+{
+    let found = text_of_line(alloc, line, task, setup);
+    Answer::of(alloc, setup.form, found)
 }

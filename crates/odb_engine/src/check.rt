@@ -1,46 +1,41 @@
 //! The command `check`: whether a batch is accepted.
 
-ghost use Rattle.std.specs.Prelude.{◌≡◌, false, Err, IsTrue};
+ghost use Rattle.std.specs.Prelude.{◌≡◌, ◌≢◌, false, Err, IsTrue};
+ghost use Rattle.odb_check.specs.Plans.{plan_records};
 ghost use Rattle.odb_engine.specs.Inputs.{IsFresh, ReadsFew, SomeDocument};
 ghost use Rattle.odb_engine.specs.Cascade.{Answers};
 ghost use Rattle.odb_engine.specs.Engines.{Ends};
-ghost use Rattle.odb_engine.specs.Forms.{InForm};
+ghost use Rattle.odb_engine.specs.Halts.{Found};
+ghost use Rattle.odb_engine.specs.declared.halt.Halt.TheVariants as halts;
 ghost use Rattle.odb_engine.specs.Commands as commands;
 
-use crate::command::{Command, answer_batch};
 use crate::ending::{Ended, EngineFault};
 use crate::form::Form;
 use crate::halt::Halt;
-use crate::setup::Setup;
+use crate::task::{Task, answer_one};
 use odb_check::Plan;
-use odb_doc::Batch;
 use odb_io::{Input, Output};
 use odb_text::{accepted_line, counts_json};
 use std::alloc::Global;
 use std::io::{Read, Write};
 
-/// Prints how many requests and groups there are.
-#[derive(Drop)]
-pub(crate) struct Counts {
-    pub(crate) form: Form,
-}
-
-impl Command for Counts {
-    ghost writes = { λ self. commands.CountsIn self.form };
-
-    fn text(&self, alloc: Global, _batch: &Batch<'_>, plan: &Plan<'_>) -> Result<String, Halt> {
-        let (requests, groups) = (plan.len(), plan.group_count());
-        match self.form {
-            Form::Lines => Ok(accepted_line(alloc, requests, groups)?),
-            Form::Json => Ok(counts_json(alloc, requests, groups)?),
-        }
+/// Returns how many requests and groups there are, in a form.
+pub fn counts_text(alloc: Global, plan: &Plan<'_>, form: Form) -> Result<String, Halt>
+    ensures found { Found (commands.CountsIn form (plan_records plan.now)) result }
+    ensures read { result ≢ Err halts.Read }
+{
+    let (requests, groups) = (plan.len(), plan.group_count());
+    match form {
+        Form::Lines => Ok(accepted_line(alloc, requests, groups)?),
+        Form::Json => Ok(counts_json(alloc, requests, groups)?),
     }
 }
 
 /// Checks the batch in a document: writes the line of its counts, or of its least fault.
 ///
 /// The input must be new, and the output must not have failed. Names are looked up without a seed, and
-/// the document is dropped at the end; [`check_batch_with`] takes a [`Setup`] for both, and for the form.
+/// the document is dropped at the end; [`crate::answer_task`] takes a [`crate::Setup`] for both, and for the
+/// form.
 ///
 /// Takes O(n log n) time and O(n) memory for a document of n bytes.
 ///
@@ -62,27 +57,5 @@ pub fn check_batch<R: Read, W: Write>(
     ensures memory { result ≡ Err EngineFault.OutOfMemory → output.new ≡ output.old }
     ensures reads { ReadsFew R.remaining input.old input.new }
 {
-    check_batch_with(alloc, input, output, Setup::plain())
-}
-
-/// Does what [`check_batch`] does, with a setup of the caller's.
-///
-/// # Errors
-///
-/// Those of [`check_batch`].
-pub fn check_batch_with<R: Read, W: Write>(
-    alloc: Global,
-    input: &mut Input<R>,
-    output: &mut Output<W>,
-    setup: Setup,
-) -> Result<Ended, EngineFault>
-    requires input { IsFresh input.old }
-    requires output { output.old.failed ≡ false }
-    ensures ends { SomeDocument (R.remaining input.old.reader) (λ bytes. Ends W.contents
-        (InForm setup.form (Answers (commands.CountsIn setup.form) bytes)) (IsTrue input.new.failed)
-        output.old output.new result) }
-    ensures memory { result ≡ Err EngineFault.OutOfMemory → output.new ≡ output.old }
-    ensures reads { ReadsFew R.remaining input.old input.new }
-{
-    answer_batch(alloc, input, output, &Counts { form: setup.form }, setup)
+    answer_one(alloc, input, output, Task::Check)
 }

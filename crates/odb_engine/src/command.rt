@@ -1,50 +1,65 @@
-//! The commands over one document: from bytes to a plan, and the text that a command writes of it.
+//! From the sources of the documents to the text that a command writes.
 
-ghost use Rattle.std.specs.Prelude.{◌≡◌, ◌≢◌, ◌↔◌, ℕ, List, false, Err, IfErr, IfOk, IsTrue, OnOk};
+ghost use Rattle.std.specs.Prelude.{◌≡◌, ◌≢◌, ◌↔◌, ◌⊎◌, false, Err, IfErr, IfOk, OnOk};
 ghost use Rattle.odb_doc.specs.batch.Batches.{records};
+ghost use Rattle.odb_doc.specs.declared.fault.Place.TheVariants as places;
 ghost use Rattle.odb_check.specs.LeastNameFault.{HasGoodNames};
 ghost use Rattle.odb_check.specs.Plans.{plan_records};
 ghost use Rattle.odb_check.specs.Seeds.{IsSeeded};
 ghost use Rattle.odb_engine.specs.declared.halt.Halt.TheVariants as halts;
 ghost use Rattle.serde_json.specs.View.{view};
-ghost use Rattle.odb_engine.specs.Cascade.{Answers, AnswersValue};
+ghost use Rattle.odb_engine.specs.Cascade.{AcceptsValue, AnswersValue};
+ghost use Rattle.odb_engine.specs.Contents.{IsAskedFor, OfContent, SomeContent};
 ghost use Rattle.odb_engine.specs.Engines.{Ends};
 ghost use Rattle.odb_engine.specs.Forms.{InForm};
 ghost use Rattle.odb_engine.specs.Halts.{Found, RefusesNamesOf, Halted};
-ghost use Rattle.odb_engine.specs.Inputs.{IsFresh, ReadsFew, SomeDocument};
 
 use crate::disposal::DropOrLeak;
 use crate::ending::{Ended, EngineFault, end};
 use crate::halt::Halt;
-use crate::input::value_of;
 use crate::setup::Setup;
+use crate::source::Source;
 use odb_check::{Plan, check_with};
 use odb_doc::{Batch, Place};
-use odb_io::{Input, Output};
+use odb_io::Output;
 use serde_json::Value;
 use std::alloc::Global;
-use std::io::{Read, Write};
+use std::io::Write;
 
-/// A command over one document: what it prints of a batch that the check accepts.
+/// What is written of a batch that the check accepts, by a second document if the command takes one.
 ///
-/// [`answer_batch`] is its engine.
+/// [`answer_command`] is its engine. [`crate::Task`] has the commands of the program.
 pub trait Command {
-    ghost use Rattle.std.specs.Prelude.{◌≡◌, ◌≢◌, ℕ, List, Err};
+    ghost use Rattle.std.specs.Prelude.{◌≡◌, ◌↔◌, ℕ, List, Err};
     ghost use Rattle.odb_doc.specs.batch.Records.{Record};
     ghost use Rattle.odb_doc.specs.batch.Batches.{records};
     ghost use Rattle.odb_check.specs.Plans.{plan_records};
     ghost use Rattle.odb_engine.specs.declared.ending.Ended.{Ended};
+    ghost use Rattle.odb_engine.specs.declared.form.Form.{Form};
     ghost use Rattle.odb_engine.specs.declared.halt.Halt.TheVariants as halts;
+    ghost use Rattle.odb_engine.specs.Contents.{Given};
     ghost use Rattle.odb_engine.specs.Halts.{Found};
 
-    /// How it ends for the requests of a batch, and what it has written then.
-    ghost writes: { Self → List Record → Ended → List ℕ → Type 0 };
+    /// How it ends in a form, by what the second source gives, for the requests of a batch, and what it has
+    /// written then.
+    ghost writes: { Self → Form → Given → List Record → Ended → List ℕ → Type 0 };
 
-    /// Returns what is printed of a batch and its plan.
-    fn text(&self, alloc: Global, batch: &Batch<'_>, plan: &Plan<'_>) -> Result<String, Halt>
-        requires { records batch.now ≡ plan_records plan.now }
-        ensures found { Found (writes self.now (plan_records plan.now)) result }
-        ensures read { result ≢ Err halts.Read };
+    /// Returns what is written of a batch and its plan. A command over one document leaves the second source as
+    /// it is.
+    fn text<S: Source>(
+        &mut self,
+        alloc: Global,
+        batch: &Batch<'_>,
+        plan: &Plan<'_>,
+        second: &mut S,
+        setup: Setup,
+    ) -> Result<String, Halt>
+        requires batch { records batch.now ≡ plan_records plan.now }
+        requires second { S.is_fresh second.old }
+        ensures found { Found (writes self.old setup.form (S.given second.old) (plan_records plan.now))
+            result }
+        ensures read { (result ≡ Err halts.Read) ↔ S.has_failed second.new }
+        ensures second { S.reads_few second.old second.new };
 }
 
 /// Returns the plan of a batch. Here, and nowhere else, an engine uses the seed of its setup.
@@ -72,73 +87,88 @@ pub fn plan_of<'a: 'b, 'b>(
     })
 }
 
-/// Returns what the command prints of the batch in a value.
-///
-/// # Errors
-///
-/// `Refused` by the least fault of the batch, or as the command refuses it; `OutOfMemory` if an allocation
-/// fails. Never `Read`.
-pub fn text_in<C: Command>(
+/// Returns what a command writes of the batch in a value.
+fn text_in<S: Source, C: Command>(
     alloc: Global,
     value: &Value,
-    command: &C,
+    second: &mut S,
+    command: &mut C,
     setup: Setup,
 ) -> Result<String, Halt>
-    ensures found { Found (AnswersValue (C.writes command.now) (view value.now)) result }
-    ensures read { result ≢ Err halts.Read }
+    requires { S.is_fresh second.old }
+    ensures found { Found (AnswersValue (C.writes command.old setup.form (S.given second.old))
+        (view value.now)) result }
+    ensures asked { (second.new ≡ second.old) ⊎ AcceptsValue (view value.now) (λ _. Unit {0}) }
+    ensures read { (result ≡ Err halts.Read) ↔ S.has_failed second.new }
+    ensures second { S.reads_few second.old second.new }
 {
     let batch = DropOrLeak {
         value: Batch::read(alloc, value)?,
         disposal: setup.disposal,
     };
     let plan = plan_of(alloc, &batch.value, setup)?;
-    command.text(alloc, &batch.value, &plan.value)
+    command.text(alloc, &batch.value, &plan.value, second, setup)
 }
 
-/// Returns what the command prints of the batch in a document.
-fn text_of<R: Read, C: Command>(
-    alloc: Global,
-    input: &mut Input<R>,
-    command: &C,
-    setup: Setup,
-) -> Result<String, Halt>
-    requires { IsFresh input.old }
-    ensures found { SomeDocument (R.remaining input.old.reader)
-        (λ bytes. Found (Answers (C.writes command.now) bytes) result) }
-    ensures read { (result ≡ Err halts.Read) ↔ IsTrue input.new.failed }
-    ensures input { ReadsFew R.remaining input.old input.new }
-{
-    let value = DropOrLeak {
-        value: value_of(alloc, input, Place::Batch)?,
-        disposal: setup.disposal,
-    };
-    text_in(alloc, &value.value, command, setup)
-}
-
-/// Runs a command over one document: writes what it prints of the batch, or the least fault.
-///
-/// The input must be new, and the output must not have failed. The text is held in memory and written whole.
+/// Returns what a command writes of the batch that the first source gives, by the second source if it takes a
+/// second document. The second source is read only if the check accepts the batch.
 ///
 /// # Errors
 ///
-/// - `Read` if and only if the input failed; nothing was written.
+/// `Read` if and only if a read of one of the sources failed; `Refused` by the least fault of the batch, or
+/// as the command refuses; `OutOfMemory` if an allocation fails.
+pub fn text_of<R: Source, S: Source, C: Command>(
+    alloc: Global,
+    first: &mut R,
+    second: &mut S,
+    command: &mut C,
+    setup: Setup,
+) -> Result<String, Halt>
+    requires first { R.is_fresh first.old }
+    requires second { S.is_fresh second.old }
+    ensures found { SomeContent (R.given first.old) (λ content. Found (OfContent places.Batch
+        (AnswersValue (C.writes command.old setup.form (S.given second.old))) content) result
+        × IsAskedFor (R.was_read first.old first.new content) content second.old second.new) }
+    ensures read { (result ≡ Err halts.Read) ↔ (R.has_failed first.new ⊎ S.has_failed second.new) }
+    ensures first { R.reads_few first.old first.new }
+    ensures second { S.reads_few second.old second.new }
+{
+    let value = DropOrLeak {
+        value: first.value(alloc, Place::Batch)?,
+        disposal: setup.disposal,
+    };
+    text_in(alloc, &value.value, second, command, setup)
+}
+
+/// Writes what a command writes of the batch that the first source gives, by the second source if it takes a
+/// second document; or the least fault. The second source is read only if the check accepts the batch.
+///
+/// The sources must be new, and the output must not have failed. The text is held in memory and written whole.
+///
+/// # Errors
+///
+/// - `Read` if and only if a read of one of the sources failed; nothing was written.
 /// - `Write` if and only if the output failed; it has received a prefix of the text.
 /// - `OutOfMemory` if an allocation fails; nothing was written.
-pub fn answer_batch<R: Read, W: Write, C: Command>(
+pub fn answer_command<R: Source, S: Source, W: Write, C: Command>(
     alloc: Global,
-    input: &mut Input<R>,
+    first: &mut R,
+    second: &mut S,
     output: &mut Output<W>,
-    command: &C,
+    command: &mut C,
     setup: Setup,
 ) -> Result<Ended, EngineFault>
-    requires input { IsFresh input.old }
+    requires first { R.is_fresh first.old }
+    requires second { S.is_fresh second.old }
     requires output { output.old.failed ≡ false }
-    ensures ends { SomeDocument (R.remaining input.old.reader) (λ bytes. Ends W.contents
-        (InForm setup.form (Answers (C.writes command.now) bytes)) (IsTrue input.new.failed)
-        output.old output.new result) }
+    ensures ends { SomeContent (R.given first.old) (λ content. Ends W.contents (InForm setup.form
+        (OfContent places.Batch (AnswersValue (C.writes command.old setup.form (S.given second.old))) content))
+        (R.has_failed first.new ⊎ S.has_failed second.new) output.old output.new result
+        × IsAskedFor (R.was_read first.old first.new content) content second.old second.new) }
     ensures memory { result ≡ Err EngineFault.OutOfMemory → output.new ≡ output.old }
-    ensures reads { ReadsFew R.remaining input.old input.new }
+    ensures first { R.reads_few first.old first.new }
+    ensures second { S.reads_few second.old second.new }
 {
-    let found = text_of(alloc, input, command, setup);
+    let found = text_of(alloc, first, second, command, setup);
     end(alloc, setup.form, found, output)
 }

@@ -1,6 +1,6 @@
 //! How a command ends, and which device failed it.
 
-ghost use Rattle.std.specs.Prelude.{◌≡◌, false, Err, IfErr, IfOk, string_bytes};
+ghost use Rattle.std.specs.Prelude.{◌≡◌, false, Err, IfOk, string_bytes};
 ghost use Rattle.odb_doc.specs.Refusals.{printed};
 ghost use Rattle.odb_engine.specs.declared.ending.EngineFault.TheVariants as faults;
 ghost use Rattle.odb_engine.specs.declared.halt.Halt.TheVariants as halts;
@@ -35,8 +35,7 @@ pub enum EngineFault {
     /// The output failed. It has received a prefix of what the engine writes.
     #[error("the output failed")]
     Write,
-    /// An allocation failed. Nothing was written; by a command that writes its result in parts, as
-    /// `replay` and `run` do, nothing or a prefix of what it writes.
+    /// An allocation failed. Nothing was written; of a log, the answers to some first lines.
     #[error("out of memory")]
     OutOfMemory,
 }
@@ -56,10 +55,6 @@ impl From<AllocError> for EngineFault {
         EngineFault::OutOfMemory
     }
 }
-
-/// What a phase of an engine returns that writes the result itself: how it ended, or why nothing was
-/// written.
-pub type Sent = Result<Result<Ended, EngineFault>, Halt>;
 
 /// Returns a fault in a form.
 pub fn fault_text(alloc: Global, form: Form, refusal: Refusal) -> Result<String, AllocError>
@@ -91,30 +86,4 @@ pub fn end<W: Write>(
     };
     output.put_text(&text)?;
     Ok(ended)
-}
-
-/// If the command halted before it wrote anything, writes its fault in the form; otherwise returns how it
-/// ended.
-///
-/// # Errors
-///
-/// What `sent` has, if it is `Ok`; else `Read` if it halted since an input failed, `Write` if the output
-/// fails, and `OutOfMemory` if an allocation failed or fails.
-pub fn conclude<W: Write>(
-    alloc: Global,
-    form: Form,
-    sent: Sent,
-    output: &mut Output<W>,
-) -> Result<Ended, EngineFault>
-    requires { IfErr sent (λ _. output.old.failed ≡ false) }
-    ensures ended { IfOk sent (λ ended. (result ≡ ended) × (output.new ≡ output.old)) }
-    ensures halted { IfErr sent (λ halt. Ends W.contents (text_found form (Err halt))
-        (halt ≡ halts.Read) output.old output.new result) }
-    ensures memory { IfErr sent (λ _. result ≡ Err EngineFault.OutOfMemory
-        → output.new ≡ output.old) }
-{
-    match sent {
-        Ok(result) => result,
-        Err(halt) => end(alloc, form, Err(halt), output),
-    }
 }

@@ -6,7 +6,7 @@ ghost use Rattle.odb_doc.specs.Documents.{IsDocument};
 ghost use Rattle.odb_doc.specs.Faults.{document_row};
 ghost use Rattle.odb_engine.specs.Cascade.{RefusesBytes, at_place};
 ghost use Rattle.odb_engine.specs.Halts.{Halted, HaltsBy};
-ghost use Rattle.odb_engine.specs.Inputs.{GivesDocument, GivesFew, IsFresh, ReadsFew, SomeDocument, WasRead};
+ghost use Rattle.odb_engine.specs.Inputs.{GivesDocument, GivesFew, WasRead};
 ghost use Rattle.odb_engine.specs.declared.halt.Halt.TheVariants as halts;
 
 use crate::halt::Halt;
@@ -77,23 +77,6 @@ pub fn value_in(alloc: Global, bytes: &[u8], place: Place) -> Result<Value, Halt
     ensures read { result ≢ Err halts.Read }
 {
     match parse(alloc, bytes) {
-        Ok(value) => Ok(value),
-        Err(fault) => Err(halt_at(fault, place)),
-    }
-}
-
-/// Returns the value of the document that an input gives; `place` is the place of its fault.
-pub fn value_of<R: Read>(alloc: Global, input: &mut Input<R>, place: Place) -> Result<Value, Halt>
-    requires { IsFresh input.old }
-    ensures value { SomeDocument (R.remaining input.old.reader) (λ bytes.
-        IfOk result (λ value. IsDocument bytes (view value)
-        × WasRead R.remaining input.old input.new bytes)
-        × IfErr result (Halted (RefusesBytes place bytes))) }
-    ensures read { (result ≡ Err halts.Read) ↔ IsTrue input.new.failed }
-    ensures input { ReadsFew R.remaining input.old input.new }
-{
-    let bytes = read_document(alloc, input)?;
-    match parse(alloc, &bytes) {
         Ok(value) => Ok(value),
         Err(fault) => Err(halt_at(fault, place)),
     }

@@ -10,17 +10,16 @@ ghost use Rattle.odb_sched.specs.declared.order.Order.{Order};
 ghost use Rattle.odb_sched.specs.declared.event.Event.{Event};
 ghost use Rattle.odb_sched.specs.declared.policy.Policy.{Policy};
 ghost use Rattle.odb_sched.specs.run.Runs.{event_position};
-ghost use Rattle.odb_sched.specs.run.State.{State, after, size};
+ghost use Rattle.odb_sched.specs.run.State.{after, size};
 ghost use Rattle.odb_sched.specs.run.Steps.{may_come};
 ghost use Rattle.odb_engine.specs.Cascade.{Accepts, Answers, IsOne};
 ghost use Rattle.odb_engine.specs.declared.ending.Ended.{Ended};
 ghost use Rattle.odb_engine.specs.declared.form.Form.{Form};
-ghost use Rattle.odb_engine.specs.Commands.{Canonical, CountsIn, Drawings, PlansIn};
-ghost use Rattle.odb_engine.specs.Inputs.{BySecond, IsDocumentOf};
-ghost use Rattle.odb_engine.specs.declared.line.LineTask.{LineTask};
-ghost use Rattle.odb_engine.specs.LineTasks.{OfLine};
-ghost use Rattle.odb_engine.specs.Live.{Opens, RecordsOneMore, Shows};
-ghost use Rattle.odb_engine.specs.Matches.{MatchesIn};
+ghost use Rattle.odb_engine.specs.Contents.Given.{ByReader, InMemory};
+ghost use Rattle.odb_engine.specs.Inputs.{IsDocumentOf};
+ghost use Rattle.odb_engine.specs.declared.task.Task.{Task};
+ghost use Rattle.odb_engine.specs.Tasks.{OfLine, OfTask};
+ghost use Rattle.odb_engine.specs.Live.{Live, Opens, RecordsOneMore, Shows, with_run};
 ghost use Rattle.odb_engine.specs.declared.ending.Ended.TheVariants.{Done};
 ghost use Rattle.odb_engine.specs.ReadAgain.{IsReadAgain};
 ghost use Rattle.odb_engine.specs.Replays.{Replays};
@@ -32,52 +31,27 @@ pub fn one_document()
         → document ≡ other }
 {}
 
-/// Two texts that a check may write for the same bytes are equal, and so are the ends; likewise for a
-/// plan, a drawing, a canonical text and a match, with the result in each form. So what these commands
-/// write is a function of the bytes.
+/// Two texts that a task may write for the same bytes of a batch document and of a second document are equal,
+/// and so are the ends: for each task with its options, with the result in each form, and also if one of the
+/// documents is refused. Likewise for a line of a log, with one document or with two. So what a task writes is
+/// a function of the bytes.
+///
+/// The relation `OfTask` is that of [`crate::answer_task`], and `OfLine` that of [`crate::answer_line`]; in each the
+/// fault is in the form of lines. `left` is what the second reader has left.
 pub fn one_text()
-    ensures check { (form : Form) (bytes : List ℕ) → IsOne (Answers (CountsIn form) bytes) }
-    ensures plan { (form : Form) (bytes : List ℕ) → IsOne (Answers (PlansIn form) bytes) }
-    ensures drawing { (bytes : List ℕ) → IsOne (Answers Drawings bytes) }
-    ensures canon { (bytes : List ℕ) → IsOne (Answers Canonical bytes) }
-    ensures matching { (form : Form) (bytes responses : List ℕ)
-        → IsOne (Answers (BySecond (Some responses) (MatchesIn form)) bytes) }
+    ensures task { (task : Task) (form : Form) (bytes left : List ℕ)
+        → IsOne (Answers (OfTask task form (ByReader (Some left))) bytes) }
+    ensures memory { (task : Task) (form : Form) (bytes second : List ℕ)
+        → IsOne (Answers (OfTask task form (InMemory second)) bytes) }
+    ensures line { (task : Task) (form : Form) (line : List ℕ) → IsOne (OfLine task form line) }
 {
     odb_doc::laws::one_batch();
     odb_doc::laws::one_fault();
     odb_check::laws::one_fault();
     odb_reply::laws::one_document();
     odb_reply::laws::one_match();
-}
-
-/// In an order, as that of `First`, `Last` or `Wide`, two texts that a replay may write for the same
-/// bytes of a batch document and of an outcomes document are equal, and so are the ends: for each
-/// policy, with or without the trace, and also if one of the documents is refused.
-///
-/// `outcomes` is what the second reader has left. The relation is that of [`crate::replay_batch`].
-pub fn one_replay()
-    ensures { (order : Order) (policy : Policy) (traced : Bool) (bytes outcomes : List ℕ)
-        → IsOne (Answers (Replays (AllowsOrder order) policy traced (Some outcomes)) bytes) }
-{
-    odb_doc::laws::one_batch();
-    odb_doc::laws::one_fault();
-    odb_check::laws::one_fault();
     odb_doc::laws::one_record();
     odb_exec::laws::every_order();
-}
-
-/// Two texts that a run by recorded events may write for the same bytes of a batch document and of an
-/// events document are equal, and so are the ends: for each policy, and also if one of the documents
-/// is refused.
-///
-/// `events` is what the second reader has left. The relation is that of [`crate::run_batch`].
-pub fn one_run()
-    ensures { (policy : Policy) (bytes events : List ℕ)
-        → IsOne (Answers (Runs policy (Some events)) bytes) }
-{
-    odb_doc::laws::one_batch();
-    odb_doc::laws::one_fault();
-    odb_check::laws::one_fault();
     odb_doc::laws::one_history();
     odb_sched::laws::every_cause();
 }
@@ -104,40 +78,22 @@ pub fn read_again()
 /// recorded events writes of the same events.
 ///
 /// `events` and `more` are documents of events, of which `more` records one event more than `events`.
-/// The relations are those of [`crate::open_run`], [`crate::text_of_run`] and [`crate::run_batch`].
+/// The relations are those of [`crate::open_run`], [`crate::LiveRun::response`] and
+/// [`crate::run_batch`].
 pub fn one_live_run()
-    ensures text { (policy : Policy) (batch events text different : List ℕ) (run : State)
-        (ended other : Ended) → Opens policy batch events run
-        → Answers (Shows run) batch ended text
+    ensures text { (policy : Policy) (batch events text different : List ℕ) (live : Live)
+        (ended other : Ended) → Opens policy batch events live → Shows live ended text
         → Answers (Runs policy (Some events)) batch other different
         → (ended ≡ other) × (text ≡ different) }
-    ensures goes_on { (policy : Policy) (batch events more : List ℕ) (run : State) (event : Event)
-        → Opens policy batch events run
+    ensures goes_on { (policy : Policy) (batch events more : List ℕ) (live : Live) (event : Event)
+        → Opens policy batch events live
         → Accepts batch (λ requests. RecordsOneMore requests events more event)
-        → event_position event < size run → may_come run event ≡ true
-        → Opens policy batch more (after run event) }
+        → event_position event < size live.run → may_come live.run event ≡ true
+        → Opens policy batch more (with_run live (after live.run event)) }
 {
     odb_doc::laws::one_batch();
     odb_doc::laws::one_fault();
     odb_check::laws::one_fault();
-    odb_doc::laws::one_history();
-    odb_sched::laws::every_cause();
-}
-
-/// Two texts that a task may write of the same line are equal, and so are the ends: of a line with one
-/// document, and of one with two.
-///
-/// The relation is that of [`crate::answer_line`], in the form of lines; a replay has a named order there.
-pub fn one_line()
-    ensures { (task : LineTask) (form : Form) (line : List ℕ) → IsOne (OfLine task form line) }
-{
-    odb_doc::laws::one_batch();
-    odb_doc::laws::one_fault();
-    odb_check::laws::one_fault();
-    odb_reply::laws::one_document();
-    odb_reply::laws::one_match();
-    odb_doc::laws::one_record();
-    odb_exec::laws::every_order();
     odb_doc::laws::one_history();
     odb_sched::laws::every_cause();
 }

@@ -1,19 +1,19 @@
-//! The commands as a library: one engine for each, over readers and a writer, or over the lines of a log.
+//! The commands as a library: one engine for all, over readers, bytes in memory or values in hand.
 //!
-//! An engine reads its documents, writes its result or the line of the first fault, and returns how
-//! it ended: [`check_batch`], [`plan_batch`] and [`canon_batch`] over one document, [`match_batch`],
-//! [`replay_batch`] and [`run_batch`] over two. Each has a second call, as [`check_batch_with`], that
-//! takes a [`Setup`] too: the [`Form`] of what is written, lines of words or JSON, the seed of the tables
-//! of names, and whether what was read is dropped. [`draw_batch`] draws the plan of one document. A contract
-//! states what the writer has received, whatever the readers and the writer do: the whole text, or after a
+//! A [`Task`] is a command with its options, and [`answer_task`] does it: it takes the batch from a [`Source`], and
+//! a second document from another if the task takes one, writes its result or the least fault, and returns how
+//! it ended. A [`Setup`] has the [`Form`] of what is written, lines of words or JSON, the seed of the tables of
+//! names, and whether what was read is dropped. [`check_batch`], [`plan_batch`], [`canon_batch`], [`match_batch`],
+//! [`replay_batch`] and [`run_batch`] are the tasks over readers, without a setup. A contract
+//! states what the writer has received, whatever the sources and the writer do: the whole text, or after a
 //! fault nothing or a prefix of it. [`laws`] states that a text is determined. Opening files, buffering small
 //! writes and turning an end into an exit status are left to the caller.
 //!
-//! What the commands share is in a few modules. `input` reads a document, `command` runs a [`Command`] over
-//! one, `pair` a [`PairCommand`] over two, and `ending` writes the result, or the fault by which it halted.
-//! Another command is a relation in specs/, an `impl` of one of these traits, and a public function that passes
-//! it to `answer_batch` or `answer_pair`. [`answer_line`] does a task on one document in memory, and
-//! [`answer_lines`] on each line of an input. `live` opens a run that its caller drives.
+//! What the tasks share is in a few modules. `source` reads a document, `command` goes from the sources to the text
+//! of a [`Command`], and `ending` writes that text, or the fault by which it halted.
+//! Another command is a relation in specs/, a variant of [`Task`], and a function in a file of its own that
+//! returns its text. [`answer_in_memory`] returns what a task writes of documents in memory, and [`answer_lines`]
+//! does an [`EachLine`] on each line of an input. `live` opens a run that its caller drives.
 #![tactic(auto)]
 
 mod answer;
@@ -21,42 +21,38 @@ mod canon;
 mod check;
 mod command;
 mod disposal;
-mod draw;
 mod ending;
 mod form;
 mod halt;
-mod ids;
 mod input;
+mod labels;
 pub mod laws;
-mod line;
 pub mod lines;
 mod live;
 mod match_responses;
-mod output;
-mod pair;
 mod plan;
 mod replay;
+mod response;
 mod run;
 mod setup;
+mod source;
+mod task;
 
-pub use answer::Answer;
-pub use canon::{canon_batch, canon_batch_with};
-pub use check::{check_batch, check_batch_with};
-pub use command::{Command, answer_batch, plan_of, text_in};
+pub use answer::{Answer, answer_in_memory, answer_line};
+pub use canon::canon_batch;
+pub use check::check_batch;
+pub use command::{Command, answer_command, plan_of, text_of};
 pub use disposal::{Disposal, DropOrLeak};
-pub use draw::{draw_batch, draw_batch_with};
-pub use ending::{Ended, EngineFault, Sent};
+pub use ending::{Ended, EngineFault};
 pub use form::Form;
 pub use halt::Halt;
-pub use ids::Ids;
 pub use input::value_in;
-pub use line::{LineTask, answer_line};
 pub use lines::{EachLine, LineCommand, LineInput, answer_lines};
-pub use live::{Opened, open_run, text_of_run, undone_of_run};
-pub use match_responses::{match_batch, match_batch_with};
-pub use output::{print, send};
-pub use pair::{PairCommand, answer_pair};
-pub use plan::{plan_batch, plan_batch_with};
-pub use replay::{replay_batch, replay_batch_with};
-pub use run::{run_batch, run_batch_with};
+pub use live::{LiveRun, open_run};
+pub use match_responses::match_batch;
+pub use plan::plan_batch;
+pub use replay::replay_batch;
+pub use run::run_batch;
 pub use setup::Setup;
+pub use source::Source;
+pub use task::{Task, answer_task};

@@ -1,6 +1,6 @@
 //! The command `match`: whether the responses of a service fit a batch.
 
-ghost use Rattle.std.specs.Prelude.{◌≡◌, ◌≢◌, ◌⊎◌, ◌++◌, ℕ, List, length, false, Err, IsTrue, IfOk, OnOk, string_bytes};
+ghost use Rattle.std.specs.Prelude.{◌≡◌, ◌≢◌, ◌↔◌, ◌⊎◌, length, false, Err, IsTrue, IfOk, string_bytes};
 ghost use Rattle.serde_json.specs.View.{view};
 ghost use Rattle.odb_doc.specs.declared.fault.Place.TheVariants as places;
 ghost use Rattle.odb_check.specs.Plans.{plan_records};
@@ -9,18 +9,17 @@ ghost use Rattle.odb_engine.specs.declared.halt.Halt.TheVariants as halts;
 ghost use Rattle.odb_engine.specs.Cascade.{Answers};
 ghost use Rattle.odb_engine.specs.Inputs.{AskedFor, BySecond, IsFresh, ReadsFew, SomeDocument};
 ghost use Rattle.odb_engine.specs.Engines.{Ends};
-ghost use Rattle.odb_engine.specs.Forms.{InForm};
 ghost use Rattle.odb_engine.specs.Halts.{Found};
-ghost use Rattle.odb_engine.specs.declared.form.Form.TheVariants.{Lines};
-ghost use Rattle.odb_engine.specs.Matches.{Matches, MatchesIn, MatchesValue, match_text};
+ghost use Rattle.odb_engine.specs.Contents.{OfGiven};
+ghost use Rattle.odb_engine.specs.Matches.{Matches, MatchesValue, match_text};
 
 use crate::disposal::DropOrLeak;
-use crate::ending::{Ended, EngineFault, Sent};
+use crate::ending::{Ended, EngineFault};
 use crate::form::Form;
 use crate::halt::Halt;
-use crate::output::print;
-use crate::pair::{PairCommand, answer_pair};
 use crate::setup::Setup;
+use crate::source::Source;
+use crate::task::{Task, answer_task};
 use odb_check::Plan;
 use odb_doc::Place;
 use odb_io::{Input, Output};
@@ -48,7 +47,12 @@ fn match_text(
 }
 
 /// Returns what is printed of the responses in a value.
-fn matched(alloc: Global, plan: &Plan<'_>, value: &Value, setup: Setup) -> Result<String, Halt>
+fn matched_in(
+    alloc: Global,
+    plan: &Plan<'_>,
+    value: &Value,
+    setup: Setup,
+) -> Result<String, Halt>
     ensures found { Found (MatchesValue setup.form (plan_records plan.now) (view value.now)) result }
     ensures read { result ≢ Err halts.Read }
 {
@@ -60,44 +64,24 @@ fn matched(alloc: Global, plan: &Plan<'_>, value: &Value, setup: Setup) -> Resul
     Ok(match_text(alloc, plan, &table, setup.form)?)
 }
 
-/// Prints the status of each request.
-#[derive(Drop)]
-pub(crate) struct Match {
-    pub(crate) setup: Setup,
-}
-
-impl PairCommand for Match {
-    ghost writes = { λ self. MatchesValue self.setup.form };
-
-    ghost streams = { λ _. ⊥ };
-
-    ghost form = { λ self. self.setup.form };
-
-    ghost place = { λ _. places.Responses };
-
-    fn setup(&self) -> Setup {
-        self.setup
-    }
-
-    fn place(&self) -> Place {
-        Place::Responses
-    }
-
-    fn perform<W: Write>(
-        &mut self,
-        alloc: Global,
-        plan: &Plan<'_>,
-        second: Value,
-        output: &mut Output<W>,
-    ) -> Sent {
-        let setup = self.setup;
-        let value = DropOrLeak {
-            value: second,
-            disposal: setup.disposal,
-        };
-        let text = matched(alloc, plan, &value.value, setup)?;
-        Ok(print(output, &text))
-    }
+/// Returns what is printed of the responses that the second source gives.
+pub fn matched<S: Source>(
+    alloc: Global,
+    plan: &Plan<'_>,
+    second: &mut S,
+    setup: Setup,
+) -> Result<String, Halt>
+    requires { S.is_fresh second.old }
+    ensures found { Found (OfGiven (S.given second.old) places.Responses
+        (MatchesValue setup.form (plan_records plan.now))) result }
+    ensures read { (result ≡ Err halts.Read) ↔ S.has_failed second.new }
+    ensures second { S.reads_few second.old second.new }
+{
+    let value = DropOrLeak {
+        value: second.value(alloc, Place::Responses)?,
+        disposal: setup.disposal,
+    };
+    matched_in(alloc, plan, &value.value, setup)
 }
 
 /// Matches the response document of a service against the batch in a document: writes the count of
@@ -106,7 +90,7 @@ impl PairCommand for Match {
 /// The responses fit the batch if each request has exactly one and nothing else has one, if each has
 /// the group of its request, and if no success rests on a failure. The responses are read only if the
 /// check accepts the batch. The inputs must be new, and the output must not have failed.
-/// [`match_batch_with`] takes a [`Setup`] too, as [`crate::check_batch_with`] does.
+/// [`answer_task`] takes a [`Setup`] too.
 ///
 /// Takes O(n log n) time and O(n) memory for documents of n bytes.
 ///
@@ -130,32 +114,12 @@ pub fn match_batch<R: Read, S: Read, W: Write>(
     ensures batch { ReadsFew R.remaining batch.old batch.new }
     ensures responses { ReadsFew S.remaining responses.old responses.new }
 {
-    match_batch_with(alloc, batch, responses, output, Setup::plain())
-}
-
-/// Does what [`match_batch`] does, with a setup of the caller's.
-///
-/// # Errors
-///
-/// Those of [`match_batch`].
-pub fn match_batch_with<R: Read, S: Read, W: Write>(
-    alloc: Global,
-    batch: &mut Input<R>,
-    responses: &mut Input<S>,
-    output: &mut Output<W>,
-    setup: Setup,
-) -> Result<Ended, EngineFault>
-    requires batch { IsFresh batch.old }
-    requires responses { IsFresh responses.old }
-    requires output { output.old.failed ≡ false }
-    ensures ends { SomeDocument (R.remaining batch.old.reader) (λ bytes. Ends W.contents
-        (InForm setup.form
-        (Answers (BySecond (S.remaining responses.old.reader) (MatchesIn setup.form)) bytes))
-        (IsTrue batch.new.failed ⊎ IsTrue responses.new.failed) output.old output.new result
-        × AskedFor R.remaining batch.old batch.new bytes responses.old responses.new) }
-    ensures memory { result ≡ Err EngineFault.OutOfMemory → output.new ≡ output.old }
-    ensures batch { ReadsFew R.remaining batch.old batch.new }
-    ensures responses { ReadsFew S.remaining responses.old responses.new }
-{
-    answer_pair(alloc, batch, responses, output, &mut Match { setup })
+    answer_task(
+        alloc,
+        batch,
+        responses,
+        output,
+        Task::Match,
+        Setup::plain(),
+    )
 }

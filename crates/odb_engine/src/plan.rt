@@ -1,39 +1,41 @@
-//! The command `plan`: the units, levels and dependencies of a batch.
+//! The command `plan`: the units, levels and dependencies of a batch, or a drawing of them.
 
-ghost use Rattle.std.specs.Prelude.{◌≡◌, false, Err, IsTrue};
+ghost use Rattle.std.specs.Prelude.{◌≡◌, ◌≢◌, false, Err, IsTrue};
+ghost use Rattle.odb_check.specs.Plans.{plan_records};
 ghost use Rattle.odb_engine.specs.Inputs.{IsFresh, ReadsFew, SomeDocument};
 ghost use Rattle.odb_engine.specs.Cascade.{Answers};
 ghost use Rattle.odb_engine.specs.Engines.{Ends};
-ghost use Rattle.odb_engine.specs.Forms.{InForm};
+ghost use Rattle.odb_engine.specs.Halts.{Found};
+ghost use Rattle.odb_engine.specs.declared.halt.Halt.TheVariants as halts;
 ghost use Rattle.odb_engine.specs.Commands as commands;
 
-use crate::command::{Command, answer_batch};
 use crate::ending::{Ended, EngineFault};
 use crate::form::Form;
 use crate::halt::Halt;
-use crate::setup::Setup;
+use crate::task::{Task, answer_one};
 use odb_check::Plan;
-use odb_doc::Batch;
 use odb_io::{Input, Output};
-use odb_text::plan_json;
+use odb_text::{drawing_text, plan_json};
 use std::alloc::Global;
 use std::io::{Read, Write};
 
-/// Prints the plan.
-#[derive(Drop)]
-pub(crate) struct Plans {
-    pub(crate) form: Form,
+/// Returns the plan in a form.
+pub fn planned_text(alloc: Global, plan: &Plan<'_>, form: Form) -> Result<String, Halt>
+    ensures found { Found (commands.PlansIn form (plan_records plan.now)) result }
+    ensures read { result ≢ Err halts.Read }
+{
+    match form {
+        Form::Lines => Ok(plan.text(alloc)?),
+        Form::Json => Ok(plan_json(alloc, plan)?),
+    }
 }
 
-impl Command for Plans {
-    ghost writes = { λ self. commands.PlansIn self.form };
-
-    fn text(&self, alloc: Global, _batch: &Batch<'_>, plan: &Plan<'_>) -> Result<String, Halt> {
-        match self.form {
-            Form::Lines => Ok(plan.text(alloc)?),
-            Form::Json => Ok(plan_json(alloc, plan)?),
-        }
-    }
+/// Returns the drawing of the plan.
+pub fn drawn_text(alloc: Global, plan: &Plan<'_>) -> Result<String, Halt>
+    ensures found { Found (commands.Drawings (plan_records plan.now)) result }
+    ensures read { result ≢ Err halts.Read }
+{
+    Ok(drawing_text(alloc, plan)?)
 }
 
 /// Plans the batch in a document: writes a line per request, or the line of its least fault.
@@ -57,27 +59,5 @@ pub fn plan_batch<R: Read, W: Write>(
     ensures memory { result ≡ Err EngineFault.OutOfMemory → output.new ≡ output.old }
     ensures reads { ReadsFew R.remaining input.old input.new }
 {
-    plan_batch_with(alloc, input, output, Setup::plain())
-}
-
-/// Does what [`plan_batch`] does, with a setup of the caller's.
-///
-/// # Errors
-///
-/// Those of [`crate::check_batch`].
-pub fn plan_batch_with<R: Read, W: Write>(
-    alloc: Global,
-    input: &mut Input<R>,
-    output: &mut Output<W>,
-    setup: Setup,
-) -> Result<Ended, EngineFault>
-    requires input { IsFresh input.old }
-    requires output { output.old.failed ≡ false }
-    ensures ends { SomeDocument (R.remaining input.old.reader) (λ bytes. Ends W.contents
-        (InForm setup.form (Answers (commands.PlansIn setup.form) bytes)) (IsTrue input.new.failed)
-        output.old output.new result) }
-    ensures memory { result ≡ Err EngineFault.OutOfMemory → output.new ≡ output.old }
-    ensures reads { ReadsFew R.remaining input.old input.new }
-{
-    answer_batch(alloc, input, output, &Plans { form: setup.form }, setup)
+    answer_one(alloc, input, output, Task::Plan)
 }

@@ -1,34 +1,35 @@
 //! The command `replay`: the response of a run with recorded outcomes.
 
-ghost use Rattle.std.specs.Prelude.{◌≡◌, ◌≢◌, ◌<◌, ◌⊎◌, Bool, All, false, Err, IsTrue, IfErr, IfOk};
+ghost use Rattle.std.specs.Prelude.{◌≡◌, ◌≢◌, ◌↔◌, ◌<◌, ◌⊎◌, Bool, All, false, Err, IsTrue, IfErr, IfOk};
 ghost use Rattle.serde_json.specs.View.{view};
 ghost use Rattle.odb_doc.specs.declared.fault.Place.TheVariants as places;
 ghost use Rattle.odb_doc.specs.recorded.OutcomeLists.{entries};
 ghost use Rattle.odb_check.specs.Plans.{plan_records};
 ghost use Rattle.odb_sched.specs.run.State.{size};
-ghost use Rattle.odb_sched.specs.run.Choosing.{position_in};
+ghost use Rattle.odb_sched.specs.run.Choosing.{AllowsOrder, position_in};
 ghost use Rattle.odb_reply.specs.NotWhole.{HasWholeBodies};
 ghost use Rattle.odb_engine.specs.declared.ending.Ended.TheVariants.{Done};
 ghost use Rattle.odb_engine.specs.declared.halt.Halt.TheVariants as halts;
 ghost use Rattle.odb_engine.specs.Cascade.{Answers};
+ghost use Rattle.odb_engine.specs.Contents.{OfGiven};
 ghost use Rattle.odb_engine.specs.Engines.{Ends};
-ghost use Rattle.odb_engine.specs.Forms.{InForm};
 ghost use Rattle.odb_engine.specs.Inputs.{AskedFor, IsFresh, ReadsFew, SomeDocument};
 ghost use Rattle.odb_engine.specs.Replays as replays;
-ghost use Rattle.odb_engine.specs.Halts.{Refuses, Halted};
+ghost use Rattle.odb_engine.specs.Halts.{Found, Refuses, Halted};
 
 use crate::disposal::{Disposal, DropOrLeak};
-use crate::ending::{Ended, EngineFault, Sent};
+use crate::command::{Command, answer_command};
+use crate::ending::{Ended, EngineFault};
 use crate::halt::Halt;
-use crate::output::send;
-use crate::pair::{PairCommand, answer_pair};
+use crate::response::push_response;
 use crate::setup::Setup;
+use crate::source::Source;
 use odb_check::Plan;
-use odb_doc::{Outcomes, Place};
-use odb_exec::{Chooser, Recorded, Trace, execute};
+use odb_doc::{Batch, Outcomes, Place};
+use odb_exec::{Chooser, First, Last, Recorded, Trace, Wide, execute};
 use odb_io::{Input, Output};
 use odb_reply::laws::every_response;
-use odb_sched::Policy;
+use odb_sched::{Order, Policy};
 use odb_text::trace_part;
 use serde_json::Value;
 use std::alloc::Global;
@@ -48,14 +49,12 @@ fn outcomes_of(alloc: Global, value: Value, disposal: Disposal) -> Result<Outcom
     Ok(outcomes)
 }
 
-/// Writes the result of an execution by recorded outcomes. `C` is `&mut dyn Chooser`: a field cannot
-/// have that type itself.
+/// A replay in the order of a chooser. `C` is `&mut dyn Chooser`: a field cannot have that type itself.
 #[derive(Drop)]
-pub(crate) struct Replay<C> {
-    pub(crate) policy: Policy,
-    pub(crate) chooser: C,
-    pub(crate) traced: bool,
-    pub(crate) setup: Setup,
+struct Replay<C> {
+    policy: Policy,
+    chooser: C,
+    traced: bool,
 }
 
 /// Executes a plan by recorded outcomes.
@@ -64,6 +63,7 @@ fn run_of<'a: 'p, 'p>(
     plan: &'p Plan<'a>,
     outcomes: Outcomes,
     replay: &mut Replay<&mut dyn Chooser>,
+    disposal: Disposal,
 ) -> Result<Trace<'p>, Halt>
     ensures result { IfOk result (λ trace. (traced : Bool) → replays.IsResult
         ((Chooser-dyn replay.old.chooser.now).allows replay.old.chooser.now.1) replay.old.policy
@@ -81,7 +81,7 @@ fn run_of<'a: 'p, 'p>(
     let _count = outcomes.len();
     let mut service = DropOrLeak {
         value: Recorded::new(alloc, plan, outcomes)?,
-        disposal: replay.setup.disposal,
+        disposal,
     };
     let chooser = &mut *replay.chooser;
     let trace = execute(alloc, plan, replay.policy, chooser, &mut service.value)?;
@@ -89,39 +89,109 @@ fn run_of<'a: 'p, 'p>(
     Ok(trace)
 }
 
-impl<'c> PairCommand for Replay<&'c mut dyn Chooser> {
-    ghost writes = { λ self. replays.ReplaysValue
-        ((Chooser-dyn self.chooser.now).allows self.chooser.now.1) self.policy self.traced };
+/// Returns the result of an execution by the outcomes in a value.
+fn replayed_in(
+    alloc: Global,
+    plan: &Plan<'_>,
+    value: Value,
+    replay: &mut Replay<&mut dyn Chooser>,
+    disposal: Disposal,
+) -> Result<String, Halt>
+    ensures found { Found (replays.ReplaysValue
+        ((Chooser-dyn replay.old.chooser.now).allows replay.old.chooser.now.1) replay.old.policy
+        replay.old.traced (plan_records plan.now) (view value)) result }
+    ensures read { result ≢ Err halts.Read }
+{
+    let traced = replay.traced;
+    let outcomes = outcomes_of(alloc, value, disposal)?;
+    let trace = DropOrLeak {
+        value: run_of(alloc, plan, outcomes, replay, disposal)?,
+        disposal,
+    };
+    let mut text = trace_part(alloc, &trace.value, traced)?;
+    push_response(alloc, &mut text, &trace.value.done)?;
+    Ok(text)
+}
 
-    ghost streams = { λ _. Unit {0} };
+/// Returns the result of an execution by the outcomes that the second source gives.
+fn replayed_by<S: Source>(
+    alloc: Global,
+    plan: &Plan<'_>,
+    second: &mut S,
+    replay: &mut Replay<&mut dyn Chooser>,
+    disposal: Disposal,
+) -> Result<String, Halt>
+    requires { S.is_fresh second.old }
+    ensures found { Found (OfGiven (S.given second.old) places.Outcomes (replays.ReplaysValue
+        ((Chooser-dyn replay.old.chooser.now).allows replay.old.chooser.now.1) replay.old.policy
+        replay.old.traced (plan_records plan.now))) result }
+    ensures read { (result ≡ Err halts.Read) ↔ S.has_failed second.new }
+    ensures second { S.reads_few second.old second.new }
+{
+    let value = second.value(alloc, Place::Outcomes)?;
+    replayed_in(alloc, plan, value, replay, disposal)
+}
 
-    ghost form = { λ self. self.setup.form };
+/// Returns the result of an execution in the order of a chooser, by the outcomes that the second source gives.
+fn replayed<S: Source>(
+    alloc: Global,
+    plan: &Plan<'_>,
+    second: &mut S,
+    policy: Policy,
+    chooser: &mut dyn Chooser,
+    traced: bool,
+    disposal: Disposal,
+) -> Result<String, Halt>
+    requires { S.is_fresh second.old }
+    ensures found { Found (OfGiven (S.given second.old) places.Outcomes (replays.ReplaysValue
+        (allows chooser.old) policy traced (plan_records plan.now))) result }
+    ensures read { (result ≡ Err halts.Read) ↔ S.has_failed second.new }
+    ensures second { S.reads_few second.old second.new }
+{
+    let mut replay = Replay {
+        policy,
+        chooser,
+        traced,
+    };
+    replayed_by(alloc, plan, second, &mut replay, disposal)
+}
 
-    ghost place = { λ _. places.Outcomes };
-
-    fn setup(&self) -> Setup {
-        self.setup
+/// Returns the result of an execution in an order, by the outcomes that the second source gives.
+pub fn replayed_in_order<S: Source>(
+    alloc: Global,
+    plan: &Plan<'_>,
+    second: &mut S,
+    policy: Policy,
+    order: Order,
+    traced: bool,
+    disposal: Disposal,
+) -> Result<String, Halt>
+    requires { S.is_fresh second.old }
+    ensures found { Found (OfGiven (S.given second.old) places.Outcomes (replays.ReplaysValue
+        (AllowsOrder order) policy traced (plan_records plan.now))) result }
+    ensures read { (result ≡ Err halts.Read) ↔ S.has_failed second.new }
+    ensures second { S.reads_few second.old second.new }
+{
+    match order {
+        Order::First => replayed(alloc, plan, second, policy, &mut First, traced, disposal),
+        Order::Last => replayed(alloc, plan, second, policy, &mut Last, traced, disposal),
+        Order::Wide => replayed(alloc, plan, second, policy, &mut Wide, traced, disposal),
     }
+}
 
-    fn place(&self) -> Place {
-        Place::Outcomes
-    }
+impl<'c> Command for Replay<&'c mut dyn Chooser> {
+    ghost writes = { λ self _ second batch. OfGiven second places.Outcomes (replays.ReplaysValue
+        ((Chooser-dyn self.chooser.now).allows self.chooser.now.1) self.policy self.traced batch) };
 
-    fn perform<W: Write>(
+    fn text<S: Source>(
         &mut self,
         alloc: Global,
+        _batch: &Batch<'_>,
         plan: &Plan<'_>,
-        second: Value,
-        output: &mut Output<W>,
-    ) -> Sent {
-        let (disposal, traced) = (self.setup.disposal, self.traced);
-        let outcomes = outcomes_of(alloc, second, disposal)?;
-        let trace = DropOrLeak {
-            value: run_of(alloc, plan, outcomes, self)?,
-            disposal,
-        };
-        let start = trace_part(alloc, &trace.value, traced)?;
-        Ok(send(alloc, output, &start, &trace.value.done))
+        second: &mut S,
+        setup: Setup,
+    ) -> Result<String, Halt> {
+        replayed_by(alloc, plan, second, self, setup.disposal)
     }
 }
 
@@ -130,19 +200,16 @@ impl<'c> PairCommand for Replay<&'c mut dyn Chooser> {
 ///
 /// The inputs must be new, and the output must not have failed. The chooser gives the order, and the
 /// policy whether an error stops the run and how many requests may run at once. The outcomes are read
-/// only if the check accepts the batch. [`replay_batch_with`] takes a [`Setup`] too, as
-/// [`crate::check_batch_with`] does.
+/// only if the check accepts the batch. [`crate::answer_task`] takes a [`Setup`] too, and an order by its name.
 ///
-/// Both documents and the lines of the trace are held in memory; the response is written through a
-/// buffer, as [`odb_reply::write_responses`] does. If the chooser follows an order, takes O(n log n)
-/// time for n bytes of documents and output; else the chooser is asked at each step.
+/// Both documents, the trace and the response are held in memory. If the chooser follows an order, takes
+/// O(n log n) time for n bytes of documents and output; else the chooser is asked at each step.
 ///
 /// # Errors
 ///
 /// - `Read` if and only if an input failed; nothing was written.
 /// - `Write` if and only if the output failed; it has received a prefix of what is written.
-/// - `OutOfMemory` if an allocation fails; nothing was written, or a prefix of the trace and the
-///   response.
+/// - `OutOfMemory` if an allocation fails; nothing was written.
 pub fn replay_batch<R: Read, S: Read, W: Write>(
     alloc: Global,
     batch: &mut Input<R>,
@@ -160,44 +227,7 @@ pub fn replay_batch<R: Read, S: Read, W: Write>(
         (S.remaining outcomes.old.reader)) bytes)
         (IsTrue batch.new.failed ⊎ IsTrue outcomes.new.failed) output.old output.new result
         × AskedFor R.remaining batch.old batch.new bytes outcomes.old outcomes.new) }
-    ensures batch { ReadsFew R.remaining batch.old batch.new }
-    ensures outcomes { ReadsFew S.remaining outcomes.old outcomes.new }
-{
-    replay_batch_with(
-        alloc,
-        batch,
-        outcomes,
-        output,
-        policy,
-        chooser,
-        traced,
-        Setup::plain(),
-    )
-}
-
-/// Does what [`replay_batch`] does, with a setup of the caller's.
-///
-/// # Errors
-///
-/// Those of [`replay_batch`].
-pub fn replay_batch_with<R: Read, S: Read, W: Write>(
-    alloc: Global,
-    batch: &mut Input<R>,
-    outcomes: &mut Input<S>,
-    output: &mut Output<W>,
-    policy: Policy,
-    chooser: &mut dyn Chooser,
-    traced: bool,
-    setup: Setup,
-) -> Result<Ended, EngineFault>
-    requires batch { IsFresh batch.old }
-    requires outcomes { IsFresh outcomes.old }
-    requires output { output.old.failed ≡ false }
-    ensures ends { SomeDocument (R.remaining batch.old.reader) (λ bytes. Ends W.contents
-        (InForm setup.form (Answers (replays.Replays (allows chooser.old) policy traced
-        (S.remaining outcomes.old.reader)) bytes))
-        (IsTrue batch.new.failed ⊎ IsTrue outcomes.new.failed) output.old output.new result
-        × AskedFor R.remaining batch.old batch.new bytes outcomes.old outcomes.new) }
+    ensures memory { result ≡ Err EngineFault.OutOfMemory → output.new ≡ output.old }
     ensures batch { ReadsFew R.remaining batch.old batch.new }
     ensures outcomes { ReadsFew S.remaining outcomes.old outcomes.new }
 {
@@ -205,7 +235,6 @@ pub fn replay_batch_with<R: Read, S: Read, W: Write>(
         policy,
         chooser,
         traced,
-        setup,
     };
-    answer_pair(alloc, batch, outcomes, output, &mut replay)
+    answer_command(alloc, batch, outcomes, output, &mut replay, Setup::plain())
 }

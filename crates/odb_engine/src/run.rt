@@ -1,6 +1,6 @@
 //! The command `run`: the response of a run with recorded events.
 
-ghost use Rattle.std.specs.Prelude.{◌≡◌, ◌≢◌, ◌⊎◌, false, Err, IsTrue, IfErr, IfOk};
+ghost use Rattle.std.specs.Prelude.{◌≡◌, ◌≢◌, ◌↔◌, ◌⊎◌, false, Err, IsTrue, IfErr, IfOk};
 ghost use Rattle.serde_json.specs.View.{view};
 ghost use Rattle.odb_doc.specs.declared.fault.Place.TheVariants as places;
 ghost use Rattle.odb_doc.specs.recorded.EventLists.{entries};
@@ -9,19 +9,20 @@ ghost use Rattle.odb_reply.specs.NotWhole.{HasWholeBodies};
 ghost use Rattle.odb_engine.specs.declared.ending.Ended.TheVariants as ends;
 ghost use Rattle.odb_engine.specs.declared.halt.Halt.TheVariants as halts;
 ghost use Rattle.odb_engine.specs.Cascade.{Answers};
+ghost use Rattle.odb_engine.specs.Contents.{OfGiven};
 ghost use Rattle.odb_engine.specs.Engines.{Ends};
-ghost use Rattle.odb_engine.specs.Forms.{InForm};
 ghost use Rattle.odb_engine.specs.Inputs.{AskedFor, IsFresh, ReadsFew, SomeDocument};
 ghost use Rattle.odb_text.specs.Lines.{response_line};
 ghost use Rattle.odb_engine.specs.Runs as runs;
-ghost use Rattle.odb_engine.specs.Halts.{Halted};
+ghost use Rattle.odb_engine.specs.Halts.{Found, Halted};
 
 use crate::disposal::{Disposal, DropOrLeak};
-use crate::ending::{Ended, EngineFault, Sent};
+use crate::ending::{Ended, EngineFault};
 use crate::halt::Halt;
-use crate::output::send;
-use crate::pair::{PairCommand, answer_pair};
+use crate::response::push_response;
 use crate::setup::Setup;
+use crate::source::Source;
+use crate::task::{Task, answer_task};
 use odb_check::Plan;
 use odb_doc::{Events, Place, Refusal};
 use odb_io::{Input, Output};
@@ -83,45 +84,43 @@ fn done_of<'a: 'p, 'p>(
     Ok(done)
 }
 
-/// Writes the response to a run by recorded events.
-#[derive(Drop)]
-pub(crate) struct Run {
-    pub(crate) policy: Policy,
-    pub(crate) setup: Setup,
+/// Returns the response to a run by the events in a value.
+fn ran_in(
+    alloc: Global,
+    plan: &Plan<'_>,
+    value: Value,
+    policy: Policy,
+    disposal: Disposal,
+) -> Result<String, Halt>
+    ensures found { Found (runs.RunsValue policy (plan_records plan.now) (view value)) result }
+    ensures read { result ≢ Err halts.Read }
+{
+    let events = events_of(alloc, value, disposal)?;
+    let done = DropOrLeak {
+        value: done_of(alloc, plan, events, policy, disposal)?,
+        disposal,
+    };
+    let mut text = String::new(alloc);
+    push_response(alloc, &mut text, &done.value)?;
+    Ok(text)
 }
 
-impl PairCommand for Run {
-    ghost writes = { λ self. runs.RunsValue self.policy };
-
-    ghost streams = { λ _. Unit {0} };
-
-    ghost form = { λ self. self.setup.form };
-
-    ghost place = { λ _. places.Events };
-
-    fn setup(&self) -> Setup {
-        self.setup
-    }
-
-    fn place(&self) -> Place {
-        Place::Events
-    }
-
-    fn perform<W: Write>(
-        &mut self,
-        alloc: Global,
-        plan: &Plan<'_>,
-        second: Value,
-        output: &mut Output<W>,
-    ) -> Sent {
-        let disposal = self.setup.disposal;
-        let events = events_of(alloc, second, disposal)?;
-        let done = DropOrLeak {
-            value: done_of(alloc, plan, events, self.policy, disposal)?,
-            disposal,
-        };
-        Ok(send(alloc, output, "", &done.value))
-    }
+/// Returns the response to a run by the events that the second source gives.
+pub fn ran<S: Source>(
+    alloc: Global,
+    plan: &Plan<'_>,
+    second: &mut S,
+    policy: Policy,
+    disposal: Disposal,
+) -> Result<String, Halt>
+    requires { S.is_fresh second.old }
+    ensures found { Found (OfGiven (S.given second.old) places.Events
+        (runs.RunsValue policy (plan_records plan.now))) result }
+    ensures read { (result ≡ Err halts.Read) ↔ S.has_failed second.new }
+    ensures second { S.reads_few second.old second.new }
+{
+    let value = second.value(alloc, Place::Events)?;
+    ran_in(alloc, plan, value, policy, disposal)
 }
 
 /// Runs the batch in a document by the recorded events in another: writes the response if every event
@@ -129,20 +128,20 @@ impl PairCommand for Run {
 ///
 /// The inputs must be new, and the output must not have failed. The policy sets whether an error stops
 /// the run and how many requests may run at once. The events are read only if the check accepts the
-/// batch. [`run_batch_with`] takes a [`Setup`] too, as [`crate::check_batch_with`] does.
+/// batch. [`answer_task`] takes a [`Setup`] too.
 ///
 /// The faults come in this order: those of the batch; those of the events document; F65 of the first
 /// event that names no request; the first event that may not come, with its first cause, S1 to S5 or
 /// P1 and P2; and F66 if the run is not finished.
 ///
-/// Both documents are held in memory; the response is written through a buffer, as
-/// [`odb_reply::write_responses`] does. Takes O(n log n) time for n bytes of documents and output.
+/// Both documents and the response are held in memory. Takes O(n log n) time for n bytes of documents and
+/// output.
 ///
 /// # Errors
 ///
 /// - `Read` if and only if an input failed; nothing was written.
 /// - `Write` if and only if the output failed; it has received a prefix of what is written.
-/// - `OutOfMemory` if an allocation fails; nothing was written, or a prefix of the response.
+/// - `OutOfMemory` if an allocation fails; nothing was written.
 pub fn run_batch<R: Read, S: Read, W: Write>(
     alloc: Global,
     batch: &mut Input<R>,
@@ -157,35 +156,16 @@ pub fn run_batch<R: Read, S: Read, W: Write>(
         (Answers (runs.Runs policy (S.remaining events.old.reader)) bytes)
         (IsTrue batch.new.failed ⊎ IsTrue events.new.failed) output.old output.new result
         × AskedFor R.remaining batch.old batch.new bytes events.old events.new) }
+    ensures memory { result ≡ Err EngineFault.OutOfMemory → output.new ≡ output.old }
     ensures batch { ReadsFew R.remaining batch.old batch.new }
     ensures events { ReadsFew S.remaining events.old events.new }
 {
-    run_batch_with(alloc, batch, events, output, policy, Setup::plain())
-}
-
-/// Does what [`run_batch`] does, with a setup of the caller's.
-///
-/// # Errors
-///
-/// Those of [`run_batch`].
-pub fn run_batch_with<R: Read, S: Read, W: Write>(
-    alloc: Global,
-    batch: &mut Input<R>,
-    events: &mut Input<S>,
-    output: &mut Output<W>,
-    policy: Policy,
-    setup: Setup,
-) -> Result<Ended, EngineFault>
-    requires batch { IsFresh batch.old }
-    requires events { IsFresh events.old }
-    requires output { output.old.failed ≡ false }
-    ensures ends { SomeDocument (R.remaining batch.old.reader) (λ bytes. Ends W.contents
-        (InForm setup.form (Answers (runs.Runs policy (S.remaining events.old.reader)) bytes))
-        (IsTrue batch.new.failed ⊎ IsTrue events.new.failed) output.old output.new result
-        × AskedFor R.remaining batch.old batch.new bytes events.old events.new) }
-    ensures batch { ReadsFew R.remaining batch.old batch.new }
-    ensures events { ReadsFew S.remaining events.old events.new }
-{
-    let mut run = Run { policy, setup };
-    answer_pair(alloc, batch, events, output, &mut run)
+    answer_task(
+        alloc,
+        batch,
+        events,
+        output,
+        Task::Run { policy },
+        Setup::plain(),
+    )
 }

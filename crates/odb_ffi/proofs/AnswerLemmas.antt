@@ -1,5 +1,6 @@
 -- What is given to the caller is what an engine has found.
-use Rattle.std.proofs.Common.{ℕ, List, Option, Some, None, IfSome, Result, Ok, Err, String, sym, subst}
+use Rattle.std.proofs.Common.{ℕ, List, IfOk, Result, Ok, Err, String, sym, subst}
+use Rattle.std.specs.declared.alloc.AllocError.{AllocError}
 use Rattle.std.specs.declared.alloc.Global.{Global}
 use Rattle.odb_doc.specs.Refusals.{Printed, printed}
 use Rattle.odb_engine.specs.declared.ending.Ended.{Ended}
@@ -23,13 +24,13 @@ reported Is halts.Read ended text is none = absurd none
 reported Is halts.OutOfMemory ended text is none = absurd none
 
 -- what is written of what was found
-pub answer-written : (P : Writes) (found : Result (String Global) Halt) (answer : Option Answer) → Found P found → IfSome answer (λ a. text_found forms.Lines found a.ended a.text.items)
-    → IfSome answer (λ a. P a.ended a.text.items)
-answer-written P found None so is = tt
-answer-written P found (Some a) so is = written P found a.ended a.text.items so is
+pub answer-written : (P : Writes) (found : Result (String Global) Halt) (answer : Result Answer AllocError) → Found P found → IfOk answer (λ a. text_found forms.Lines found a.ended a.text.items)
+    → IfOk answer (λ a. P a.ended a.text.items)
+answer-written P found (Err error) so is = tt
+answer-written P found (Ok a) so is = written P found a.ended a.text.items so is
 
 -- the line of a fault
-pub answer-reported : (Is : Printed → Type 0) (halt : Halt) (answer : Option Answer) → Halted Is halt → IfSome answer (λ a. text_found forms.Lines (Err halt) a.ended a.text.items)
-    → IfSome answer (λ a. Reports Is a.ended a.text.items)
-answer-reported Is halt None is so = tt
-answer-reported Is halt (Some a) is so = reported Is halt a.ended a.text.items is so
+pub answer-reported : (Is : Printed → Type 0) (halt : Halt) (answer : Result Answer AllocError) → Halted Is halt → IfOk answer (λ a. text_found forms.Lines (Err halt) a.ended a.text.items)
+    → IfOk answer (λ a. Reports Is a.ended a.text.items)
+answer-reported Is halt (Err error) is so = tt
+answer-reported Is halt (Ok a) is so = reported Is halt a.ended a.text.items is so

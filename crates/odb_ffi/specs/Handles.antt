@@ -1,7 +1,7 @@
--- A handle whose session changes.
-use Rattle.odb_ffi.specs.declared.session.Session.{Session}
+-- A handle whose live run changes.
+use Rattle.odb_engine.specs.declared.live.LiveRun.{LiveRun}
 use Rattle.odb_ffi.specs.declared.handle.Handle.{Handle}
 
--- the handle with another session at its address
-abbrev pub with_session : Handle → Session → Handle
-with_session handle session = record handle { value = session }
+-- the handle with another live run at its address
+abbrev pub with_live : Handle → LiveRun → Handle
+with_live handle live = record handle { value = live }

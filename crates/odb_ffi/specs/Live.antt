@@ -12,40 +12,19 @@ use Rattle.odb_sched.specs.declared.refusal.StartRefusal.{StartRefusal}
 use Rattle.odb_sched.specs.declared.refusal.ReportRefusal.{ReportRefusal}
 use Rattle.odb_sched.specs.run.Steps.{IsStartCause, IsReportCause, start_number, report_number, is_finished, may_start, may_report}
 use Rattle.odb_sched.specs.run.Answers.{undone}
-use Rattle.odb_sched.specs.run.State.{State, size, started, reported, without_requests}
+use Rattle.odb_sched.specs.run.State.{State, size, started, reported}
 use Rattle.odb_engine.specs.Cascade as cascade
-use Rattle.odb_engine.specs.declared.ids.Ids.{Ids}
-use Rattle.odb_engine.specs.Ids.{AreIdsIn, at_id}
-use Rattle.odb_engine.specs.Live.{Opens, IsLeastOfOpening}
-use Rattle.odb_ffi.specs.declared.session.Session.{Session}
+use Rattle.odb_engine.specs.declared.live.LiveRun.{LiveRun}
+use Rattle.odb_engine.specs.Labels.{position_of}
+use Rattle.odb_engine.specs.Live.{Opens, IsLeastOfOpening, with_run}
 use Rattle.odb_ffi.specs.Positions.{Are, GivesPositions}
-use Rattle.odb_ffi.specs.Returns.{IsOutOfMemory, IsWrongOption, Returns}
+use Rattle.odb_ffi.specs.Returns.{IsOutOfMemory, Returns}
 
--- the run of the batch in a document after the events in another, with the document, its ids and the seed
-pub record IsOpened (policy : Policy) (batch events : List ℕ) (seed : ℕ) (session : Session) : Type 0 where
-  pub document : session.document.items ≡ batch
-  pub ids : AreIdsIn batch session.ids
-  pub of_seed : session.seed ≡ seed
-  pub run : Opens policy batch events session.run
-
--- What is returned if a run is to be opened, and what is in its place then. Where it is not opened, the text is the line of
--- the least fault, and the place is as it was.
-pub data Opening (policy : Policy) (batch events : List ℕ) (seed : ℕ) (status text_length : ℕ) (old new : List ℕ) (was is : Option Session) : Type 0 where
-  Opened : (session : Session) → is ≡ Some session → IsOpened policy batch events seed session → status ≡ 0 → text_length ≡ 0 → new ≡ old → Opening policy batch events seed status text_length old new was is
-  NotOpened : is ≡ was → Returns (cascade.Reports (IsLeastOfOpening policy batch events)) status text_length old new → Opening policy batch events seed status text_length old new was is
-
--- what is returned if a run is to be opened under the policy that two numbers name, or that they name none
-pub data OpeningBy (Names : Policy → Type 0) (NamesNone : Type 0) (batch events : List ℕ) (seed : ℕ) (status text_length : ℕ) (old new : List ℕ) (was is : Option Session) : Type 0 where
-  Named : (policy : Policy) → Names policy → Opening policy batch events seed status text_length old new was is → OpeningBy Names NamesNone batch events seed status text_length old new was is
-  WrongOption : NamesNone → IsWrongOption status text_length old new → is ≡ was → OpeningBy Names NamesNone batch events seed status text_length old new was is
-
--- the session with its run in this state
-abbrev pub IsWith : Session → State → Session → Type 0
-IsWith old run new = (new.document ≡ old.document) × (new.ids ≡ old.ids) × (new.seed ≡ old.seed) × (new.run ≡ run)
-
--- The run is as it was. It has no requests: it knows them by their positions alone.
-abbrev pub IsSame : Session → Session → Type 0
-IsSame old new = (new.document ≡ old.document) × (new.ids ≡ old.ids) × (new.seed ≡ old.seed) × (without_requests new.run ≡ without_requests old.run)
+-- What is returned if a live run is to be opened, and what is in its place then. Where it is not opened, the text is the
+-- line of the least fault.
+pub data Opening (policy : Policy) (batch events : List ℕ) (is : Option LiveRun) (status text_length : ℕ) (old new : List ℕ) : Type 0 where
+  Opened : (live : LiveRun) → is ≡ Some live → Opens policy batch events live → status ≡ 0 → text_length ≡ 0 → new ≡ old → Opening policy batch events is status text_length old new
+  NotOpened : Returns (cascade.Reports (IsLeastOfOpening policy batch events)) status text_length old new → Opening policy batch events is status text_length old new
 
 -- What a call returns that gives the undone positions of a run, from the last to the first: it gives them only of a finished
 -- run. Otherwise their number is 0, and the buffer is as it was.
@@ -56,20 +35,20 @@ pub data GivesUndone (run : State) (status count : ℕ) (old new : List ℕ) : T
 
 -- What a call returns that looks for the request with an id: its position, or that there is none, and the place of the
 -- position is as it was.
-pub data GivesPosition (ids : Ids) (id : List ℕ) (status old new : ℕ) : Type 0 where
-  Found : at_id ids id ≡ Some new → status ≡ 0 → GivesPosition ids id status old new
-  NoRequest : at_id ids id ≡ None → status ≡ 2 → new ≡ old → GivesPosition ids id status old new
+pub data GivesPosition (live : LiveRun) (id : List ℕ) (status old new : ℕ) : Type 0 where
+  Found : position_of live.labels id ≡ Some new → status ≡ 0 → GivesPosition live id status old new
+  NoRequest : position_of live.labels id ≡ None → status ≡ 2 → new ≡ old → GivesPosition live id status old new
 
 -- What the start of a request returns: 0 if it may come, and the run has gone on; the first cause against it, or that there
 -- is no such request, and nothing has changed.
-pub data Starts (old new : Session) (i status : ℕ) : Type 0 where
-  Started : i < size old.run → may_start old.run i ≡ true → status ≡ 0 → IsWith old (started old.run i) new → Starts old new i status
+pub data Starts (old new : LiveRun) (i status : ℕ) : Type 0 where
+  Started : i < size old.run → may_start old.run i ≡ true → status ≡ 0 → new ≡ with_run old (started old.run i) → Starts old new i status
   Refused : (cause : StartRefusal) → i < size old.run → IsStartCause old.run i cause → status ≡ 10 + start_number cause → new ≡ old → Starts old new i status
   NoRequest : size old.run ≤ i → status ≡ 2 → new ≡ old → Starts old new i status
 
 -- what the report of a request with an outcome returns
-pub data Takes (old new : Session) (i : ℕ) (outcome : Outcome) (status : ℕ) : Type 0 where
-  Taken : may_report old.run i outcome ≡ true → status ≡ 0 → IsWith old (reported old.run i outcome) new → Takes old new i outcome status
+pub data Takes (old new : LiveRun) (i : ℕ) (outcome : Outcome) (status : ℕ) : Type 0 where
+  Taken : may_report old.run i outcome ≡ true → status ≡ 0 → new ≡ with_run old (reported old.run i outcome) → Takes old new i outcome status
   Refused : (cause : ReportRefusal) → IsReportCause old.run i outcome cause → status ≡ 20 + report_number cause → new ≡ old → Takes old new i outcome status
 
 -- the bytes are the JSON of this value, or there are none
@@ -96,7 +75,7 @@ pub data NoReport (headers body : List ℕ) : Type 0 where
   OfDepth : (value : Data) → IsDocument body value → 124 < depth value → NoReport headers body
 
 -- What the report of a request returns. Nothing has changed but with 0.
-pub data Reports (old new : Session) (i status : ℕ) (headers body : List ℕ) (returned : ℕ) : Type 0 where
+pub data Reports (old new : LiveRun) (i status : ℕ) (headers body : List ℕ) (returned : ℕ) : Type 0 where
   Taken : (outcome : Outcome) → i < size old.run → IsReported status headers body outcome → Takes old new i outcome returned → Reports old new i status headers body returned
   Refused : NoReport headers body → returned ≡ 1 → new ≡ old → Reports old new i status headers body returned
   NoRequest : size old.run ≤ i → returned ≡ 2 → new ≡ old → Reports old new i status headers body returned

@@ -7,7 +7,8 @@ use Rattle.odb_sched.specs.declared.policy.Mode.TheVariants.{Continue, Stop}
 use Rattle.odb_sched.specs.declared.policy.Policy.{Policy}
 use Rattle.odb_engine.specs.declared.form.Form.{Form}
 use Rattle.odb_engine.specs.declared.form.Form.TheVariants.{Lines, Json}
-use Rattle.odb_ffi.specs.declared.options.ReplayOptions.{ReplayOptions}
+use Rattle.odb_engine.specs.declared.task.Task.{Task}
+use Rattle.odb_engine.specs.declared.task.Task.TheVariants as tasks
 
 abbrev pub mode_number : Mode → ℕ
 mode_number Continue = 0
@@ -50,28 +51,16 @@ NamesNoOrder order = 2 < order
 abbrev pub NamesNoFlag : ℕ → Type 0
 NamesNoFlag flag = 1 < flag
 
--- these numbers name the options of a replay
-pub record IsReplay (mode width order trace : ℕ) (replay : ReplayOptions) : Type 0 where
-  pub of_policy : IsPolicy mode width replay.policy
-  pub of_order : order ≡ order_number replay.order
-  pub of_trace : trace ≡ flag_number replay.traced
+-- these numbers name the run
+abbrev pub IsRun : ℕ → ℕ → Task → Type 0
+IsRun mode width (tasks.Run policy) = IsPolicy mode width policy
+IsRun mode width _ = ⊥
+
+-- these numbers name the replay
+abbrev pub IsReplay : ℕ → ℕ → ℕ → ℕ → Task → Type 0
+IsReplay mode width order trace (tasks.Replay policy by traced) = IsPolicy mode width policy × (order ≡ order_number by) × (trace ≡ flag_number traced)
+IsReplay mode width order trace _ = ⊥
 
 -- one of these numbers names no option of a replay
 abbrev pub NamesNoReplay : ℕ → ℕ → ℕ → ℕ → Type 0
 NamesNoReplay mode width order trace = NamesNoPolicy mode width ⊎ (NamesNoOrder order ⊎ NamesNoFlag trace)
-
--- these numbers name the policy and the form
-abbrev pub IsRunIn : ℕ → ℕ → ℕ → Policy × Form → Type 0
-IsRunIn mode width form run = IsPolicy mode width run.0 × IsForm form run.1
-
--- one of these numbers names no policy, or no form
-abbrev pub NamesNoRunIn : ℕ → ℕ → ℕ → Type 0
-NamesNoRunIn mode width form = NamesNoPolicy mode width ⊎ NamesNoForm form
-
--- these numbers name the options of a replay and the form
-abbrev pub IsReplayIn : ℕ → ℕ → ℕ → ℕ → ℕ → ReplayOptions × Form → Type 0
-IsReplayIn mode width order trace form replay = IsReplay mode width order trace replay.0 × IsForm form replay.1
-
--- one of these numbers names no option of a replay, or no form
-abbrev pub NamesNoReplayIn : ℕ → ℕ → ℕ → ℕ → ℕ → Type 0
-NamesNoReplayIn mode width order trace form = NamesNoReplay mode width order trace ⊎ NamesNoForm form

@@ -5,10 +5,10 @@ use Rattle.std.specs.Prelude.{Option, None, Some}
 use Rattle.std.specs.Box.Ownership.{box_owns}
 use Rattle.std.specs.declared.alloc.Global.{Global}
 use Rattle.std.specs.contracts.impls.GlobalAllocator.TheImpl.{ghosts}
-use Rattle.odb_ffi.specs.declared.session.Session.{Session}
-use Rattle.odb_ffi.specs.contracts.session.Session.{the_row}
+use Rattle.odb_engine.specs.declared.live.LiveRun.{LiveRun}
+use Rattle.odb_engine.specs.contracts.live.LiveRun.{the_row}
 
--- the box of the session at an address, if there is one
-abbrev pub owns_box : Global → Ptr → Option Session → Fml
+-- the box of the live run at an address, if there is one
+abbrev pub owns_box : Global → Ptr → Option LiveRun → Fml
 owns_box alloc at None = ftrue
-owns_box alloc at (Some session) = box_owns (ghosts.dealloc_token alloc) the_row at session
+owns_box alloc at (Some live) = box_owns (ghosts.dealloc_token alloc) the_row at live

@@ -1,12 +1,13 @@
 -- What a call from C returns, and what it leaves in the buffer of its caller.
-use Rattle.std.specs.Prelude.{◌≡◌, ◌<◌, ◌≤◌, ℕ, List, Some, ◌++◌, length, drop}
-use Rattle.odb_doc.specs.batch.Records.{Record}
+use Rattle.std.specs.Prelude.{◌≡◌, ◌<◌, ◌≤◌, ℕ, List, ◌++◌, length, drop}
 use Rattle.odb_engine.specs.declared.ending.Ended.{Ended}
 use Rattle.odb_engine.specs.declared.ending.Ended.TheVariants.{Done, Refused}
 use Rattle.odb_engine.specs.declared.form.Form.{Form}
 use Rattle.odb_engine.specs.Cascade.{Writes, Answers}
 use Rattle.odb_engine.specs.Forms.{InForm}
-use Rattle.odb_engine.specs.Inputs.{SomeDocument}
+use Rattle.odb_engine.specs.Contents.Given.{InMemory}
+use Rattle.odb_engine.specs.Tasks.{OfTask}
+use Rattle.odb_engine.specs.declared.task.Task.{Task}
 
 -- the status of an end
 abbrev pub status_of : Ended → ℕ
@@ -17,13 +18,9 @@ status_of Refused = 1
 abbrev pub Is : Ended → List ℕ → Writes
 Is ended text ended₁ text₁ = (ended₁ ≡ ended) × (text₁ ≡ text)
 
--- what a command writes of the document in these bytes
-abbrev pub WritesOf : List ℕ → (List ℕ → Writes) → Writes
-WritesOf bytes P ended text = SomeDocument (Some bytes) (λ document. P document ended text)
-
--- the cascade of a command, in a form
-abbrev pub AnswersIn : Form → (List Record → Writes) → List ℕ → Writes
-AnswersIn form P bytes = InForm form (Answers P bytes)
+-- what a task writes of the documents in these bytes, in a form; the second is one only if the task takes one
+abbrev pub Does : Task → Form → List ℕ → List ℕ → Writes
+Does task form batch second = InForm form (Answers (OfTask task form (InMemory second)) batch)
 
 -- The whole text is at the start of the buffer, and its length is returned; the rest of the buffer is as it was.
 pub record IsWhole (P : Writes) (status text_length : ℕ) (old new : List ℕ) : Type 0 where
@@ -63,7 +60,7 @@ pub data Returns (P : Writes) (status text_length : ℕ) (old new : List ℕ) : 
   TooLong : IsTooLong P status text_length old new → Returns P status text_length old new
   OutOfMemory : IsOutOfMemory status text_length old new → Returns P status text_length old new
 
--- what a call with options returns: what it writes by the options that its numbers name, or that they name none
-pub data ReturnsBy {O : Type 0} (Names : O → Type 0) (NamesNone : Type 0) (P : O → Writes) (status text_length : ℕ) (old new : List ℕ) : Type 0 where
-  Named : (options : O) → Names options → Returns (P options) status text_length old new → ReturnsBy Names NamesNone P status text_length old new
-  WrongOption : NamesNone → IsWrongOption status text_length old new → ReturnsBy Names NamesNone P status text_length old new
+-- what a call with options returns: what it does by the options that its numbers name, or that they name none
+pub data ReturnsBy {O : Type 0} (Names : O → Type 0) (NamesNone : Type 0) (R : O → ℕ → ℕ → List ℕ → List ℕ → Type 0) (status text_length : ℕ) (old new : List ℕ) : Type 0 where
+  Named : (options : O) → Names options → R options status text_length old new → ReturnsBy Names NamesNone R status text_length old new
+  WrongOption : NamesNone → IsWrongOption status text_length old new → ReturnsBy Names NamesNone R status text_length old new

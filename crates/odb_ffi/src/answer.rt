@@ -1,31 +1,24 @@
 //! How the answer of a command reaches the buffer of the caller.
 
-ghost use Rattle.std.specs.Prelude.{◌≡◌, None, IfSome};
-ghost use Rattle.odb_engine.specs.declared.form.Form.TheVariants as forms;
-ghost use Rattle.odb_engine.specs.Halts.{text_found};
-ghost use Rattle.odb_ffi.specs.Returns.{Is, IsOutOfMemory, IsWrongOption, Returns};
+ghost use Rattle.std.specs.Prelude.{◌≡◌, IfOk, OnErr};
+ghost use Rattle.odb_ffi.specs.Options as options;
+ghost use Rattle.odb_ffi.specs.Returns.{Does, Is, IsOutOfMemory, IsWrongOption, Returns, ReturnsBy};
 
+use crate::options::{form_of, seed_of};
 use crate::status::{OUT_OF_MEMORY, SMALL_BUFFER, WRONG_OPTION, of_end};
-use odb_engine::{Answer, Form, Halt};
-use std::alloc::Global;
-
-/// Returns what is written of what an engine has found; `None` if it has found nothing.
-pub fn answer_of(alloc: Global, found: Result<String, Halt>) -> Option<Answer>
-    ensures { IfSome result (λ answer. text_found forms.Lines found answer.ended answer.text.items) }
-{
-    Answer::of(alloc, Form::Lines, found).ok()
-}
+use odb_engine::{Answer, Form, Setup, Task, answer_in_memory};
+use std::alloc::{AllocError, Global};
 
 /// Copies the text of an answer to the buffer if it fits, sets its length, and returns the status;
 /// that of out of memory if there is no answer.
-pub fn give(answer: Option<Answer>, buffer: &mut [u8], text_length: &mut usize) -> u32
-    ensures some { IfSome answer (λ answer. Returns (Is answer.ended answer.text.items)
+pub fn give(answer: Result<Answer, AllocError>, buffer: &mut [u8], text_length: &mut usize) -> u32
+    ensures ok { IfOk answer (λ answer. Returns (Is answer.ended answer.text.items)
         result text_length.new buffer.old buffer.new) }
-    ensures none { answer ≡ None → IsOutOfMemory result text_length.new buffer.old buffer.new }
+    ensures err { OnErr answer (IsOutOfMemory result text_length.new buffer.old buffer.new) }
 {
     *text_length = 0;
     match answer {
-        Some(answer) => {
+        Ok(answer) => {
             *text_length = answer.text.len();
             if answer.copy_to(buffer) {
                 of_end(answer.ended)
@@ -33,7 +26,7 @@ pub fn give(answer: Option<Answer>, buffer: &mut [u8], text_length: &mut usize) 
                 SMALL_BUFFER
             }
         }
-        None => OUT_OF_MEMORY,
+        Err(_) => OUT_OF_MEMORY,
     }
 }
 
@@ -44,4 +37,48 @@ pub fn wrong_option(text_length: &mut usize) -> u32
 {
     *text_length = 0;
     WRONG_OPTION
+}
+
+/// Does a task on documents in memory and gives the caller what it writes, in a form.
+pub fn answer(
+    alloc: Global,
+    batch: &[u8],
+    second: &[u8],
+    task: Task,
+    form: Form,
+    seed: u64,
+    buffer: &mut [u8],
+    text_length: &mut usize,
+) -> u32
+    ensures { Returns (Does task form batch.now second.now)
+        result text_length.new buffer.old buffer.new }
+{
+    let setup = Setup {
+        form,
+        seed: seed_of(seed),
+        ..Setup::plain()
+    };
+    let answer = answer_in_memory(alloc, batch, second, task, setup);
+    give(answer, buffer, text_length)
+}
+
+/// Does the same in the form that a number names.
+pub fn answer_as(
+    alloc: Global,
+    batch: &[u8],
+    second: &[u8],
+    task: Task,
+    form: u32,
+    seed: u64,
+    buffer: &mut [u8],
+    text_length: &mut usize,
+) -> u32
+    ensures { ReturnsBy (options.IsForm form) (options.NamesNoForm form)
+        (λ form. Returns (Does task form batch.now second.now))
+        result text_length.new buffer.old buffer.new }
+{
+    match form_of(form) {
+        Some(form) => answer(alloc, batch, second, task, form, seed, buffer, text_length),
+        None => wrong_option(text_length),
+    }
 }

@@ -1,23 +1,28 @@
-//! The calls for C.
+//! The calls of the commands for C.
 //!
-//! A slice is a pointer and then a length for C, and `alloc` is nothing.
+//! A slice is a pointer and then a length for C, and `alloc` is nothing. Each call has a second one, as
+//! [`odb_check_as`], that also takes a form: 0 for lines, as the first writes, and 1 for one line of JSON, as
+//! `--json` of the command writes.
+//!
+//! A call sets `text_length` to the length of the text, and returns
+//! - 0 if the text is the result, and 1 if it is the line of a fault: then `text` begins with it;
+//! - 5 if the text is longer than `text`;
+//! - 2, with the length 0, if an option is none of its numbers;
+//! - 4, with the length 0, if an allocation fails.
+//!
+//! With any other status than 0 and 1 `text` is unchanged. Names are looked up by hashes that start from
+//! `seed`; 0 is no seed, and look-ups take O(log n) comparisons. The documents are not copied.
 
-ghost use Rattle.std.specs.Prelude.{◌≡◌, Some};
-ghost use Rattle.odb_sched.specs.run.Choosing.{AllowsOrder};
-ghost use Rattle.odb_engine.specs.Cascade.{Answers};
-ghost use Rattle.odb_engine.specs.Inputs.{BySecond};
-ghost use Rattle.odb_engine.specs.Commands as commands;
-ghost use Rattle.odb_engine.specs.Matches.{Matches};
-ghost use Rattle.odb_engine.specs.Replays.{Replays};
-ghost use Rattle.odb_engine.specs.Runs.{Runs};
+ghost use Rattle.std.specs.Prelude.{◌≡◌, []};
+ghost use Rattle.odb_engine.specs.declared.form.Form.TheVariants as forms;
+ghost use Rattle.odb_engine.specs.declared.task.Task.TheVariants as tasks;
 ghost use Rattle.odb_ffi.specs.Options as options;
-ghost use Rattle.odb_ffi.specs.Returns.{Returns, ReturnsBy, WritesOf};
+ghost use Rattle.odb_ffi.specs.Returns.{Does, Returns, ReturnsBy};
 
-use crate::answer::{give, wrong_option};
-use crate::options::{policy_of, replay_options_of};
-use crate::over_one::answered;
-use crate::over_two::{Documents, matched, ran, replayed};
-use odb_engine::{Form, LineTask};
+use crate::answer::{answer, answer_as, wrong_option};
+use crate::options::{replay_of, run_of};
+use odb_engine::Form::Lines;
+use odb_engine::Task::{Canon, Check, Match, Plan};
 use std::alloc::Global;
 
 /// The version of the library, MAJOR.MINOR.PATCH, as MAJOR * 10000 + MINOR * 100 + PATCH.
@@ -29,13 +34,6 @@ pub extern "C" fn odb_version() -> u32
 }
 
 /// Checks the batch in a document, as `odb_batch check` does.
-///
-/// Sets `text_length` to the length of the text. Returns 0 if the text is the result and 1 if it is the
-/// line of a fault, and then `text` begins with it; 5 if the text is longer than `text`; and 4 if an
-/// allocation fails, with the length 0. With any other status than 0 and 1 `text` is unchanged.
-///
-/// Names are looked up by hashes that start from `seed`; 0 is no seed, and look-ups take O(log n)
-/// comparisons.
 #[unsafe(no_mangle)]
 pub extern "C" fn odb_check(
     alloc: Global,
@@ -44,18 +42,30 @@ pub extern "C" fn odb_check(
     text_length: &mut usize,
     seed: u64,
 ) -> u32
-    ensures { Returns (Answers commands.Counts batch.now)
+    ensures { Returns (Does tasks.Check forms.Lines batch.now [])
         result text_length.new text.old text.new }
 {
-    give(
-        answered(alloc, batch, LineTask::Check, Form::Lines, seed),
-        text,
-        text_length,
-    )
+    answer(alloc, batch, b"", Check, Lines, seed, text, text_length)
 }
 
-/// Plans the batch in a document, as `odb_batch plan` does. The arguments and the status are those of
-/// [`odb_check`].
+/// Does what [`odb_check`] does, and writes the text in a form.
+#[unsafe(no_mangle)]
+pub extern "C" fn odb_check_as(
+    alloc: Global,
+    batch: &[u8],
+    form: u32,
+    text: &mut [u8],
+    text_length: &mut usize,
+    seed: u64,
+) -> u32
+    ensures { ReturnsBy (options.IsForm form) (options.NamesNoForm form)
+        (λ form. Returns (Does tasks.Check form batch.now []))
+        result text_length.new text.old text.new }
+{
+    answer_as(alloc, batch, b"", Check, form, seed, text, text_length)
+}
+
+/// Plans the batch in a document, as `odb_batch plan` does.
 #[unsafe(no_mangle)]
 pub extern "C" fn odb_plan(
     alloc: Global,
@@ -64,18 +74,30 @@ pub extern "C" fn odb_plan(
     text_length: &mut usize,
     seed: u64,
 ) -> u32
-    ensures { Returns (Answers commands.Plans batch.now)
+    ensures { Returns (Does tasks.Plan forms.Lines batch.now [])
         result text_length.new text.old text.new }
 {
-    give(
-        answered(alloc, batch, LineTask::Plan, Form::Lines, seed),
-        text,
-        text_length,
-    )
+    answer(alloc, batch, b"", Plan, Lines, seed, text, text_length)
 }
 
-/// Makes the canonical text of the batch in a document, as `odb_batch canon` does. The arguments and
-/// the status are those of [`odb_check`].
+/// Does what [`odb_plan`] does, and writes the text in a form.
+#[unsafe(no_mangle)]
+pub extern "C" fn odb_plan_as(
+    alloc: Global,
+    batch: &[u8],
+    form: u32,
+    text: &mut [u8],
+    text_length: &mut usize,
+    seed: u64,
+) -> u32
+    ensures { ReturnsBy (options.IsForm form) (options.NamesNoForm form)
+        (λ form. Returns (Does tasks.Plan form batch.now []))
+        result text_length.new text.old text.new }
+{
+    answer_as(alloc, batch, b"", Plan, form, seed, text, text_length)
+}
+
+/// Makes the canonical text of the batch in a document, as `odb_batch canon` does. It is the same in each form.
 #[unsafe(no_mangle)]
 pub extern "C" fn odb_canon(
     alloc: Global,
@@ -84,18 +106,30 @@ pub extern "C" fn odb_canon(
     text_length: &mut usize,
     seed: u64,
 ) -> u32
-    ensures { Returns (Answers commands.Canonical batch.now)
+    ensures { Returns (Does tasks.Canon forms.Lines batch.now [])
         result text_length.new text.old text.new }
 {
-    give(
-        answered(alloc, batch, LineTask::Canon, Form::Lines, seed),
-        text,
-        text_length,
-    )
+    answer(alloc, batch, b"", Canon, Lines, seed, text, text_length)
 }
 
-/// Matches the response document of a service against the batch in a document, as `odb_batch match`
-/// does. The other arguments and the status are those of [`odb_check`].
+/// Does what [`odb_canon`] does, and writes the text in a form.
+#[unsafe(no_mangle)]
+pub extern "C" fn odb_canon_as(
+    alloc: Global,
+    batch: &[u8],
+    form: u32,
+    text: &mut [u8],
+    text_length: &mut usize,
+    seed: u64,
+) -> u32
+    ensures { ReturnsBy (options.IsForm form) (options.NamesNoForm form)
+        (λ form. Returns (Does tasks.Canon form batch.now []))
+        result text_length.new text.old text.new }
+{
+    answer_as(alloc, batch, b"", Canon, form, seed, text, text_length)
+}
+
+/// Matches the response document of a service against the batch in a document, as `odb_batch match` does.
 #[unsafe(no_mangle)]
 pub extern "C" fn odb_match(
     alloc: Global,
@@ -105,26 +139,52 @@ pub extern "C" fn odb_match(
     text_length: &mut usize,
     seed: u64,
 ) -> u32
-    ensures { Returns (WritesOf batch.now
-        (Answers (BySecond (Some responses.now) Matches)))
+    ensures { Returns (Does tasks.Match forms.Lines batch.now responses.now)
         result text_length.new text.old text.new }
 {
-    let documents = Documents {
+    answer(
+        alloc,
         batch,
-        second: responses,
-    };
-    give(
-        matched(alloc, documents, Form::Lines, seed),
+        responses,
+        Match,
+        Lines,
+        seed,
         text,
         text_length,
     )
 }
 
-/// Runs the batch in a document by the recorded events in another, as `odb_batch run` does.
+/// Does what [`odb_match`] does, and writes the text in a form.
+#[unsafe(no_mangle)]
+pub extern "C" fn odb_match_as(
+    alloc: Global,
+    batch: &[u8],
+    responses: &[u8],
+    form: u32,
+    text: &mut [u8],
+    text_length: &mut usize,
+    seed: u64,
+) -> u32
+    ensures { ReturnsBy (options.IsForm form) (options.NamesNoForm form)
+        (λ form. Returns (Does tasks.Match form batch.now responses.now))
+        result text_length.new text.old text.new }
+{
+    answer_as(
+        alloc,
+        batch,
+        responses,
+        Match,
+        form,
+        seed,
+        text,
+        text_length,
+    )
+}
+
+/// Runs the batch in a document by the recorded events in another, as `odb_batch run` does. The response is
+/// the same in each form.
 ///
-/// `mode` is 0 to continue after an error and 1 to stop, and `width` is from 1 to 10,000. If one of
-/// them is another number, returns 2, with the length 0 and `text` as it was. The other arguments and
-/// the status are those of [`odb_check`].
+/// `mode` is 0 to continue after an error and 1 to stop, and `width` is from 1 to 10,000.
 #[unsafe(no_mangle)]
 pub extern "C" fn odb_run(
     alloc: Global,
@@ -136,28 +196,45 @@ pub extern "C" fn odb_run(
     text_length: &mut usize,
     seed: u64,
 ) -> u32
-    ensures { ReturnsBy (options.IsPolicy mode width) (options.NamesNoPolicy mode width)
-        (λ policy. WritesOf batch.now (Answers (Runs policy (Some events.now))))
+    ensures { ReturnsBy (options.IsRun mode width) (options.NamesNoPolicy mode width)
+        (λ task. Returns (Does task forms.Lines batch.now events.now))
         result text_length.new text.old text.new }
 {
-    let documents = Documents {
-        batch,
-        second: events,
-    };
-    match policy_of(mode, width) {
-        Some(policy) => give(
-            ran(alloc, documents, policy, Form::Lines, seed),
-            text,
-            text_length,
-        ),
+    match run_of(mode, width) {
+        Some(task) => answer(alloc, batch, events, task, Lines, seed, text, text_length),
         None => wrong_option(text_length),
     }
 }
 
-/// Replays the batch in a document by the recorded outcomes in another, as `odb_batch replay` does.
+/// Does what [`odb_run`] does, and writes the text in a form.
+#[unsafe(no_mangle)]
+pub extern "C" fn odb_run_as(
+    alloc: Global,
+    batch: &[u8],
+    events: &[u8],
+    mode: u32,
+    width: u32,
+    form: u32,
+    text: &mut [u8],
+    text_length: &mut usize,
+    seed: u64,
+) -> u32
+    ensures { ReturnsBy (options.IsRun mode width) (options.NamesNoPolicy mode width)
+        (λ task. ReturnsBy (options.IsForm form) (options.NamesNoForm form)
+        (λ form. Returns (Does task form batch.now events.now)))
+        result text_length.new text.old text.new }
+{
+    match run_of(mode, width) {
+        Some(task) => answer_as(alloc, batch, events, task, form, seed, text, text_length),
+        None => wrong_option(text_length),
+    }
+}
+
+/// Replays the batch in a document by the recorded outcomes in another, as `odb_batch replay` does. The response
+/// and the trace are the same in each form.
 ///
-/// `order` is 0 for `first`, 1 for `last` and 2 for `wide`, and `trace` is 1 to write the trace before
-/// the response, else 0. The other arguments and the status are those of [`odb_run`].
+/// `mode` and `width` are those of [`odb_run`]. `order` is 0 for `first`, 1 for `last` and 2 for `wide`, and
+/// `trace` is 1 to write the trace before the response, else 0.
 #[unsafe(no_mangle)]
 pub extern "C" fn odb_replay(
     alloc: Global,
@@ -171,22 +248,38 @@ pub extern "C" fn odb_replay(
     text_length: &mut usize,
     seed: u64,
 ) -> u32
-    ensures { ReturnsBy (options.IsReplay mode width order trace)
-        (options.NamesNoReplay mode width order trace)
-        (λ replay. WritesOf batch.now (Answers (Replays (AllowsOrder replay.order)
-        replay.policy replay.traced (Some outcomes.now))))
+    ensures { ReturnsBy (options.IsReplay mode width order trace) (options.NamesNoReplay mode width order trace)
+        (λ task. Returns (Does task forms.Lines batch.now outcomes.now))
         result text_length.new text.old text.new }
 {
-    let documents = Documents {
-        batch,
-        second: outcomes,
-    };
-    match replay_options_of(mode, width, order, trace) {
-        Some(replay) => give(
-            replayed(alloc, documents, replay, Form::Lines, seed),
-            text,
-            text_length,
-        ),
+    match replay_of(mode, width, order, trace) {
+        Some(task) => answer(alloc, batch, outcomes, task, Lines, seed, text, text_length),
+        None => wrong_option(text_length),
+    }
+}
+
+/// Does what [`odb_replay`] does, and writes the text in a form.
+#[unsafe(no_mangle)]
+pub extern "C" fn odb_replay_as(
+    alloc: Global,
+    batch: &[u8],
+    outcomes: &[u8],
+    mode: u32,
+    width: u32,
+    order: u32,
+    trace: u32,
+    form: u32,
+    text: &mut [u8],
+    text_length: &mut usize,
+    seed: u64,
+) -> u32
+    ensures { ReturnsBy (options.IsReplay mode width order trace) (options.NamesNoReplay mode width order trace)
+        (λ task. ReturnsBy (options.IsForm form) (options.NamesNoForm form)
+        (λ form. Returns (Does task form batch.now outcomes.now)))
+        result text_length.new text.old text.new }
+{
+    match replay_of(mode, width, order, trace) {
+        Some(task) => answer_as(alloc, batch, outcomes, task, form, seed, text, text_length),
         None => wrong_option(text_length),
     }
 }

@@ -5,25 +5,21 @@
 //! engine states. A call of a command keeps nothing; a live run is a handle that its caller closes.
 //! `include/odb_batch.h` declares the exports for C.
 //!
-//! [`exports`], [`form_exports`] and [`run_exports`] have the exports alone. What they do over slices and
-//! numbers is beside them: `options` and `status` name the numbers, `over_one` and `over_two` call the
-//! engines, `answer` copies a text to the caller's buffer, and a [`session::Session`] is a live run with its
-//! document. What needs a pointer is in `address`, [`handle`], `lent` and [`slot`].
+//! [`exports`] and [`run_exports`] have the exports alone. What they do over slices and numbers is beside them:
+//! `options` and `status` name the numbers, `answer` does a task and copies a text to the caller's buffer, and
+//! `live` drives a run. What needs a pointer is in `address`, [`handle`], `lent` and [`slot`].
 #![tactic(auto)]
 
 mod address;
 mod answer;
 pub mod exports;
 mod filled;
-pub mod form_exports;
 pub mod handle;
 mod lent;
+mod live;
 pub mod options;
 mod outcome;
-mod over_one;
-mod over_two;
 mod positions;
 pub mod run_exports;
-pub mod session;
 pub mod slot;
 pub mod status;

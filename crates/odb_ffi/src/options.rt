@@ -4,19 +4,8 @@ ghost use Rattle.std.specs.Prelude.{◌≡◌, ◌≢◌, Some, None, IfSome};
 ghost use Rattle.odb_ffi.specs.Options as options;
 
 use odb_check::Seed;
-use odb_engine::Form;
+use odb_engine::{Form, Task};
 use odb_sched::{MAX_WIDTH, Mode, Order, Policy};
-
-/// The options of a replay.
-#[derive(Clone, Copy)]
-pub struct ReplayOptions {
-    /// Whether the run stops at an error, and how many requests may run at once.
-    pub policy: Policy,
-    /// The order of the steps.
-    pub order: Order,
-    /// Whether the trace is written before the response.
-    pub traced: bool,
-}
 
 /// Returns the seed that a number is. 0 is no seed.
 pub fn seed_of(seed: u64) -> Seed
@@ -83,12 +72,21 @@ fn flag_of(number: u32) -> Option<bool>
     }
 }
 
-/// Returns the options of a replay that four numbers name, or `None` if one of them may not be.
-pub fn replay_options_of(mode: u32, width: u32, order: u32, trace: u32) -> Option<ReplayOptions>
+/// Returns the run that two numbers name, or `None` if one of them may not be.
+pub fn run_of(mode: u32, width: u32) -> Option<Task>
+    ensures some { IfSome result (options.IsRun mode width) }
+    ensures none { result ≡ None → options.NamesNoPolicy mode width }
+{
+    let policy = policy_of(mode, width)?;
+    Some(Task::Run { policy })
+}
+
+/// Returns the replay that four numbers name, or `None` if one of them may not be.
+pub fn replay_of(mode: u32, width: u32, order: u32, trace: u32) -> Option<Task>
     ensures some { IfSome result (options.IsReplay mode width order trace) }
     ensures none { result ≡ None → options.NamesNoReplay mode width order trace }
 {
-    Some(ReplayOptions {
+    Some(Task::Replay {
         policy: policy_of(mode, width)?,
         order: order_of(order)?,
         traced: flag_of(trace)?,

@@ -2,29 +2,30 @@
 //!
 //! A handle by reference is the address of a `void *` for C, and by value it is the pointer.
 
-ghost use Rattle.std.specs.Prelude.{◌≡◌, IfOk, IfErr};
+ghost use Rattle.std.specs.Prelude.{◌≡◌, ◌≢◌, IfOk, IfErr};
 ghost use Rattle.odb_dense.specs.Lists.{ListsOnce};
-ghost use Rattle.odb_engine.specs.Cascade.{Answers};
+ghost use Rattle.odb_engine.specs.Cascade.{Prints};
 ghost use Rattle.odb_engine.specs.Halts.{Halted};
-ghost use Rattle.odb_engine.specs.Live as engines;
+ghost use Rattle.odb_engine.specs.Labels.{id_lines};
+ghost use Rattle.odb_engine.specs.Live.{IsLeastOfOpening, Opens, Shows};
 ghost use Rattle.odb_sched.specs.run.State as state;
 ghost use Rattle.odb_sched.specs.run.Steps as steps;
-ghost use Rattle.odb_ffi.specs.Live as live;
+ghost use Rattle.odb_ffi.specs.Live as calls;
 ghost use Rattle.odb_ffi.specs.Options as options;
 ghost use Rattle.odb_ffi.specs.Positions.{GivesPositions};
-ghost use Rattle.odb_ffi.specs.Returns.{Returns};
+ghost use Rattle.odb_ffi.specs.Returns.{Returns, ReturnsBy};
 
-use crate::answer::{answer_of, give, wrong_option};
+use crate::answer::{give, wrong_option};
 use crate::handle::Handle;
-use crate::options::policy_of;
-use crate::session::Session;
+use crate::options::{policy_of, seed_of};
+use crate::positions::give_positions;
 use crate::slot::Slot;
-use crate::status::DONE;
-use odb_engine::Halt;
+use crate::{live, status};
+use odb_engine::{Answer, Form, Halt, open_run};
 use odb_sched::Policy;
 use std::alloc::Global;
 
-/// Opens a run and returns its handle.
+/// Opens a live run and returns its handle.
 fn opened(
     alloc: Global,
     batch: &[u8],
@@ -32,16 +33,14 @@ fn opened(
     policy: Policy,
     seed: u64,
 ) -> Result<Handle, Halt>
-    ensures opened { IfOk result (λ handle.
-        live.IsOpened policy batch.now events.now seed handle.value) }
-    ensures least { IfErr result
-        (Halted (engines.IsLeastOfOpening policy batch.now events.now)) }
+    ensures opened { IfOk result (λ handle. Opens policy batch.now events.now handle.value) }
+    ensures least { IfErr result (Halted (IsLeastOfOpening policy batch.now events.now)) }
 {
-    let session = match Session::open(alloc, batch, events, policy, seed) {
-        Ok(session) => session,
+    let live = match open_run(alloc, batch, events, policy, seed_of(seed)) {
+        Ok(live) => live,
         Err(halt) => return Err(halt),
     };
-    match Box::new(alloc, session) {
+    match Box::new(alloc, live) {
         Ok(owned) => Ok(Handle::of(owned)),
         Err(_) => Err(Halt::OutOfMemory),
     }
@@ -67,9 +66,10 @@ pub extern "C" fn odb_run_open(
     text_length: &mut usize,
     seed: u64,
 ) -> u32
-    ensures { live.OpeningBy (options.IsPolicy mode width) (options.NamesNoPolicy mode width)
-        batch.now events.now seed result text_length.new text.old text.new run.old.value
-        run.new.value }
+    ensures opened { ReturnsBy (options.IsPolicy mode width) (options.NamesNoPolicy mode width)
+        (λ policy. calls.Opening policy batch.now events.now run.new.value)
+        result text_length.new text.old text.new }
+    ensures unopened { result ≢ 0 → run.new.value ≡ run.old.value }
 {
     let Some(policy) = policy_of(mode, width) else {
         return wrong_option(text_length);
@@ -78,9 +78,9 @@ pub extern "C" fn odb_run_open(
         Ok(handle) => {
             *run = Slot::of(handle);
             *text_length = 0;
-            DONE
+            status::DONE
         }
-        Err(halt) => give(answer_of(alloc, Err(halt)), text, text_length),
+        Err(halt) => give(Answer::of(alloc, Form::Lines, Err(halt)), text, text_length),
     }
 }
 
@@ -95,7 +95,7 @@ pub extern "C" fn odb_run_ready(run: &mut Handle, positions: &mut [u32], count: 
         (steps.may_start run.old.value.run)) result count.new positions.old positions.new }
     ensures same { run.new.value ≡ run.old.value }
 {
-    run.session().ready(positions, count)
+    give_positions(run.live().run().ready(), positions, count)
 }
 
 /// Copies the positions of the requests that run now to a buffer, as [`odb_run_ready`] does.
@@ -106,7 +106,7 @@ pub extern "C" fn odb_run_running(run: &mut Handle, positions: &mut [u32], count
         result count.new positions.old positions.new }
     ensures same { run.new.value ≡ run.old.value }
 {
-    run.session().running(positions, count)
+    give_positions(run.live().run().running(), positions, count)
 }
 
 /// Copies the positions of the undone requests of a finished run to a buffer, from the last to the
@@ -124,11 +124,16 @@ pub extern "C" fn odb_run_undone(
     positions: &mut [u32],
     count: &mut usize,
 ) -> u32
-    ensures positions { live.GivesUndone run.old.value.run result count.new positions.old
+    ensures positions { calls.GivesUndone run.old.value.run result count.new positions.old
         positions.new }
     ensures same { run.new.value ≡ run.old.value }
 {
-    run.session().undone(alloc, positions, count)
+    *count = 0;
+    match run.live().undone(alloc) {
+        Ok(found) => give_positions(&found, positions, count),
+        Err(Halt::Refused(_)) => status::REFUSED,
+        Err(_) => status::OUT_OF_MEMORY,
+    }
 }
 
 /// Looks for the request with an id.
@@ -137,10 +142,16 @@ pub extern "C" fn odb_run_undone(
 /// as it was. Takes O(m log n) for an id of m bytes among n requests.
 #[unsafe(no_mangle)]
 pub extern "C" fn odb_run_position(run: &mut Handle, id: &[u8], position: &mut u32) -> u32
-    ensures position { live.GivesPosition run.old.value.ids id.now result position.old position.new }
+    ensures position { calls.GivesPosition run.old.value id.now result position.old position.new }
     ensures same { run.new.value ≡ run.old.value }
 {
-    run.session().position(id, position)
+    match run.live().position_of(id) {
+        Some(found) => {
+            *position = found;
+            status::DONE
+        }
+        None => status::WRONG_OPTION,
+    }
 }
 
 /// Starts the request at a position.
@@ -149,9 +160,9 @@ pub extern "C" fn odb_run_position(run: &mut Handle, id: &[u8], position: &mut u
 /// applies, and 2 if there is no such position. Takes O(dependencies of the request).
 #[unsafe(no_mangle)]
 pub extern "C" fn odb_run_start(run: &mut Handle, position: u32) -> u32
-    ensures { live.Starts run.old.value run.new.value position result }
+    ensures { calls.Starts run.old.value run.new.value position result }
 {
-    run.session().start(position)
+    live::start(run.live(), position)
 }
 
 /// Takes the outcome of the request at a position: a status, and headers and a body as JSON, each of
@@ -171,9 +182,9 @@ pub extern "C" fn odb_run_report(
     headers: &[u8],
     body: &[u8],
 ) -> u32
-    ensures { live.Reports run.old.value run.new.value position status headers.now body.now result }
+    ensures { calls.Reports run.old.value run.new.value position status headers.now body.now result }
 {
-    run.session().report(alloc, position, status, headers, body)
+    live::report(run.live(), alloc, position, status, headers, body)
 }
 
 /// Returns 1 if no event may come any more, else 0. Takes constant time.
@@ -182,14 +193,31 @@ pub extern "C" fn odb_run_finished(run: &mut Handle) -> u32
     ensures value { result ≡ options.flag_number (steps.is_finished run.old.value.run) }
     ensures same { run.new.value ≡ run.old.value }
 {
-    run.session().finished()
+    if run.live().run().is_finished() { 1 } else { 0 }
+}
+
+/// Writes the ids of the requests, one a line, in the order of their positions.
+///
+/// The arguments and the status are those of [`crate::exports::odb_check`]. Takes O(n) for ids of n bytes.
+#[unsafe(no_mangle)]
+pub extern "C" fn odb_run_ids(
+    alloc: Global,
+    run: &mut Handle,
+    text: &mut [u8],
+    text_length: &mut usize,
+) -> u32
+    ensures text { Returns (Prints (id_lines run.old.value.labels))
+        result text_length.new text.old text.new }
+    ensures same { run.new.value ≡ run.old.value }
+{
+    give(live::ids(run.live(), alloc), text, text_length)
 }
 
 /// Writes what [`crate::exports::odb_run`] writes after the same events: the response and a newline,
 /// or the line of F66 if the run is not finished. The arguments and the status are those of
-/// [`crate::exports::odb_check`], and the run is as it was.
+/// [`crate::exports::odb_check`].
 ///
-/// The document is read again: takes O(n log n) time for n bytes of document and text.
+/// Nothing is read again: takes O(n) for a text of n bytes.
 #[unsafe(no_mangle)]
 pub extern "C" fn odb_run_response(
     alloc: Global,
@@ -197,15 +225,14 @@ pub extern "C" fn odb_run_response(
     text: &mut [u8],
     text_length: &mut usize,
 ) -> u32
-    ensures text { Returns (Answers (engines.Shows run.old.value.run) run.old.value.document.items)
-        result text_length.new text.old text.new }
-    ensures same { live.IsSame run.old.value run.new.value }
+    ensures text { Returns (Shows run.old.value) result text_length.new text.old text.new }
+    ensures same { run.new.value ≡ run.old.value }
 {
-    give(run.session().response(alloc), text, text_length)
+    give(live::response(run.live(), alloc), text, text_length)
 }
 
 /// Frees a run. Its handle is not to be used any more.
 #[unsafe(no_mangle)]
 pub extern "C" fn odb_run_close(run: Handle) {
-    let _session = run.into_box();
+    let _live = run.into_box();
 }

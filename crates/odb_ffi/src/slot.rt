@@ -2,8 +2,8 @@
 
 ghost use Rattle.std.specs.Prelude.{Option};
 ghost use Rattle.std.specs.Coded.{coded_option};
-ghost use Rattle.odb_ffi.specs.declared.session.Session.{Session};
-ghost use Rattle.odb_ffi.specs.contracts.session.Session as session;
+ghost use Rattle.odb_engine.specs.declared.live.LiveRun.{LiveRun};
+ghost use Rattle.odb_engine.specs.contracts.live.LiveRun as live;
 
 use std::alloc::Global;
 use std::marker::Model;
@@ -14,7 +14,7 @@ use std::marker::Model;
 pub struct Slot {
     pub(crate) at: *mut u8,
     pub(crate) alloc: Global,
-    pub ghost value: { Option Session } by { coded_option session.the_row.coded },
+    pub ghost value: { Option LiveRun } by { coded_option live.the_row.coded },
 }
 
 impl Model for Slot {

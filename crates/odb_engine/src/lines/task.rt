@@ -1,24 +1,90 @@
-//! The tasks of the engines, done on each line.
+//! The tasks, done on each line: it holds a batch document, or an array of a batch and a second document.
 
-use crate::ending::{Ended, EngineFault};
-use crate::line::{LineTask, answer_line};
+ghost use Rattle.std.specs.Prelude.{◌≡◌, ◌≢◌, false, None, Err, IfSome};
+ghost use Rattle.serde_json.specs.Data.{Data};
+ghost use Rattle.serde_json.specs.View.{view};
+ghost use Rattle.odb_engine.specs.declared.halt.Halt.TheVariants as halts;
+ghost use Rattle.odb_engine.specs.Contents.Given.{InHand};
+ghost use Rattle.odb_engine.specs.Halts.{Found};
+ghost use Rattle.odb_engine.specs.Tasks.{IsPair, OfLine, OfPair, OfTask};
+
+use crate::command::text_of;
+use crate::ending::{Ended, EngineFault, end};
+use crate::halt::Halt;
+use crate::input::value_in;
 use crate::lines::command::LineCommand;
 use crate::setup::Setup;
+use crate::task::Task;
+use odb_doc::{Place, Refusal};
 use odb_io::Output;
+use serde_json::Value;
 use std::alloc::Global;
 use std::io::Write;
+
+/// F07: the line of a task over two documents is not an array of two elements.
+const NOT_PAIR: Halt = Halt::Refused(Refusal {
+    code: "F07",
+    name: "NotPair",
+    place: Place::Batch,
+});
+
+/// Takes an array of two values apart; `None` if the value is no such array.
+fn pair_of(value: Value) -> Option<(Value, Value)>
+    ensures pair { IfSome result (λ pair. IsPair (view value) (view pair.0) (view pair.1)) }
+    ensures none { result ≡ None → (first second : Data) → ¬ IsPair (view value) first second }
+{
+    let Value::Array(mut values) = value else {
+        return None;
+    };
+    if values.len() != 2 {
+        return None;
+    }
+    let second = values.pop()?;
+    let first = values.pop()?;
+    Some((first, second))
+}
+
+/// Returns what a task writes of the two documents in a line.
+fn text_of_pair(alloc: Global, line: &[u8], task: Task, setup: Setup) -> Result<String, Halt>
+    ensures found { Found (OfPair (λ batch second. OfTask task setup.form (InHand second) batch) line.now)
+        result }
+    ensures read { result ≢ Err halts.Read }
+{
+    let Some((mut first, mut second)) = pair_of(value_in(alloc, line, Place::Batch)?) else {
+        return Err(NOT_PAIR);
+    };
+    let mut task = task;
+    text_of(alloc, &mut first, &mut second, &mut task, setup)
+}
+
+/// Returns what a task writes of a line: of the document in it, or of the two documents in it if the task takes
+/// two. The line may be any bytes; they are not copied.
+///
+/// # Errors
+///
+/// `Refused` by F07 if a task over two documents is not given an array of two elements; else as
+/// [`text_of`]. Never `Read`.
+pub fn text_of_line(alloc: Global, line: &[u8], task: Task, setup: Setup) -> Result<String, Halt>
+    ensures found { Found (OfLine task setup.form line.now) result }
+    ensures read { result ≢ Err halts.Read }
+{
+    if task.takes_second() {
+        return text_of_pair(alloc, line, task, setup);
+    }
+    let (mut line, mut none, mut task): (_, &[u8], _) = (line, &[], task);
+    text_of(alloc, &mut line, &mut none, &mut task, setup)
+}
 
 /// A task that is done on each line. What it writes of a line is held in memory until
 /// it is whole.
 #[derive(Clone, Copy)]
 pub struct EachLine {
-    pub task: LineTask,
+    pub task: Task,
     pub setup: Setup,
 }
 
 impl LineCommand for EachLine {
     ghost use Rattle.odb_engine.specs.Forms.{InForm};
-    ghost use Rattle.odb_engine.specs.LineTasks.{OfLine};
 
     ghost writes = { λ self line.
         InForm self.setup.form (OfLine self.task self.setup.form line) };
@@ -29,8 +95,7 @@ impl LineCommand for EachLine {
         line: &[u8],
         output: &mut Output<W>,
     ) -> Result<Ended, EngineFault> {
-        let answer = answer_line(alloc, line, self.task, self.setup)?;
-        output.put_all(&answer.text)?;
-        Ok(answer.ended)
+        let found = text_of_line(alloc, line, self.task, self.setup);
+        end(alloc, self.setup.form, found, output)
     }
 }

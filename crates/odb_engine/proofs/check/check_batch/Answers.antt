@@ -1,4 +1,4 @@
 use Rattle.odb_engine.proofs.check.check_batch.Goals as goal
 
 pub returns-clause-ends : goal.returns-clause-ends
-returns-clause-ends g c = rw c.plain.ensures.form at c.check_batch_with.ensures.ends
+returns-clause-ends g c = c.answer_one.ensures.ends

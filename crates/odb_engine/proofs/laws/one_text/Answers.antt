@@ -1,22 +1,20 @@
-use Rattle.std.proofs.Common.{◌∙◌, Some, sym}
-use Rattle.odb_engine.specs.Commands.{Canonical, CountsIn, PlansIn, Drawings}
-use Rattle.odb_engine.specs.Inputs.{BySecond}
-use Rattle.odb_engine.specs.Matches.{MatchesIn}
-use Rattle.odb_engine.proofs.CanonLawLemmas.{canonical_one}
-use Rattle.odb_engine.proofs.LawLemmas.{AreFunctional, answers_one}
-use Rattle.odb_engine.proofs.MatchLawLemmas.{AreOneMatch, match_one}
+use Rattle.std.proofs.Common.{Some}
+use Rattle.odb_engine.specs.Contents.Given.{ByReader, InMemory}
+use Rattle.odb_engine.proofs.LawLemmas.{AreFunctional}
+use Rattle.odb_engine.proofs.TaskLawLemmas.{AreOneText, answers-one, line-one}
+use Rattle.odb_engine.proofs.MatchLawLemmas.{AreOneMatch}
 use Rattle.odb_engine.proofs.laws.one_text.Goals as goal
 
 pub returns : goal.returns
 returns c =
-    let law : AreFunctional = record {
+    let batch : AreFunctional = record {
       one_plan_graph = c.one_fault.ensures.one;
       no_plan_graph = c.one_fault.ensures.none;
       one_batch = c.one_batch.ensures;
       one_name = c.one_fault-2.ensures.one;
       no_name = c.one_fault-2.ensures.none;
     } in
-    let reply : AreOneMatch = record {
+    let matching : AreOneMatch = record {
       one_fault = c.one_document.ensures.one;
       no_fault = c.one_document.ensures.none;
       one_list = c.one_document.ensures.entries;
@@ -24,10 +22,16 @@ returns c =
       no_misfit = c.one_match.ensures.none;
       one_table = c.one_match.ensures.table;
     } in
+    let law : AreOneText = record {
+      batch = batch;
+      matching = matching;
+      recorded = record { one_fault = c.one_record.ensures.one; no_fault = c.one_record.ensures.none; one_reading = c.one_record.ensures.outcomes };
+      order = λ order outcomes first. record { course = c.every_order.ensures.one_course order outcomes first; fault = c.every_order.ensures.one_fault order outcomes first; apart = c.every_order.ensures.fault_or_end order outcomes first };
+      history = record { one_fault = c.one_history.ensures.one; no_fault = c.one_history.ensures.none; one_reading = c.one_history.ensures.events };
+      causes = record { one_refusal = c.every_cause.ensures.one_refusal; one_unknown = c.every_cause.ensures.one_unknown };
+    } in
     record {
-      check = λ form bytes. answers_one law (CountsIn form) bytes (λ batch good a b s t x y. (x.0 ∙ sym y.0, x.1 ∙ sym y.1));
-      plan = λ form bytes. answers_one law (PlansIn form) bytes (λ batch good a b s t x y. (x.0 ∙ sym y.0, x.1 ∙ sym y.1));
-      drawing = λ bytes. answers_one law Drawings bytes (λ batch good a b s t x y. (x.0 ∙ sym y.0, x.1 ∙ sym y.1));
-      canon = λ bytes. answers_one law Canonical bytes (λ batch good. canonical_one batch);
-      matching = λ form bytes responses. answers_one law (BySecond (Some responses) (MatchesIn form)) bytes (λ batch good. match_one reply form responses batch);
+      task = λ task form bytes left. answers-one law task form (ByReader (Some left)) tt bytes;
+      memory = λ task form bytes second. answers-one law task form (InMemory second) tt bytes;
+      line = line-one law;
     }

@@ -6,8 +6,7 @@ use Rattle.odb_doc.specs.batch.Batches.{records}
 use Rattle.odb_check.specs.Plans.{plan_records}
 use Rattle.odb_engine.specs.Cascade.{RefusesBytes}
 use Rattle.odb_engine.specs.Halts.{Halted, RefusesNamesOf}
-use Rattle.odb_engine.specs.Ids.{AreIdsIn, AreIdsOf}
-use Rattle.odb_engine.specs.Live.{IsAfter, IsLeastAfter, IsLeastOfOpening, Opens}
+use Rattle.odb_engine.specs.Live.{IsLeastAfter, IsLeastOfOpening, IsOpened, Opens}
 use Rattle.odb_engine.proofs.EngineLemmas.{at-exit, exit-error, halted-by, Halted-weaker}
 use Rattle.odb_engine.proofs.LiveLemmas.{accepted, least-shape, least-names}
 use Rattle.odb_engine.proofs.live.open_run.Goals as goal
@@ -47,13 +46,6 @@ pub returns-clause-run : goal.returns-clause-run
 returns-clause-run c =
     let events = c.args.events.now in
     let planned = plan_records c.in_ok-plan.plan.value in
-    IfOk-weaker c.open_on.result (λ opened. IsAfter c.args.policy planned events opened.run) (λ opened. Opens c.args.policy c.args.batch.now events opened.run)
-    (λ opened. accepted c.args.batch.now _ _ planned (λ batch. IsAfter c.args.policy batch events opened.run)
+    IfOk-weaker c.open_on.result (IsOpened c.args.policy planned events) (Opens c.args.policy c.args.batch.now events)
+    (λ live. accepted c.args.batch.now _ _ planned (λ batch. IsOpened c.args.policy batch events live)
     c.in_ok-value.ensures.value c.in_ok-read.ensures.good c.in_ok-read.ensures.records c.in_ok-plan.ensures.good c.in_ok-plan.ensures.plan) c.open_on.ensures.run
-
-pub returns-clause-ids : goal.returns-clause-ids
-returns-clause-ids c =
-    let planned = plan_records c.in_ok-plan.plan.value in
-    IfOk-weaker c.open_on.result (λ opened. AreIdsOf planned opened.ids) (λ opened. AreIdsIn c.args.batch.now opened.ids)
-    (λ opened. accepted c.args.batch.now _ _ planned (λ batch. AreIdsOf batch opened.ids)
-    c.in_ok-value.ensures.value c.in_ok-read.ensures.good c.in_ok-read.ensures.records c.in_ok-plan.ensures.good c.in_ok-plan.ensures.plan) c.open_on.ensures.ids

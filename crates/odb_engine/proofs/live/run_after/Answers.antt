@@ -1,8 +1,10 @@
 -- A run after recorded events.
-use Rattle.std.proofs.Common.{IfErr, inl, inr}
+use Rattle.std.proofs.Common.{◌∙◌, IfErr, inl, inr, ap}
 use Rattle.odb_doc.specs.declared.fault.Place.TheVariants.{Events}
 use Rattle.odb_doc.specs.recorded.EventLists.{entries}
 use Rattle.odb_check.specs.Plans.{plan_records}
+use Rattle.odb_sched.specs.run.State.{State, first_state, without_requests}
+use Rattle.odb_sched.proofs.RunLemmas.{plan_graph-after_all}
 use Rattle.odb_engine.specs.Cascade.{RefusesBytes}
 use Rattle.odb_engine.specs.Halts.{Halted}
 use Rattle.odb_engine.specs.Live.{IsLeastAfter}
@@ -46,3 +48,7 @@ returns-in_err-scheduler-clause-least c =
     let least = IsLeastAfter policy batch bytes in
     at-exit (λ r. IfErr r (Halted least)) _ _ c.from_residual-in_err-scheduler.ensures.1
     (halted-by least _ (barred-after policy batch bytes named are c.in_ok-resolved.resolved.items c.in_err-scheduler.field-0.0 c.in_ok-resolved.ensures.events c.in_err-scheduler.ensures.refused))
+
+pub returns-clause-plan_graph : goal.returns-clause-plan_graph
+returns-clause-plan_graph c =
+    ap (λ (s : State). s.plan_graph) (c.into_owned.ensures ∙ ap (λ (s : State). without_requests s) c.in_ok-scheduler.ensures.state) ∙ plan_graph-after_all (first_state (plan_records c.args.plan.now) c.args.policy) c.in_ok-resolved.resolved.items

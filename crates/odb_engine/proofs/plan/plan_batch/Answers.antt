@@ -1,4 +1,4 @@
 use Rattle.odb_engine.proofs.plan.plan_batch.Goals as goal
 
 pub returns-clause-ends : goal.returns-clause-ends
-returns-clause-ends g c = rw c.plain.ensures.form at c.plan_batch_with.ensures.ends
+returns-clause-ends g c = c.answer_one.ensures.ends

@@ -1,4 +1,20 @@
+use Rattle.std.proofs.Common.{◌⊎◌, IsTrue, subst}
+use Rattle.odb_engine.specs.Cascade.{Answers}
+use Rattle.odb_engine.specs.Engines.{Ends}
+use Rattle.odb_engine.specs.Forms.{InForm}
+use Rattle.odb_engine.specs.Replays.{Replays}
 use Rattle.odb_engine.proofs.replay.replay_batch.Goals as goal
 
 pub returns-clause-ends : goal.returns-clause-ends
-returns-clause-ends g c = rw c.plain.ensures.form at c.replay_batch_with.ensures.ends
+returns-clause-ends g c =
+    let allows = (goal.Chooser-dyn g c.args.chooser.now).allows c.args.chooser.now.1 in
+    let left = g.S.Read.remaining c.args.outcomes.now.reader in
+    let failed = IsTrue c.answer_command.new.first.failed ⊎ IsTrue c.answer_command.new.second.failed in
+    let (bytes, gives, (ends, asked)) = c.answer_command.ensures.ends in (
+      bytes,
+      gives,
+      (
+        subst (λ form. Ends g.W.Write.contents (InForm form (Answers (Replays allows c.args.policy c.args.traced left) bytes)) failed c.args.output.now c.answer_command.new.output c.answer_command.result) c.plain.ensures.form ends,
+        asked,
+      ),
+    )

@@ -23,7 +23,7 @@ use Rattle.std.proofs.alloc.Global.TheLaws as global_laws
 use Rattle.std.specs.contracts.impls.GlobalAllocator.TheImpl.{ghosts}
 use Rattle.odb_ffi.proofs.AddressLemmas.{word, word_good, apart, together}
 use Rattle.odb_ffi.specs.contracts.handle.Handle as handle
-use Rattle.odb_ffi.specs.contracts.session.Session as session
+use Rattle.odb_engine.specs.contracts.live.LiveRun as live_run
 use Rattle.odb_ffi.specs.contracts.slot.Slot.of.{ended, clauses}
 use Rattle.odb_ffi.specs.contracts.slot.Slot.of.Key.{name as #self}
 use Rattle.odb_ffi.proofs.slot.Slot.of.Statement.{statement}
@@ -33,7 +33,7 @@ pub of_spec : {M : Type 1} → statement M
 of_spec 𝓤 𝓛 𝓜 𝓡 wired =
     let H = 𝓛.H in
     let 𝓣 = tables 𝓤 H 𝓜 𝓡 𝓡.env in
-    let R : RattleType = session.the_row in
+    let R : RattleType = live_run.the_row in
     let Z : RattleType = global.the_row in
     let LZ = global_laws.the_row_laws in
     let c = clauses 𝓛 𝓜.mem 𝓡.returns in

@@ -1,0 +1,30 @@
+-- What is written of a live run.
+use Rattle.std.proofs.Common.{◌≡◌, ◌∙◌, ◌++◌, ◌∷◌, [], Err, string_bytes, true, inl, inr, refl, sym, ap, subst, arith}
+use Rattle.odb_check.specs.Texts.{newline}
+use Rattle.odb_sched.specs.run.Steps.{is_finished}
+use Rattle.odb_engine.specs.declared.ending.Ended.TheVariants.{Done, Refused}
+use Rattle.odb_engine.specs.Cascade.{line_of}
+use Rattle.odb_engine.specs.Halts.{Found}
+use Rattle.odb_engine.specs.Live.{IsLeastOfState, Live, Shows}
+use Rattle.odb_engine.specs.Live.IsLeastOfState.{OfEnd}
+use Rattle.odb_engine.specs.LiveRuns.{live_of}
+use Rattle.odb_engine.specs.Runs.{unfinished}
+use Rattle.odb_engine.proofs.EngineLemmas.{at-exit, halted-by}
+use Rattle.odb_engine.proofs.LiveLemmas.{not-whole, refused}
+use Rattle.odb_engine.proofs.live.LiveRun.response.Goals as goal
+
+pub returns-then-not-is_finished-clause-found : goal.returns-then-not-is_finished-clause-found
+returns-then-not-is_finished-clause-found c =
+    subst (λ (live : Live). Shows live Refused (line_of unfinished)) c.self.view_is (inl (record { refusal = unfinished; is = OfEnd (sym c.if-not-is_finished.ensures.value) refl; ends = refl; line = refl }))
+
+pub returns-in_err-text-clause-found : goal.returns-in_err-text-clause-found
+returns-in_err-text-clause-found c =
+    let live = live_of c.self.inside in
+    let finished : is_finished live.run ≡ true = sym c.if-not-is_finished.ensures.value in
+    subst (λ (live : Live). Found (Shows live) c.from_residual.result) c.self.view_is (at-exit (Found (Shows live)) _ _ c.from_residual.ensures.1
+    (λ halt by. refused live halt (halted-by (IsLeastOfState live.run) _ (not-whole live.run finished c.in_err-text.field-0.0 (λ at same. (c.in_err-text.ensures.not_whole at).0 (ap Err same))) halt by)))
+
+pub returns-clause-found : goal.returns-clause-found
+returns-clause-found c =
+    let line = c.in_ok-push.ensures.bytes ∙ ap (λ bs. string_bytes c.in_ok-text.text ++ bs) (c.in_ok-push.ensures.ascii (omega arith)) ∙ ap (λ bs. bs ++ newline ∷ []) c.in_ok-text.ensures.text in
+    subst (λ (live : Live). Shows live Done (string_bytes c.push.new.self)) c.self.view_is (inr (sym c.if-not-is_finished.ensures.value, (refl, line)))

@@ -1,0 +1,19 @@
+-- A live run that is opened.
+use Rattle.std.proofs.Common.{◌∙◌, List, ap, length, sym}
+use Rattle.std.proofs.lemmas.List.{length-map}
+use Rattle.odb_check.specs.PlanGraph.{PlanGraph}
+use Rattle.odb_check.specs.Plans.{plan_records}
+use Rattle.odb_reply.specs.Responses.{LabelValue, label_of}
+use Rattle.odb_engine.proofs.live.open_on.Goals as goal
+
+pub invariant_of-result : goal.invariant_of-result
+invariant_of-result c =
+    let batch = plan_records c.args.plan.now in
+    let graph = c.in_ok-run.ensures.plan_graph in
+    record {
+      batch = batch;
+      good = c.every_plan.ensures.good;
+      labels = c.in_ok-labels.ensures;
+      plan_graph = graph;
+      each = ap (λ (ls : List LabelValue). length ls) c.in_ok-labels.ensures ∙ length-map batch label_of ∙ sym c.len-count.ensures.count ∙ c.len-count.ensures.size ∙ ap (λ (g : PlanGraph). length g.units) (sym graph);
+    }

@@ -1,0 +1,22 @@
+use Rattle.serde_json.specs.View.{view}
+use Rattle.odb_doc.specs.declared.fault.Place.TheVariants.{Outcomes}
+use Rattle.odb_check.specs.Plans.{plan_records}
+use Rattle.odb_engine.specs.Contents.{OfGiven}
+use Rattle.odb_engine.specs.Halts.{Found}
+use Rattle.odb_engine.specs.Replays.{ReplaysValue}
+use Rattle.odb_engine.proofs.EngineLemmas.{exit-error}
+use Rattle.odb_engine.proofs.SourceLemmas.{given-found, given-halt}
+use Rattle.odb_engine.proofs.replay.replayed_by.Goals as goal
+
+pub returns-in_err-value-clause-found : goal.returns-in_err-value-clause-found
+returns-in_err-value-clause-found g c =
+    let replay = c.args.replay.now in
+    let given = g.S.Source.given c.args.second.now in
+    let P = ReplaysValue ((goal.Chooser-dyn g replay.chooser.now).allows replay.chooser.now.1) replay.policy replay.traced (plan_records c.args.plan.now) in
+    exit-error (Found (OfGiven given Outcomes P)) _ _ c.from_residual.ensures.1 (given-halt given Outcomes P _ c.in_err-value.ensures.value)
+
+pub returns-clause-found : goal.returns-clause-found
+returns-clause-found g c =
+    let replay = c.args.replay.now in
+    let P = ReplaysValue ((goal.Chooser-dyn g replay.chooser.now).allows replay.chooser.now.1) replay.policy replay.traced (plan_records c.args.plan.now) in
+    given-found (g.S.Source.given c.args.second.now) Outcomes P (view c.in_ok-value.value) _ c.replayed_in.result c.in_ok-value.ensures.value c.replayed_in.ensures.found

@@ -1,0 +1,61 @@
+-- What a document comes from, the document that it gives, and what is written of it.
+use Rattle.std.specs.Prelude.{◌≡◌, ◌⊎◌, ℕ, List, Option}
+use Rattle.serde_json.specs.Data.{Data}
+use Rattle.odb_io.specs.Devices.{Reading}
+use Rattle.odb_doc.specs.declared.fault.Place.{Place}
+use Rattle.odb_doc.specs.Documents.{IsDocument}
+use Rattle.odb_doc.specs.Refusals.{Printed}
+use Rattle.odb_doc.specs.batch.Records.{Record}
+use Rattle.odb_engine.specs.Cascade.{Writes, Accepts, AcceptsValue, OfDocument, RefusesBytes}
+use Rattle.odb_engine.specs.Inputs.{SomeDocument, WasRead}
+
+-- the bytes of a document, or its value
+pub data Content : Type 0 where
+  Bytes : List ℕ → Content
+  Held : Data → Content
+
+-- what a source gives: the document of a reader that has this left, the document in these bytes, or this value
+pub data Given : Type 0 where
+  ByReader : Option (List ℕ) → Given
+  InMemory : List ℕ → Given
+  InHand : Data → Given
+
+-- the document that is given has the property
+abbrev pub SomeContent : Given → (Content → Type 0) → Type 0
+SomeContent (ByReader left) P = SomeDocument left (λ bytes. P (Bytes bytes))
+SomeContent (InMemory bytes) P = P (Bytes bytes)
+SomeContent (InHand value) P = P (Held value)
+
+-- this is the value of the document
+abbrev pub IsValueOf : Content → Data → Type 0
+IsValueOf (Bytes bytes) value = IsDocument bytes value
+IsValueOf (Held held) value = value ≡ held
+
+-- the bytes of the document at this place have this refusal; a value has none
+abbrev pub RefusesContent : Place → Content → Printed → Type 0
+RefusesContent place (Bytes bytes) refusal = RefusesBytes place bytes refusal
+RefusesContent place (Held value) refusal = ⊥
+
+-- what is written of the document at a place: the line of the fault of its bytes, or what P writes of its value
+abbrev pub OfContent : Place → (Data → Writes) → Content → Writes
+OfContent place P (Bytes bytes) ended text = OfDocument place P bytes ended text
+OfContent place P (Held value) ended text = P value ended text
+
+-- what is written of the document that is given at a place
+abbrev pub OfGiven : Given → Place → (Data → Writes) → Writes
+OfGiven given place P ended text = SomeContent given (λ content. OfContent place P content ended text)
+
+-- the document is a batch that the check accepts, and its requests have this property
+abbrev pub AcceptsContent : Content → (List Record → Type 0) → Type 0
+AcceptsContent (Bytes bytes) P = Accepts bytes P
+AcceptsContent (Held value) P = AcceptsValue value P
+
+-- The second source is as it was, unless the first was read to the end of this document, and it is a batch that the check
+-- accepts.
+abbrev pub IsAskedFor : {S : Type 0} → Type 0 → Content → S → S → Type 0
+IsAskedFor was_read content old new = (new ≡ old) ⊎ (was_read × AcceptsContent content (λ _. Unit {0}))
+
+-- the input was read to the end of this document
+abbrev pub WasReadAs : {R : Type 0} → (R → Option (List ℕ)) → Reading R → Reading R → Content → Type 0
+WasReadAs remaining old new (Bytes bytes) = WasRead remaining old new bytes
+WasReadAs remaining old new (Held value) = ⊥

@@ -1,0 +1,87 @@
+//! What the calls on a live run do, as numbers.
+
+ghost use Rattle.std.specs.Prelude.{◌≡◌, ◌<◌, ◌+◌, IfOk};
+ghost use Rattle.odb_engine.specs.Cascade.{Prints};
+ghost use Rattle.odb_engine.specs.Labels.{id_lines};
+ghost use Rattle.odb_engine.specs.Live.{Shows};
+ghost use Rattle.odb_sched.specs.run.State as state;
+ghost use Rattle.odb_sched.specs.run.Steps.{report_number};
+ghost use Rattle.odb_ffi.specs.Live as calls;
+
+use crate::outcome::{NoOutcome, outcome_of};
+use crate::status;
+use odb_doc::Outcome;
+use odb_engine::{Answer, Ended, Form, LiveRun};
+use odb_sched::ReportRefusal;
+use std::alloc::{AllocError, Global};
+
+/// Returns the status of a report that is refused, and drops its outcome.
+fn status_of(refused: (ReportRefusal, Outcome)) -> u32
+    ensures { result ≡ 20 + report_number refused.0 }
+{
+    status::of_report(refused.0)
+}
+
+/// Starts a request.
+pub fn start(live: &mut LiveRun, position: u32) -> u32
+    ensures { calls.Starts live.old live.new position result }
+{
+    if position >= live.run().len() {
+        return status::WRONG_OPTION;
+    }
+    match live.start(position) {
+        Ok(()) => status::DONE,
+        Err(cause) => status::of_start(cause),
+    }
+}
+
+/// Takes an outcome of a request.
+fn take(live: &mut LiveRun, position: u32, outcome: Outcome) -> u32
+    requires { position < state.size live.old.run }
+    ensures { calls.Takes live.old live.new position outcome result }
+{
+    match live.report(position, outcome) {
+        Ok(()) => status::DONE,
+        Err(refused) => status_of(refused),
+    }
+}
+
+/// Takes the outcome of a request with this status and with headers and a body as JSON.
+pub fn report(
+    live: &mut LiveRun,
+    alloc: Global,
+    position: u32,
+    status: u32,
+    headers: &[u8],
+    body: &[u8],
+) -> u32
+    ensures { calls.Reports live.old live.new position status headers.now body.now result }
+{
+    if position >= live.run().len() {
+        return status::WRONG_OPTION;
+    }
+    match outcome_of(alloc, status, headers, body) {
+        Ok(outcome) => take(live, position, outcome),
+        Err(NoOutcome::Refused) => status::REFUSED,
+        Err(NoOutcome::OutOfMemory) => status::OUT_OF_MEMORY,
+    }
+}
+
+/// Returns the ids of the requests, one a line.
+pub fn ids(live: &LiveRun, alloc: Global) -> Result<Answer, AllocError>
+    ensures { IfOk result (λ answer. Prints (id_lines live.now.labels)
+        answer.ended answer.text.items) }
+{
+    let text = live.ids(alloc)?.into_bytes();
+    Ok(Answer {
+        ended: Ended::Done,
+        text,
+    })
+}
+
+/// Returns what a run by recorded events writes after the same events.
+pub fn response(live: &LiveRun, alloc: Global) -> Result<Answer, AllocError>
+    ensures { IfOk result (λ answer. Shows live.now answer.ended answer.text.items) }
+{
+    Answer::of(alloc, Form::Lines, live.response(alloc))
+}
