@@ -47,12 +47,7 @@ fn match_text(
 }
 
 /// Returns what is printed of the responses in a value.
-fn matched_in(
-    alloc: Global,
-    plan: &Plan<'_>,
-    value: &Value,
-    setup: Setup,
-) -> Result<String, Halt>
+fn matched_in(alloc: Global, plan: &Plan<'_>, value: &Value, setup: Setup) -> Result<String, Halt>
     ensures found { Found (MatchesValue setup.form (plan_records plan.now) (view value.now)) result }
     ensures read { result ≢ Err halts.Read }
 {
@@ -114,12 +109,5 @@ pub fn match_batch<R: Read, S: Read, W: Write>(
     ensures batch { ReadsFew R.remaining batch.old batch.new }
     ensures responses { ReadsFew S.remaining responses.old responses.new }
 {
-    answer_task(
-        alloc,
-        batch,
-        responses,
-        output,
-        Task::Match,
-        Setup::plain(),
-    )
+    answer_task(alloc, batch, responses, output, Task::Match, Setup::plain())
 }

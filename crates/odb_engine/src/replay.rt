@@ -17,8 +17,8 @@ ghost use Rattle.odb_engine.specs.Inputs.{AskedFor, IsFresh, ReadsFew, SomeDocum
 ghost use Rattle.odb_engine.specs.Replays as replays;
 ghost use Rattle.odb_engine.specs.Halts.{Found, Refuses, Halted};
 
-use crate::disposal::{Disposal, DropOrLeak};
 use crate::command::{Command, answer_command};
+use crate::disposal::{Disposal, DropOrLeak};
 use crate::ending::{Ended, EngineFault};
 use crate::halt::Halt;
 use crate::response::push_response;

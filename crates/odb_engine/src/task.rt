@@ -50,7 +50,9 @@ pub enum Task {
         traced: bool,
     },
     /// Write the response of a run with recorded events.
-    Run { policy: Policy },
+    Run {
+        policy: Policy,
+    },
 }
 
 impl Task {
