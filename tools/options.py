@@ -81,13 +81,13 @@ def source(name):
 
 
 def source_faults():
-    """The names that the table of the commands or the command line leaves out, and those written there anew."""
+    """The names that the table of the commands or what reads the command line leaves out, and those written anew."""
     table_of_commands, command_line = source("commands.rt"), source("command_line.rt")
+    readers = command_line + source("completions.rt")
     for name in re.findall(r"pub const (\w+): &str", source("names.rt")):
-        if f"names::{name}" not in re.findall(r"names::\w+", table_of_commands):
-            yield f"commands.rt: no argument is called names::{name}"
-        is_read = f"names::{name}" in re.findall(r"names::\w+", command_line)
-        if not is_read and not name.endswith("_OPTION"):
+        if not re.search(rf"names::{name}\b", table_of_commands):
+            yield f"commands.rt: nothing is called names::{name}"
+        if not re.search(rf"names::{name}\b", readers):
             yield f"command_line.rt: names::{name} is not read"
     for literal in re.findall(r'get_\w+\("[^"]*"\)', command_line):
         yield f"command_line.rt: {literal} is no name of names.rt"

@@ -1,13 +1,5 @@
 //! What a row of the table of commands consists of.
 
-/// An option that `clap` adds by itself.
-#[derive(Clone, Copy)]
-pub struct Added {
-    pub short: &'static str,
-    pub long: &'static str,
-    pub help: &'static str,
-}
-
 /// What an argument is, and which others it may be given with.
 #[derive(Clone, Copy)]
 pub enum Kind {
@@ -31,29 +23,27 @@ pub enum Kind {
     FlagWithout(&'static [&'static str]),
     /// An option without a value, which has to be given with --lines.
     FlagOfLines,
-    /// An option of this name, with a value.
+    /// An option with a value, which help calls by this name.
     Value(&'static str),
-    /// An option of this name, whose value is one of these words.
+    /// An option with a value, which help calls by this name and which is one of these words.
     Choice(&'static str, &'static [&'static str]),
 }
 
-/// An argument of a command. An option without a value has its identifier as its name.
+/// An argument of a command.
 #[derive(Clone, Copy)]
 pub struct Argument {
+    /// The long name of an option, or the name by which help calls a positional argument.
     pub id: &'static str,
     pub kind: Kind,
     pub help: &'static str,
 }
 
 impl Argument {
-    /// Returns the long name of an option, or `None` for a positional argument.
-    pub fn long(&self) -> Option<&'static str> {
+    /// Tests whether it is an option.
+    pub fn is_option(&self) -> bool {
         match self.kind {
-            Kind::Flag | Kind::ShortFlag(_) | Kind::FlagWithout(_) | Kind::FlagOfLines => {
-                Some(self.id)
-            }
-            Kind::Value(name) | Kind::Choice(name, _) => Some(name),
-            _ => None,
+            Kind::Flag | Kind::ShortFlag(_) | Kind::FlagWithout(_) | Kind::FlagOfLines => true,
+            _ => self.value().is_some(),
         }
     }
 
@@ -65,9 +55,12 @@ impl Argument {
         }
     }
 
-    /// Tests whether it is an option with a value.
-    pub fn has_value(&self) -> bool {
-        matches!(self.kind, Kind::Value(_) | Kind::Choice(_, _))
+    /// Returns the name of the value of an option, if it has one.
+    pub fn value(&self) -> Option<&'static str> {
+        match self.kind {
+            Kind::Value(name) | Kind::Choice(name, _) => Some(name),
+            _ => None,
+        }
     }
 
     /// Returns the values that it may have, if they are listed.
@@ -76,16 +69,6 @@ impl Argument {
             Kind::OneOf(words) | Kind::MaybeOneOf(words) | Kind::Choice(_, words) => words,
             _ => &[],
         }
-    }
-
-    /// Tests whether it has to be given.
-    pub fn is_required(&self) -> bool {
-        matches!(self.kind, Kind::OneOf(_))
-    }
-
-    /// Tests whether it may be given more than once.
-    pub fn is_repeated(&self) -> bool {
-        matches!(self.kind, Kind::Any)
     }
 }
 

@@ -1,25 +1,22 @@
-//! The commands and their arguments: a row for each command. The parser of the command line, the completions
-//! and the manual page are made of them.
+//! The commands and their arguments: a row for each command, in which each name is written once. The parser of
+//! the command line, the completions and the manual page are made of the rows, and the command line is read by
+//! their names.
 
-use crate::argument::{Added, Argument, Kind, Row};
+use crate::argument::{Argument, Kind, Row};
 use crate::names;
-
-const ORDERS: &[&str] = &["first", "last", "wide"];
-
-const SHELLS: &[&str] = &["bash", "zsh", "fish"];
 
 /// The names of the rows, which `help` takes.
 const COMMANDS: &[&str] = &[
-    "check",
-    "plan",
-    "canon",
-    "replay",
-    "match",
-    "run",
-    "explain",
-    "completions",
-    "man",
-    "help",
+    names::CHECK,
+    names::PLAN,
+    names::CANON,
+    names::REPLAY,
+    names::MATCH,
+    names::RUN,
+    names::EXPLAIN,
+    names::COMPLETIONS,
+    names::MAN,
+    names::HELP,
 ];
 
 pub const VERSION: &str = "0.2.0";
@@ -31,16 +28,16 @@ pub const PROGRAM_NOTES: &str =
     "Exit status: 0 for a result, 1 for a fault of a document, 2 for wrong \
     arguments, 3 if a file or the output fails, 4 if out of memory";
 
-/// The option that each command has after its own, and the program before `SHOW_VERSION`.
-pub const SHOW_HELP: Added = Added {
-    short: "h",
-    long: "help",
+/// The option that `clap` adds to each command after its own, and to the program before `SHOW_VERSION`.
+pub const SHOW_HELP: Argument = Argument {
+    id: names::HELP,
+    kind: Kind::ShortFlag('h'),
     help: "Print help",
 };
 
-pub const SHOW_VERSION: Added = Added {
-    short: "V",
-    long: "version",
+pub const SHOW_VERSION: Argument = Argument {
+    id: "version",
+    kind: Kind::ShortFlag('V'),
     help: "Print version",
 };
 
@@ -51,21 +48,51 @@ const FILE: Argument = Argument {
 };
 
 const BATCH: Argument = Argument {
-    id: names::FILE,
     kind: Kind::Batch,
     help: "The batch document, or with --lines the log, which may be absent; `-` is standard input",
+    ..FILE
 };
 
-const RESULT: Argument = Argument {
+const OUTCOMES: Argument = Argument {
+    id: names::OUTCOMES,
+    kind: Kind::Second,
+    help: "The document of recorded outcomes; `-` is standard input",
+};
+
+const RESPONSES: Argument = Argument {
+    id: names::RESPONSES,
+    kind: Kind::Second,
+    help: "The response document of the service; `-` is standard input",
+};
+
+const EVENTS: Argument = Argument {
+    id: names::EVENTS,
+    kind: Kind::Second,
+    help: "The document of recorded events; `-` is standard input",
+};
+
+const JSON: Argument = Argument {
     id: names::JSON,
     kind: Kind::Flag,
     help: "Print the result, or the fault, as one line of JSON",
 };
 
 const FAULT: Argument = Argument {
-    id: names::JSON,
-    kind: Kind::Flag,
     help: "Print the fault of a refused document as one line of JSON",
+    ..JSON
+};
+
+const DOT: Argument = Argument {
+    id: names::DOT,
+    kind: Kind::FlagWithout(&[names::JSON, names::LINES]),
+    help: "Print the plan as a drawing, in the language DOT of Graphviz",
+};
+
+const ORDER: Argument = Argument {
+    id: names::ORDER,
+    kind: Kind::Choice("ORDER", &[names::FIRST, names::LAST, names::WIDE]),
+    help: "Scheduling order: `first` and `last` finish each request before they start \
+        the next, by position; `wide` starts everything it can [default: first]",
 };
 
 const STOP: Argument = Argument {
@@ -76,8 +103,14 @@ const STOP: Argument = Argument {
 
 const WIDTH: Argument = Argument {
     id: names::WIDTH,
-    kind: Kind::Value(names::WIDTH_OPTION),
+    kind: Kind::Value("N"),
     help: "How many requests may run at once, from 1 to 10000 [default: 10000]",
+};
+
+const TRACE: Argument = Argument {
+    id: names::TRACE,
+    kind: Kind::FlagWithout(&[names::LINES]),
+    help: "Print the steps, and what has to be undone, before the response",
 };
 
 const LINES: Argument = Argument {
@@ -87,9 +120,8 @@ const LINES: Argument = Argument {
 };
 
 const PAIRS: Argument = Argument {
-    id: names::LINES,
-    kind: Kind::Flag,
     help: "Read a batch and its second document from each line, as an array of both, and print a line for each",
+    ..LINES
 };
 
 const FLUSH: Argument = Argument {
@@ -110,40 +142,46 @@ const QUIET: Argument = Argument {
     help: "Print neither a result nor a fault; only the exit status reports it",
 };
 
-static CHECK: Row = Row {
-    name: "check",
+const CODE: Argument = Argument {
+    id: names::CODE,
+    kind: Kind::Any,
+    help: "The codes or the names of faults, in any case; without one, all faults are listed",
+};
+
+const SHELL: Argument = Argument {
+    id: names::SHELL,
+    kind: Kind::OneOf(&[names::BASH, names::ZSH, names::FISH]),
+    help: "The shell",
+};
+
+const COMMAND: Argument = Argument {
+    id: names::COMMAND,
+    kind: Kind::MaybeOneOf(COMMANDS),
+    help: "The command",
+};
+
+const CHECK: Row = Row {
+    name: names::CHECK,
     about: "Check a batch: print that it is accepted, or its first fault",
     usage: "odb_batch check [OPTIONS] [FILE]",
     notes: "Example: odb_batch check batch.json\n\n\
         Exit status: 0 for a batch that is accepted, 1 for one with a fault, 2 for wrong arguments, \
         3 if a file or the output fails, 4 if out of memory",
-    arguments: &[FILE, RESULT, LINES, FLUSH, NUMBER, QUIET],
+    arguments: &[FILE, JSON, LINES, FLUSH, NUMBER, QUIET],
 };
 
-static PLAN: Row = Row {
-    name: "plan",
+const PLAN: Row = Row {
+    name: names::PLAN,
     about: "Plan a batch: print a line per request, with its level, its group and its dependencies",
     usage: "odb_batch plan [OPTIONS] [FILE]",
     notes: "Example: odb_batch plan batch.json\n\n\
         Exit status: 0 for a plan, 1 for a fault of the batch, 2 for wrong arguments, \
         3 if a file or the output fails, 4 if out of memory",
-    arguments: &[
-        FILE,
-        RESULT,
-        Argument {
-            id: names::DOT,
-            kind: Kind::FlagWithout(&[names::JSON, names::LINES]),
-            help: "Print the plan as a drawing, in the language DOT of Graphviz",
-        },
-        LINES,
-        FLUSH,
-        NUMBER,
-        QUIET,
-    ],
+    arguments: &[FILE, JSON, DOT, LINES, FLUSH, NUMBER, QUIET],
 };
 
-static CANON: Row = Row {
-    name: "canon",
+const CANON: Row = Row {
+    name: names::CANON,
     about: "Print the canonical text of a batch: equal texts mean equal batches",
     usage: "odb_batch canon [OPTIONS] [FILE]",
     notes: "Example: odb_batch canon batch.json\n\n\
@@ -152,8 +190,8 @@ static CANON: Row = Row {
     arguments: &[FILE, FAULT, LINES, FLUSH, NUMBER, QUIET],
 };
 
-static REPLAY: Row = Row {
-    name: "replay",
+const REPLAY: Row = Row {
+    name: names::REPLAY,
     about: "Replay a batch by recorded outcomes: print its response",
     usage: "odb_batch replay [OPTIONS] <FILE> <OUTCOMES>\n       \
         odb_batch replay [OPTIONS] --lines [FILE]",
@@ -161,58 +199,23 @@ static REPLAY: Row = Row {
         Exit status: 0 for a response, 1 for a fault of a document or a request without an outcome, \
         2 for wrong arguments, 3 if a file or the output fails, 4 if out of memory",
     arguments: &[
-        BATCH,
-        Argument {
-            id: names::OUTCOMES,
-            kind: Kind::Second,
-            help: "The document of recorded outcomes; `-` is standard input",
-        },
-        Argument {
-            id: names::ORDER,
-            kind: Kind::Choice(names::ORDER_OPTION, ORDERS),
-            help: "Scheduling order: `first` and `last` finish each request before they start \
-                the next, by position; `wide` starts everything it can [default: first]",
-        },
-        STOP,
-        WIDTH,
-        Argument {
-            id: names::TRACE,
-            kind: Kind::FlagWithout(&[names::LINES]),
-            help: "Print the steps, and what has to be undone, before the response",
-        },
-        FAULT,
-        PAIRS,
-        FLUSH,
-        NUMBER,
-        QUIET,
+        BATCH, OUTCOMES, ORDER, STOP, WIDTH, TRACE, FAULT, PAIRS, FLUSH, NUMBER, QUIET,
     ],
 };
 
-static MATCH: Row = Row {
-    name: "match",
+const MATCH: Row = Row {
+    name: names::MATCH,
     about: "Match a service's responses against a batch: print the status of each request",
     usage: "odb_batch match [OPTIONS] <FILE> <RESPONSES>\n       \
         odb_batch match [OPTIONS] --lines [FILE]",
     notes: "Example: odb_batch match batch.json responses.json\n\n\
         Exit status: 0 for responses that fit, 1 for a fault of a document or responses that do not fit, \
         2 for wrong arguments, 3 if a file or the output fails, 4 if out of memory",
-    arguments: &[
-        BATCH,
-        Argument {
-            id: names::RESPONSES,
-            kind: Kind::Second,
-            help: "The response document of the service; `-` is standard input",
-        },
-        RESULT,
-        PAIRS,
-        FLUSH,
-        NUMBER,
-        QUIET,
-    ],
+    arguments: &[BATCH, RESPONSES, JSON, PAIRS, FLUSH, NUMBER, QUIET],
 };
 
-static RUN: Row = Row {
-    name: "run",
+const RUN: Row = Row {
+    name: names::RUN,
     about: "Run a batch by recorded events: print its response, or the first event that may not come",
     usage: "odb_batch run [OPTIONS] <FILE> <EVENTS>\n       \
         odb_batch run [OPTIONS] --lines [FILE]",
@@ -220,51 +223,31 @@ static RUN: Row = Row {
         Exit status: 0 for a response, 1 for a fault of a document, an event that may not come or an \
         unfinished run, 2 for wrong arguments, 3 if a file or the output fails, 4 if out of memory",
     arguments: &[
-        BATCH,
-        Argument {
-            id: names::EVENTS,
-            kind: Kind::Second,
-            help: "The document of recorded events; `-` is standard input",
-        },
-        STOP,
-        WIDTH,
-        FAULT,
-        PAIRS,
-        FLUSH,
-        NUMBER,
-        QUIET,
+        BATCH, EVENTS, STOP, WIDTH, FAULT, PAIRS, FLUSH, NUMBER, QUIET,
     ],
 };
 
-pub static EXPLAIN: Row = Row {
-    name: "explain",
+pub const EXPLAIN: Row = Row {
+    name: names::EXPLAIN,
     about: "Explain faults: what each means, the reason for it, and how to repair it",
     usage: "odb_batch explain [CODE]...",
     notes: "Example: odb_batch explain F41\n\n\
         Exit status: 0 for a text, 2 for a fault that does not exist or other wrong arguments, \
         3 if the output fails, 4 if out of memory",
-    arguments: &[Argument {
-        id: names::CODE,
-        kind: Kind::Any,
-        help: "The codes or the names of faults, in any case; without one, all faults are listed",
-    }],
+    arguments: &[CODE],
 };
 
-static COMPLETIONS: Row = Row {
-    name: "completions",
+const COMPLETIONS: Row = Row {
+    name: names::COMPLETIONS,
     about: "Print a completion script for a shell",
     usage: "odb_batch completions <SHELL>",
     notes: "Example: source <(odb_batch completions bash)\n\n\
         Exit status: 0 for a script, 2 for wrong arguments, 3 if the output fails, 4 if out of memory",
-    arguments: &[Argument {
-        id: names::SHELL,
-        kind: Kind::OneOf(SHELLS),
-        help: "The shell",
-    }],
+    arguments: &[SHELL],
 };
 
-static MAN: Row = Row {
-    name: "man",
+const MAN: Row = Row {
+    name: names::MAN,
     about: "Print the manual page, as roff",
     usage: "odb_batch man",
     notes: "Example: odb_batch man | man -l -\n\n\
@@ -272,32 +255,26 @@ static MAN: Row = Row {
     arguments: &[],
 };
 
-static HELP: Row = Row {
-    name: "help",
+const HELP: Row = Row {
+    name: names::HELP,
     about: "Print this help, or the help of a command",
     usage: "odb_batch help [COMMAND]",
     notes: "Example: odb_batch help plan\n\n\
         Exit status: 0 for a text, 2 for a command that does not exist or other wrong arguments, \
         3 if the output fails, 4 if out of memory",
-    arguments: &[Argument {
-        id: names::COMMAND,
-        kind: Kind::MaybeOneOf(COMMANDS),
-        help: "The command",
-    }],
+    arguments: &[COMMAND],
 };
 
-/// Returns the commands, in the order in which help shows them.
-pub fn rows() -> [&'static Row; 10] {
-    [
-        &CHECK,
-        &PLAN,
-        &CANON,
-        &REPLAY,
-        &MATCH,
-        &RUN,
-        &EXPLAIN,
-        &COMPLETIONS,
-        &MAN,
-        &HELP,
-    ]
-}
+/// The commands, in the order in which help shows them.
+pub const ROWS: [Row; 10] = [
+    CHECK,
+    PLAN,
+    CANON,
+    REPLAY,
+    MATCH,
+    RUN,
+    EXPLAIN,
+    COMPLETIONS,
+    MAN,
+    HELP,
+];

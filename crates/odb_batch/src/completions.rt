@@ -1,35 +1,27 @@
 //! Completion scripts, made of the rows of the commands.
 
-pub mod bash;
-pub mod fish;
-pub mod zsh;
+mod bash;
+mod fish;
+mod zsh;
 
-use crate::argument::{Added, Argument, Row};
-use crate::commands::{SHOW_HELP, SHOW_VERSION};
+use crate::argument::{Argument, Row};
+use crate::commands::{ROWS, SHOW_HELP, SHOW_VERSION};
+use crate::names;
 use crate::page::Page;
 
-/// Adds the names of an option that `clap` adds, short and long, with a space before each.
-fn add_names(page: &mut Page, option: &Added) {
-    page.add_all(&[" -", option.short, " --", option.long]);
+/// Adds the script for a shell, `bash`, `zsh` or `fish`.
+pub fn add_script(page: &mut Page, shell: &str) {
+    match shell {
+        names::FISH => fish::add_script(page),
+        names::ZSH => zsh::add_script(page),
+        _ => bash::add_script(page),
+    }
 }
 
 /// Adds the names of an option, short and long, with a space before each.
-fn add_option(page: &mut Page, argument: &Argument) {
-    if let Some(short) = argument.short() {
-        page.add(" -");
-        page.add_char(short);
-    }
-    if let Some(long) = argument.long() {
-        page.add_all(&[" --", long]);
-    }
-}
-
-/// Adds the names of all options of a command, with a space before each.
-fn add_options(page: &mut Page, row: &Row) {
-    for argument in row.arguments {
-        add_option(page, argument);
-    }
-    add_names(page, &SHOW_HELP);
+fn add_names(page: &mut Page, option: &Argument) {
+    page.add_char_within(" -", option.short(), "");
+    page.add_all(&[" --", option.id]);
 }
 
 /// Adds the names of the options of the program, with a space before each.
@@ -38,11 +30,56 @@ fn add_program_options(page: &mut Page) {
     add_names(page, &SHOW_VERSION);
 }
 
-/// Adds the values of the positional arguments of a command that are listed, with a space before each.
-fn add_positional_values(page: &mut Page, row: &Row) {
-    for argument in row.arguments {
-        if argument.long().is_none() {
-            page.add_words(argument.values());
+/// How a shell writes the cases of its script: one for the value of an option, over the command and the word
+/// before, and one for all else that may follow a command.
+struct Cases {
+    /// Before the name of the command.
+    head: &'static str,
+    /// What is done for a value that is not listed.
+    any: &'static str,
+    /// Around the values of an option.
+    value: (&'static str, &'static str),
+    /// Before the values of the positional arguments, before the options, and at the end.
+    rest: (&'static str, &'static str, &'static str),
+}
+
+impl Cases {
+    /// Adds the case of the value of an option.
+    fn add_value(&self, page: &mut Page, row: &Row, option: &Argument) {
+        page.add_all(&[self.head, row.name, " --", option.id, "') "]);
+        if option.values().is_empty() {
+            page.add(self.any);
+        }
+        page.add_words_within(self.value.0, option.values(), self.value.1);
+    }
+
+    /// Adds the case of all that may follow a command but the values of its options.
+    fn add_rest(&self, page: &mut Page, row: &Row) {
+        page.add_all(&[self.head, row.name, " '*) ", self.rest.0]);
+        for argument in row.arguments {
+            if !argument.is_option() {
+                page.add_words(argument.values());
+            }
+        }
+        page.add(self.rest.1);
+        for argument in row.arguments {
+            if argument.is_option() {
+                add_names(page, argument);
+            }
+        }
+        add_names(page, &SHOW_HELP);
+        page.add(self.rest.2);
+    }
+
+    /// Adds the cases of all commands.
+    fn add(&self, page: &mut Page) {
+        for row in ROWS {
+            for argument in row.arguments {
+                if argument.value().is_some() {
+                    self.add_value(page, &row, argument);
+                }
+            }
+            self.add_rest(page, &row);
         }
     }
 }

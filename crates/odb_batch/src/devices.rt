@@ -1,7 +1,7 @@
 //! Where the program reads and writes: a file or standard input, and standard output or nothing.
 
-use crate::command_line::{Report, Source};
-use crate::ending::{Status, failed};
+use crate::command_line::Origin;
+use crate::ending::{Status, failed, out_of_memory};
 use std::io::{Printer, Read, Write};
 use std::rt::Runtime;
 use std::{fs, io};
@@ -9,15 +9,17 @@ use std::{fs, io};
 /// A reader of a document or a log.
 #[derive(Drop)]
 pub enum Document<F, S> {
-    File(F),
+    Nothing,
     StandardInput(S),
+    File(F),
 }
 
 impl<F: Read, S: Read> Read for Document<F, S> {
     fn read(&mut self, buffer: &mut [u8]) -> io::Result<usize> {
         match self {
-            Document::File(file) => file.read(buffer),
+            Document::Nothing => Ok(0),
             Document::StandardInput(input) => input.read(buffer),
+            Document::File(file) => file.read(buffer),
         }
     }
 }
@@ -50,7 +52,7 @@ impl<W: Write> Write for Results<W> {
 /// Prints that the file cannot be opened, and why. Returns the status.
 fn not_opened<R: Runtime>(rt: &R, path: &str, error: io::Error) -> Status {
     if error.kind() == io::ErrorKind::OutOfMemory {
-        return failed(rt, "memory", Status::Memory);
+        return out_of_memory(rt);
     }
     let status = failed(rt, "open", Status::Device);
     let _ = eprintln!(rt; "{path}: {error}");
@@ -60,20 +62,21 @@ fn not_opened<R: Runtime>(rt: &R, path: &str, error: io::Error) -> Status {
 /// Opens a document, or returns the status of a program that cannot open it.
 pub fn open<R: Runtime>(
     rt: &R,
-    source: Source<'_>,
+    origin: Origin<'_>,
 ) -> Result<Document<R::File, R::Reader>, Status> {
-    match source {
-        Source::StandardInput => Ok(Document::StandardInput(rt.reader())),
-        Source::File(path) => match fs::open(rt, path) {
+    match origin {
+        Origin::Nowhere => Ok(Document::Nothing),
+        Origin::StandardInput => Ok(Document::StandardInput(rt.reader())),
+        Origin::File(path) => match fs::open(rt, path) {
             Ok(file) => Ok(Document::File(file)),
             Err(error) => Err(not_opened(rt, path, error)),
         },
     }
 }
 
-/// Returns the writer of a command that reports so.
-pub fn writer_of<R: Runtime>(rt: &R, report: Report) -> Results<Printer<'_, R>> {
-    if report.quiet {
+/// Returns the writer of a command.
+pub fn writer_of<R: Runtime>(rt: &R, quiet: bool) -> Results<Printer<'_, R>> {
+    if quiet {
         Results::Quiet
     } else {
         Results::Printed(io::writer(rt))

@@ -19,22 +19,18 @@ pub fn failed<R: Runtime>(rt: &R, cause: &str, status: Status) -> Status {
     status
 }
 
-/// Returns the exit status of an engine that ended so, and what is printed on standard error.
-fn status_of(ended: Result<Ended, EngineFault>) -> (Status, Option<&'static str>) {
-    match ended {
-        Ok(Ended::Done) => (Status::Done, None),
-        Ok(Ended::Refused) => (Status::Refused, None),
-        Err(EngineFault::Read) => (Status::Device, Some("read")),
-        Err(EngineFault::Write) => (Status::Device, Some("write")),
-        Err(EngineFault::OutOfMemory) => (Status::Memory, Some("memory")),
-    }
+/// Prints that memory ran out, and returns the status.
+pub fn out_of_memory<R: Runtime>(rt: &R) -> Status {
+    failed(rt, "memory", Status::Memory)
 }
 
 /// Prints why an engine failed, if it did, and returns its exit status.
 pub fn finish<R: Runtime>(rt: &R, ended: Result<Ended, EngineFault>) -> Status {
-    let (status, cause) = status_of(ended);
-    match cause {
-        None => status,
-        Some(cause) => failed(rt, cause, status),
+    match ended {
+        Ok(Ended::Done) => Status::Done,
+        Ok(Ended::Refused) => Status::Refused,
+        Err(EngineFault::Read) => failed(rt, "read", Status::Device),
+        Err(EngineFault::Write) => failed(rt, "write", Status::Device),
+        Err(EngineFault::OutOfMemory) => out_of_memory(rt),
     }
 }

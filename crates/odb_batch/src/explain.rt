@@ -28,22 +28,12 @@ fn split(text: &str, end: char) -> (&str, &str) {
     text.split_once(end).unwrap_or((text, ""))
 }
 
-/// Adds the first line of an explanation.
-fn add_heading(page: &mut Page, text: &str) {
-    page.add_all(&[split(text, '\n').0, "\n"]);
-}
-
-/// Adds the first lines of these explanations.
-fn add_headings(page: &mut Page, texts: &[&str]) {
-    for text in texts {
-        add_heading(page, text);
-    }
-}
-
 /// Adds the code, the name and the places of all faults.
 pub fn add_table(page: &mut Page) {
     for family in families() {
-        add_headings(page, family);
+        for text in family {
+            page.add_all(&[split(text, '\n').0, "\n"]);
+        }
     }
 }
 
@@ -62,29 +52,10 @@ fn add_explanation(page: &mut Page, text: &str) {
     page.add_all(&[text, "\n"]);
 }
 
-/// Adds those of these explanations whose faults have this code or name.
-fn add_named(page: &mut Page, texts: &[&str], word: &str) {
-    for text in texts {
-        if is_named(text, word) {
-            add_explanation(page, text);
-        }
-    }
-}
-
-/// Tests whether one of these explanations has this code or name.
-fn has_named(texts: &[&str], word: &str) -> bool {
-    for text in texts {
-        if is_named(text, word) {
-            return true;
-        }
-    }
-    false
-}
-
 /// Tests whether a fault has this code or name.
 fn is_known(word: &str) -> bool {
     for family in families() {
-        if has_named(family, word) {
+        if family.iter().any(|text| is_named(text, word)) {
             return true;
         }
     }
@@ -93,19 +64,18 @@ fn is_known(word: &str) -> bool {
 
 /// Returns the first of these words that is not the code or the name of a fault.
 pub fn first_unknown<'a>(words: &[&'a str]) -> Option<&'a str> {
-    for word in words {
-        if !is_known(word) {
-            return Some(*word);
-        }
-    }
-    None
+    words.iter().copied().find(|word| !is_known(word))
 }
 
 /// Adds the explanations of the faults that have these codes or names, word by word.
 pub fn add_explanations(page: &mut Page, words: &[&str]) {
     for word in words {
         for family in families() {
-            add_named(page, family, word);
+            for text in family {
+                if is_named(text, word) {
+                    add_explanation(page, text);
+                }
+            }
         }
     }
 }

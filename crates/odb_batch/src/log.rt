@@ -2,14 +2,14 @@
 
 ghost use Rattle.std.specs.Prelude.{◌≡◌, false};
 
-use crate::command_line::{Report, Source};
+use crate::command_line::{Job, LogOptions};
 use crate::devices::{open, writer_of};
-use crate::ending::{Status, failed, finish};
+use crate::ending::{Status, finish, out_of_memory};
 use crate::engines::Environment;
 use crate::numbered::NumberedLines;
 use crate::progress::Watched;
 use odb_engine::{
-    Disposal, EachLine, Ended, EngineFault, LineCommand, LineInput, LineTask, Setup, answer_lines,
+    Disposal, EachLine, Ended, EngineFault, LineCommand, LineInput, Setup, answer_lines,
 };
 use odb_io::Output;
 use std::alloc::Global;
@@ -19,30 +19,16 @@ use std::rt::Runtime;
 /// Size of the output buffer.
 const BUFFER_BYTES: usize = 65_536;
 
-/// How a log is answered.
-#[derive(Clone, Copy)]
-pub struct Log<'a> {
-    pub source: Source<'a>,
-    pub task: LineTask,
-    pub report: Report,
-    /// Whether each answer is written at once.
-    pub flush: bool,
-    /// Whether each fault has the number of its line.
-    pub numbered: bool,
-}
-
-impl Log<'_> {
-    /// Returns the command on each line. It frees the memory of a line before the next one.
-    fn command(&self, environment: Environment) -> NumberedLines {
-        let command = EachLine {
-            task: self.task,
-            setup: Setup {
-                disposal: Disposal::Drop,
-                ..environment.setup(self.report.form)
-            },
-        };
-        NumberedLines::new(command, self.numbered)
-    }
+/// Returns the command on each line of a log. It frees the memory of a line before the next one.
+fn command_of(environment: Environment, job: Job<'_>, numbered: bool) -> NumberedLines {
+    let command = EachLine {
+        task: job.task,
+        setup: Setup {
+            disposal: Disposal::Drop,
+            ..environment.setup(job.form)
+        },
+    };
+    NumberedLines::new(command, numbered)
 }
 
 /// Answers each line of a reader, and flushes the output at the end.
@@ -68,51 +54,43 @@ fn answer<R: Read + Drop, W: Write, C: LineCommand>(
 fn answer_watched<R: Runtime + AllocGlobal, I: Read + Drop, W: Write>(
     rt: &R,
     environment: Environment,
-    log: Log<'_>,
+    job: Job<'_>,
+    options: LogOptions,
     reader: I,
     output: &mut Output<W>,
 ) -> Result<Ended, EngineFault>
     requires { output.old.failed ≡ false }
 {
-    let flush = log.flush || environment.stdout_is_terminal;
+    let flush = options.flush || environment.stdout_is_terminal;
     let is_alone = environment.stderr_is_terminal && !environment.stdout_is_terminal;
-    if is_alone && !log.report.quiet {
-        if let Ok(watched) = Watched::new(rt, log.command(environment)) {
+    if is_alone && !job.quiet {
+        if let Ok(watched) = Watched::new(rt, command_of(environment, job, options.numbered)) {
             let ended = answer(rt.alloc(), reader, output, &watched, flush);
             watched.end();
             return ended;
         }
     }
-    answer(rt.alloc(), reader, output, &log.command(environment), flush)
+    let command = command_of(environment, job, options.numbered);
+    answer(rt.alloc(), reader, output, &command, flush)
 }
 
-/// Answers each line of a reader, and returns the exit status.
-fn answer_from<R: Runtime + AllocGlobal, I: Read + Drop>(
-    rt: &R,
-    environment: Environment,
-    log: Log<'_>,
-    reader: I,
-) -> Status {
-    match BufWriter::with_capacity(rt.alloc(), BUFFER_BYTES, writer_of(rt, log.report)) {
-        Ok(writer) => {
-            let mut output = Output::new(writer);
-            finish(
-                rt,
-                answer_watched(rt, environment, log, reader, &mut output),
-            )
-        }
-        Err(_) => failed(rt, "memory", Status::Memory),
-    }
-}
-
-/// Answers each line of a log, in order.
+/// Does a task on each line of a log, in order.
 pub fn answer_log<R: Runtime + AllocGlobal>(
     rt: &R,
     environment: Environment,
-    log: Log<'_>,
+    job: Job<'_>,
+    options: LogOptions,
 ) -> Status {
-    match open(rt, log.source) {
-        Ok(reader) => answer_from(rt, environment, log, reader),
-        Err(status) => status,
+    let reader = match open(rt, job.first) {
+        Ok(reader) => reader,
+        Err(status) => return status,
+    };
+    match BufWriter::with_capacity(rt.alloc(), BUFFER_BYTES, writer_of(rt, job.quiet)) {
+        Ok(writer) => {
+            let mut output = Output::new(writer);
+            let ended = answer_watched(rt, environment, job, options, reader, &mut output);
+            finish(rt, ended)
+        }
+        Err(_) => out_of_memory(rt),
     }
 }

@@ -23,9 +23,9 @@ mod progress;
 mod texts;
 
 use clap::error::ErrorKind;
-use command_line::{BadArguments, Task};
-use ending::{Status, failed};
-use engines::{Environment, answer_batch, answer_pair};
+use command_line::{BadArguments, CommandLine};
+use ending::{Status, failed, out_of_memory};
+use engines::{Environment, answer_documents};
 use log::answer_log;
 use odb_check::Seed;
 use std::io::IsTerminal;
@@ -37,7 +37,7 @@ use std::{env, io};
 /// Prints the text of `clap`: help on standard output, and what is wrong on standard error.
 fn print_clap<R: Runtime>(rt: &R, error: &clap::Error) -> Status {
     if error.kind() == ErrorKind::OutOfMemory {
-        return failed(rt, "memory", Status::Memory);
+        return out_of_memory(rt);
     }
     if error.use_stderr() {
         let _ = error.print(rt);
@@ -51,19 +51,12 @@ fn print_clap<R: Runtime>(rt: &R, error: &clap::Error) -> Status {
 
 /// Prints why the arguments are rejected.
 fn reject<R: Runtime>(rt: &R, wrong: &BadArguments) -> Status {
-    match wrong {
-        BadArguments::Arguments(error) => print_clap(rt, error),
-        BadArguments::Width => failed(
-            rt,
-            "--width must be a whole number from 1 to 10000",
-            Status::WrongArguments,
-        ),
-        BadArguments::StandardInputTwice => failed(
-            rt,
-            "standard input can be only one of the two documents",
-            Status::WrongArguments,
-        ),
-    }
+    let cause = match wrong {
+        BadArguments::Arguments(error) => return print_clap(rt, error),
+        BadArguments::Width => "--width must be a whole number from 1 to 10000",
+        BadArguments::StandardInputTwice => "standard input can be only one of the two documents",
+    };
+    failed(rt, cause, Status::WrongArguments)
 }
 
 /// Draws a random seed. If the system has no random bytes there is none: lookups are then as safe against
@@ -77,23 +70,12 @@ fn seed<R: RandomSource>(rt: &R) -> Seed {
 
 /// Performs what the arguments ask for.
 fn perform<R: Runtime + AllocGlobal>(rt: &R, environment: Environment, args: &[String]) -> Status {
-    match Task::read(rt.alloc(), args) {
-        Ok(
-            Task::Batch {
-                source,
-                task,
-                report,
-            },
-        ) => answer_batch(rt, environment, source, task, report),
-        Ok(
-            Task::Pair {
-                sources,
-                task,
-                report,
-            },
-        ) => answer_pair(rt, environment, sources, task, report),
-        Ok(Task::Log(log)) => answer_log(rt, environment, log),
-        Ok(Task::Print(text)) => texts::print(rt, &text),
+    match CommandLine::read(rt.alloc(), args) {
+        Ok(CommandLine::Answer(job)) => match job.log {
+            Some(options) => answer_log(rt, environment, job, options),
+            None => answer_documents(rt, environment, job),
+        },
+        Ok(CommandLine::Print(text)) => texts::print(rt, &text),
         Err(wrong) => reject(rt, &wrong),
     }
 }
@@ -114,9 +96,7 @@ fn arguments(rt: &HostRuntime) -> io::Result<Vec<String>> {
 fn main(rt: HostRuntime) -> ExitCode {
     let status = match arguments(&rt) {
         Ok(args) => perform(&rt, environment_of(&rt), args.as_slice()),
-        Err(error) if error.kind() == io::ErrorKind::OutOfMemory => {
-            failed(&rt, "memory", Status::Memory)
-        }
+        Err(error) if error.kind() == io::ErrorKind::OutOfMemory => out_of_memory(&rt),
         Err(_) => failed(&rt, "the arguments are not UTF-8", Status::WrongArguments),
     };
     ExitCode::from(status as u8)

@@ -1,7 +1,7 @@
 //! The manual page, made of the rows of the commands.
 
-use crate::argument::{Added, Argument, Row};
-use crate::commands::{PROGRAM_ABOUT, PROGRAM_NOTES, SHOW_HELP, SHOW_VERSION, rows};
+use crate::argument::{Argument, Kind, Row};
+use crate::commands::{PROGRAM_ABOUT, PROGRAM_NOTES, ROWS, SHOW_HELP, SHOW_VERSION};
 use crate::page::Page;
 
 const HEAD: &str = ".TH ODB_BATCH 1\n\
@@ -34,82 +34,49 @@ fn add_line(page: &mut Page, words: &str) {
 
 /// Adds the name of an argument: the long name of an option, with the name of its value.
 fn add_name(page: &mut Page, argument: &Argument) {
-    match argument.long() {
-        None => page.add(argument.id),
-        Some(long) => {
-            page.add("\\-\\-");
-            add_plain(page, long);
-            if argument.has_value() {
-                page.add_all(&[" ", argument.id]);
-            }
-        }
+    if argument.is_option() {
+        page.add("\\-\\-");
     }
-}
-
-/// Adds the values that an argument may have, if they are listed.
-fn add_values(page: &mut Page, values: &[&str]) {
-    if !values.is_empty() {
-        page.add("One of:");
-        page.add_words(values);
-        page.add("\n");
+    add_plain(page, argument.id);
+    if let Some(value) = argument.value() {
+        page.add_all(&[" ", value]);
     }
 }
 
 /// Adds what an argument means.
 fn add_argument(page: &mut Page, argument: &Argument) {
     page.add(".TP\n.B ");
-    if let Some(short) = argument.short() {
-        page.add("\\-");
-        page.add_char(short);
-        page.add(", ");
-    }
+    page.add_char_within("\\-", argument.short(), ", ");
     add_name(page, argument);
     page.add("\n");
     add_line(page, argument.help);
-    add_values(page, argument.values());
-}
-
-/// Adds what an option that `clap` adds means.
-fn add_added(page: &mut Page, option: &Added) {
-    page.add_all(&[
-        ".TP\n.B \\-",
-        option.short,
-        ", \\-\\-",
-        option.long,
-        "\n",
-        option.help,
-        "\n",
-    ]);
+    page.add_words_within("One of:", argument.values(), "\n");
 }
 
 /// Adds an argument as the heading of its command shows it.
 fn add_use(page: &mut Page, argument: &Argument) {
-    if argument.is_required() {
-        page.add_all(&[" ", argument.id]);
-        return;
-    }
-    page.add(" [");
+    let (before, after) = match argument.kind {
+        Kind::OneOf(_) => (" ", ""),
+        Kind::Any => (" [", " ..]"),
+        _ => (" [", "]"),
+    };
+    page.add(before);
     add_name(page, argument);
-    page.add(if argument.is_repeated() { " ..]" } else { "]" });
+    page.add(after);
 }
 
-/// Adds the heading of a command: its arguments, without the help option that each has.
-fn add_heading(page: &mut Page, row: &Row) {
+/// Adds the section of a command. Its heading is without the help option that each has.
+fn add_command(page: &mut Page, row: &Row) {
     page.add_all(&[".SS ", row.name]);
     for argument in row.arguments {
         add_use(page, argument);
     }
     page.add("\n");
-}
-
-/// Adds the section of a command.
-fn add_command(page: &mut Page, row: &Row) {
-    add_heading(page, row);
     add_line(page, row.about);
     for argument in row.arguments {
         add_argument(page, argument);
     }
-    add_added(page, &SHOW_HELP);
+    add_argument(page, &SHOW_HELP);
 }
 
 /// Adds the page.
@@ -117,11 +84,11 @@ pub fn add_page(page: &mut Page) {
     page.add(HEAD);
     add_line(page, PROGRAM_ABOUT);
     page.add(".SH OPTIONS\n");
-    add_added(page, &SHOW_HELP);
-    add_added(page, &SHOW_VERSION);
+    add_argument(page, &SHOW_HELP);
+    add_argument(page, &SHOW_VERSION);
     page.add(COMMANDS);
-    for row in rows() {
-        add_command(page, row);
+    for row in ROWS {
+        add_command(page, &row);
     }
     page.add(".SH EXIT STATUS\n");
     add_line(page, PROGRAM_NOTES);

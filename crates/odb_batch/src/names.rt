@@ -1,5 +1,26 @@
-//! The names of the arguments and options, each written once: the table of the commands has them, and the
-//! command line is read by them.
+//! The names of commands, arguments, options and their values, each written once: the table of the commands has
+//! them, and the command line is read by them.
+
+pub const CHECK: &str = "check";
+
+pub const PLAN: &str = "plan";
+
+pub const CANON: &str = "canon";
+
+pub const REPLAY: &str = "replay";
+
+pub const MATCH: &str = "match";
+
+pub const RUN: &str = "run";
+
+pub const EXPLAIN: &str = "explain";
+
+pub const COMPLETIONS: &str = "completions";
+
+pub const MAN: &str = "man";
+
+/// The name of a command, and of an option.
+pub const HELP: &str = "help";
 
 pub const FILE: &str = "FILE";
 
@@ -15,23 +36,17 @@ pub const SHELL: &str = "SHELL";
 
 pub const COMMAND: &str = "COMMAND";
 
-/// The name of a value, and the option that has it.
-pub const ORDER: &str = "ORDER";
-
-pub const ORDER_OPTION: &str = "order";
-
-/// The name of a value, and the option that has it.
-pub const WIDTH: &str = "N";
-
-pub const WIDTH_OPTION: &str = "width";
-
-pub const STOP: &str = "stop";
-
-pub const TRACE: &str = "trace";
+pub const JSON: &str = "json";
 
 pub const DOT: &str = "dot";
 
-pub const JSON: &str = "json";
+pub const ORDER: &str = "order";
+
+pub const STOP: &str = "stop";
+
+pub const WIDTH: &str = "width";
+
+pub const TRACE: &str = "trace";
 
 pub const LINES: &str = "lines";
 
@@ -40,3 +55,15 @@ pub const FLUSH: &str = "flush";
 pub const NUMBER: &str = "number";
 
 pub const QUIET: &str = "quiet";
+
+pub const FIRST: &str = "first";
+
+pub const LAST: &str = "last";
+
+pub const WIDE: &str = "wide";
+
+pub const BASH: &str = "bash";
+
+pub const ZSH: &str = "zsh";
+
+pub const FISH: &str = "fish";

@@ -61,7 +61,7 @@ impl LineCommand for NumberedLines {
     ghost use Rattle.std.specs.Prelude.{◌≡◌, ◌⊎◌, true};
     ghost use Rattle.odb_engine.specs.declared.ending.Ended.TheVariants.{Refused};
     ghost use Rattle.odb_engine.specs.Forms.{InForm};
-    ghost use Rattle.odb_engine.specs.LineTasks.{OfLine};
+    ghost use Rattle.odb_engine.specs.Tasks.{OfLine};
 
     // What the task writes, unless a fault is to be numbered.
     ghost writes = { λ self line ended text. ((self.numbered ≡ true) × (ended ≡ Refused))

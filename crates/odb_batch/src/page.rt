@@ -51,6 +51,24 @@ impl Page {
         }
     }
 
+    /// Adds words as `add_words` does, between two texts; without words nothing.
+    pub fn add_words_within(&mut self, before: &str, words: &[&str], after: &str) {
+        if !words.is_empty() {
+            self.add(before);
+            self.add_words(words);
+            self.add(after);
+        }
+    }
+
+    /// Adds a character, if there is one, between two texts.
+    pub fn add_char_within(&mut self, before: &str, piece: Option<char>, after: &str) {
+        if let Some(piece) = piece {
+            self.add(before);
+            self.add_char(piece);
+            self.add(after);
+        }
+    }
+
     /// Tests whether nothing was added.
     pub fn is_empty(&self) -> bool {
         self.is_whole && self.text.is_empty()

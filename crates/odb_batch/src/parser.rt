@@ -1,7 +1,7 @@
 //! The parser of the command line, as `clap` is given it.
 
 use crate::argument::{Argument, Kind, Row};
-use crate::commands::{PROGRAM_ABOUT, PROGRAM_NOTES, VERSION, rows};
+use crate::commands::{PROGRAM_ABOUT, PROGRAM_NOTES, ROWS, VERSION};
 use crate::names::LINES;
 use clap::{Arg, ArgAction, Command};
 use std::alloc::{AllocError, Global};
@@ -20,8 +20,10 @@ fn arg_of<'a>(alloc: Global, argument: &Argument) -> Result<Arg<'a>, AllocError>
         Kind::ShortFlag(name) => Ok(flag(arg, argument.id).short(name)),
         Kind::FlagWithout(others) => flag(arg, argument.id).conflicts_with_all(others),
         Kind::FlagOfLines => flag(arg, argument.id).requires_arg(LINES),
-        Kind::Value(name) => Ok(arg.long(name)),
-        Kind::Choice(name, words) => Ok(arg.long(name).value_parser(words)),
+        Kind::Value(name) => Ok(arg.long(argument.id).value_name(name)),
+        Kind::Choice(name, words) => {
+            Ok(arg.long(argument.id).value_name(name).value_parser(words))
+        }
     }
 }
 
@@ -30,18 +32,12 @@ fn flag<'a>(arg: Arg<'a>, name: &'a str) -> Arg<'a> {
     arg.long(name).action(ArgAction::SetTrue)
 }
 
-/// Returns arguments as `clap` is given them.
-fn args_of<'a>(alloc: Global, arguments: &[Argument]) -> Result<Vec<Arg<'a>>, AllocError> {
+/// Returns a command as `clap` is given it.
+fn command_of<'a>(alloc: Global, row: Row) -> Result<Command<'a>, AllocError> {
     let mut args = Vec::new(alloc);
-    for argument in arguments {
+    for argument in row.arguments {
         args.push(arg_of(alloc, argument)?)?;
     }
-    Ok(args)
-}
-
-/// Returns a command as `clap` is given it.
-fn command_of<'a>(alloc: Global, row: &Row) -> Result<Command<'a>, AllocError> {
-    let args = args_of(alloc, row.arguments)?;
     Command::new(alloc, row.name)
         .about(row.about)
         .override_usage(row.usage)
@@ -49,18 +45,12 @@ fn command_of<'a>(alloc: Global, row: &Row) -> Result<Command<'a>, AllocError> {
         .args(args)
 }
 
-/// Returns all commands as `clap` is given them.
-fn commands_of<'a>(alloc: Global) -> Result<Vec<Command<'a>>, AllocError> {
-    let mut commands = Vec::new(alloc);
-    for row in rows() {
-        commands.push(command_of(alloc, row)?)?;
-    }
-    Ok(commands)
-}
-
 /// Returns the whole program.
 pub fn program<'a>(alloc: Global) -> Result<Command<'a>, AllocError> {
-    let commands = commands_of(alloc)?;
+    let mut commands = Vec::new(alloc);
+    for row in ROWS {
+        commands.push(command_of(alloc, row)?)?;
+    }
     Command::new(alloc, "odb_batch")
         .about(PROGRAM_ABOUT)
         .version(VERSION)
@@ -71,7 +61,7 @@ pub fn program<'a>(alloc: Global) -> Result<Command<'a>, AllocError> {
 
 /// Returns the help of the command of this name, or of the program, as `--help` prints it.
 pub fn help_of(alloc: Global, name: Option<&str>) -> Result<String, AllocError> {
-    for row in rows() {
+    for row in ROWS {
         if name == Some(row.name) {
             return command_of(alloc, row)?.render_help();
         }

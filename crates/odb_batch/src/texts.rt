@@ -1,9 +1,9 @@
 //! The commands that read no document: each prints a text.
 
-use crate::command_line::{Shell, Text};
+use crate::command_line::Text;
 use crate::commands::EXPLAIN;
-use crate::completions::{bash, fish, zsh};
-use crate::ending::{Status, failed, finish};
+use crate::completions::add_script;
+use crate::ending::{Status, finish, out_of_memory};
 use crate::explain::{add_explanations, add_table, first_unknown};
 use crate::man::add_page;
 use crate::page::Page;
@@ -27,9 +27,7 @@ fn add_text(alloc: Global, page: &mut Page, text: &Text<'_>) {
     match text {
         Text::Faults => add_table(page),
         Text::Explanations(codes) => add_explanations(page, codes),
-        Text::Completions(Shell::Bash) => bash::add_script(page),
-        Text::Completions(Shell::Zsh) => zsh::add_script(page),
-        Text::Completions(Shell::Fish) => fish::add_script(page),
+        Text::Completions(shell) => add_script(page, shell),
         Text::Manual => add_page(page),
         Text::Help(name) => add_help(alloc, page, *name),
     }
@@ -45,7 +43,7 @@ fn write<R: Runtime>(rt: &R, text: &str) -> Result<Ended, EngineFault> {
 fn print_page<R: Runtime>(rt: &R, page: &Page) -> Status {
     match page.text() {
         Ok(text) => finish(rt, write(rt, text)),
-        Err(_) => failed(rt, "memory", Status::Memory),
+        Err(_) => out_of_memory(rt),
     }
 }
 

@@ -1,9 +1,8 @@
 //! Completions for bash: a pattern for each command, over the number of the word, the command and the
 //! word before.
 
-use super::{add_options, add_positional_values, add_program_options};
-use crate::argument::Row;
-use crate::commands::rows;
+use super::{Cases, add_program_options};
+use crate::commands::ROWS;
 use crate::page::Page;
 
 const HEAD: &str =
@@ -20,49 +19,22 @@ const TAIL: &str = "    esac\n    \
     }\n\
     complete -o default -F _odb_batch odb_batch\n";
 
-/// Adds the pattern of the value of an option.
-fn add_value<'a>(page: &mut Page, command: &'a str, long: &'a str, values: &[&str]) {
-    page.add_all(&["    *' ", command, " --", long]);
-    if values.is_empty() {
-        page.add("') compopt +o default ;;\n");
-        return;
-    }
-    page.add("') words='");
-    page.add_words(values);
-    page.add("' ;;\n");
-}
-
-/// Adds the patterns of the values of all options of a command.
-fn add_option_values(page: &mut Page, row: &Row) {
-    for argument in row.arguments {
-        if argument.has_value() {
-            let long = argument.long().unwrap_or("");
-            add_value(page, row.name, long, argument.values());
-        }
-    }
-}
-
-/// Adds the patterns of a command.
-fn add_command(page: &mut Page, row: &Row) {
-    add_option_values(page, row);
-    page.add_all(&["    *' ", row.name, " '*) words='"]);
-    add_positional_values(page, row);
-    page.add("' options='");
-    add_options(page, row);
-    page.add("' ;;\n");
-}
+const CASES: Cases = Cases {
+    head: "    *' ",
+    any: "compopt +o default ;;\n",
+    value: ("words='", "' ;;\n"),
+    rest: ("words='", "' options='", "' ;;\n"),
+};
 
 /// Adds the script.
 pub fn add_script(page: &mut Page) {
     page.add(HEAD);
-    for row in rows() {
+    for row in ROWS {
         page.add_all(&[" ", row.name]);
     }
     page.add("' options='");
     add_program_options(page);
     page.add("' ;;\n");
-    for row in rows() {
-        add_command(page, row);
-    }
+    CASES.add(page);
     page.add(TAIL);
 }
