@@ -28,7 +28,7 @@ use std::io::Write;
 
 /// What is written of a batch that the check accepts, by a second document if the command takes one.
 ///
-/// [`answer_command`] is its engine. [`crate::Task`] has the commands of the program.
+/// [`answer_task`] is its engine. [`crate::Task`] has the commands of the program.
 pub trait Command {
     ghost use Rattle.std.specs.Prelude.{◌≡◌, ◌↔◌, ℕ, List, Err};
     ghost use Rattle.odb_doc.specs.batch.Records.{Record};
@@ -140,8 +140,9 @@ pub fn text_of<R: Source, S: Source, C: Command>(
     text_in(alloc, &value.value, second, command, setup)
 }
 
-/// Writes what a command writes of the batch that the first source gives, by the second source if it takes a
-/// second document; or the least fault. The second source is read only if the check accepts the batch.
+/// Does a task, or another command: writes what it writes of the batch that the first source gives, by the second
+/// source if it takes a second document; or the least fault. The second source is read only if the check accepts
+/// the batch.
 ///
 /// The sources must be new, and the output must not have failed. The text is held in memory and written whole.
 ///
@@ -150,25 +151,26 @@ pub fn text_of<R: Source, S: Source, C: Command>(
 /// - `Read` if and only if a read of one of the sources failed; nothing was written.
 /// - `Write` if and only if the output failed; it has received a prefix of the text.
 /// - `OutOfMemory` if an allocation fails; nothing was written.
-pub fn answer_command<R: Source, S: Source, W: Write, C: Command>(
+pub fn answer_task<R: Source, S: Source, W: Write, C: Command + Drop>(
     alloc: Global,
     first: &mut R,
     second: &mut S,
     output: &mut Output<W>,
-    command: &mut C,
+    task: C,
     setup: Setup,
 ) -> Result<Ended, EngineFault>
     requires first { R.is_fresh first.old }
     requires second { S.is_fresh second.old }
     requires output { output.old.failed ≡ false }
     ensures ends { SomeContent (R.given first.old) (λ content. Ends W.contents (InForm setup.form
-        (OfContent places.Batch (AnswersValue (C.writes command.old setup.form (S.given second.old))) content))
+        (OfContent places.Batch (AnswersValue (C.writes task setup.form (S.given second.old))) content))
         (R.has_failed first.new ⊎ S.has_failed second.new) output.old output.new result
         × IsAskedFor (R.was_read first.old first.new content) content second.old second.new) }
     ensures memory { result ≡ Err EngineFault.OutOfMemory → output.new ≡ output.old }
     ensures first { R.reads_few first.old first.new }
     ensures second { S.reads_few second.old second.new }
 {
-    let found = text_of(alloc, first, second, command, setup);
+    let mut task = task;
+    let found = text_of(alloc, first, second, &mut task, setup);
     end(alloc, setup.form, found, output)
 }

@@ -1,8 +1,7 @@
 //! The command `match`: whether the responses of a service fit a batch.
 
-ghost use Rattle.std.specs.Prelude.{◌≡◌, ◌≢◌, ◌↔◌, ◌⊎◌, length, false, Err, IsTrue, IfOk, string_bytes};
+ghost use Rattle.std.specs.Prelude.{◌≡◌, ◌≢◌, ◌⊎◌, length, false, Err, IsTrue, IfOk, string_bytes};
 ghost use Rattle.serde_json.specs.View.{view};
-ghost use Rattle.odb_doc.specs.declared.fault.Place.TheVariants as places;
 ghost use Rattle.odb_check.specs.Plans.{plan_records};
 ghost use Rattle.odb_reply.specs.Fits.{statuses};
 ghost use Rattle.odb_engine.specs.declared.halt.Halt.TheVariants as halts;
@@ -10,16 +9,15 @@ ghost use Rattle.odb_engine.specs.Cascade.{Answers};
 ghost use Rattle.odb_engine.specs.Inputs.{AskedFor, BySecond, IsFresh, ReadsFew, SomeDocument};
 ghost use Rattle.odb_engine.specs.Engines.{Ends};
 ghost use Rattle.odb_engine.specs.Halts.{Found};
-ghost use Rattle.odb_engine.specs.Contents.{OfGiven};
 ghost use Rattle.odb_engine.specs.Matches.{Matches, MatchesValue, match_text};
 
+use crate::command::answer_task;
 use crate::disposal::DropOrLeak;
 use crate::ending::{Ended, EngineFault};
 use crate::form::Form;
 use crate::halt::Halt;
 use crate::setup::Setup;
-use crate::source::Source;
-use crate::task::{Task, answer_task};
+use crate::task::Task;
 use odb_check::Plan;
 use odb_doc::Place;
 use odb_io::{Input, Output};
@@ -47,36 +45,20 @@ fn match_text(
 }
 
 /// Returns what is printed of the responses in a value.
-fn matched_in(alloc: Global, plan: &Plan<'_>, value: &Value, setup: Setup) -> Result<String, Halt>
-    ensures found { Found (MatchesValue setup.form (plan_records plan.now) (view value.now)) result }
+pub fn matched(alloc: Global, plan: &Plan<'_>, value: Value, setup: Setup) -> Result<String, Halt>
+    ensures found { Found (MatchesValue setup.form (plan_records plan.now) (view value)) result }
     ensures read { result ≢ Err halts.Read }
 {
+    let value = DropOrLeak {
+        value,
+        disposal: setup.disposal,
+    };
     let responses = DropOrLeak {
-        value: Responses::read(alloc, value)?,
+        value: Responses::read(alloc, &value.value)?,
         disposal: setup.disposal,
     };
     let table = match_responses(alloc, plan, &responses.value)?;
     Ok(match_text(alloc, plan, &table, setup.form)?)
-}
-
-/// Returns what is printed of the responses that the second source gives.
-pub fn matched<S: Source>(
-    alloc: Global,
-    plan: &Plan<'_>,
-    second: &mut S,
-    setup: Setup,
-) -> Result<String, Halt>
-    requires { S.is_fresh second.old }
-    ensures found { Found (OfGiven (S.given second.old) places.Responses
-        (MatchesValue setup.form (plan_records plan.now))) result }
-    ensures read { (result ≡ Err halts.Read) ↔ S.has_failed second.new }
-    ensures second { S.reads_few second.old second.new }
-{
-    let value = DropOrLeak {
-        value: second.value(alloc, Place::Responses)?,
-        disposal: setup.disposal,
-    };
-    matched_in(alloc, plan, &value.value, setup)
 }
 
 /// Matches the response document of a service against the batch in a document: writes the count of

@@ -17,7 +17,7 @@ ghost use Rattle.odb_engine.specs.Inputs.{AskedFor, IsFresh, ReadsFew, SomeDocum
 ghost use Rattle.odb_engine.specs.Replays as replays;
 ghost use Rattle.odb_engine.specs.Halts.{Found, Refuses, Halted};
 
-use crate::command::{Command, answer_command};
+use crate::command::{Command, answer_task};
 use crate::disposal::{Disposal, DropOrLeak};
 use crate::ending::{Ended, EngineFault};
 use crate::halt::Halt;
@@ -26,7 +26,7 @@ use crate::setup::Setup;
 use crate::source::Source;
 use odb_check::Plan;
 use odb_doc::{Batch, Outcomes, Place};
-use odb_exec::{Chooser, First, Last, Recorded, Trace, Wide, execute};
+use odb_exec::{Chooser, Recorded, Trace, execute};
 use odb_io::{Input, Output};
 use odb_reply::laws::every_response;
 use odb_sched::{Order, Policy};
@@ -49,12 +49,12 @@ fn outcomes_of(alloc: Global, value: Value, disposal: Disposal) -> Result<Outcom
     Ok(outcomes)
 }
 
-/// A replay in the order of a chooser. `C` is `&mut dyn Chooser`: a field cannot have that type itself.
-#[derive(Drop)]
-struct Replay<C> {
-    policy: Policy,
-    chooser: C,
-    traced: bool,
+/// How a batch is replayed, but for the order.
+#[derive(Clone, Copy)]
+pub struct Unordered {
+    pub policy: Policy,
+    pub traced: bool,
+    pub disposal: Disposal,
 }
 
 /// Executes a plan by recorded outcomes.
@@ -62,18 +62,16 @@ fn run_of<'a: 'p, 'p>(
     alloc: Global,
     plan: &'p Plan<'a>,
     outcomes: Outcomes,
-    replay: &mut Replay<&mut dyn Chooser>,
-    disposal: Disposal,
+    chooser: &mut dyn Chooser,
+    replay: Unordered,
 ) -> Result<Trace<'p>, Halt>
-    ensures result { IfOk result (λ trace. (traced : Bool) → replays.IsResult
-        ((Chooser-dyn replay.old.chooser.now).allows replay.old.chooser.now.1) replay.old.policy
-        traced (plan_records plan.now) (entries outcomes) Done
+    ensures result { IfOk result (λ trace. (traced : Bool) → replays.IsResult (allows chooser.old)
+        replay.policy traced (plan_records plan.now) (entries outcomes) Done
         (replays.result_text traced trace.done trace.steps.items)) }
     ensures within { IfOk result (λ trace.
         All (λ step. position_in step < size trace.done) trace.steps.items) }
     ensures whole { IfOk result (λ trace. HasWholeBodies trace.done) }
-    ensures lacks { IfErr result (Refuses (replays.LacksOutcome
-        ((Chooser-dyn replay.old.chooser.now).allows replay.old.chooser.now.1) replay.old.policy
+    ensures lacks { IfErr result (Refuses (replays.LacksOutcome (allows chooser.old) replay.policy
         (plan_records plan.now) (entries outcomes))) }
     ensures read { result ≢ Err halts.Read }
 {
@@ -81,102 +79,57 @@ fn run_of<'a: 'p, 'p>(
     let _count = outcomes.len();
     let mut service = DropOrLeak {
         value: Recorded::new(alloc, plan, outcomes)?,
-        disposal,
+        disposal: replay.disposal,
     };
-    let chooser = &mut *replay.chooser;
     let trace = execute(alloc, plan, replay.policy, chooser, &mut service.value)?;
     every_response(&trace.done);
     Ok(trace)
 }
 
-/// Returns the result of an execution by the outcomes in a value.
-fn replayed_in(
+/// Returns the result of an execution by the outcomes in a value, in the order of a chooser.
+fn replayed_by(
     alloc: Global,
     plan: &Plan<'_>,
     value: Value,
-    replay: &mut Replay<&mut dyn Chooser>,
-    disposal: Disposal,
+    chooser: &mut dyn Chooser,
+    replay: Unordered,
 ) -> Result<String, Halt>
-    ensures found { Found (replays.ReplaysValue
-        ((Chooser-dyn replay.old.chooser.now).allows replay.old.chooser.now.1) replay.old.policy
-        replay.old.traced (plan_records plan.now) (view value)) result }
+    ensures found { Found (replays.ReplaysValue (allows chooser.old) replay.policy replay.traced
+        (plan_records plan.now) (view value)) result }
     ensures read { result ≢ Err halts.Read }
 {
-    let traced = replay.traced;
-    let outcomes = outcomes_of(alloc, value, disposal)?;
+    let outcomes = outcomes_of(alloc, value, replay.disposal)?;
     let trace = DropOrLeak {
-        value: run_of(alloc, plan, outcomes, replay, disposal)?,
-        disposal,
+        value: run_of(alloc, plan, outcomes, chooser, replay)?,
+        disposal: replay.disposal,
     };
-    let mut text = trace_part(alloc, &trace.value, traced)?;
+    let mut text = trace_part(alloc, &trace.value, replay.traced)?;
     push_response(alloc, &mut text, &trace.value.done)?;
     Ok(text)
 }
 
-/// Returns the result of an execution by the outcomes that the second source gives.
-fn replayed_by<S: Source>(
+/// Returns the result of an execution by the outcomes in a value, in an order.
+pub fn replayed(
     alloc: Global,
     plan: &Plan<'_>,
-    second: &mut S,
-    replay: &mut Replay<&mut dyn Chooser>,
-    disposal: Disposal,
-) -> Result<String, Halt>
-    requires { S.is_fresh second.old }
-    ensures found { Found (OfGiven (S.given second.old) places.Outcomes (replays.ReplaysValue
-        ((Chooser-dyn replay.old.chooser.now).allows replay.old.chooser.now.1) replay.old.policy
-        replay.old.traced (plan_records plan.now))) result }
-    ensures read { (result ≡ Err halts.Read) ↔ S.has_failed second.new }
-    ensures second { S.reads_few second.old second.new }
-{
-    let value = second.value(alloc, Place::Outcomes)?;
-    replayed_in(alloc, plan, value, replay, disposal)
-}
-
-/// Returns the result of an execution in the order of a chooser, by the outcomes that the second source gives.
-fn replayed<S: Source>(
-    alloc: Global,
-    plan: &Plan<'_>,
-    second: &mut S,
-    policy: Policy,
-    chooser: &mut dyn Chooser,
-    traced: bool,
-    disposal: Disposal,
-) -> Result<String, Halt>
-    requires { S.is_fresh second.old }
-    ensures found { Found (OfGiven (S.given second.old) places.Outcomes (replays.ReplaysValue
-        (allows chooser.old) policy traced (plan_records plan.now))) result }
-    ensures read { (result ≡ Err halts.Read) ↔ S.has_failed second.new }
-    ensures second { S.reads_few second.old second.new }
-{
-    let mut replay = Replay {
-        policy,
-        chooser,
-        traced,
-    };
-    replayed_by(alloc, plan, second, &mut replay, disposal)
-}
-
-/// Returns the result of an execution in an order, by the outcomes that the second source gives.
-pub fn replayed_in_order<S: Source>(
-    alloc: Global,
-    plan: &Plan<'_>,
-    second: &mut S,
-    policy: Policy,
+    value: Value,
     order: Order,
-    traced: bool,
-    disposal: Disposal,
+    replay: Unordered,
 ) -> Result<String, Halt>
-    requires { S.is_fresh second.old }
-    ensures found { Found (OfGiven (S.given second.old) places.Outcomes (replays.ReplaysValue
-        (AllowsOrder order) policy traced (plan_records plan.now))) result }
-    ensures read { (result ≡ Err halts.Read) ↔ S.has_failed second.new }
-    ensures second { S.reads_few second.old second.new }
+    ensures found { Found (replays.ReplaysValue (AllowsOrder order) replay.policy replay.traced
+        (plan_records plan.now) (view value)) result }
+    ensures read { result ≢ Err halts.Read }
 {
-    match order {
-        Order::First => replayed(alloc, plan, second, policy, &mut First, traced, disposal),
-        Order::Last => replayed(alloc, plan, second, policy, &mut Last, traced, disposal),
-        Order::Wide => replayed(alloc, plan, second, policy, &mut Wide, traced, disposal),
-    }
+    let mut order = order;
+    replayed_by(alloc, plan, value, &mut order, replay)
+}
+
+/// A replay in the order of a chooser. `C` is `&mut dyn Chooser`: a field cannot have that type itself.
+#[derive(Drop)]
+struct Replay<C> {
+    policy: Policy,
+    chooser: C,
+    traced: bool,
 }
 
 impl<'c> Command for Replay<&'c mut dyn Chooser> {
@@ -191,7 +144,13 @@ impl<'c> Command for Replay<&'c mut dyn Chooser> {
         second: &mut S,
         setup: Setup,
     ) -> Result<String, Halt> {
-        replayed_by(alloc, plan, second, self, setup.disposal)
+        let value = second.value(alloc, Place::Outcomes)?;
+        let replay = Unordered {
+            policy: self.policy,
+            traced: self.traced,
+            disposal: setup.disposal,
+        };
+        replayed_by(alloc, plan, value, &mut *self.chooser, replay)
     }
 }
 
@@ -200,7 +159,7 @@ impl<'c> Command for Replay<&'c mut dyn Chooser> {
 ///
 /// The inputs must be new, and the output must not have failed. The chooser gives the order, and the
 /// policy whether an error stops the run and how many requests may run at once. The outcomes are read
-/// only if the check accepts the batch. [`crate::answer_task`] takes a [`Setup`] too, and an order by its name.
+/// only if the check accepts the batch. [`answer_task`] takes a [`Setup`] too, and an order by its name.
 ///
 /// Both documents, the trace and the response are held in memory. If the chooser follows an order, takes
 /// O(n log n) time for n bytes of documents and output; else the chooser is asked at each step.
@@ -231,10 +190,10 @@ pub fn replay_batch<R: Read, S: Read, W: Write>(
     ensures batch { ReadsFew R.remaining batch.old batch.new }
     ensures outcomes { ReadsFew S.remaining outcomes.old outcomes.new }
 {
-    let mut replay = Replay {
+    let replay = Replay {
         policy,
         chooser,
         traced,
     };
-    answer_command(alloc, batch, outcomes, output, &mut replay, Setup::plain())
+    answer_task(alloc, batch, outcomes, output, replay, Setup::plain())
 }

@@ -1,28 +1,26 @@
 //! The command `run`: the response of a run with recorded events.
 
-ghost use Rattle.std.specs.Prelude.{◌≡◌, ◌≢◌, ◌↔◌, ◌⊎◌, false, Err, IsTrue, IfErr, IfOk};
+ghost use Rattle.std.specs.Prelude.{◌≡◌, ◌≢◌, ◌⊎◌, false, Err, IsTrue, IfErr, IfOk};
 ghost use Rattle.serde_json.specs.View.{view};
-ghost use Rattle.odb_doc.specs.declared.fault.Place.TheVariants as places;
 ghost use Rattle.odb_doc.specs.recorded.EventLists.{entries};
 ghost use Rattle.odb_check.specs.Plans.{plan_records};
 ghost use Rattle.odb_reply.specs.NotWhole.{HasWholeBodies};
 ghost use Rattle.odb_engine.specs.declared.ending.Ended.TheVariants as ends;
 ghost use Rattle.odb_engine.specs.declared.halt.Halt.TheVariants as halts;
 ghost use Rattle.odb_engine.specs.Cascade.{Answers};
-ghost use Rattle.odb_engine.specs.Contents.{OfGiven};
 ghost use Rattle.odb_engine.specs.Engines.{Ends};
 ghost use Rattle.odb_engine.specs.Inputs.{AskedFor, IsFresh, ReadsFew, SomeDocument};
 ghost use Rattle.odb_text.specs.Lines.{response_line};
 ghost use Rattle.odb_engine.specs.Runs as runs;
 ghost use Rattle.odb_engine.specs.Halts.{Found, Halted};
 
+use crate::command::answer_task;
 use crate::disposal::{Disposal, DropOrLeak};
 use crate::ending::{Ended, EngineFault};
 use crate::halt::Halt;
 use crate::response::push_response;
 use crate::setup::Setup;
-use crate::source::Source;
-use crate::task::{Task, answer_task};
+use crate::task::Task;
 use odb_check::Plan;
 use odb_doc::{Events, Place, Refusal};
 use odb_io::{Input, Output};
@@ -85,7 +83,7 @@ fn done_of<'a: 'p, 'p>(
 }
 
 /// Returns the response to a run by the events in a value.
-fn ran_in(
+pub fn ran(
     alloc: Global,
     plan: &Plan<'_>,
     value: Value,
@@ -103,24 +101,6 @@ fn ran_in(
     let mut text = String::new(alloc);
     push_response(alloc, &mut text, &done.value)?;
     Ok(text)
-}
-
-/// Returns the response to a run by the events that the second source gives.
-pub fn ran<S: Source>(
-    alloc: Global,
-    plan: &Plan<'_>,
-    second: &mut S,
-    policy: Policy,
-    disposal: Disposal,
-) -> Result<String, Halt>
-    requires { S.is_fresh second.old }
-    ensures found { Found (OfGiven (S.given second.old) places.Events
-        (runs.RunsValue policy (plan_records plan.now))) result }
-    ensures read { (result ≡ Err halts.Read) ↔ S.has_failed second.new }
-    ensures second { S.reads_few second.old second.new }
-{
-    let value = second.value(alloc, Place::Events)?;
-    ran_in(alloc, plan, value, policy, disposal)
 }
 
 /// Runs the batch in a document by the recorded events in another: writes the response if every event

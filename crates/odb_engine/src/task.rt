@@ -1,29 +1,26 @@
 //! The commands of the program as one enum, and what each writes.
 
-ghost use Rattle.std.specs.Prelude.{◌≡◌, ◌⊎◌, [], false, Err, IsTrue};
-ghost use Rattle.odb_doc.specs.declared.fault.Place.TheVariants as places;
-ghost use Rattle.odb_engine.specs.Cascade.{Answers, AnswersValue};
-ghost use Rattle.odb_engine.specs.Contents.{IsAskedFor, OfContent, SomeContent};
+ghost use Rattle.std.specs.Prelude.{◌≡◌, [], false, Err, IsTrue};
+ghost use Rattle.odb_engine.specs.Cascade.{Answers};
 ghost use Rattle.odb_engine.specs.Contents.Given.{InMemory};
 ghost use Rattle.odb_engine.specs.declared.form.Form.TheVariants.{Lines};
 ghost use Rattle.odb_engine.specs.Inputs.{IsFresh, ReadsFew, SomeDocument};
 ghost use Rattle.odb_engine.specs.Engines.{Ends};
-ghost use Rattle.odb_engine.specs.Forms.{InForm};
 ghost use Rattle.odb_engine.specs.Tasks.{OfTask, takes_second};
 
 use crate::canon::canonical_text;
 use crate::check::counts_text;
-use crate::command::{Command, answer_command};
+use crate::command::{Command, answer_task};
 use crate::ending::{Ended, EngineFault};
 use crate::halt::Halt;
 use crate::match_responses::matched;
 use crate::plan::{drawn_text, planned_text};
-use crate::replay::replayed_in_order;
+use crate::replay::{Unordered, replayed};
 use crate::run::ran;
 use crate::setup::Setup;
 use crate::source::Source;
 use odb_check::Plan;
-use odb_doc::Batch;
+use odb_doc::{Batch, Place};
 use odb_io::{Input, Output};
 use odb_sched::{Order, Policy};
 use std::alloc::Global;
@@ -83,44 +80,29 @@ impl Command for Task {
             Task::Plan => planned_text(alloc, plan, setup.form),
             Task::Draw => drawn_text(alloc, plan),
             Task::Canon => canonical_text(alloc, batch),
-            Task::Match => matched(alloc, plan, second, setup),
+            Task::Match => {
+                let responses = second.value(alloc, Place::Responses)?;
+                matched(alloc, plan, responses, setup)
+            }
             Task::Replay {
                 policy,
                 order,
                 traced,
-            } => replayed_in_order(alloc, plan, second, policy, order, traced, setup.disposal),
-            Task::Run { policy } => ran(alloc, plan, second, policy, setup.disposal),
+            } => {
+                let outcomes = second.value(alloc, Place::Outcomes)?;
+                let replay = Unordered {
+                    policy,
+                    traced,
+                    disposal: setup.disposal,
+                };
+                replayed(alloc, plan, outcomes, order, replay)
+            }
+            Task::Run { policy } => {
+                let events = second.value(alloc, Place::Events)?;
+                ran(alloc, plan, events, policy, setup.disposal)
+            }
         }
     }
-}
-
-/// Does a task on the batch that the first source gives, and on the document that the second gives if the task
-/// takes one, as [`answer_command`] does.
-///
-/// # Errors
-///
-/// Those of [`answer_command`].
-pub fn answer_task<R: Source, S: Source, W: Write>(
-    alloc: Global,
-    first: &mut R,
-    second: &mut S,
-    output: &mut Output<W>,
-    task: Task,
-    setup: Setup,
-) -> Result<Ended, EngineFault>
-    requires first { R.is_fresh first.old }
-    requires second { S.is_fresh second.old }
-    requires output { output.old.failed ≡ false }
-    ensures ends { SomeContent (R.given first.old) (λ content. Ends W.contents (InForm setup.form
-        (OfContent places.Batch (AnswersValue (OfTask task setup.form (S.given second.old))) content))
-        (R.has_failed first.new ⊎ S.has_failed second.new) output.old output.new result
-        × IsAskedFor (R.was_read first.old first.new content) content second.old second.new) }
-    ensures memory { result ≡ Err EngineFault.OutOfMemory → output.new ≡ output.old }
-    ensures first { R.reads_few first.old first.new }
-    ensures second { S.reads_few second.old second.new }
-{
-    let mut task = task;
-    answer_command(alloc, first, second, output, &mut task, setup)
 }
 
 /// Does a task on the document of a reader alone, without a setup.

@@ -1,6 +1,6 @@
 -- What a law says of two calls: two texts of one document, and two readings of one thing; and the premise of the law of a live
 -- run that goes on.
-use Rattle.std.proofs.Common.{◌≡◌, ℕ, List, [], ◌∷◌, length, slice_get, Option, Some, None, Result, Ok, Err, IfSome, subst, sym}
+use Rattle.std.proofs.Common.{◌≡◌, ℕ, List, [], ◌∷◌, length, slice_get, Option, Some, None, Result, Ok, Err, IfOk, IfSome, subst, sym}
 use Rattle.odb_doc.specs.batch.Records.{Record}
 use Rattle.odb_doc.specs.recorded.Events.{EventValue}
 use Rattle.odb_doc.specs.recorded.Events as named
@@ -9,6 +9,9 @@ use Rattle.odb_check.specs.Positions.{id_at}
 use Rattle.odb_check.specs.Units.{position_of}
 use Rattle.odb_engine.specs.declared.ending.Ended.{Ended}
 use Rattle.odb_engine.specs.declared.ending.Ended.TheVariants.{Done}
+use Rattle.odb_engine.specs.declared.ending.EngineFault.{EngineFault}
+use Rattle.odb_engine.specs.Engines.{WritesText}
+use Rattle.odb_io.specs.Devices.{Writing}
 use Rattle.serde_json.specs.Data.{Data}
 use Rattle.odb_engine.specs.Cascade.{Writes, HasValue, IsOne}
 use Rattle.odb_engine.specs.Inputs.{IsDocumentOf, SomeDocument}
@@ -42,6 +45,13 @@ pub done_written : {X : Type 0} (ended : X → Ended) (text : X → List ℕ) (l
     → IfSome a (λ x. SomeDocument (Some left) (λ bytes. W bytes (ended x) (text x))) → IfSome a (λ x. ended x ≡ Done → SomeDocument (Some left) (λ bytes. Q bytes (text x)))
 done_written ended text left W Q so None _ = tt
 done_written ended text left W Q so (Some x) (bytes, gives, is) = λ done. (bytes, gives, so bytes (text x) (subst (λ e. W bytes e (text x)) done is))
+
+-- what an engine has written that ended: what it may write of the document of a reader
+pub written-of : {W : Type 0} (contents : W → Option (List ℕ)) (old new : Writing W) (P : List ℕ → Writes) (left : Option (List ℕ)) (E : List ℕ → Type 0) (result : Result Ended EngineFault)
+    → ((bytes : List ℕ) → E bytes → IfOk result (λ ended. WritesText (contents old.writer) (contents new.writer) (P bytes ended))) → SomeDocument left E
+    → IfOk result (λ ended. SomeDocument left (λ bytes. WritesText (contents old.writer) (contents new.writer) (P bytes ended)))
+written-of contents old new P left E (Ok ended) so (bytes, gives, is) = (bytes, gives, so bytes is)
+written-of contents old new P left E (Err fault) so some = tt
 
 -- ---- one reading
 

@@ -1,5 +1,6 @@
 -- What two readings of one thing have in common.
-use Rattle.std.specs.Prelude.{◌≡◌, Result, IsOk, IfOk, IfErr}
+use Rattle.std.specs.Prelude.{◌≡◌, ℕ, Option, Result, Global, Vec, IsOk, IfOk, IfErr, IfSome}
+use Rattle.odb_engine.specs.declared.ending.Ended.{Ended}
 
 -- a reading has the property of a value or that of a fault
 abbrev pub IsReading : {X F : Type 0} → (X → Type 0) → (F → Type 0) → Result X F → Type 0
@@ -10,3 +11,7 @@ pub record IsSame {X F Y : Type 0} (shown : X → Y) (one other : Result X F) : 
   pub values : IfOk one (λ x. IfOk other (λ y. shown x ≡ shown y))
   pub faults : IfErr one (λ f. IfErr other (λ g. f ≡ g))
   pub alike : IsOk one → IsOk other
+
+-- two calls that both wrote something ended alike, and wrote one text
+abbrev pub AreOne : Option (Ended × Vec ℕ Global) → Option (Ended × Vec ℕ Global) → Type 0
+AreOne a b = IfSome a (λ one. IfSome b (λ other. (one.0 ≡ other.0) × (one.1.items ≡ other.1.items)))

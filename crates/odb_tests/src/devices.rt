@@ -1,25 +1,8 @@
 //! Devices that fail: what a take and a put return, and that each calls its device once.
 
+use crate::engines::devices::{Pace, Slow};
 use odb_io::{DeviceFault, Input, Output};
-use std::io::{self, Error, ErrorKind, Read, Write};
-
-/// A reader that gives a byte a call and fails at its third call.
-#[derive(Drop)]
-struct Failing {
-    calls: usize,
-}
-
-impl Read for Failing {
-    fn read(&mut self, buffer: &mut [u8]) -> io::Result<usize> {
-        self.calls = self.calls.saturating_add(1);
-        if self.calls == 3 {
-            return Err(Error::from(ErrorKind::BrokenPipe));
-        }
-        let count = buffer.len().min(1);
-        buffer[..count].fill(b'a');
-        Ok(count)
-    }
-}
+use std::io::{self, Error, ErrorKind, Write};
 
 /// A writer that takes as many bytes as it has room for; then it fails, or takes none if it is deaf.
 #[derive(Drop)]
@@ -45,7 +28,7 @@ impl Write for Full {
     }
 }
 
-/// What the takes of a failing input return, in order.
+/// What the takes of an input return, in order, whose third read fails.
 const TAKES: &[Result<usize, DeviceFault>] = &[Ok(1), Ok(1), Err(DeviceFault)];
 
 /// What is put into an output with room for 10 bytes, and what each put returns.
@@ -57,7 +40,7 @@ const PUTS: &[(&[u8], Result<usize, DeviceFault>)] = &[
 ];
 
 /// Whether the takes return what is listed, and the input has failed after the last one alone.
-fn takes_as_listed(input: &mut Input<Failing>) -> bool {
+fn takes_as_listed(input: &mut Input<Slow<'_>>) -> bool {
     for want in TAKES {
         if input.failed() || input.reads() >= 3 || input.take(&mut [0; 4]) != *want {
             return false;
@@ -77,7 +60,7 @@ fn puts_as_listed(output: &mut Output<Full>) -> bool {
 }
 
 fn is_read_once_a_take() -> bool {
-    let mut input = Input::new(Failing { calls: 0 });
+    let mut input = Input::new(Slow::new(b"aaa", Pace::bytewise(2)));
     takes_as_listed(&mut input) && input.into_inner().calls == 3
 }
 

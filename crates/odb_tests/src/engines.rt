@@ -1,8 +1,13 @@
 //! The engines over readers and writers of a library: each with ample memory, slow ones, and some
 //! that fail. What the engines print is shown on the built program, in tests/cases/.
 
-ghost use Rattle.std.specs.Prelude.{◌≡◌, false};
-ghost use Rattle.odb_engine.specs.Inputs.{IsFresh};
+ghost use Rattle.std.specs.Prelude.{◌≡◌, false, IfOk};
+ghost use Rattle.odb_engine.specs.Cascade.{Answers};
+ghost use Rattle.odb_engine.specs.Contents.Given.{ByReader};
+ghost use Rattle.odb_engine.specs.Engines.{WritesText};
+ghost use Rattle.odb_engine.specs.Inputs.{IsFresh, SomeDocument};
+ghost use Rattle.odb_engine.specs.declared.form.Form.TheVariants.{Lines};
+ghost use Rattle.odb_engine.specs.Tasks.{OfTask};
 
 pub mod devices;
 mod disposal;
@@ -11,69 +16,89 @@ mod failures;
 
 use odb_check::Seed;
 use odb_engine::{
-    Disposal, Ended, EngineFault, Setup, canon_batch, canon_batch_with, check_batch,
-    check_batch_with, match_batch, match_batch_with, plan_batch, plan_batch_with, replay_batch,
-    replay_batch_with, run_batch, run_batch_with,
+    Disposal, Ended, EngineFault, Setup, Task, answer_task, canon_batch, check_batch, match_batch,
+    plan_batch, replay_batch, run_batch,
 };
 use odb_io::{Input, Output};
 use odb_sched::{Mode, Order, Policy};
 use std::alloc::Global;
 use std::io::{Read, Write};
 
-/// A command; the first three read a batch alone.
-#[derive(Clone, Copy)]
-enum Command {
-    Check,
-    Plan,
-    Canon,
-    Replay,
-    Match,
-    Run,
-}
-
-/// A command, its second document (empty where it has none), and what it writes of `PAIR`.
-type Example = (Command, &'static str, &'static str);
+/// A task, its second document (empty where it takes none), and what it writes of `PAIR`.
+pub type Example = (Task, &'static str, &'static str);
 
 /// Two requests, of which the second needs the first and has a body.
-const PAIR: &str = r#"{"requests":[{"id":"1","method":"get","url":"A"},
+pub const PAIR: &str = r#"{"requests":[{"id":"1","method":"get","url":"A"},
     {"id":"2","method":"PUT","url":"B","dependsOn":["1","1"],"body":{"b":"\u20ac","a":[1]}}]}"#;
 
-const EXAMPLES: [Example; 6] = [
-    (Command::Check, "", "ok 2 requests 0 groups\n"),
+/// Outcomes of both requests.
+pub const OUTCOMES: &str =
+    r#"{"outcomes":[{"id":"2","status":204},{"id":"1","status":200,"body":["€"]}]}"#;
+
+/// Events that finish a run.
+pub const EVENTS: &str =
+    r#"{"events":[{"start":"1"},{"report":"1","status":404,"headers":{"ETag":"€"}}]}"#;
+
+/// A policy that bars no start by its width.
+pub const FREE: Policy = Policy {
+    mode: Mode::Continue,
+    width: 10_000,
+};
+
+pub const EXAMPLES: [Example; 7] = [
+    (Task::Check, "", "ok 2 requests 0 groups\n"),
     (
-        Command::Plan,
+        Task::Plan,
         "",
         "0 1 level 0 group * needs *\n1 2 level 1 group * needs 1\n",
     ),
     (
-        Command::Canon,
+        Task::Draw,
+        "",
+        r#"digraph plan {
+  compound=true; newrank=true; node [shape=box]
+  0 [label="1\nget A"]
+  { rank=same; node [shape=plaintext]; "level 0"; 0 }
+  1 [label="2\nput B"]
+  { rank=same; node [shape=plaintext]; "level 1"; 1 }
+  0 -> 1
+  "level 0" -> "level 1" [style=invis]
+}
+"#,
+    ),
+    (
+        Task::Canon,
         "",
         "{\"requests\":[{\"id\":\"1\",\"method\":\"get\",\"url\":\"A\"},\
          {\"body\":{\"a\":[1],\"b\":\"€\"},\"dependsOn\":[\"1\"],\"id\":\"2\",\"method\":\"put\",\"url\":\"B\"}]}\n",
     ),
     (
-        Command::Replay,
-        r#"{"outcomes":[{"id":"2","status":204},{"id":"1","status":200,"body":["€"]}]}"#,
+        Task::Replay {
+            policy: FREE,
+            order: Order::Wide,
+            traced: true,
+        },
+        OUTCOMES,
         "start 1\nreport 1 200\nstart 2\nreport 2 204\n\
          {\"responses\":[{\"body\":[\"€\"],\"id\":\"1\",\"status\":200},{\"id\":\"2\",\"status\":204}]}\n",
     ),
     (
-        Command::Match,
+        Task::Match,
         r#"{"responses":[{"id":"2","status":204},{"id":"1","status":200,"body":["€"]}]}"#,
         "ok 2 responses\n1 200\n2 204\n",
     ),
     (
-        Command::Run,
-        r#"{"events":[{"start":"1"},{"report":"1","status":404,"headers":{"ETag":"€"}}]}"#,
+        Task::Run { policy: FREE },
+        EVENTS,
         "{\"responses\":[{\"headers\":{\"etag\":\"€\"},\"id\":\"1\",\"status\":404},\
          {\"id\":\"2\",\"status\":424}]}\n",
     ),
 ];
 
-/// Calls the engine of a command; the second input is read by some.
-fn called_plainly<R: Read, S: Read, W: Write>(
+/// Does a task by the function that is named after it, without a setup; the second input is read by some.
+pub fn called_plainly<R: Read, S: Read, W: Write>(
     alloc: Global,
-    command: Command,
+    task: Task,
     batch: &mut Input<R>,
     second: &mut Input<S>,
     output: &mut Output<W>,
@@ -81,54 +106,29 @@ fn called_plainly<R: Read, S: Read, W: Write>(
     requires batch { IsFresh batch.old }
     requires second { IsFresh second.old }
     requires output { output.old.failed ≡ false }
+    ensures { IfOk result (λ ended. SomeDocument (R.remaining batch.old.reader) (λ bytes.
+        WritesText (W.contents output.old.writer) (W.contents output.new.writer)
+        (Answers (OfTask task Lines (ByReader (S.remaining second.old.reader))) bytes ended))) }
 {
-    let policy = Policy::free(Mode::Continue);
-    match command {
-        Command::Check => check_batch(alloc, batch, output),
-        Command::Plan => plan_batch(alloc, batch, output),
-        Command::Canon => canon_batch(alloc, batch, output),
-        Command::Match => match_batch(alloc, batch, second, output),
-        Command::Run => run_batch(alloc, batch, second, output, policy),
-        Command::Replay => {
-            let mut order = Order::Wide;
-            replay_batch(alloc, batch, second, output, policy, &mut order, true)
-        }
+    match task {
+        Task::Check => check_batch(alloc, batch, output),
+        Task::Plan => plan_batch(alloc, batch, output),
+        Task::Draw => answer_task(alloc, batch, second, output, task, Setup::plain()),
+        Task::Canon => canon_batch(alloc, batch, output),
+        Task::Match => match_batch(alloc, batch, second, output),
+        Task::Run { policy } => run_batch(alloc, batch, second, output, policy),
+        Task::Replay {
+            policy,
+            mut order,
+            traced,
+        } => replay_batch(alloc, batch, second, output, policy, &mut order, traced),
     }
 }
 
-/// Calls the engine of a command with a setup; the second input is read by some.
-fn called_with<R: Read, S: Read, W: Write>(
-    alloc: Global,
-    how: (Command, Setup),
-    batch: &mut Input<R>,
-    second: &mut Input<S>,
-    output: &mut Output<W>,
-) -> Result<Ended, EngineFault>
-    requires batch { IsFresh batch.old }
-    requires second { IsFresh second.old }
-    requires output { output.old.failed ≡ false }
-{
-    let (command, setup) = how;
-    let policy = Policy::free(Mode::Continue);
-    match command {
-        Command::Check => check_batch_with(alloc, batch, output, setup),
-        Command::Plan => plan_batch_with(alloc, batch, output, setup),
-        Command::Canon => canon_batch_with(alloc, batch, output, setup),
-        Command::Match => match_batch_with(alloc, batch, second, output, setup),
-        Command::Run => run_batch_with(alloc, batch, second, output, policy, setup),
-        Command::Replay => {
-            let mut order = Order::Wide;
-            replay_batch_with(
-                alloc, batch, second, output, policy, &mut order, true, setup,
-            )
-        }
-    }
-}
-
-/// Calls the engine of a command: without a setup if what it reads is dropped, else with a seed.
+/// Does a task: by its own function if what it reads is dropped, else with a seed.
 fn called<R: Read, S: Read, W: Write>(
     alloc: Global,
-    how: (Command, Disposal),
+    how: (Task, Disposal),
     batch: &mut Input<R>,
     second: &mut Input<S>,
     output: &mut Output<W>,
@@ -137,17 +137,14 @@ fn called<R: Read, S: Read, W: Write>(
     requires second { IsFresh second.old }
     requires output { output.old.failed ≡ false }
 {
-    let (command, disposal) = how;
-    match disposal {
-        Disposal::Drop => called_plainly(alloc, command, batch, second, output),
-        Disposal::Leak => {
-            let seed = Seed::new(7);
-            let setup = Setup {
-                seed,
-                disposal,
-                ..Setup::plain()
-            };
-            called_with(alloc, (command, setup), batch, second, output)
-        }
+    let (task, disposal) = how;
+    if disposal == Disposal::Drop {
+        return called_plainly(alloc, task, batch, second, output);
     }
+    let setup = Setup {
+        seed: Seed::new(7),
+        disposal,
+        ..Setup::plain()
+    };
+    answer_task(alloc, batch, second, output, task, setup)
 }

@@ -2,8 +2,11 @@
 
 mod checks;
 mod documents;
-mod engines;
+pub mod engines;
 mod live;
 mod orders;
 mod replies;
 mod runs;
+
+/// What two calls found, or `None` of one that ran out of memory.
+pub type Two<X> = (Option<X>, Option<X>);

@@ -4,13 +4,15 @@ ghost use Rattle.std.specs.Prelude.{◌≡◌, IfSome};
 ghost use Rattle.odb_engine.specs.lines.Answers.{AnswersEach, OfAnyLine};
 ghost use Rattle.odb_engine.specs.lines.Lines.{lines_of};
 ghost use Rattle.odb_engine.specs.declared.form.Form.TheVariants.{Lines};
-ghost use Rattle.odb_engine.specs.LineTasks.{OfLine};
+ghost use Rattle.odb_engine.specs.Tasks.{OfLine};
+ghost use Rattle.odb_tests.specs.Readings.{AreOne};
 
-use crate::engines::devices::{Narrow, Pace, Slow};
-use odb_engine::laws::one_line;
+use crate::engines::devices::{ENOUGH, Narrow, Pace, Slow, TURNS};
+use crate::laws::Two;
+use crate::laws::engines::Written;
 use odb_engine::lines::laws::one_text;
 use odb_engine::{
-    EachLine, Ended, EngineFault, LineCommand, LineInput, LineTask, Setup, answer_lines,
+    EachLine, Ended, EngineFault, LineCommand, LineInput, Setup, Task, answer_lines, laws,
 };
 use odb_io::Output;
 use std::alloc::{AllocError, Global};
@@ -54,12 +56,6 @@ const EXAMPLES: [(&str, &str, Ended); 8] = [
     ("abcdefghij\nabcdefghijk\nl\n", "10\n11\n1\n", Ended::Done),
 ];
 
-/// Turns of a byte, of three, of uneven numbers, and of more than a text has.
-const TURNS: [[usize; 3]; 4] = [[1, 1, 1], [3, 3, 3], [1, 7, 2], [1_000, 1_000, 1_000]];
-
-/// More calls than a device is called.
-const ENOUGH: usize = 1_000;
-
 /// How the lines of a text end.
 type End = Result<Ended, EngineFault>;
 
@@ -82,11 +78,8 @@ fn are_written(
 /// Whether a text is answered so by devices of which none fails.
 fn are_answered(alloc: Global, (text, written, ended): (&str, &str, Ended), flush: bool) -> bool {
     for turns in &TURNS {
-        let pace = Pace {
-            turns: *turns,
-            calls: ENOUGH,
-        };
-        if !are_written(alloc, text, [pace; 2], flush, (written, Ok(ended))) {
+        let paces = [Pace::steady(*turns); 2];
+        if !are_written(alloc, text, paces, flush, (written, Ok(ended))) {
             return false;
         }
     }
@@ -108,11 +101,8 @@ const LOG: &str = r#"{"requests":[{"id":"1","method":"get","url":"A"}]}
 {"requests":[{"method":"get","url":"A"}]}
 "#;
 
-/// How the lines of a log in memory end, and what is written of them.
-type Written = (Ended, Vec<u8>);
-
 /// Returns the task on each line, whose answers are lines of words.
-fn on_each_line(task: LineTask) -> EachLine
+fn on_each_line(task: Task) -> EachLine
     ensures task { result.task ≡ task }
     ensures form { result.setup.form ≡ Lines }
 {
@@ -122,7 +112,7 @@ fn on_each_line(task: LineTask) -> EachLine
     }
 }
 
-fn written(alloc: Global, log: &[u8], task: LineTask) -> Option<Written>
+fn written(alloc: Global, log: &[u8], task: Task) -> Option<Written>
     ensures { IfSome result (λ it.
         AnswersEach (OfAnyLine (OfLine task Lines)) (lines_of log.now) it.0 it.1.items) }
 {
@@ -134,16 +124,15 @@ fn written(alloc: Global, log: &[u8], task: LineTask) -> Option<Written>
     }
 }
 
-fn written_twice(alloc: Global, log: &[u8], task: LineTask) -> (Option<Written>, Option<Written>)
-    ensures { IfSome result.0 (λ one. IfSome result.1 (λ other.
-        (one.0 ≡ other.0) × (one.1.items ≡ other.1.items))) }
+fn written_twice(alloc: Global, log: &[u8], task: Task) -> Two<Written>
+    ensures { AreOne result.0 result.1 }
 {
-    one_line();
+    laws::one_text();
     one_text(&on_each_line(task));
     (written(alloc, log, task), written(alloc, log, task))
 }
 
-fn is_written_again(alloc: Global, log: &[u8], task: LineTask) -> bool {
+fn is_written_again(alloc: Global, log: &[u8], task: Task) -> bool {
     match &written_twice(alloc, log, task) {
         (Some(one), Some(other)) => one == other,
         _ => false,
@@ -152,7 +141,7 @@ fn is_written_again(alloc: Global, log: &[u8], task: LineTask) -> bool {
 
 #[test]
 fn the_same_text_is_written_again(rt: HostRuntime) {
-    assert!(rt; is_written_again(rt.alloc(), LOG.as_bytes(), LineTask::Check));
+    assert!(rt; is_written_again(rt.alloc(), LOG.as_bytes(), Task::Check));
 }
 
 /// How many bytes are read of `ab`, an empty line, `c` and `de`, and what is written of them.
@@ -166,17 +155,9 @@ const CUT: [(usize, &str); 7] = [
     (8, "2\n0\n1\n"),
 ];
 
-/// The pace of a device that moves a byte a call, of which so many go well.
-fn bytewise(calls: usize) -> Pace {
-    Pace {
-        turns: [1, 1, 1],
-        calls,
-    }
-}
-
 /// Whether a call of a device fails, and this is written.
 fn fails(alloc: Global, [reads, writes]: [usize; 2], fault: EngineFault, written: &str) -> bool {
-    let paces = [bytewise(reads), bytewise(writes)];
+    let paces = [Pace::bytewise(reads), Pace::bytewise(writes)];
     are_written(alloc, "ab\n\nc\nde", paces, false, (written, Err(fault)))
 }
 

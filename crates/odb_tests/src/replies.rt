@@ -1,17 +1,16 @@
 //! Responses of finished runs to a library: their text, and what a writer receives of it.
 
 mod embedding;
-mod refusals;
 mod texts;
 mod writers;
 
 use crate::runs::{OnPlan, holds_of};
 use odb_check::Plan;
 use odb_doc::{Outcome, Request, TextFault};
-use odb_exec::{ExecFault, First, Service, ServiceFault, Trace, execute};
+use odb_exec::{ExecFault, Service, ServiceFault, Trace, execute};
 use odb_io::Output;
-use odb_reply::{ReplyFault, response_text, write_responses};
-use odb_sched::{Done, Mode, Policy};
+use odb_reply::{ReplyFault, push_response_text, response_of, response_text, write_responses};
+use odb_sched::{Done, Mode, Order, Policy};
 use serde_json::Value;
 use std::alloc::{AllocError, Global};
 use std::collections::BTreeMap;
@@ -110,14 +109,28 @@ impl Service for Endings<'_> {
     }
 }
 
-/// Whether the response to a finished run has this text, or a fault if the body of a request is
-/// refused.
-fn has_text(alloc: Global, done: &Done<'_>, wanted: Result<&str, usize>) -> bool {
-    match response_text(alloc, done) {
+/// Whether a response has this text, or a fault if the body of a request is refused.
+fn is_text(found: &Result<String, TextFault>, wanted: Result<&str, usize>) -> bool {
+    match found {
         Ok(text) => wanted == Ok(text.as_str()),
-        Err(TextFault::NotWhole { at }) => wanted == Err(at),
+        Err(TextFault::NotWhole { at }) => wanted == Err(*at),
         Err(TextFault::OutOfMemory) => false,
     }
+}
+
+/// Appends the response to a finished run to an empty text.
+fn pushed(alloc: Global, done: &Done<'_>) -> Result<String, TextFault> {
+    let mut text = String::new(alloc);
+    push_response_text(alloc, &mut text, done)?;
+    Ok(text)
+}
+
+/// Whether the response to a finished run has this text, also if it is made of the plan and the run, or
+/// appended.
+fn has_text(alloc: Global, done: &Done<'_>, wanted: Result<&str, usize>) -> bool {
+    is_text(&response_text(alloc, done), wanted)
+        && is_text(&response_of(alloc, done.plan(), done.run()), wanted)
+        && is_text(&pushed(alloc, done), wanted)
 }
 
 /// Whether the text is written, in pieces of which none is longer than this; nothing is written if the
@@ -167,7 +180,7 @@ impl OnPlan for Reply<'_> {
         };
         self.is_to(
             alloc,
-            &execute(alloc, plan, policy, &mut First, &mut service),
+            &execute(alloc, plan, policy, &mut Order::First, &mut service),
         )
     }
 }

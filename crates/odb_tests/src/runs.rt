@@ -1,12 +1,13 @@
 //! Runs of plans: what each event may do, which requests are ready and which run after it, and what
 //! each request is answered in the end.
 
-pub mod embedding;
+mod embedding;
 mod ends;
 mod events;
 mod executions;
 mod listed;
 mod lists;
+mod live;
 mod picks;
 mod plain;
 mod recordings;

@@ -12,6 +12,30 @@ pub struct Pace {
     pub calls: usize,
 }
 
+/// Turns of a byte, of three, of uneven numbers, and of more than a text has.
+pub const TURNS: [[usize; 3]; 4] = [[1, 1, 1], [3, 3, 3], [1, 7, 2], [1_000, 1_000, 1_000]];
+
+/// More calls than any device is called.
+pub const ENOUGH: usize = 1_000;
+
+impl Pace {
+    /// The pace of a device that does not fail.
+    pub fn steady(turns: [usize; 3]) -> Pace {
+        Pace {
+            turns,
+            calls: ENOUGH,
+        }
+    }
+
+    /// The pace of a device that moves a byte a call, of which so many go well.
+    pub fn bytewise(calls: usize) -> Pace {
+        Pace {
+            turns: [1, 1, 1],
+            calls,
+        }
+    }
+}
+
 /// Gives its bytes at a pace.
 #[derive(Drop)]
 pub struct Slow<'a> {

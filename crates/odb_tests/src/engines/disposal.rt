@@ -40,10 +40,10 @@ fn reuses_memory(rt: &HostRuntime) -> Option<bool> {
 
 /// Calls the engine of an example, and returns whether it ended as it should.
 fn is_done(alloc: Global, example: Example, disposal: Disposal) -> bool {
-    let (command, document, _text) = example;
+    let (task, document, _text) = example;
     called(
         alloc,
-        (command, disposal),
+        (task, disposal),
         &mut Input::new(PAIR.as_bytes()),
         &mut Input::new(document.as_bytes()),
         &mut Output::new(Vec::new(alloc)),

@@ -1,17 +1,11 @@
 //! Devices that are slow or fail: an engine writes its whole text, or reports which of them failed
 //! and has written nothing, or a prefix of its text where the output failed.
 
-use super::devices::{Narrow, Pace, Slow};
+use super::devices::{Narrow, Pace, Slow, TURNS};
 use super::{EXAMPLES, Example, PAIR, called};
 use odb_engine::{Disposal, Ended, EngineFault};
 use odb_io::{Input, Output};
 use std::alloc::Global;
-
-/// Turns of a byte, of three, of uneven numbers, and of more than a text has.
-const TURNS: [[usize; 3]; 4] = [[1, 1, 1], [3, 3, 3], [1, 7, 2], [1_000, 1_000, 1_000]];
-
-/// More calls than any device of the examples is called.
-const ENOUGH: usize = 1_000;
 
 /// The place of the output among the devices, after the batch and the second document.
 const OUTPUT: usize = 2;
@@ -51,13 +45,13 @@ impl Calls {
 
 /// Calls an engine whose devices work at these paces.
 fn calls_of(alloc: Global, example: Example, paces: [Pace; 3], disposal: Disposal) -> Calls {
-    let (command, document, text) = example;
+    let (task, document, text) = example;
     let mut batch = Input::new(Slow::new(PAIR.as_bytes(), paces[0]));
     let mut second = Input::new(Slow::new(document.as_bytes(), paces[1]));
     let mut output = Output::new(Narrow::new(alloc, paces[OUTPUT]));
     let ended = called(
         alloc,
-        (command, disposal),
+        (task, disposal),
         &mut batch,
         &mut second,
         &mut output,
@@ -101,16 +95,8 @@ fn counts_of(
     turns: [usize; 3],
     disposal: Disposal,
 ) -> Option<[usize; 3]> {
-    let (_command, document, text) = example;
-    let calls = calls_of(
-        alloc,
-        example,
-        [Pace {
-            turns,
-            calls: ENOUGH,
-        }; 3],
-        disposal,
-    );
+    let (_task, document, text) = example;
+    let calls = calls_of(alloc, example, [Pace::steady(turns); 3], disposal);
     let [batch, second, output] = calls.counts;
     let are_read = batch == reads_of(PAIR, turns) && second == reads_of(document, turns);
     let are_right = are_read && (turns != [1, 1, 1] || output == text.len());
@@ -124,10 +110,7 @@ fn may_fail(
     turns: [usize; 3],
     (device, calls): (usize, usize),
 ) -> bool {
-    let mut paces = [Pace {
-        turns,
-        calls: ENOUGH,
-    }; 3];
+    let mut paces = [Pace::steady(turns); 3];
     if let Some(pace) = paces.get_mut(device) {
         pace.calls = calls;
     }

@@ -9,6 +9,7 @@ ghost use Rattle.odb_check.specs.Levels.{HasLevels};
 ghost use Rattle.odb_check.specs.Plans.{plan_records};
 ghost use Rattle.odb_tests.specs.Readings.{IsReading, IsSame};
 
+use crate::laws::Two;
 use odb_check::laws::{every_plan, one_fault};
 use odb_check::{CheckFault, Plan, check};
 use odb_doc::{Batch, Fault, parse};
@@ -28,14 +29,8 @@ fn plan_of<'a: 'b, 'b>(alloc: Global, batch: &'b Batch<'a>) -> Option<Result<Pla
     }
 }
 
-/// What two checks of a batch found.
-type TwoPlans<'b> = (
-    Option<Result<Plan<'b>, CheckFault>>,
-    Option<Result<Plan<'b>, CheckFault>>,
-);
-
 /// Plans a batch twice.
-fn plan_twice<'a: 'b, 'b>(alloc: Global, batch: &'b Batch<'a>) -> TwoPlans<'b>
+fn plan_twice<'a: 'b, 'b>(alloc: Global, batch: &'b Batch<'a>) -> Two<Result<Plan<'b>, CheckFault>>
     ensures { IfSome result.0 (λ one. IfSome result.1 (IsSame plan_records one)) }
 {
     one_fault();
@@ -70,12 +65,9 @@ fn verdict_of(found: &Option<Result<Plan<'_>, CheckFault>>) -> Result<(), CheckF
 /// What two checks of a batch found.
 type Verdicts = (Result<(), CheckFault>, Result<(), CheckFault>);
 
-fn verdicts_of(both: &TwoPlans<'_>) -> Verdicts {
-    (verdict_of(&both.0), verdict_of(&both.1))
-}
-
 fn verdicts(alloc: Global, batch: &Batch<'_>) -> Verdicts {
-    verdicts_of(&plan_twice(alloc, batch))
+    let (one, other) = &plan_twice(alloc, batch);
+    (verdict_of(one), verdict_of(other))
 }
 
 /// Returns the code of what a check found: none for a plan, and `memory` if memory ran out.

@@ -27,6 +27,7 @@ ghost use Rattle.odb_doc.specs.recorded.Outcomes.{AreOutcomesOf};
 ghost use Rattle.odb_engine.specs.Cascade.{HasValue};
 ghost use Rattle.odb_tests.specs.Readings.{IsReading, IsSame};
 
+use crate::laws::Two;
 use odb_doc::laws::{every_value, one_batch, one_fault, one_history, one_record, one_text};
 use odb_doc::{Batch, DocFault, EventFault, Events, OutcomeFault, Outcomes, is_whole, parse};
 use odb_names::laws::one_reading;
@@ -42,7 +43,7 @@ fn method_of(text: &str) -> Option<Method>
 }
 
 /// Returns what two readings of a text find: they name one method.
-fn method_twice(text: &str) -> (Option<Method>, Option<Method>)
+fn method_twice(text: &str) -> Two<Method>
     ensures { IfSome result.0 (λ one. IfSome result.1 (λ other. one ≡ other)) }
 {
     one_reading();
@@ -60,7 +61,7 @@ fn front_of(alloc: Global, url: &str) -> Option<Front>
 }
 
 /// Returns what two readings of a URL find: it has one front.
-fn front_twice(alloc: Global, url: &str) -> (Option<Front>, Option<Front>)
+fn front_twice(alloc: Global, url: &str) -> Two<Front>
     ensures { IfSome result.0 (λ one. IfSome result.1 (λ other. form one ≡ form other)) }
 {
     one_reading();
@@ -96,14 +97,8 @@ fn batch_of<'a>(alloc: Global, value: &'a Value) -> Option<Result<Batch<'a>, Doc
     }
 }
 
-/// What two readings of a batch found.
-type TwoBatches<'a> = (
-    Option<Result<Batch<'a>, DocFault>>,
-    Option<Result<Batch<'a>, DocFault>>,
-);
-
 /// Reads a batch twice.
-fn batch_twice<'a>(alloc: Global, value: &'a Value) -> TwoBatches<'a>
+fn batch_twice<'a>(alloc: Global, value: &'a Value) -> Two<Result<Batch<'a>, DocFault>>
     ensures { IfSome result.0 (λ one. IfSome result.1 (IsSame records one)) }
 {
     one_batch();
@@ -127,14 +122,8 @@ fn outcomes_of(alloc: Global, bytes: &[u8]) -> Option<Result<Outcomes, OutcomeFa
     }
 }
 
-/// What two readings of outcomes found.
-type TwoRecords = (
-    Option<Result<Outcomes, OutcomeFault>>,
-    Option<Result<Outcomes, OutcomeFault>>,
-);
-
 /// Reads a document of outcomes twice.
-fn outcomes_twice(alloc: Global, bytes: &[u8]) -> TwoRecords
+fn outcomes_twice(alloc: Global, bytes: &[u8]) -> Two<Result<Outcomes, OutcomeFault>>
     ensures { IfSome result.0 (λ one. IfSome result.1 (IsSame outcome_lists.entries one)) }
 {
     one_record();
@@ -157,14 +146,8 @@ fn events_of(alloc: Global, bytes: &[u8]) -> Option<Result<Events, EventFault>>
     }
 }
 
-/// What two readings of events found.
-type TwoHistories = (
-    Option<Result<Events, EventFault>>,
-    Option<Result<Events, EventFault>>,
-);
-
 /// Reads a document of events twice.
-fn events_twice(alloc: Global, bytes: &[u8]) -> TwoHistories
+fn events_twice(alloc: Global, bytes: &[u8]) -> Two<Result<Events, EventFault>>
     ensures { IfSome result.0 (λ one. IfSome result.1 (IsSame event_lists.entries one)) }
 {
     one_history();
@@ -234,7 +217,7 @@ const BATCH: &[u8] = br#"{"requests":[{"id":"a","method":"get","url":"$b"}]}"#;
 const SAME: &[u8] = br#"{"requests":[{"url":"$b","method":"GET","id":"a"}]}"#;
 
 /// Whether two readings of outcomes found the same, a value or a fault.
-fn are_alike_outcomes(both: &TwoRecords, is_good: bool) -> bool {
+fn are_alike_outcomes(both: &Two<Result<Outcomes, OutcomeFault>>, is_good: bool) -> bool {
     match both {
         (Some(Ok(one)), Some(Ok(other))) => is_good && one.len() == other.len(),
         (Some(Err(one)), Some(Err(other))) => !is_good && one == other,
@@ -247,7 +230,7 @@ fn are_same_outcomes(alloc: Global, bytes: &[u8], is_good: bool) -> bool {
 }
 
 /// Whether two readings of events found the same, a value or a fault.
-fn are_alike_events(both: &TwoHistories, is_good: bool) -> bool {
+fn are_alike_events(both: &Two<Result<Events, EventFault>>, is_good: bool) -> bool {
     match both {
         (Some(Ok(one)), Some(Ok(other))) => is_good && one.len() == other.len(),
         (Some(Err(one)), Some(Err(other))) => !is_good && one == other,
@@ -260,7 +243,7 @@ fn are_same_events(alloc: Global, bytes: &[u8], is_good: bool) -> bool {
 }
 
 /// Whether two readings of a batch refuse it alike.
-fn are_alike_refusals(both: &TwoBatches<'_>) -> bool {
+fn are_alike_refusals(both: &Two<Result<Batch<'_>, DocFault>>) -> bool {
     match both {
         (Some(Err(one)), Some(Err(other))) => one == other,
         _ => false,

@@ -7,33 +7,28 @@ ghost use Rattle.odb_check.specs.Positions.{id_at};
 ghost use Rattle.odb_doc.specs.recorded.EventLists.{entries};
 ghost use Rattle.odb_doc.specs.recorded.Events as named;
 ghost use Rattle.odb_engine.specs.declared.ending.Ended.TheVariants.{Done};
-ghost use Rattle.odb_engine.specs.Cascade.{Accepts, Answers};
-ghost use Rattle.odb_engine.specs.Live.{Opens, RecordsOneMore, Shows};
+ghost use Rattle.odb_engine.specs.Cascade.{Accepts};
+ghost use Rattle.odb_engine.specs.Live.{Live, Opens, RecordsOneMore, Shows};
 ghost use Rattle.odb_engine.specs.Runs.{AreEventsIn};
 ghost use Rattle.odb_sched.specs.declared.event.Event.TheVariants.{Start};
-ghost use Rattle.odb_sched.specs.run.State.{State};
 
-use crate::laws::engines::{BATCH, EVENTS, Written, ran};
+use crate::engines::{EVENTS, FREE, PAIR};
+use crate::laws::engines::{Written, written};
 use odb_check::laws::every_plan;
 use odb_check::{Plan, Seed, check};
 use odb_doc::{Batch, Events, NamedEvent, parse};
 use odb_engine::laws::{one_document, one_live_run};
-use odb_engine::{Ended, open_run, text_of_run};
-use odb_sched::{Mode, OwnedRun, Policy};
+use odb_engine::{Ended, LiveRun, Task, open_run};
+use odb_sched::Policy;
 use std::alloc::Global;
 
 /// Opens a live run after recorded events, and returns its response.
 fn live(alloc: Global, batch: &[u8], events: &[u8], policy: Policy) -> Option<String>
-    ensures { IfSome result (λ text. (run : State) × Opens policy batch.now events.now run
-        × Answers (Shows run) batch.now Done (string_bytes text)) }
+    ensures { IfSome result (λ text. (live : Live) × Opens policy batch.now events.now live
+        × Shows live Done (string_bytes text)) }
 {
     match open_run(alloc, batch, events, policy, Seed::none()) {
-        Ok(mut opened) => {
-            match text_of_run(alloc, batch, &mut opened.run, Seed::none()) {
-                Ok(text) => Some(text),
-                Err(_) => None,
-            }
-        }
+        Ok(live) => live.response(alloc).ok(),
         Err(_) => None,
     }
 }
@@ -51,7 +46,7 @@ fn live_and_recorded(
     one_document();
     one_live_run();
     let text = live(alloc, batch, events, policy)?;
-    let written = ran(alloc, batch, events, policy)?;
+    let written = written(alloc, batch, events, Task::Run { policy })?;
     Some((text, written))
 }
 
@@ -119,27 +114,26 @@ fn gone_on(
     events: &[u8],
     more: &[u8],
     policy: Policy,
-) -> Option<OwnedRun>
+) -> Option<LiveRun>
     ensures { IfSome result (Opens policy batch.now more.now) }
 {
     one_live_run();
     let i = started(alloc, batch, events, more)?;
-    let mut run = match open_run(alloc, batch, events, policy, Seed::none()) {
-        Ok(opened) => opened.run,
-        Err(_) => return None,
+    let Ok(mut live) = open_run(alloc, batch, events, policy, Seed::none()) else {
+        return None;
     };
-    if i >= run.len() {
+    if i >= live.run().len() {
         return None;
     }
-    match run.start(i) {
-        Ok(()) => Some(run),
+    match live.start(i) {
+        Ok(()) => Some(live),
         Err(_) => None,
     }
 }
 
 const NO_EVENTS: &[u8] = br#"{"events":[]}"#;
 
-const ONE_EVENT: &[u8] = br#"{"events":[{"start":"a"}]}"#;
+const ONE_EVENT: &[u8] = br#"{"events":[{"start":"1"}]}"#;
 
 /// Whether a live run and a run by recorded events wrote the same response.
 fn are_alike(both: Option<(String, Written)>) -> bool {
@@ -151,15 +145,15 @@ fn are_alike(both: Option<(String, Written)>) -> bool {
 
 /// Whether a live run that has taken one event more has the first request running, and no other.
 fn has_gone_on(alloc: Global, policy: Policy) -> bool {
-    match &gone_on(alloc, BATCH, NO_EVENTS, ONE_EVENT, policy) {
-        Some(run) => run.running() == [0].as_slice(),
+    match &gone_on(alloc, PAIR.as_bytes(), NO_EVENTS, ONE_EVENT, policy) {
+        Some(live) => live.run().running() == [0].as_slice(),
         None => false,
     }
 }
 
 #[test]
 fn a_live_run_is_the_run_of_its_events(rt: HostRuntime) {
-    let (alloc, policy) = (rt.alloc(), Policy::free(Mode::Continue));
-    assert!(rt; are_alike(live_and_recorded(alloc, BATCH, EVENTS, policy)));
-    assert!(rt; has_gone_on(alloc, policy));
+    let (alloc, batch, events) = (rt.alloc(), PAIR.as_bytes(), EVENTS.as_bytes());
+    assert!(rt; are_alike(live_and_recorded(alloc, batch, events, FREE)));
+    assert!(rt; has_gone_on(alloc, FREE));
 }

@@ -8,11 +8,12 @@ ghost use Rattle.odb_sched.specs.run.State.{initial};
 ghost use Rattle.odb_sched.specs.declared.order.Order.TheVariants as orders;
 ghost use Rattle.odb_tests.specs.Readings.{IsReading};
 
+use crate::laws::Two;
 use odb_check::Plan;
 use odb_doc::Outcomes;
 use odb_exec::laws::every_order;
-use odb_exec::{ExecFault, Last, Recorded, Trace, execute};
-use odb_sched::Policy;
+use odb_exec::{ExecFault, Recorded, Trace, execute};
+use odb_sched::{Order, Policy};
 use std::alloc::Global;
 
 /// Executes a plan by recorded outcomes, unless memory runs out.
@@ -31,18 +32,12 @@ fn executed<'a: 'p, 'p>(
     let Ok(mut service) = Recorded::new(alloc, plan, outcomes) else {
         return None;
     };
-    match execute(alloc, plan, policy, &mut Last, &mut service) {
+    match execute(alloc, plan, policy, &mut Order::Last, &mut service) {
         Ok(trace) => Some(Ok(trace)),
         Err(ExecFault::OutOfMemory) => None,
         Err(cause) => Some(Err(cause)),
     }
 }
-
-/// What two executions found.
-type TwoTraces<'p> = (
-    Option<Result<Trace<'p>, ExecFault>>,
-    Option<Result<Trace<'p>, ExecFault>>,
-);
 
 /// Executes a plan by two equal records. If both executions finish, they took the same steps.
 fn executed_twice<'a: 'p, 'p>(
@@ -51,7 +46,7 @@ fn executed_twice<'a: 'p, 'p>(
     policy: Policy,
     one: Outcomes,
     other: Outcomes,
-) -> TwoTraces<'p>
+) -> Two<Result<Trace<'p>, ExecFault>>
     requires { entries one ≡ entries other }
     ensures { IfSome result.0 (λ a. IfSome result.1 (λ b. IfOk a (λ x. IfOk b (λ y.
         x.steps.items ≡ y.steps.items)))) }

@@ -1,6 +1,6 @@
 //! Responses: what two readings of them find, and what a finished run answers.
 
-ghost use Rattle.std.specs.Prelude.{ℕ, List, IfSome, IsSome};
+ghost use Rattle.std.specs.Prelude.{◌≡◌, ℕ, List, true, length, IfSome, IsSome};
 ghost use Rattle.std.specs.List.{AllZip};
 ghost use Rattle.serde_json.specs.View.{view};
 ghost use Rattle.odb_check.specs.Plans.{plan_records};
@@ -10,13 +10,17 @@ ghost use Rattle.odb_reply.specs.MatchFaults as match_faults;
 ghost use Rattle.odb_reply.specs.OnePerId.{HasOnePerId};
 ghost use Rattle.odb_reply.specs.ResponseDocuments.{IsResponseDocument, RefusesResponses, ReadsAs, entries, responses_in};
 ghost use Rattle.odb_reply.specs.ResponseDocuments as response_documents;
-ghost use Rattle.odb_reply.specs.Responses.{response_value};
+ghost use Rattle.odb_reply.specs.Responses.{response_value, value_of};
+ghost use Rattle.odb_sched.specs.run.Answers.{answer};
+ghost use Rattle.odb_sched.specs.run.State.{size};
+ghost use Rattle.odb_sched.specs.run.Steps.{is_finished};
 ghost use Rattle.odb_tests.specs.Readings.{IsReading, IsSame};
 
+use crate::laws::Two;
 use odb_check::Plan;
-use odb_reply::laws::{every_response, one_document, one_match};
-use odb_reply::{MatchFault, ResponseFault, Responses, Table, match_responses};
-use odb_sched::Done;
+use odb_reply::laws::{every_labeled, every_response, one_document, one_match};
+use odb_reply::{Labels, MatchFault, ResponseFault, Responses, Table, match_responses};
+use odb_sched::{Done, OwnedRun};
 use serde_json::Value;
 use std::alloc::Global;
 
@@ -34,14 +38,8 @@ fn responses_of<'a>(alloc: Global, value: &'a Value) -> Option<Result<Responses<
     }
 }
 
-/// What two readings of responses found.
-type TwoResponses<'a> = (
-    Option<Result<Responses<'a>, ResponseFault>>,
-    Option<Result<Responses<'a>, ResponseFault>>,
-);
-
 /// Reads responses twice.
-fn responses_twice<'a>(alloc: Global, value: &'a Value) -> TwoResponses<'a>
+fn responses_twice<'a>(alloc: Global, value: &'a Value) -> Two<Result<Responses<'a>, ResponseFault>>
     ensures { IfSome result.0 (λ one. IfSome result.1 (IsSame entries one)) }
 {
     one_document();
@@ -67,14 +65,12 @@ fn matched(
     }
 }
 
-/// What two matches found.
-type TwoTables = (
-    Option<Result<Table, MatchFault>>,
-    Option<Result<Table, MatchFault>>,
-);
-
 /// Matches responses with a batch twice.
-fn matched_twice(alloc: Global, plan: &Plan<'_>, responses: &Responses<'_>) -> TwoTables
+fn matched_twice(
+    alloc: Global,
+    plan: &Plan<'_>,
+    responses: &Responses<'_>,
+) -> Two<Result<Table, MatchFault>>
     ensures { IfSome result.0 (λ one. IfSome result.1 (IsSame {Y = List ℕ × List ℕ}
         (λ table. (places table, statuses table)) one)) }
 {
@@ -94,4 +90,15 @@ fn answered(done: &Done<'_>) -> u32
 {
     every_response(done);
     done.plan().len()
+}
+
+/// Returns how many requests a finished run has. What it answers by these ids and groups is a response
+/// document.
+fn labeled<L: Labels>(labels: &L, run: &OwnedRun) -> u32
+    requires labels { length (L.labels labels.now) ≡ size run.now }
+    requires finished { is_finished run.now ≡ true }
+    ensures { IsResponseDocument (value_of (L.labels labels.now) (answer run.now)) }
+{
+    every_labeled(labels, run);
+    run.len()
 }

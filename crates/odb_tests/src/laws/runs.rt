@@ -1,7 +1,8 @@
 //! Runs, starts, reports and answers: what the laws of the scheduler say of them.
 
-ghost use Rattle.std.specs.Prelude.{◌≡◌, ◌≢◌, ◌<◌, ℕ, true, length, All, IfErr, IfSome, OnOk, OnSome};
+ghost use Rattle.std.specs.Prelude.{◌≡◌, ◌≢◌, ◌<◌, ℕ, true, length, All, IfErr, IfSome, IsSome, OnOk, OnSome};
 ghost use Rattle.odb_check.specs.Plans.{plan_records};
+ghost use Rattle.odb_doc.specs.Statuses.{is_status};
 ghost use Rattle.odb_sched.specs.run.Answers.{HasStatuses};
 ghost use Rattle.odb_sched.specs.run.Steps.{BarsStart, is_finished};
 ghost use Rattle.odb_sched.specs.run.Laws.{HasFewEvents, HasOneResult, HasResultByStatuses, AgreesWithTable, HaveSucceeded, IsAllOrNone, IsNeverStuck, RestsOnSuccesses, StartsAfterDependencies};
@@ -13,7 +14,7 @@ ghost use Rattle.odb_sched.specs.declared.refusal.StartRefusal.TheVariants.{Widt
 use odb_check::Plan;
 use odb_doc::Outcome;
 use odb_sched::laws::{definitions_agree, every_cause, every_result, every_run, every_start};
-use odb_sched::{Event, Policy, ReportRefusal, Scheduler, StartRefusal, run};
+use odb_sched::{Event, OwnedRun, Policy, ReportRefusal, Scheduler, StartRefusal, run};
 use std::alloc::Global;
 
 /// Returns the state of a run after these events.
@@ -100,4 +101,18 @@ fn started_first(
         Ok(mut state) => Some(state.start(i)),
         Err(_) => None,
     }
+}
+
+/// Returns the status that a request is answered, if the run is finished: one from 200 to 599. It rests on
+/// successes alone if it is one.
+fn answered(run: &OwnedRun, i: u32) -> Option<u16>
+    requires { i < size run.now }
+    ensures status { IfSome result (λ status. is_status status ≡ true) }
+    ensures rests_on_successes { IsSome result → RestsOnSuccesses run.now }
+{
+    if !run.is_finished() {
+        return None;
+    }
+    run.laws();
+    Some(run.answer(i).status())
 }

@@ -1,13 +1,13 @@
 //! What a caller writes: a run that is driven by hand, and one that is executed.
 
-use super::{OnPlan, holds_of};
 use crate::fail::Fail;
 use crate::rows::expect;
-use odb_check::{Plan, Seed, check_with};
+use odb_check::{Seed, check_with};
 use odb_doc::{Batch, Outcome, Request, parse};
-use odb_exec::{First, Service, ServiceFault, execute};
+use odb_engine::{LiveRun, open_run};
+use odb_exec::{Service, ServiceFault, execute};
 use odb_reply::response_text;
-use odb_sched::{Mode, Policy, Scheduler};
+use odb_sched::{Mode, Order, Policy};
 use std::alloc::Global;
 use std::collections::BTreeMap;
 use std::random::RandomSource;
@@ -26,45 +26,26 @@ fn respond<R: RandomSource, S: Service>(
     let batch = Batch::read(alloc, &value)?;
     let plan = check_with(alloc, seed, &batch)?;
     let policy = Policy::free(Mode::Continue);
-    let trace = execute(alloc, &plan, policy, &mut First, service)?;
+    let trace = execute(alloc, &plan, policy, &mut Order::First, service)?;
     Ok(response_text(alloc, &trace.done)?)
 }
 
-/// Neither a request runs nor one may start, and yet the run is not finished.
-#[derive(Debug, Drop)]
-struct Stuck;
-
-/// Sends the requests of a plan, one after another, each once it may start, and returns the text of
-/// the response.
-fn send_all(alloc: Global, plan: &Plan<'_>) -> Result<String, Fail> {
-    let mut scheduler = Scheduler::new(alloc, plan, Policy::free(Mode::Continue))?;
-    send_each(alloc, plan, &mut scheduler)?;
-    match response_of(alloc, scheduler)? {
-        Some(text) => Ok(text),
-        None => Err(Stuck.into()),
+/// Sends the requests of a batch, one after another, each once it may start, and returns the line of the
+/// response.
+fn send_all(alloc: Global, seed: Seed, document: &[u8]) -> Result<String, Fail> {
+    let (none, policy) = (br#"{"events":[]}"#, Policy::free(Mode::Continue));
+    let mut live = open_run(alloc, document, none, policy, seed)?;
+    for _ in 0..live.run().len() {
+        send_next(alloc, &mut live)?;
     }
-}
-
-/// Returns the text of the response to a run, or `None` if the run is not finished.
-pub fn response_of(alloc: Global, scheduler: Scheduler<'_>) -> Result<Option<String>, Fail> {
-    if !scheduler.is_finished() {
-        return Ok(None);
-    }
-    Ok(Some(response_text(alloc, &scheduler.close())?))
-}
-
-fn send_each(alloc: Global, plan: &Plan<'_>, scheduler: &mut Scheduler<'_>) -> Result<(), Fail> {
-    for _ in 0..plan.len() {
-        send_next(alloc, scheduler)?;
-    }
-    Ok(())
+    Ok(live.response(alloc)?)
 }
 
 /// Sends a request that may start, if there is one, and reports its outcome.
-fn send_next(alloc: Global, scheduler: &mut Scheduler<'_>) -> Result<(), Fail> {
-    if let Some(i) = scheduler.ready().first().copied() {
-        scheduler.start(i)?;
-        scheduler.report(i, send(alloc, i))?;
+fn send_next(alloc: Global, live: &mut LiveRun) -> Result<(), Fail> {
+    if let Some(i) = live.run().ready().first().copied() {
+        live.start(i)?;
+        live.report(i, send(alloc, i))?;
     }
     Ok(())
 }
@@ -98,19 +79,6 @@ impl Service for Store {
     }
 }
 
-/// The response to a plan whose run is driven by hand.
-#[derive(Clone, Copy)]
-struct ByHand(&'static str);
-
-impl OnPlan for ByHand {
-    fn holds(&self, alloc: Global, plan: &Plan<'_>) -> bool {
-        match send_all(alloc, plan) {
-            Ok(found) => found.as_str() == self.0,
-            Err(_) => false,
-        }
-    }
-}
-
 /// Batches with what they are answered by hand and by a store.
 const ROWS: &[(&str, &str, &str)] = &[
     (
@@ -127,6 +95,13 @@ const ROWS: &[(&str, &str, &str)] = &[
     ),
 ];
 
+fn is_sent(alloc: Global, document: &str, want: &str) -> bool {
+    match send_all(alloc, Seed::none(), document.as_bytes()) {
+        Ok(found) => found.strip_suffix('\n') == Some(want),
+        Err(_) => false,
+    }
+}
+
 fn is_stored<R: RandomSource>(alloc: Global, random: &R, document: &str, want: &str) -> bool {
     match respond(alloc, random, document.as_bytes(), &mut Store { alloc }) {
         Ok(found) => found.as_str() == want,
@@ -137,7 +112,7 @@ fn is_stored<R: RandomSource>(alloc: Global, random: &R, document: &str, want: &
 #[test]
 fn drives_and_executes_a_plan(rt: HostRuntime) -> Result<(), test::Fail> {
     for (document, sent, stored) in ROWS {
-        expect(holds_of(rt.alloc(), document, &ByHand(sent)), sent)?;
+        expect(is_sent(rt.alloc(), document, sent), sent)?;
         expect(is_stored(rt.alloc(), &rt, document, stored), stored)?;
     }
     Ok(())

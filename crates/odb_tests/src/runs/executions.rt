@@ -11,7 +11,7 @@ use crate::rows::expect;
 use odb_check::Plan;
 use odb_doc::{Outcome, Request};
 use odb_exec::laws::every_call;
-use odb_exec::{Chooser, ExecFault, First, Last, Service, ServiceFault, Trace, Wide, execute};
+use odb_exec::{Chooser, ExecFault, Service, ServiceFault, Trace, execute};
 use odb_sched::Mode::{Continue, Stop};
 use odb_sched::{Mode, Order, Policy, Step};
 use std::alloc::Global;
@@ -368,10 +368,8 @@ fn answers_the_same_in_each_order(rt: HostRuntime) -> Result<(), Fail> {
 
 #[test]
 fn names_the_order_of_each_chooser(rt: HostRuntime) {
-    let own = [First.order(), Last.order(), Wide.order()];
-    assert!(rt;
-        own == [Some(Order::First), Some(Order::Last), Some(Order::Wide)]
-            && Order::Last.order() == Some(Order::Last)
-            && Picks::WideLast.order() == None
-    );
+    for order in [Order::First, Order::Last, Order::Wide] {
+        assert!(rt; order.order() == Some(order));
+    }
+    assert!(rt; Picks::WideLast.order() == None);
 }

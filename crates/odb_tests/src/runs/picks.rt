@@ -3,7 +3,7 @@
 ghost use Rattle.std.specs.Prelude.{◌<◌, ◌+◌, length};
 ghost use Rattle.odb_exec.specs.Choices.{IsInRange};
 
-use odb_exec::{Choice, Chooser, First, Last, Wide};
+use odb_exec::{Choice, Chooser};
 use odb_sched::Order;
 
 /// What picks the next step.
@@ -40,9 +40,9 @@ impl Chooser for Picks {
 
     fn choose(&mut self, ready: &[u32], running: &[u32]) -> Choice {
         match *self {
-            Picks::Named(order) | Picks::Asked(order) => choice_in(order, ready, running),
-            Picks::WideLast if ready.is_empty() => Last.choose(ready, running),
-            Picks::WideLast => Last.choose(ready, &[]),
+            Picks::Named(mut order) | Picks::Asked(mut order) => order.choose(ready, running),
+            Picks::WideLast if ready.is_empty() => Order::Last.choose(ready, running),
+            Picks::WideLast => Order::Last.choose(ready, &[]),
             Picks::Listed(list, next) => {
                 *self = Picks::Listed(list, next.saturating_add(1));
                 let numbers = LISTS.get(list).copied().unwrap_or(&[]);
@@ -56,18 +56,6 @@ impl Chooser for Picks {
             Picks::Named(order) => Some(order),
             _ => None,
         }
-    }
-}
-
-/// What the chooser of this name picks.
-fn choice_in(order: Order, ready: &[u32], running: &[u32]) -> Choice
-    requires { 0 < length ready.now + length running.now }
-    ensures { IsInRange ready.now running.now result }
-{
-    match order {
-        Order::First => First.choose(ready, running),
-        Order::Last => Last.choose(ready, running),
-        Order::Wide => Wide.choose(ready, running),
     }
 }
 

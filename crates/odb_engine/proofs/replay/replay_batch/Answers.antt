@@ -9,12 +9,12 @@ pub returns-clause-ends : goal.returns-clause-ends
 returns-clause-ends g c =
     let allows = (goal.Chooser-dyn g c.args.chooser.now).allows c.args.chooser.now.1 in
     let left = g.S.Read.remaining c.args.outcomes.now.reader in
-    let failed = IsTrue c.answer_command.new.first.failed ⊎ IsTrue c.answer_command.new.second.failed in
-    let (bytes, gives, (ends, asked)) = c.answer_command.ensures.ends in (
+    let failed = IsTrue c.answer_task.new.first.failed ⊎ IsTrue c.answer_task.new.second.failed in
+    let (bytes, gives, (ends, asked)) = c.answer_task.ensures.ends in (
       bytes,
       gives,
       (
-        subst (λ form. Ends g.W.Write.contents (InForm form (Answers (Replays allows c.args.policy c.args.traced left) bytes)) failed c.args.output.now c.answer_command.new.output c.answer_command.result) c.plain.ensures.form ends,
+        subst (λ form. Ends g.W.Write.contents (InForm form (Answers (Replays allows c.args.policy c.args.traced left) bytes)) failed c.args.output.now c.answer_task.new.output c.answer_task.result) c.plain.ensures.form ends,
         asked,
       ),
     )

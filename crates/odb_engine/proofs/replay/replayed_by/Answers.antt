@@ -1,22 +1,38 @@
+use Rattle.std.proofs.Common.{◌≡◌, inl, inr, subst, sym, string_bytes, rules}
 use Rattle.serde_json.specs.View.{view}
-use Rattle.odb_doc.specs.declared.fault.Place.TheVariants.{Outcomes}
+use Rattle.odb_doc.specs.recorded.OutcomeLists.{entries}
 use Rattle.odb_check.specs.Plans.{plan_records}
-use Rattle.odb_engine.specs.Contents.{OfGiven}
+use Rattle.odb_engine.specs.declared.ending.Ended.TheVariants.{Done, Refused}
+use Rattle.odb_engine.specs.Cascade.{line_of}
 use Rattle.odb_engine.specs.Halts.{Found}
-use Rattle.odb_engine.specs.Replays.{ReplaysValue}
-use Rattle.odb_engine.proofs.EngineLemmas.{exit-error}
-use Rattle.odb_engine.proofs.SourceLemmas.{given-found, given-halt}
+use Rattle.odb_engine.specs.Replays.{IsFaultOfOutcomes, LacksOutcome, ReplaysValue, result_text}
+use Rattle.odb_engine.proofs.EngineLemmas.{exit-error, Refuses-weaker, Halted-weaker, reports}
 use Rattle.odb_engine.proofs.replay.replayed_by.Goals as goal
 
-pub returns-in_err-value-clause-found : goal.returns-in_err-value-clause-found
-returns-in_err-value-clause-found g c =
-    let replay = c.args.replay.now in
-    let given = g.S.Source.given c.args.second.now in
-    let P = ReplaysValue ((goal.Chooser-dyn g replay.chooser.now).allows replay.chooser.now.1) replay.policy replay.traced (plan_records c.args.plan.now) in
-    exit-error (Found (OfGiven given Outcomes P)) _ _ c.from_residual.ensures.1 (given-halt given Outcomes P _ c.in_err-value.ensures.value)
+pub returns-in_err-outcomes-clause-found : goal.returns-in_err-outcomes-clause-found
+returns-in_err-outcomes-clause-found g c =
+    let replay = c.args.replay in
+    let value = view c.args.value in
+    let allows = (goal.Chooser-dyn g c.args.chooser.now).allows c.args.chooser.now.1 in
+    let writes = ReplaysValue allows replay.policy replay.traced (plan_records c.args.plan.now) value in
+    exit-error (Found writes) _ _ c.from_residual.ensures.1
+    (Halted-weaker (IsFaultOfOutcomes value) (λ refusal. writes Refused (line_of refusal)) (λ refusal is. inl (reports (IsFaultOfOutcomes value) refusal is)) _ c.in_err-outcomes.ensures.least)
+
+pub returns-in_err-run_of-clause-found : goal.returns-in_err-run_of-clause-found
+returns-in_err-run_of-clause-found g c =
+    let replay = c.args.replay in
+    let batch = plan_records c.args.plan.now in
+    let allows = (goal.Chooser-dyn g c.args.chooser.now).allows c.args.chooser.now.1 in
+    let recorded = entries c.in_ok-outcomes.outcomes in
+    let writes = ReplaysValue allows replay.policy replay.traced batch (view c.args.value) in
+    exit-error (Found writes) _ _ c.from_residual-in_err-run_of.ensures.1
+    (Refuses-weaker (LacksOutcome allows replay.policy batch recorded) writes _ (λ ended text lacks. inr (recorded, c.in_ok-outcomes.ensures.outcomes, inr lacks)) c.in_err-run_of.ensures.lacks)
 
 pub returns-clause-found : goal.returns-clause-found
 returns-clause-found g c =
-    let replay = c.args.replay.now in
-    let P = ReplaysValue ((goal.Chooser-dyn g replay.chooser.now).allows replay.chooser.now.1) replay.policy replay.traced (plan_records c.args.plan.now) in
-    given-found (g.S.Source.given c.args.second.now) Outcomes P (view c.in_ok-value.value) _ c.replayed_in.result c.in_ok-value.ensures.value c.replayed_in.ensures.found
+    let replay = c.args.replay in
+    let trace = c.in_ok-run_of.field-0 in
+    let allows = (goal.Chooser-dyn g c.args.chooser.now).allows c.args.chooser.now.1 in
+    let writes = ReplaysValue allows replay.policy replay.traced (plan_records c.args.plan.now) (view c.args.value) in
+    let same : string_bytes c.push_response.new.text ≡ result_text replay.traced trace.done trace.steps.items = search rules in
+    subst (writes Done) (sym same) (inr (entries c.in_ok-outcomes.outcomes, c.in_ok-outcomes.ensures.outcomes, inl (c.in_ok-run_of.ensures.result replay.traced)))

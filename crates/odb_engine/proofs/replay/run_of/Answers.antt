@@ -21,20 +21,20 @@ use Rattle.odb_engine.proofs.replay.run_of.Goals as goal
 
 pub returns-in_err-trace-clause-lacks : goal.returns-in_err-trace-clause-lacks
 returns-in_err-trace-clause-lacks g c =
-    let allows = (goal.Chooser-dyn g c.args.replay.now.chooser.now).allows c.args.replay.now.chooser.now.1 in
+    let allows = (goal.Chooser-dyn g c.args.chooser.now).allows c.args.chooser.now.1 in
     let batch = plan_records c.args.plan.now in
     let recorded = entries c.args.outcomes in
     let cause = c.in_err-trace.field-0.0 in
-    let lacks = LacksOutcome allows c.args.replay.now.policy batch recorded in
-    let caused = subst (λ s. IsCausedBy (OffersRecorded s) (IsReportEnabled allows (OffersRecorded s) (first_state batch c.args.replay.now.policy)) cause) c.in_ok-new.ensures c.in_err-trace.ensures.fault in
+    let lacks = LacksOutcome allows c.args.replay.policy batch recorded in
+    let caused = subst (λ s. IsCausedBy (OffersRecorded s) (IsReportEnabled allows (OffersRecorded s) (first_state batch c.args.replay.policy)) cause) c.in_ok-new.ensures c.in_err-trace.ensures.fault in
     at-exit (λ r. IfErr r (Refuses lacks)) _ _ c.from_residual-in_err-trace.ensures.1
-    (halted-by (λ refusal. lacks Refused (line_of refusal)) _ (lacks-outcome allows c.args.replay.now.policy batch recorded cause c.len-count.ensures.well_formed caused))
+    (halted-by (λ refusal. lacks Refused (line_of refusal)) _ (lacks-outcome allows c.args.replay.policy batch recorded cause c.len-count.ensures.well_formed caused))
 
 pub returns-clause-result : goal.returns-clause-result
 returns-clause-result g c =
-    let allows = (goal.Chooser-dyn g c.args.replay.now.chooser.now).allows c.args.replay.now.chooser.now.1 in
+    let allows = (goal.Chooser-dyn g c.args.chooser.now).allows c.args.chooser.now.1 in
     let batch = plan_records c.args.plan.now in
-    let first = first_state batch c.args.replay.now.policy in
+    let first = first_state batch c.args.replay.policy in
     let trace = c.in_ok-trace.trace in
     let execution = c.in_ok-trace.ensures.execution in
     let (course, ended) = subst (λ s. (course : IsFinishedBy allows (OffersRecorded s) first trace.steps.items trace.done) × StartsAfterDependencies batch course.events) c.in_ok-new.ensures

@@ -9,4 +9,4 @@ pub returns : goal.returns
 returns c =
     let events = c.args.events.now in
     done_written (λ it. it.0) (λ it. it.1.items) c.args.batch.now (Answers (Runs c.args.policy (Some events))) (λ bytes text. Accepts bytes (λ requests. IsReadAgain requests text))
-    (λ bytes text. c.read_again.ensures.run c.args.policy bytes events text) c.ran.result c.ran.ensures
+    (λ bytes text. c.read_again.ensures.run c.args.policy bytes events text) c.written.result c.written.ensures

@@ -11,4 +11,4 @@ pub returns : goal.returns
 returns c =
     let outcomes = c.args.outcomes.now in
     done_written (λ it. it.0) (λ it. it.1.items) c.args.batch.now (Answers (Replays (AllowsOrder orders.Last) c.args.policy false (Some outcomes))) (λ bytes text. Accepts bytes (λ requests. IsReadAgain requests text))
-    (λ bytes text. c.read_again.ensures.replay orders.Last c.args.policy bytes outcomes text) c.replayed.result c.replayed.ensures
+    (λ bytes text. c.read_again.ensures.replay orders.Last c.args.policy bytes outcomes text) c.written.result c.written.ensures

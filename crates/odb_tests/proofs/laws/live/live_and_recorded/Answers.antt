@@ -10,9 +10,9 @@ returns c =
     let batch = c.args.batch.now in
     let events = c.args.events.now in
     let written = c.in_ok-written.written in
-    let (run, opens, shown) = c.in_ok-text.ensures in
+    let (live, opens, shown) = c.in_ok-text.ensures in
     let (bytes, gives, writes) = c.in_ok-written.ensures in
     let same = c.one_document.ensures batch bytes batch gives (whole-document batch _ opens) in
-    let one = c.one_live_run.ensures.text c.args.policy batch events (string_bytes c.in_ok-text.text) written.1.items run Done written.0 opens shown
+    let one = c.one_live_run.ensures.text c.args.policy batch events (string_bytes c.in_ok-text.text) written.1.items live Done written.0 opens shown
     (subst (λ b. Answers (Runs c.args.policy (Some events)) b written.0 written.1.items) same writes) in
     (sym one.0, one.1)
