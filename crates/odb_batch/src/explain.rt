@@ -28,12 +28,17 @@ fn split(text: &str, end: char) -> (&str, &str) {
     text.split_once(end).unwrap_or((text, ""))
 }
 
+/// Adds the first lines of these explanations.
+fn add_headings(page: &mut Page, texts: &[&str]) {
+    for text in texts {
+        page.add_all(&[split(text, '\n').0, "\n"]);
+    }
+}
+
 /// Adds the code, the name and the places of all faults.
 pub fn add_table(page: &mut Page) {
     for family in families() {
-        for text in family {
-            page.add_all(&[split(text, '\n').0, "\n"]);
-        }
+        add_headings(page, family);
     }
 }
 
@@ -50,6 +55,15 @@ fn add_explanation(page: &mut Page, text: &str) {
         page.add("\n");
     }
     page.add_all(&[text, "\n"]);
+}
+
+/// Adds those of these explanations whose faults have this code or name.
+fn add_named(page: &mut Page, texts: &[&str], word: &str) {
+    for text in texts {
+        if is_named(text, word) {
+            add_explanation(page, text);
+        }
+    }
 }
 
 /// Tests whether a fault has this code or name.
@@ -71,11 +85,7 @@ pub fn first_unknown<'a>(words: &[&'a str]) -> Option<&'a str> {
 pub fn add_explanations(page: &mut Page, words: &[&str]) {
     for word in words {
         for family in families() {
-            for text in family {
-                if is_named(text, word) {
-                    add_explanation(page, text);
-                }
-            }
+            add_named(page, family, word);
         }
     }
 }
