@@ -1,5 +1,6 @@
 -- What two readings of one thing have in common.
-use Rattle.std.specs.Prelude.{◌≡◌, ℕ, Option, Result, Global, Vec, IsOk, IfOk, IfErr, IfSome}
+use Rattle.std.specs.Prelude.{◌≡◌, ℕ, Option, Result, Vec, IsOk, IfOk, IfErr, IfSome}
+use Rattle.std.specs.Global.{Global}
 use Rattle.odb_engine.specs.declared.ending.Ended.{Ended}
 
 -- a reading has the property of a value or that of a fault
