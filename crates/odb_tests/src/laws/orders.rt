@@ -12,9 +12,34 @@ use crate::laws::Two;
 use odb_check::Plan;
 use odb_doc::Outcomes;
 use odb_exec::laws::every_order;
-use odb_exec::{ExecFault, Recorded, Trace, execute};
+use odb_exec::{Choice, Chooser, ExecFault, Recorded, Trace, execute};
 use odb_sched::{Order, Policy};
 use std::alloc::Global;
+
+/// A chooser that follows [`Order::Last`] whatever its value: of a chooser that is lent as a `dyn`, a proof knows the
+/// type.
+#[derive(Clone, Copy, Debug)]
+struct Backwards;
+
+impl Chooser for Backwards {
+    ghost use Rattle.std.specs.Prelude.{Some};
+    ghost use Rattle.odb_sched.specs.run.Choosing.{AllowsOrder};
+
+    ghost allows = { λ _. AllowsOrder orders.Last };
+
+    ghost chooses = { λ old _ _ _ new. new ≡ old };
+
+    ghost names = { λ _. Some orders.Last };
+
+    fn choose(&mut self, ready: &[u32], running: &[u32]) -> Choice {
+        let mut order = Order::Last;
+        order.choose(ready, running)
+    }
+
+    fn order(&self) -> Option<Order> {
+        Some(Order::Last)
+    }
+}
 
 /// Executes a plan by recorded outcomes, unless memory runs out.
 fn executed<'a: 'p, 'p>(
@@ -32,7 +57,7 @@ fn executed<'a: 'p, 'p>(
     let Ok(mut service) = Recorded::new(alloc, plan, outcomes) else {
         return None;
     };
-    match execute(alloc, plan, policy, &mut Order::Last, &mut service) {
+    match execute(alloc, plan, policy, &mut Backwards, &mut service) {
         Ok(trace) => Some(Ok(trace)),
         Err(ExecFault::OutOfMemory) => None,
         Err(cause) => Some(Err(cause)),
