@@ -2,8 +2,8 @@
 """Shows that each call of the library takes the seed that it is given, by names that crowd the tables of one seed.
 
 The names, and what is slow, are those of tests/runners/seeds.py. A batch of names for a seed drawn here has to be
-slow with this seed, in each call that takes one, and in the response of a run that was opened with it; and not with
-another seed, nor without one. What is written is compared too. The library is the one that ODB_BATCH_LIBRARY names.
+slow with this seed, in each call that takes one; and not with another seed, nor without one. What is written is
+compared too, and also the response of a run that was opened so. The library is the one that ODB_BATCH_LIBRARY names.
 The last line is `N calls, M wrong`.
 """
 
@@ -59,7 +59,7 @@ class Calls:
             spent[f"odb_{command}_as"] = self.seconds(f"odb_{command}_as", documents, (*options, LINES))
         documents, place = (self.texts["batch"], self.texts["events"]), ctypes.byref(handle)
         spent["odb_run_open"] = self.seconds("odb_run_open", documents, (*POLICY, place))
-        spent["odb_run_response"] = self.seconds("odb_run_response", (), (place,))
+        self.seconds("odb_run_response", (), (place,))
         _library.close_run(handle)
         return spent
 
