@@ -95,7 +95,8 @@ pub const EXAMPLES: [Example; 7] = [
     ),
 ];
 
-/// Does a task by the function that is named after it, without a setup; the second input is read by some.
+/// Does a task without a setup, by the function that is named after it where that takes no chooser; the second input is
+/// read by some.
 pub fn called_plainly<R: Read, S: Read, W: Write>(
     alloc: Global,
     task: Task,
@@ -117,11 +118,7 @@ pub fn called_plainly<R: Read, S: Read, W: Write>(
         Task::Canon => canon_batch(alloc, batch, output),
         Task::Match => match_batch(alloc, batch, second, output),
         Task::Run { policy } => run_batch(alloc, batch, second, output, policy),
-        Task::Replay {
-            policy,
-            mut order,
-            traced,
-        } => replay_batch(alloc, batch, second, output, policy, &mut order, traced),
+        Task::Replay { .. } => answer_task(alloc, batch, second, output, task, Setup::plain()),
     }
 }
 
@@ -139,7 +136,14 @@ fn called<R: Read, S: Read, W: Write>(
 {
     let (task, disposal) = how;
     if disposal == Disposal::Drop {
-        return called_plainly(alloc, task, batch, second, output);
+        return match task {
+            Task::Replay {
+                policy,
+                mut order,
+                traced,
+            } => replay_batch(alloc, batch, second, output, policy, &mut order, traced),
+            _ => called_plainly(alloc, task, batch, second, output),
+        };
     }
     let setup = Setup {
         seed: Seed::new(7),

@@ -15,7 +15,7 @@ ghost use Rattle.odb_tests.specs.Readings.{AreOne};
 use crate::engines::{EVENTS, EXAMPLES, Example, FREE, OUTCOMES, PAIR, called_plainly};
 use crate::laws::Two;
 use odb_engine::laws::{one_document, one_text, read_again};
-use odb_engine::{Answer, Ended, Setup, Task, answer_in_memory, answer_line};
+use odb_engine::{Ended, Setup, Task, answer_in_memory, answer_line};
 use odb_io::{Input, Output};
 use odb_sched::{Order, Policy};
 use std::alloc::{AllocError, Global};
@@ -58,7 +58,7 @@ fn answered(alloc: Global, batch: &[u8], second: &[u8], task: Task) -> Option<Wr
         it.0 it.1.items) }
 {
     match answer_in_memory(alloc, batch, second, task, Setup::plain()) {
-        Ok(Answer { ended, text }) => Some((ended, text)),
+        Ok(answer) => Some((answer.ended, answer.text)),
         Err(_) => None,
     }
 }
@@ -78,7 +78,7 @@ fn line_answered(alloc: Global, line: &[u8], task: Task) -> Option<Written>
     ensures { IfSome result (λ it. OfLine task Lines line.now it.0 it.1.items) }
 {
     match answer_line(alloc, line, task, Setup::plain()) {
-        Ok(Answer { ended, text }) => Some((ended, text)),
+        Ok(answer) => Some((answer.ended, answer.text)),
         Err(_) => None,
     }
 }

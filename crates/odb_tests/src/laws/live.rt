@@ -27,8 +27,11 @@ fn live(alloc: Global, batch: &[u8], events: &[u8], policy: Policy) -> Option<St
     ensures { IfSome result (λ text. (live : Live) × Opens policy batch.now events.now live
         × Shows live Done (string_bytes text)) }
 {
-    match open_run(alloc, batch, events, policy, Seed::none()) {
-        Ok(live) => live.response(alloc).ok(),
+    let Ok(live) = open_run(alloc, batch, events, policy, Seed::none()) else {
+        return None;
+    };
+    match live.response(alloc) {
+        Ok(text) => Some(text),
         Err(_) => None,
     }
 }

@@ -32,4 +32,7 @@ pub returns-in-Run : goal.returns-in-Run
 returns-in-Run g c = rw c.in-Run.is (written-of g.W.Write.contents c.args.output.now c.run_batch.new.output _ _ _ c.run_batch.result (λ bytes e. e.0.ended) c.run_batch.ensures.ends)
 
 pub returns-in-Replay : goal.returns-in-Replay
-returns-in-Replay g c = rw c.in-Replay.is (written-of g.W.Write.contents c.args.output.now c.replay_batch.new.output _ _ _ c.replay_batch.result (λ bytes e. e.0.ended) c.replay_batch.ensures.ends)
+returns-in-Replay g c =
+    let W : Form → List ℕ → _ = λ form. Answers (OfTask c.args.task form (ByReader (g.S.Read.remaining c.args.second.now.reader))) in
+    subst (λ form. IfOk c.answer_task-in-Replay.result (λ ended. SomeDocument (g.R.Read.remaining c.args.batch.now.reader) (λ bytes. WritesText (g.W.Write.contents c.args.output.now.writer) (g.W.Write.contents c.answer_task-in-Replay.new.output.writer) (λ text. InForm form (W form bytes) ended text)))) c.plain-in-Replay.ensures.form
+    (written-of g.W.Write.contents c.args.output.now c.answer_task-in-Replay.new.output (λ bytes. InForm c.plain-in-Replay.result.form (W c.plain-in-Replay.result.form bytes)) _ _ c.answer_task-in-Replay.result (λ bytes e. e.0.ended) c.answer_task-in-Replay.ensures.ends)

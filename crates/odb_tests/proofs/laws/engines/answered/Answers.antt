@@ -6,4 +6,4 @@ use Rattle.odb_engine.specs.Tasks.{OfTask}
 use Rattle.odb_tests.proofs.laws.engines.answered.Goals as goal
 
 pub returns-in-Ok : goal.returns-in-Ok
-returns-in-Ok c = subst (λ form. InForm form (Answers (OfTask c.args.task form (InMemory c.args.second.now)) c.args.batch.now) c.in-Ok.ended c.in-Ok.text.items) c.plain.ensures.form c.in-Ok.ensures
+returns-in-Ok c = subst (λ form. InForm form (Answers (OfTask c.args.task form (InMemory c.args.second.now)) c.args.batch.now) c.in-Ok.answer.ended c.in-Ok.answer.text.items) c.plain.ensures.form c.in-Ok.ensures

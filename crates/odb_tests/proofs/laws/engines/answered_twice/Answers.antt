@@ -7,5 +7,4 @@ use Rattle.odb_tests.proofs.laws.engines.answered_twice.Goals as goal
 
 pub returns : goal.returns
 returns c =
-    let (task, batch, second) = (c.args.task, c.args.batch.now, c.args.second.now) in
-    one_of (λ it. it.0) (λ it. it.1.items) (Answers (OfTask task Lines (InMemory second)) batch) (c.one_text.ensures.memory task Lines batch second) c.answered.result c.answered-2.result c.answered.ensures c.answered-2.ensures
+    one_of (λ it. it.0) (λ it. it.1.items) (Answers (OfTask c.args.task Lines (InMemory c.args.second.now)) c.args.batch.now) (c.one_text.ensures.memory c.args.task Lines c.args.batch.now c.args.second.now) c.answered.result c.answered-2.result c.answered.ensures c.answered-2.ensures

@@ -4,7 +4,7 @@ use Rattle.odb_engine.specs.Cascade.{Answers}
 use Rattle.odb_engine.specs.Contents.Given.{ByReader}
 use Rattle.odb_engine.specs.declared.form.Form.TheVariants.{Lines}
 use Rattle.odb_engine.specs.Tasks.{OfTask}
-use Rattle.odb_engine.proofs.MemoryLemmas.{document-of, text-in}
+use Rattle.odb_tests.proofs.MemoryLemmas.{document-of, text-in}
 use Rattle.odb_tests.proofs.laws.engines.written.Goals as goal
 
 pub returns-in-Ok : goal.returns-in-Ok
