@@ -23,7 +23,7 @@ import tables
 import turns
 import workloads
 from measure import BenchFault, adopt_orphans
-from runners.program import add_program, ready
+from support.program import add_program, ready
 
 TURNS = 12
 FLOODED = "flooded"
@@ -141,7 +141,7 @@ def measured_text(words, program, folder):
     growth = tables.growth_table(cases, measures)
     parts += [growth, tables.GROWTH_LEGEND] if growth else []
     parts += [flood_text(words, program, folder, count)] if FLOODED in words.only else []
-    # a short run leaves them out: `python3 tests sizes` compares what is printed of them
+    # a short run leaves them out: `pytest -k sizes` compares what is printed of them
     parts += [longest_text(program, folder, count)] if LONGEST in words.only and not words.short else []
     parts += [lines_text(words, program, folder, count)] if LINES in words.only else []
     parts += [shared_text(program, folder)] if SHARED in words.only and not words.short else []

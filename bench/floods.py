@@ -9,9 +9,9 @@ import os
 from dataclasses import dataclass
 
 from measure import BenchFault, staying_on, stir_memory
-from runners import answers
-from runners.contents import Content, events_of, response_text
-from runners.crowds import SHARED_BITS, colliding_names, get, lookup_requests, random_names
+from support.contents import KINDS as DOCUMENTS
+from support.contents import Content, documents_of
+from support.crowds import SHARED_BITS, colliding_names, get, lookup_requests, random_names
 from turns import Job, run_job, summary, times_as_long
 
 NAMES = 100_000
@@ -31,11 +31,15 @@ class Flood:
     status: int
 
 
-def write(folder, name, kind, document):
+def write_text(folder, name, kind, text):
     path = os.path.join(folder, f"flood_{name}_{kind}.json")
     with open(path, "w", encoding="utf-8") as file:
-        json.dump(document, file, separators=(",", ":"))
+        file.write(text)
     return path
+
+
+def write(folder, name, kind, document):
+    return write_text(folder, name, kind, json.dumps(document, separators=(",", ":")))
 
 
 def of_each(lists, made):
@@ -60,7 +64,8 @@ def outcome_flood(folder, lists):
         recorded = [{"id": name, "status": 200} for name in [*names, "one"]]
         return batch, write(folder, "outcomes", kind, {"outcomes": recorded})
 
-    wanted = dict.fromkeys(KINDS, response_text([get("one")], [200]))
+    content = Content([get("one")], [{"id": "one", "status": 200}])
+    wanted = dict.fromkeys(KINDS, content.wanted("replay"))
     return Flood(f"{len(lists['random']):,} outcomes", "replay", of_each(lists, outcomes), wanted, 0)
 
 
@@ -69,35 +74,23 @@ def lookup_floods(folder, lists):
     size = min(10_000, len(lists["random"]) * 2 // 3)
     batches = of_each(lists, lambda kind, names: lookup_requests(names, size))
     contents = of_each(batches, lambda kind, batch: Content(batch, [{"id": it["id"], "status": 200} for it in batch]))
-
-    def documents(name, made):
-        return of_each(contents, lambda kind, content: write(folder, name, kind, made(content)))
-
-    batch = documents("ids", lambda it: {"requests": it.requests})
-    served = documents("responses", lambda it: answers.responses(it.requests, it.outcomes))
-    events = documents("events", lambda it: {"events": events_of(it)})
-    alone = {kind: (batch[kind],) for kind in KINDS}
     title = f"ids and groups, looked up {sum(len(it.get('dependsOn', [])) for it in batches['random']):,} times"
+    titles = {
+        "check": title,
+        "plan": title,
+        "match": "the same batch, and its responses",
+        "run": "the same batch, and the events of its run",
+    }
 
-    def flood(title, command, arguments, wanted):
-        return Flood(title, command, arguments, of_each(contents, lambda kind, it: wanted(it.requests, it.outcomes)), 0)
+    def arguments(command, kind, content):
+        texts = documents_of(content)
+        return [write_text(folder, name, kind, texts[name]) for name in DOCUMENTS[command]]
 
-    return [
-        flood(title, "check", alone, lambda requests, _: answers.check_line(requests)),
-        flood(title, "plan", alone, lambda requests, _: answers.plan_text(requests)),
-        flood("the same batch, and its responses", "match", paired(batch, served), answers.match_text),
-        flood(
-            "the same batch, and the events of its run",
-            "run",
-            paired(batch, events),
-            lambda requests, outcomes: response_text(requests, [it["status"] for it in outcomes]),
-        ),
-    ]
+    def flood(command):
+        words = of_each(contents, lambda kind, it: arguments(command, kind, it))
+        return Flood(titles[command], command, words, of_each(contents, lambda _, it: it.wanted(command)), 0)
 
-
-def paired(firsts, seconds):
-    """The two documents of each kind."""
-    return {kind: (firsts[kind], seconds[kind]) for kind in KINDS}
+    return [flood(command) for command in titles]
 
 
 def floods(folder, short):

@@ -11,7 +11,7 @@ import time
 
 import shapes
 from measure import BenchFault
-from runners.program import ROOT
+from support.program import ROOT
 from turns import Job, measured
 
 SIZES = (300, 1_000, 100_000)

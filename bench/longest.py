@@ -1,4 +1,4 @@
-"""The longest documents that the program takes, of `python3 tests sizes`, beside the reading of the same bytes.
+"""The longest documents that the program takes, of `pytest -k sizes`, beside the reading of the same bytes.
 
 The documents of one kind are made, measured in turns and removed before those of the next, since they
 have 16 MB each. What the program prints of them is compared there.
@@ -6,7 +6,7 @@ have 16 MB each. What the program prints of them is compared there.
 
 import os
 
-from runners import sizes
+from support import sizes
 from turns import Job, measured, start_job
 from workloads import write_tiny
 

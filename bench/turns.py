@@ -5,7 +5,6 @@ import statistics
 from dataclasses import dataclass
 
 from measure import BenchFault, run, staying_on, stir_memory
-from runners import answers
 
 COMMANDS = ("check", "plan", "canon", "replay", "match", "run")
 READ_BATCH = "read batch"
@@ -63,7 +62,7 @@ def is_right(job, content, text):
     """Whether the job printed what it has to print."""
     if job.command not in COMMANDS:
         return text == ONLY_READ
-    return answers.is_right(job.command, content.requests, content.outcomes, text)
+    return text == content.wanted(job.command)
 
 
 def try_job(job, content, folder):

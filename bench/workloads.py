@@ -7,7 +7,7 @@ from typing import Callable
 
 import shapes
 from measure import BenchFault
-from runners.contents import Content, compact, documents_of
+from support.contents import Content, compact, documents_of
 
 MAX_DOCUMENT_BYTES = 16_777_216
 SHORT_DIVISOR = 20

@@ -49,8 +49,8 @@ NUMBERS = {
     "ODB_WRONG_OPTION": r"const WRONG_OPTION: u32 = (\d+)",
     "ODB_OUT_OF_MEMORY": r"const OUT_OF_MEMORY: u32 = (\d+)",
     "ODB_SMALL_BUFFER": r"const SMALL_BUFFER: u32 = (\d+)",
-    "ODB_CONTINUE": r"(\d+) => Mode::Continue",
-    "ODB_STOP": r"(\d+) => Mode::Stop",
+    "ODB_CONTINUE": r"(\d+) => Some\(Mode::Continue\)",
+    "ODB_STOP": r"(\d+) => Some\(Mode::Stop\)",
     "ODB_FIRST": r"(\d+) => Some\(Order::First\)",
     "ODB_LAST": r"(\d+) => Some\(Order::Last\)",
     "ODB_WIDE": r"(\d+) => Some\(Order::Wide\)",
@@ -63,6 +63,12 @@ NUMBERS = {
     "ODB_WIDTH_REACHED": r"StartRefusal::WidthReached => (\d+)",
     "ODB_NOT_RUNNING": r"ReportRefusal::NotRunning => (\d+)",
     "ODB_BAD_STATUS": r"ReportRefusal::BadStatus => (\d+)",
+    "ODB_STATE_WAITING": r"RequestState::Waiting => \((\d+), 0\)",
+    "ODB_STATE_READY": r"RequestState::Ready => \((\d+), 0\)",
+    "ODB_STATE_RUNNING": r"RequestState::Running => \((\d+), 0\)",
+    "ODB_STATE_REPORTED": r"RequestState::Reported\(status\) => \((\d+), ",
+    "ODB_STATE_SKIPPED": r"RequestState::Skipped => \((\d+), 0\)",
+    "ODB_STATE_UNDONE": r"const UNDONE: u32 = (\d+)",
 }
 
 

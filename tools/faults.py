@@ -20,7 +20,7 @@ ROOT = os.path.dirname(os.path.dirname(os.path.realpath(__file__)))
 sys.dont_write_bytecode = True
 sys.path.append(os.path.join(ROOT, "tests"))
 
-from runners.program import add_program, ready
+from support.program import add_program, ready
 
 PAGE = os.path.join(ROOT, "docs", "faults.md")
 TEXTS = os.path.join(ROOT, "crates", "odb_batch", "src", "explain")

@@ -15,10 +15,10 @@ ROOT = os.path.dirname(os.path.dirname(os.path.realpath(__file__)))
 sys.dont_write_bytecode = True
 sys.path.append(os.path.join(ROOT, "tests"))
 
-from runners import pages
-from runners.cases import CASES
-from runners.helps import Texts, read_helps
-from runners.program import add_program, ready
+from support import pages
+from support.cases import CASES
+from support.helps import Texts, read_helps
+from support.program import add_program, ready
 
 README = os.path.join(ROOT, "README.md")
 SOURCES = os.path.join(ROOT, "crates", "odb_batch", "src")

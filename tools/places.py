@@ -68,7 +68,7 @@ class Repository:
         self.specs = files(SPECS)
         self.page, self.rules = files("docs/faults.md"), files("docs/batches.md")
         self.tests, self.cases = files("crates/odb_tests/src/messages/*.rt"), files("tests/cases/*.txt")
-        self.plain = files("tests/runners/rules*.py")
+        self.plain = files("tests/support/rules*.py")
         self.pages = {**self.page, **files("CONTRIBUTING.md"), **self.code, **self.tests, **self.specs}
         self.variants = list(self.all_variants())
 

@@ -18,7 +18,7 @@ PAGES = ("README.md", "docs/library.md", "examples/README.md")
 sys.dont_write_bytecode = True
 sys.path.append(os.path.join(ROOT, "tests"))
 
-from runners.program import PROGRAM, ready
+from support.program import PROGRAM, ready
 
 
 def blocks(page, kind):

@@ -16,7 +16,7 @@ ROOT = os.path.dirname(os.path.dirname(os.path.realpath(__file__)))
 sys.dont_write_bytecode = True
 sys.path.append(os.path.join(ROOT, "tests"))
 
-from runners.program import PROGRAM, ready
+from support.program import PROGRAM, ready
 
 SOURCE = "VERSION"
 EXPORT = "crates/odb_ffi/src/exports.rt"

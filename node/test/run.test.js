@@ -239,8 +239,6 @@ test('refuses what a response cannot show', () => {
   const table = [
     [{ A: '1', a: '2' }, null, 'F64 BadEvents report'],
     [{ A: 1 }, null, 'F64 BadEvents report'],
-    [null, 0.5, 'F63 NotWhole report'],
-    [null, Buffer.from('[18446744073709551616]'), 'F63 NotWhole report'],
     [null, Buffer.from(' '), 'F02 NotJson report'],
     [null, Buffer.from('{'), 'F02 NotJson report'],
     [null, Buffer.from('1},{"start":"a"'), 'F02 NotJson report'],

@@ -13,14 +13,17 @@ const events: RunEvent[] = [{ step: 'start', id: 'a' }, { step: 'report', id: 'a
 const counts: Counts = check(documents[0])
 const planned: PlannedRequest[] = plan(batch)
 const statuses: Map<string, number> = match(batch, run(batch, events, { mode: 'stop', width: 2 }))
+const stopped: Map<string, number> = match(batch, '', { mode: 'stop' })
 const replayed: Replay = replay(batch, '', { order: 'wide', mode: 'continue', trace: true })
 const printed: Output = output('run', batch, events, { form: 'lines' })
 const text: string = canon(batch).toString() + version
 const bytes: Uint8Array = replayed.response
-const length: number = printed.text.length + bytes.length + counts.groups + planned.length + statuses.size + text.length
+const length: number = printed.text.length + bytes.length + counts.groups + planned.length + statuses.size + stopped.size + text.length
 
 // @ts-expect-error
 run(batch, events, { mode: 'stopp' })
+// @ts-expect-error
+match(batch, '', { mode: 'half' })
 // @ts-expect-error
 replay(batch, '', { ordre: 'wide' })
 // @ts-expect-error

@@ -3,7 +3,6 @@
 import ctypes
 import os
 import re
-import unittest
 
 from odb_batch import _library
 
@@ -31,14 +30,9 @@ def declared():
     return {name: (KINDS[result], [kind(it) for it in of.split(",") if it != "void"]) for result, name, of in found}
 
 
-class Declarations(unittest.TestCase):
-    def test_are_those_of_the_header(self):
-        names = [name for name in vars(_library._LIBRARY) if name.startswith("odb_")]
-        functions = {name: getattr(_library._LIBRARY, name) for name in names}
-        found = {name: (it.restype, list(it.argtypes)) for name, it in functions.items()}
-        wanted = declared()
-        self.assertEqual(found, {name: wanted.get(name) for name in found})
-
-
-if __name__ == "__main__":
-    unittest.main()
+def test_declarations_are_those_of_the_header():
+    names = [name for name in vars(_library._LIBRARY) if name.startswith("odb_")]
+    functions = {name: getattr(_library._LIBRARY, name) for name in names}
+    found = {name: (it.restype, list(it.argtypes)) for name, it in functions.items()}
+    wanted = declared()
+    assert found == {name: wanted.get(name) for name in found}

@@ -4,14 +4,15 @@ import array
 import collections
 import json
 import mmap
-import os
 import subprocess
 import sys
 import types
-import unittest
 from unittest import mock
 
+import pytest
+
 from odb_batch import Counts, Fault, Report, Run, Start, canon, check, match
+from support.commands import with_package
 
 BATCH = {
     "requests": [
@@ -23,7 +24,6 @@ BATCH = {
 TEXT = json.dumps(BATCH)
 BYTES = TEXT.encode()
 COUNTS = Counts(requests=2, groups=0)
-HERE = os.path.dirname(os.path.abspath(__file__))
 
 # Classes whose methods do not say what their bytes are, in a process that may crash.
 LIARS = """
@@ -60,76 +60,89 @@ for document in (Bytes(ONE), Array(ONE), Text(ONE.decode()), memoryview(Bytes(ON
 """
 
 
-class Documents(unittest.TestCase):
-    def raised(self, document):
-        """The text of the fault of a batch."""
-        with self.assertRaises(Fault) as raised:
-            check(document)
-        return str(raised.exception)
-
-    def test_takes_each_kind_of_document(self):
-        for document in (BATCH, TEXT, BYTES, bytearray(BYTES), memoryview(BYTES)):
-            with self.subTest(kind=type(document).__name__):
-                self.assertEqual(check(document), COUNTS)
-
-    def test_takes_a_view_of_any_buffer(self):
-        with mmap.mmap(-1, len(BYTES)) as file:
-            file[:] = BYTES
-            with memoryview(file) as view:
-                self.assertEqual(check(view), COUNTS)
-        twice = bytes(byte for byte in BYTES for _ in range(2))
-        for view in (memoryview(array.array("B", BYTES)), memoryview(twice)[::2]):
-            self.assertEqual(check(view), COUNTS)
-
-    def test_refuses_another_kind(self):
-        with mmap.mmap(-1, 1) as file:
-            for document in (None, 7, [], {1}, array.array("B", BYTES), file):
-                with self.subTest(document=document), self.assertRaises(TypeError):
-                    check(document)
-
-    def test_reads_the_bytes_of_a_subclass_that_lies(self):
-        words = [sys.executable, "-c", LIARS]
-        environment = {**os.environ, "PYTHONPATH": os.path.dirname(HERE), "PYTHONDONTWRITEBYTECODE": "1"}
-        done = subprocess.run(words, env=environment, capture_output=True, text=True)
-        response = '{"responses":[{"body":{"b":1},"id":"a","status":200}]}'
-        self.assertEqual((done.returncode, done.stderr), (0, ""))
-        self.assertEqual(done.stdout.split(), ["1", response] * 4)
-
-    def test_takes_each_kind_of_mapping(self):
-        for kind in (types.MappingProxyType, collections.ChainMap, collections.UserDict, collections.OrderedDict):
-            requests = [kind({**it, "headers": kind(it.get("headers", {}))}) for it in BATCH["requests"]]
-            with self.subTest(kind=kind.__name__):
-                self.assertEqual(canon(kind({"requests": requests})), canon(BATCH))
-
-    def test_reads_a_document_with_a_null_byte_to_its_end(self):
-        self.assertEqual(self.raised(BYTES + b"\0"), "F02 NotJson batch")
-
-    def test_refuses_a_text_that_is_not_unicode_as_a_document(self):
-        self.assertEqual(self.raised(TEXT.replace("dune", "\ud800")), "F02 NotJson batch")
-
-    def test_refuses_what_nests_too_deep_as_its_text(self):
-        deep, cyclic = {}, {}
-        for _ in range(100_000):
-            deep = {"a": [deep]}
-        cyclic["a"] = [types.MappingProxyType(cyclic)]
-        for value in (deep, cyclic):
-            self.assertEqual(self.raised(value), "F02 NotJson batch")
-            with self.assertRaises(Fault) as raised:
-                match(BATCH, value)
-            self.assertEqual(str(raised.exception), "F02 NotJson responses")
-            with self.assertRaises(Fault) as raised:
-                Run(BATCH, events=[Start("a"), Report("a", 200, None, value)])
-            self.assertEqual(str(raised.exception), "F02 NotJson events")
-
-    def test_finds_no_fault_where_the_stack_of_the_caller_is_used_up(self):
-        with mock.patch("json.dumps", side_effect=RecursionError), self.assertRaises(RecursionError):
-            check(BATCH)
-
-    def test_refuses_what_has_no_json(self):
-        for value in (object(), {1}, b"x"):
-            with self.subTest(value=value), self.assertRaises(TypeError):
-                check({"requests": value})
+def fault_of(document):
+    """The text of the fault of a batch."""
+    with pytest.raises(Fault) as raised:
+        check(document)
+    return str(raised.value)
 
 
-if __name__ == "__main__":
-    unittest.main()
+@pytest.mark.parametrize("document", [BATCH, TEXT, BYTES, bytearray(BYTES), memoryview(BYTES)], ids=type)
+def test_takes_each_kind_of_document(document):
+    assert check(document) == COUNTS
+
+
+def test_takes_a_view_of_any_buffer():
+    with mmap.mmap(-1, len(BYTES)) as file:
+        file[:] = BYTES
+        with memoryview(file) as view:
+            assert check(view) == COUNTS
+    twice = bytes(byte for byte in BYTES for _ in range(2))
+    for view in (memoryview(array.array("B", BYTES)), memoryview(twice)[::2]):
+        assert check(view) == COUNTS
+
+
+@pytest.mark.parametrize("document", [None, 7, [], {1}, array.array("B", BYTES), mmap.mmap(-1, 1)], ids=type)
+def test_refuses_another_kind(document):
+    with pytest.raises(TypeError):
+        check(document)
+
+
+def test_reads_the_bytes_of_a_subclass_that_lies():
+    words = [sys.executable, "-c", LIARS]
+    done = subprocess.run(words, env=with_package(), capture_output=True, text=True)
+    response = '{"responses":[{"body":{"b":1},"id":"a","status":200}]}'
+    assert (done.returncode, done.stderr) == (0, "")
+    assert done.stdout.split() == ["1", response] * 4
+
+
+@pytest.mark.parametrize(
+    "kind", [types.MappingProxyType, collections.ChainMap, collections.UserDict, collections.OrderedDict]
+)
+def test_takes_each_kind_of_mapping(kind):
+    requests = [kind({**it, "headers": kind(it.get("headers", {}))}) for it in BATCH["requests"]]
+    assert canon(kind({"requests": requests})) == canon(BATCH)
+
+
+def test_reads_a_document_with_a_null_byte_to_its_end():
+    assert fault_of(BYTES + b"\0") == "F02 NotJson batch"
+
+
+def test_refuses_a_text_that_is_not_unicode_as_a_document():
+    assert fault_of(TEXT.replace("dune", "\ud800")) == "F02 NotJson batch"
+
+
+def deep():
+    value = {}
+    for _ in range(100_000):
+        value = {"a": [value]}
+    return value
+
+
+def cyclic():
+    value = {}
+    value["a"] = [types.MappingProxyType(value)]
+    return value
+
+
+@pytest.mark.parametrize("made", [deep, cyclic])
+def test_refuses_what_nests_too_deep_as_its_text(made):
+    value = made()
+    assert fault_of(value) == "F02 NotJson batch"
+    with pytest.raises(Fault) as raised:
+        match(BATCH, value)
+    assert str(raised.value) == "F02 NotJson responses"
+    with pytest.raises(Fault) as raised:
+        Run(BATCH, events=[Start("a"), Report("a", 200, None, value)])
+    assert str(raised.value) == "F02 NotJson events"
+
+
+def test_finds_no_fault_where_the_stack_of_the_caller_is_used_up():
+    with mock.patch("json.JSONEncoder.encode", side_effect=RecursionError), pytest.raises(RecursionError):
+        check(BATCH)
+
+
+@pytest.mark.parametrize("value", [object(), {1}, b"x"])
+def test_refuses_what_has_no_json(value):
+    with pytest.raises(TypeError):
+        check({"requests": value})

@@ -10,8 +10,9 @@ import pickle
 import re
 import threading
 import time
-import unittest
 from unittest import mock
+
+import pytest
 
 from odb_batch import Fault, OdbError, Refused, Report, Run, Start, _library, replay, run
 
@@ -31,6 +32,8 @@ EVENTS = (
     Report("mark", 204),
     Report("loan", 409, None, "taken"),
 )
+TEXT = json.dumps(BATCH)
+DATA = TEXT.encode()
 README = os.path.join(os.path.dirname(os.path.dirname(os.path.abspath(__file__))), "README.md")
 
 
@@ -48,7 +51,7 @@ def seen(live):
     return live.ready, live.running, live.finished
 
 
-class Steps(unittest.TestCase):
+class TestSteps:
     def test_says_what_may_start_and_what_runs(self):
         steps = [
             (None, ("book",), (), False),
@@ -62,30 +65,29 @@ class Steps(unittest.TestCase):
         with Run(BATCH) as live:
             for event, *wanted in steps:
                 take(live, [event] if event else [])
-                self.assertEqual(seen(live), tuple(wanted), event)
-            self.assertEqual(live.undone, ("mark",))
-            self.assertEqual(live.response(), run(BATCH, EVENTS))
-            self.assertEqual(live.response(), run(BATCH, EVENTS))
+                assert seen(live) == tuple(wanted), event
+            assert live.undone == ("mark",)
+            assert live.response() == run(BATCH, EVENTS)
+            assert live.response() == run(BATCH, EVENTS)
 
-    def test_a_batch_is_each_kind_of_document(self):
-        text = json.dumps(BATCH)
-        for document in (BATCH, text, text.encode(), bytearray(text.encode()), memoryview(text.encode())):
-            with self.subTest(kind=type(document).__name__), Run(document) as live:
-                self.assertEqual(live.ready, ("book",))
+    @pytest.mark.parametrize("document", [BATCH, TEXT, DATA, bytearray(DATA), memoryview(DATA)], ids=type)
+    def test_a_batch_is_each_kind_of_document(self, document):
+        with Run(document) as live:
+            assert live.ready == ("book",)
 
     def test_the_empty_batch_is_finished(self):
         with Run({"requests": []}) as live:
-            self.assertEqual(seen(live), ((), (), True))
-            self.assertEqual((live.undone, live.response()), ((), b'{"responses":[]}'))
+            assert seen(live) == ((), (), True)
+            assert (live.undone, live.response()) == ((), b'{"responses":[]}')
 
     def test_keeps_to_mode_and_width(self):
         batch = {"requests": [{"id": id, "method": "get", "url": "X"} for id in "abc"]}
         with Run(batch, mode="stop", width=1) as live:
             live.start("b")
-            self.assertEqual(seen(live), ((), ("b",), False))
+            assert seen(live) == ((), ("b",), False)
             live.report("b", 500)
-            self.assertEqual(seen(live), ((), (), True))
-            self.assertEqual([it["status"] for it in json.loads(live.response())["responses"]], [424, 500, 424])
+            assert seen(live) == ((), (), True)
+            assert [it["status"] for it in json.loads(live.response())["responses"]] == [424, 500, 424]
 
     def test_a_response_longer_than_all_that_it_was_given(self):
         batch = {"requests": [{"id": f"r{i}", "method": "get", "url": "X"} for i in range(60)]}
@@ -93,46 +95,45 @@ class Steps(unittest.TestCase):
             for id in live.ready:
                 live.start(id)
                 live.report(id, 200, body="\n" * 200)
-            self.assertEqual(len(json.loads(live.response())["responses"]), 60)
+            assert len(json.loads(live.response())["responses"]) == 60
 
 
-class Events(unittest.TestCase):
-    def test_goes_on_after_any_of_its_events(self):
+class TestEvents:
+    @pytest.mark.parametrize("count", range(len(EVENTS) + 1))
+    def test_goes_on_after_any_of_its_events(self, count):
         elements = [{"start": it.id} if len(it) == 1 else dict(zip(("report", *it._fields[1:]), it)) for it in EVENTS]
-        for count in range(len(EVENTS) + 1):
-            document = {"events": elements[:count]}
-            for given in (EVENTS[:count], iter(EVENTS[:count]), document, json.dumps(document)):
-                with self.subTest(count=count, kind=type(given).__name__), Run(BATCH, events=given) as live:
-                    take(live, EVENTS[count:])
-                    self.assertEqual(live.response(), run(BATCH, EVENTS))
+        document = {"events": elements[:count]}
+        for given in (EVENTS[:count], iter(EVENTS[:count]), document, json.dumps(document)):
+            with Run(BATCH, events=given) as live:
+                take(live, EVENTS[count:])
+                assert live.response() == run(BATCH, EVENTS)
 
     def test_the_command_takes_events(self):
         bodies = [it.get("body") for it in json.loads(run(BATCH, list(EVENTS)))["responses"]]
-        self.assertEqual(bodies, [EVENTS[1].body, None, "taken", None])
+        assert bodies == [EVENTS[1].body, None, "taken", None]
 
-    def test_refuses_what_cannot_have_happened(self):
-        table = [
-            ([Start("mark")], "S4 Waiting /events/0"),
-            ([Start("book"), Report("book", 99)], "P2 BadStatus /events/1"),
-            ([Start("other")], "F65 UnknownEvent /events/0"),
-            ([Start("book"), Report("book", 200, {"A": "1", "a": "2"})], "F64 BadEvents /events/1"),
-            ([Start("book"), Report("book", 200, None, 0.5)], "F63 NotWhole /events/1"),
-            ({"events": 7}, "F64 BadEvents events"),
-            ("[", "F02 NotJson events"),
-        ]
-        for events, line in table:
-            with self.subTest(line=line), self.assertRaises(Fault) as raised:
-                Run(BATCH, events=events)
-            self.assertEqual(str(raised.exception), line)
+    @pytest.mark.parametrize("events, line", [
+        ([Start("mark")], "S4 Waiting /events/0"),
+        ([Start("book"), Report("book", 99)], "P2 BadStatus /events/1"),
+        ([Start("other")], "F65 UnknownEvent /events/0"),
+        ([Start("book"), Report("book", 200, {"A": "1", "a": "2"})], "F64 BadEvents /events/1"),
+        ([Start("book"), Report("book", 200, None, 0.5)], "F63 NotWhole /events/1"),
+        ({"events": 7}, "F64 BadEvents events"),
+        ("[", "F02 NotJson events"),
+    ])  # fmt: skip
+    def test_refuses_what_cannot_have_happened(self, events, line):
+        with pytest.raises(Fault) as raised:
+            Run(BATCH, events=events)
+        assert str(raised.value) == line
 
-    def test_refuses_what_is_no_event(self):
-        for events in (7, None, [7], ["start"], [("book", 200)]):
-            with self.subTest(events=events), self.assertRaises(TypeError):
-                Run(BATCH, events=events)
+    @pytest.mark.parametrize("events", [7, None, [7], ["start"], [("book", 200)]])
+    def test_refuses_what_is_no_event(self, events):
+        with pytest.raises(TypeError):
+            Run(BATCH, events=events)
 
 
-class Refusals(unittest.TestCase):
-    # Events, what is refused after them, and the cause.
+class TestRefusals:
+    # Events, what is refused after them, and the cause. The last status is one that a document has not.
     TABLE = [
         (EVENTS[:1], Start("book"), "S1 AlreadyStarted book"),
         ((Start("book"), Report("book", 404)), Start("mark"), "S2 Stopped mark"),
@@ -147,64 +148,63 @@ class Refusals(unittest.TestCase):
     ]
     BATCH = {"requests": [*BATCH["requests"], {"id": "other", "method": "get", "url": "X"}]}
 
-    def test_refuses_what_may_not_come_and_stays_as_it_was(self):
-        for before, event, line in self.TABLE:
-            with self.subTest(line=line), Run(self.BATCH, mode="stop", width=2, events=before) as live:
-                was = seen(live)
-                with self.assertRaises(Refused) as raised:
-                    take(live, [event])
-                refused = raised.exception
-                self.assertEqual(str(refused), line)
-                self.assertEqual([refused.code, refused.name, refused.id], line.split(" "))
-                self.assertTrue(refused.explanation)
-                self.assertEqual(seen(live), was)
+    @pytest.mark.parametrize("before, event, line", TABLE)
+    def test_refuses_what_may_not_come_and_stays_as_it_was(self, before, event, line):
+        with Run(self.BATCH, mode="stop", width=2, events=before) as live:
+            was = seen(live)
+            with pytest.raises(Refused) as raised:
+                take(live, [event])
+            refused = raised.value
+            assert str(refused) == line
+            assert [refused.code, refused.name, refused.id] == line.split(" ")
+            assert refused.explanation
+            assert seen(live) == was
 
-    def test_names_causes_as_the_command_does(self):
-        for before, event, line in self.TABLE:
-            if len(event) == 1 or event.status < 65536:
-                with self.subTest(line=line), self.assertRaises(Fault) as raised:
-                    run(self.BATCH, [*before, event], mode="stop", width=2)
-                self.assertEqual(str(raised.exception).split(" ")[:2], line.split(" ")[:2])
+    @pytest.mark.parametrize("before, event, line", TABLE[:-1])
+    def test_names_causes_as_the_command_does(self, before, event, line):
+        with pytest.raises(Fault) as raised:
+            run(self.BATCH, [*before, event], mode="stop", width=2)
+        assert str(raised.value).split(" ")[:2] == line.split(" ")[:2]
 
-    def test_any_number_is_a_bad_status(self):
-        for status in (-1, 2**32 + 200, 2**64 + 200, -(2**70)):
-            with self.subTest(status=status), Run(BATCH, events=EVENTS[:1]) as live:
-                with self.assertRaises(Refused) as raised:
-                    live.report("book", status)
-                self.assertEqual(raised.exception.code, "P2")
+    @pytest.mark.parametrize("status", [-1, 2**32 + 200, 2**64 + 200, -(2**70)])
+    def test_any_number_is_a_bad_status(self, status):
+        with Run(BATCH, events=EVENTS[:1]) as live:
+            with pytest.raises(Refused) as raised:
+                live.report("book", status)
+            assert raised.value.code == "P2"
 
     def test_an_unknown_id_is_a_key_error(self):
         with Run(BATCH) as live:
             for call in (lambda: live.start("lend"), lambda: live.report("Book", 200)):
-                with self.assertRaises(KeyError):
+                with pytest.raises(KeyError):
                     call()
 
-    def test_refuses_wrong_options(self):
-        for options in ({"mode": "half"}, {"width": 0}, {"width": 10_001}, {"width": True}):
-            with self.subTest(options=options), self.assertRaises(ValueError) as raised:
-                Run(BATCH, **options)
-            self.assertNotIsInstance(raised.exception, Fault)
+    @pytest.mark.parametrize("options", [{"mode": "half"}, {"width": 0}, {"width": 10_001}, {"width": True}])
+    def test_refuses_wrong_options(self, options):
+        with pytest.raises(ValueError) as raised:
+            Run(BATCH, **options)
+        assert not isinstance(raised.value, Fault)
 
     def test_refuses_a_batch_as_check_does(self):
-        with self.assertRaises(Fault) as raised:
+        with pytest.raises(Fault) as raised:
             Run('{"requests":7}')
-        self.assertEqual(str(raised.exception), "F04 NoRequests batch")
+        assert str(raised.value) == "F04 NoRequests batch"
 
     def test_has_no_response_and_nothing_undone_before_its_end(self):
         with Run(BATCH, events=EVENTS[:5]) as live:
             for call in (live.response, lambda: live.undone):
-                with self.assertRaises(Fault) as raised:
+                with pytest.raises(Fault) as raised:
                     call()
-                self.assertEqual(str(raised.exception), "F66 Unfinished events")
+                assert str(raised.value) == "F66 Unfinished events"
             take(live, EVENTS[5:])
-            self.assertEqual(live.response(), run(BATCH, EVENTS))
+            assert live.response() == run(BATCH, EVENTS)
 
     def test_a_refusal_is_pickled(self):
         refused = pickle.loads(pickle.dumps(Refused("S4", "Waiting", "list")))
-        self.assertEqual((refused.code, refused.name, refused.id), ("S4", "Waiting", "list"))
+        assert (refused.code, refused.name, refused.id) == ("S4", "Waiting", "list")
 
 
-class Closing(unittest.TestCase):
+class TestClosing:
     def test_a_closed_run_raises_value_errors(self):
         live = Run(BATCH, events=EVENTS)
         live.close()
@@ -216,68 +216,68 @@ class Closing(unittest.TestCase):
             lambda: live.__enter__(),
         ]
         for call in calls:
-            with self.assertRaises(ValueError) as raised:
+            with pytest.raises(ValueError) as raised:
                 call()
-            self.assertEqual(str(raised.exception), "the run is closed")
-            self.assertNotIsInstance(raised.exception, OdbError)
+            assert str(raised.value) == "the run is closed"
+            assert not isinstance(raised.value, OdbError)
 
     def closed(self):
         """Counts the runs that are closed meanwhile."""
         return mock.patch.object(_library, "close_run", wraps=_library.close_run)
 
     def test_is_closed_once(self):
-        with self.closed() as close, self.assertRaises(ZeroDivisionError):
+        with self.closed() as close, pytest.raises(ZeroDivisionError):
             with Run(BATCH) as live:
                 raise ZeroDivisionError
         live.close()
-        self.assertEqual(close.call_count, 1)
+        assert close.call_count == 1
 
     def test_a_forgotten_run_is_closed(self):
         with self.closed() as close:
             for _ in range(10):
                 Run(BATCH, events=EVENTS[:3])
             gc.collect()
-        self.assertEqual(close.call_count, 10)
+        assert close.call_count == 10
 
     def test_nothing_is_left_where_none_was_opened(self):
         with self.closed() as close:
             for wrong in ({"batch": b""}, {"batch": BATCH, "events": b""}, {"batch": BATCH, "width": 0}):
-                with self.assertRaises(ValueError):
+                with pytest.raises(ValueError):
                     Run(**wrong)
             gc.collect()
-        self.assertEqual(close.call_count, 0)
+        assert close.call_count == 0
 
 
-class Objects(unittest.TestCase):
+class TestObjects:
     def test_a_run_is_not_copied(self):
         with Run(BATCH) as live:
             for call in (copy.copy, copy.deepcopy, pickle.dumps, lambda it: pickle.dumps(it, 0)):
-                with self.assertRaises(TypeError) as raised:
+                with pytest.raises(TypeError) as raised:
                     call(live)
-                self.assertEqual(str(raised.exception), "a Run cannot be copied")
-            self.assertEqual(live.ready, ("book",))
+                assert str(raised.value) == "a Run cannot be copied"
+            assert live.ready == ("book",)
 
     def test_a_run_shows_its_state(self):
         live = Run(BATCH)
-        self.assertEqual(repr(live), "<Run of 4 requests: 1 ready, 0 running>")
+        assert repr(live) == "<Run of 4 requests: 1 ready, 0 running>"
         take(live, EVENTS[:3])
-        self.assertEqual(repr(live), "<Run of 4 requests: 1 ready, 1 running>")
+        assert repr(live) == "<Run of 4 requests: 1 ready, 1 running>"
         take(live, EVENTS[3:])
-        self.assertEqual(repr(live), "<Run of 4 requests: finished>")
+        assert repr(live) == "<Run of 4 requests: finished>"
         live.close()
-        self.assertEqual(repr(live), "<Run of 4 requests: closed>")
-        self.assertEqual(repr(Run.__new__(Run)), "<Run: not open>")
+        assert repr(live) == "<Run of 4 requests: closed>"
+        assert repr(Run.__new__(Run)) == "<Run: not open>"
 
 
-class Statuses(unittest.TestCase):
-    def test_raises_what_else_a_call_returns(self):
+class TestStatuses:
+    @pytest.mark.parametrize(
+        "status, kind", [(4, MemoryError), (2, RuntimeError), (5, RuntimeError), (77, RuntimeError)]
+    )
+    def test_raises_what_else_a_call_returns(self, status, kind):
         with Run(BATCH) as live:
-            calls = (lambda: live.ready, lambda: live.start("book"), lambda: live.report("book", 200))
-            for status, kind in ((4, MemoryError), (2, RuntimeError), (5, RuntimeError), (77, RuntimeError)):
-                for call in calls:
-                    with self.subTest(status=status), mock.patch.object(_library, "call_run", return_value=status):
-                        with self.assertRaises(kind):
-                            call()
+            for call in (lambda: live.ready, lambda: live.start("book"), lambda: live.report("book", 200)):
+                with mock.patch.object(_library, "call_run", return_value=status), pytest.raises(kind):
+                    call()
 
 
 def layers(width, count):
@@ -326,7 +326,7 @@ def replayed(batch, seed):
     return replay(batch, {"outcomes": outcomes}).response
 
 
-class Orders(unittest.TestCase):
+class TestOrders:
     def steps(self, batch, order, seed, options):
         """Drives a run in an order, and opens it anew from its events now and then; returns what a replay does."""
         steps, live = [], Run(batch, **options)
@@ -341,18 +341,17 @@ class Orders(unittest.TestCase):
         with live:
             return live.response(), tuple(steps), live.undone
 
-    def test_goes_as_a_replay_does(self):
+    @pytest.mark.parametrize("seed", range(8))
+    def test_goes_as_a_replay_does(self, seed):
         batch = layers(5, 3)
         policies = [{}, {"mode": "stop"}, {"width": 2}, {"mode": "stop", "width": 3}]
-        for seed in range(8):
-            outcomes = [{"id": it["id"], "status": status_of(it["id"], seed)} for it in batch["requests"]]
-            for order, options in zip(("first", "last", "wide", "wide"), policies[seed % 4 :] + policies[: seed % 4]):
-                with self.subTest(seed=seed, order=order, **options):
-                    wanted = replay(batch, {"outcomes": outcomes}, order=order, trace=True, **options)
-                    self.assertEqual(self.steps(batch, order, seed, options), tuple(wanted))
+        outcomes = [{"id": it["id"], "status": status_of(it["id"], seed)} for it in batch["requests"]]
+        for order, options in zip(("first", "last", "wide", "wide"), policies[seed % 4 :] + policies[: seed % 4]):
+            wanted = replay(batch, {"outcomes": outcomes}, order=order, trace=True, **options)
+            assert self.steps(batch, order, seed, options) == tuple(wanted)
 
 
-class Threads(unittest.TestCase):
+class TestThreads:
     BATCH = layers(6, 4)
 
     def at_once(self, works):
@@ -388,14 +387,14 @@ class Threads(unittest.TestCase):
                     found.append(self.ended(live, seed, started))
 
         self.at_once([lambda seed=seed: work(seed) for seed in range(8)])
-        self.assertEqual(found, [True] * 40)
+        assert found == [True] * 40
 
     def test_eight_threads_have_one_run(self):
         for seed in range(5):
             started = []
             with Run(self.BATCH, width=1 + 2 * seed) as live:
                 self.at_once([lambda: perform(live, seed, started)] * 8)
-                self.assertTrue(self.ended(live, seed, started))
+                assert self.ended(live, seed, started)
 
     def test_a_run_is_closed_under_other_threads(self):
         for _ in range(20):
@@ -411,10 +410,10 @@ class Threads(unittest.TestCase):
                     ended.append(error)
 
             self.at_once([work] * 7 + [live.close])
-            self.assertEqual(len(ended), 7)
+            assert len(ended) == 7
 
 
-class Readme(unittest.TestCase):
+class TestReadme:
     def test_its_programs_run(self):
         with open(README, encoding="utf-8") as file:
             programs = re.findall(r"```python\n(.*?)```", file.read(), re.DOTALL)
@@ -423,10 +422,7 @@ class Readme(unittest.TestCase):
             for program in programs:
                 exec(compile(program, README, "exec"), names)
         lines = printed.getvalue().splitlines()
-        self.assertEqual(lines[0], "Counts(requests=1, groups=0)")
-        self.assertEqual(re.findall(r'"status":\d+', lines[-2]), ['"status":200'] * 2)
-        self.assertEqual(lines[-1], "('b',)")
-
-
-if __name__ == "__main__":
-    unittest.main()
+        assert lines[0] == "Counts(requests=1, groups=0)"
+        (response,) = (line for line in lines if line.startswith('{"responses"'))
+        assert re.findall(r'"status":\d+', response) == ['"status":200'] * 2
+        assert lines[-1] == "('b',)"

@@ -36,12 +36,14 @@ first: PlannedRequest = planned[0]
 some: Tuple[PlannedRequest, ...] = planned[0:2]
 place: int = planned.index(first)
 statuses: Dict[str, int] = match(batch, memoryview(run(batch, [Start("a"), Report("a", 200)], mode=mode, width=1)))
+stopped: Dict[str, int] = match(batch, "", mode=mode)
 undone: Tuple[str, ...] = replay(batch, {"outcomes": []}, order="wide", mode="continue", trace=True).undone
 printed: Output = output("run", batch, "", form="lines")
 
 planned.requests = ()  # type: ignore[misc]
 planned[0] = first  # type: ignore[index]
 run(batch, "", mode="stopp")  # type: ignore[arg-type]
+match(batch, "", mode="half")  # type: ignore[arg-type]
 replay(batch, "", order="middle")  # type: ignore[arg-type]
 output("chek", batch)  # type: ignore[arg-type]
 output("check", batch, form="xml")  # type: ignore[arg-type]

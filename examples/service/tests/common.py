@@ -4,17 +4,20 @@ import http.client
 import json
 import os
 import re
+import select
 import signal
 import sqlite3
 import subprocess
 import sys
-import tempfile
 import threading
 import time
-import unittest
+from contextlib import ExitStack
 
-HERE = os.path.dirname(os.path.abspath(__file__))
-ROOT = os.path.dirname(os.path.dirname(os.path.dirname(HERE)))
+import pytest
+
+from support.commands import with_package
+from support.program import ROOT
+
 SECONDS = 20
 
 JSON = {"Content-Type": "application/json"}
@@ -28,11 +31,14 @@ class Process:
 
     def __init__(self, database, *options):
         words = [sys.executable, *self.program, "--port", "0", "--database", database, *options]
-        self.process = subprocess.Popen(words, stderr=subprocess.PIPE, text=True)
+        self.process = subprocess.Popen(words, stderr=subprocess.PIPE, text=True, env=with_package())
         self.log = []
-        first = self.process.stderr.readline()
+        first = self.process.stderr.readline() if select.select([self.process.stderr], [], [], SECONDS)[0] else ""
         if "listening" not in first:
-            raise AssertionError(first + self.process.communicate()[1])
+            try:
+                raise AssertionError(first + self.process.communicate(timeout=SECONDS)[1])
+            finally:
+                self.process.kill()
         self.port = int(re.search(r":(\d+)/library/", first)[1])
         self.reader = threading.Thread(target=self._read, daemon=True)
         self.reader.start()
@@ -51,10 +57,20 @@ class Process:
         return self._join()
 
     def _join(self):
-        status = self.process.wait(SECONDS)
-        self.reader.join(SECONDS)
-        self.process.stderr.close()
-        return status
+        try:
+            return self.process.wait(SECONDS)
+        finally:
+            self.process.kill()
+            self.process.wait()
+            self.reader.join(SECONDS)
+            self.process.stderr.close()
+
+    def __enter__(self):
+        return self
+
+    def __exit__(self, *_):
+        if self.process.returncode is None:
+            self.stop()
 
     def client(self):
         return Client(self.port)
@@ -120,19 +136,19 @@ def until(look, is_good):
     return found
 
 
-class ServiceTest(unittest.TestCase):
-    """Tests over one process of the service for each class."""
+class ServiceTest:
+    """Tests over one process of the service for each class, with a client for each test."""
 
     options = ()
 
-    @classmethod
-    def setUpClass(cls):
-        folder = tempfile.TemporaryDirectory(prefix="service-")
-        cls.addClassCleanup(folder.cleanup)
-        cls.database = os.path.join(folder.name, "library.sqlite")
-        cls.service = Process(cls.database, *cls.options)
-        cls.addClassCleanup(cls.service.stop)
+    @pytest.fixture(scope="class", autouse=True)
+    def start(self, request, tmp_path_factory):
+        kind = request.cls
+        kind.database = str(tmp_path_factory.mktemp("service") / "library.sqlite")
+        with Process(kind.database, *kind.options) as kind.service:
+            yield
 
-    def setUp(self):
-        self.client = self.service.client()
-        self.addCleanup(self.client.connection.close)
+    @pytest.fixture(autouse=True)
+    def connect_client(self):
+        with ExitStack() as self.opened, self.service.client() as self.client:
+            yield

@@ -28,9 +28,7 @@ class ClientTest(ServiceTest):
     options = ("--patience", "1.5")
 
     def connect(self):
-        connection = socket.create_connection(("127.0.0.1", self.service.port), timeout=SECONDS)
-        self.addCleanup(connection.close)
-        return connection
+        return self.opened.enter_context(socket.create_connection(("127.0.0.1", self.service.port), timeout=SECONDS))
 
     def exchange(self, data, then_close_writing=True):
         """Sends bytes on a connection of their own; returns what comes back."""
@@ -42,6 +40,6 @@ class ClientTest(ServiceTest):
 
     def assert_answers(self, found, status, code=None):
         first, _, body = found.partition(b"\r\n\r\n")
-        self.assertEqual(first.split(b" ")[1:2], [str(status).encode()], found[:300])
+        assert first.split(b" ")[1:2] == [str(status).encode()], found[:300]
         if code is not None:
-            self.assertEqual(json.loads(body)["error"]["code"], code)
+            assert json.loads(body)["error"]["code"] == code

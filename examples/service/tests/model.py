@@ -7,8 +7,6 @@ one after another. Only what the random batches ask for is in it.
 import copy
 import re
 
-from runners import grammar
-
 BOOKS = ("dune", "emma", "b1", "b2", "b3")
 SHELVES = ("A1", "B2", None)
 PROPERTIES = {"Books": ("Id", "Title", "Shelf", "Reader"), "Loans": ("Id", "Book", "Reader")}
@@ -88,8 +86,26 @@ def writing(random, covered):
     )
 
 
+def groups_of(random, count):
+    """A group, or None, for each position; a group has no gap."""
+    names, found = ["g", "h", "i"], []
+    while len(found) < count:
+        grouped = names and random.random() < 0.5
+        found += [names.pop(0)] * random.randint(1, 3) if grouped else [None]
+    return found[:count]
+
+
+def good_names(random, batch, group):
+    """Names of earlier requests and groups, with the groups that have to be listed."""
+    names = []
+    for earlier in random.sample(batch, min(len(batch), random.randint(0, 3))):
+        other = earlier.get("atomicityGroup")
+        names += [earlier["id"]] if other in (None, group) else random.choice(([other], [other, earlier["id"]]))
+    return names
+
+
 def good_request(random, batch, id, group):
-    names = grammar.good_names(random, batch, group)
+    names = good_names(random, batch, group)
     around = {*names, group} - {None}
     covered = [it["id"] for it in batch if it["method"] == "post" and {it["id"], it.get("atomicityGroup")} & around]
     reads = random.random() < 0.3
@@ -101,6 +117,6 @@ def good_request(random, batch, id, group):
 def good_batch(random, prefix):
     """A batch whose ids begin with a prefix."""
     requests = []
-    for k, group in enumerate(grammar.groups_of(random, random.randint(1, 9))):
+    for k, group in enumerate(groups_of(random, random.randint(1, 9))):
         requests.append(good_request(random, requests, f"{prefix}.{k}", group))
     return {"requests": requests}

@@ -3,42 +3,46 @@
 import json
 import os
 
+import pytest
+
 from common import CONTINUE, JSON, ROOT, ServiceTest, new_book, request, rows
 from odb_batch import match
 
 
-class Examples(ServiceTest):
+def example(name):
+    """The bytes of a document of examples/."""
+    with open(os.path.join(ROOT, "examples", f"{name}.json"), "rb") as file:
+        return file.read()
+
+
+class TestExamples(ServiceTest):
     def test_answers_each_batch_of_the_examples(self):
         for name, wanted in [
             ("usual", {"book": 200, "mark": 204, "loan": 201, "list": 200}),
             ("usual", {"book": 200, "mark": 424, "loan": 409, "list": 424}),
             ("references", {"order": 404, "line": 424, "stock": 404}),
         ]:
-            with self.subTest(name=name), open(os.path.join(ROOT, "examples", f"{name}.json"), "rb") as file:
-                document = file.read()
-                status, value = self.client.ask("POST", "/$batch", document, CONTINUE)
-                self.assertEqual((status, match(document, value)), (200, wanted))
+            status, value = self.client.ask("POST", "/$batch", example(name), CONTINUE)
+            assert (status, match(example(name), value)) == (200, wanted), name
 
-    def test_refuses_the_other_batches_of_the_examples(self):
-        for name, code, word, place in [
-            ("too_early", "F41", "ForwardName", "/requests/0"),
-            ("wrong_body", "F21", "BadBody", "/requests/1"),
-        ]:
-            with self.subTest(name=name), open(os.path.join(ROOT, "examples", f"{name}.json"), "rb") as file:
-                status, value = self.client.ask("POST", "/$batch", file.read())
-                error = value["error"]
-                self.assertEqual((status, error["code"], error["target"]), (400, code, place))
-                self.assertTrue(error["message"].startswith(f"{word}: "), error)
+    @pytest.mark.parametrize("name, code, word, place", [
+        ("too_early", "F41", "ForwardName", "/requests/0"),
+        ("wrong_body", "F21", "BadBody", "/requests/1"),
+    ])  # fmt: skip
+    def test_refuses_the_other_batches_of_the_examples(self, name, code, word, place):
+        status, value = self.client.ask("POST", "/$batch", example(name))
+        error = value["error"]
+        assert (status, error["code"], error["target"]) == (400, code, place)
+        assert error["message"].startswith(f"{word}: ")
 
 
-class Groups(ServiceTest):
-    def test_a_group_that_fails_at_any_member_leaves_no_row(self):
-        for failing in range(4):
-            with self.subTest(failing=failing):
-                books = [f"f{failing}-{i}" if i != failing else "dune" for i in range(4)]
-                found = self.client.statuses(*(new_book(f"r{i}", book, "g") for i, book in enumerate(books)))
-                self.assertEqual(list(found.values()), [409 if i == failing else 424 for i in range(4)])
-        self.assertEqual([id for id, *_ in rows(self.database) if id.startswith("f")], [])
+class TestGroups(ServiceTest):
+    @pytest.mark.parametrize("failing", range(4))
+    def test_a_group_that_fails_at_any_member_leaves_no_row(self, failing):
+        books = [f"f{failing}-{i}" if i != failing else "dune" for i in range(4)]
+        found = self.client.statuses(*(new_book(f"r{i}", book, "g") for i, book in enumerate(books)))
+        assert list(found.values()) == [409 if i == failing else 424 for i in range(4)]
+        assert [id for id, *_ in rows(self.database) if id.startswith("f")] == []
 
     def test_a_group_sees_its_own_rows_and_nobody_else_does(self):
         found = self.client.batch(
@@ -47,23 +51,23 @@ class Groups(ServiceTest):
             new_book("wrong", "emma", "g", needs=["seen"]),
             request("after", "get", "Books('mine')"),
         )
-        self.assertEqual([it["status"] for it in found.values()], [424, 424, 409, 404])
+        assert [it["status"] for it in found.values()] == [424, 424, 409, 404]
 
     def test_what_needs_a_group_is_performed_after_its_commit(self):
         found = self.client.batch(
             new_book("one", "c1", "g"), new_book("two", "c2", "g"), request("after", "get", "Books('c2')", needs=["g"])
         )
-        self.assertEqual([it["status"] for it in found.values()], [201, 201, 200])
-        self.assertEqual(found["after"]["body"]["Title"], "c2")
+        assert [it["status"] for it in found.values()] == [201, 201, 200]
+        assert found["after"]["body"]["Title"] == "c2"
 
     def test_a_group_of_one_batch_waits_for_that_of_another(self):
         for i in range(5):
             groups = [[new_book(f"{g}{k}", f"w{i}{g}{k}", g) for k in range(3)] for g in "abcd"]
             found = self.client.statuses(*(it for group in groups for it in group))
-            self.assertEqual(set(found.values()), {201})
+            assert set(found.values()) == {201}
 
 
-class References(ServiceTest):
+class TestReferences(ServiceTest):
     def test_a_reference_is_the_location_of_what_was_created(self):
         found = self.client.batch(
             new_book("b", "it's a/b?", needs=[]),
@@ -74,9 +78,9 @@ class References(ServiceTest):
             request("back", "delete", "$lend", needs=["lend"]),
             request("gone", "get", "$lend", needs=["back", "lend"]),
         )
-        self.assertEqual([it["status"] for it in found.values()], [201, 200, 404, 204, 201, 204, 404])
-        self.assertEqual(found["b"]["headers"]["location"], "/library/Books('it''s%20a%2Fb%3F')")
-        self.assertEqual(found["show"]["body"]["Title"], "it's a/b?")
+        assert [it["status"] for it in found.values()] == [201, 200, 404, 204, 201, 204, 404]
+        assert found["b"]["headers"]["location"] == "/library/Books('it''s%20a%2Fb%3F')"
+        assert found["show"]["body"]["Title"] == "it's a/b?"
 
     def test_a_reference_to_what_created_nothing_is_refused(self):
         found = self.client.batch(
@@ -85,40 +89,39 @@ class References(ServiceTest):
             request("metadata", "get", "Books"),
             request("reserved", "get", "$metadata", needs=["metadata"]),
         )
-        self.assertEqual([it["status"] for it in found.values()], [200, 400, 200, 200])
-        self.assertEqual(found["use"]["body"]["error"]["code"], "NoLocation")
-        self.assertIn("$EntityContainer", found["reserved"]["body"])
+        assert [it["status"] for it in found.values()] == [200, 400, 200, 200]
+        assert found["use"]["body"]["error"]["code"] == "NoLocation"
+        assert "$EntityContainer" in found["reserved"]["body"]
 
 
-class Preferences(ServiceTest):
+class TestPreferences(ServiceTest):
     # One request at once, so it is known which ones come after an error.
     options = ("--width", "1")
 
-    def test_stops_after_an_error_unless_continuing_is_preferred(self):
+    @pytest.mark.parametrize("prefer, continues", [
+        (None, False),
+        ("continue-on-error", True),
+        ("Continue-On-Error=true", True),
+        ('return=minimal, odata.continue-on-error="true"', True),
+        ("continue-on-error; foo=\"a,b\"", True),
+        ("continue-on-error=false", False),
+        ("continue-on-error=false, continue-on-error=true", False),
+        ("continue-on-errors", False),
+    ])  # fmt: skip
+    def test_stops_after_an_error_unless_continuing_is_preferred(self, prefer, continues):
         batch = [request("first", "get", "Books"), request("wrong", "get", "Nothing"), request("last", "get", "Books")]
-        for prefer, continues in [
-            (None, False),
-            ("continue-on-error", True),
-            ("Continue-On-Error=true", True),
-            ('return=minimal, odata.continue-on-error="true"', True),
-            ("continue-on-error; foo=\"a,b\"", True),
-            ("continue-on-error=false", False),
-            ("continue-on-error=false, continue-on-error=true", False),
-            ("continue-on-errors", False),
-        ]:
-            with self.subTest(prefer=prefer):
-                found = self.client.statuses(*batch, headers={**JSON, **({"Prefer": prefer} if prefer else {})})
-                self.assertEqual(list(found.values()), [200, 404, 200 if continues else 424])
-                self.assertEqual(self.client.headers["Preference-Applied"], "continue-on-error" if continues else None)
+        found = self.client.statuses(*batch, headers={**JSON, **({"Prefer": prefer} if prefer else {})})
+        assert list(found.values()) == [200, 404, 200 if continues else 424]
+        assert self.client.headers["Preference-Applied"] == ("continue-on-error" if continues else None)
 
     def test_a_group_that_is_not_over_when_the_run_stops_is_undone(self):
         batch = new_book("a", "s1", "g"), new_book("b", "dune", "g"), new_book("c", "s2", "g"), new_book("d", "s3")
-        self.assertEqual(list(self.client.statuses(*batch, headers=JSON).values()), [424, 409, 424, 424])
-        self.assertEqual(list(self.client.statuses(*batch).values()), [424, 409, 424, 201])
-        self.assertEqual([id for id, *_ in rows(self.database) if id.startswith("s")], ["s3"])
+        assert list(self.client.statuses(*batch, headers=JSON).values()) == [424, 409, 424, 424]
+        assert list(self.client.statuses(*batch).values()) == [424, 409, 424, 201]
+        assert [id for id, *_ in rows(self.database) if id.startswith("s")] == ["s3"]
 
 
-class Entities(ServiceTest):
+class TestEntities(ServiceTest):
     def test_answers_single_requests(self):
         book = {"Id": "e1", "Title": "E", "Shelf": None, "Reader": None}
         location = "/library/Books('e1')"
@@ -164,59 +167,58 @@ class Entities(ServiceTest):
             ("POST", "/Books", b'{"Id": "e2", "Title": "E"', 400, None),
             ("POST", "/Books", b"[" * 100_000, 400, None),
         ]:
-            with self.subTest(method=method, path=path, body=str(body)[:40]):
-                found, value = self.client.ask(method, path, body)
-                self.assertEqual(found, status, value)
-                if shown is not None:
-                    self.assertEqual({name: it for name, it in value.items() if "@" not in name}, shown)
-                elif status >= 400:
-                    self.assertLessEqual({"code", "message"}, set(value["error"]))
+            found, value = self.client.ask(method, path, body)
+            assert found == status, (method, path, str(body)[:40], value)
+            if shown is not None:
+                assert {name: it for name, it in value.items() if "@" not in name} == shown
+            elif status >= 400:
+                assert {"code", "message"} <= set(value["error"])
 
     def test_performs_absolute_urls_of_its_own_host_alone(self):
         own = f"http://127.0.0.1:{self.service.port}"
         urls = {f"{own}/Books": 200, "http://elsewhere/Books": 404, "http://[/Books": 400}
         found = self.client.statuses(*(request(f"r{k}", "get", url) for k, url in enumerate(urls)))
-        self.assertEqual(list(found.values()), list(urls.values()))
+        assert list(found.values()) == list(urls.values())
 
     def test_lists_and_filters(self):
         status, value = self.client.ask("GET", "/library/Books?$filter=Title%20eq%20'Emma'")
         emma = {"@etag": '"1"', "Id": "emma", "Title": "Emma", "Shelf": "A1", "Reader": None}
-        self.assertEqual((status, value["value"]), (200, [emma]))
-        self.assertEqual(value["@context"], "/library/$metadata#Books")
+        assert (status, value["value"]) == (200, [emma])
+        assert value["@context"] == "/library/$metadata#Books"
 
     def test_describes_itself(self):
         status, value = self.client.ask("GET", "/library/$metadata")
-        self.assertEqual((status, value["$Version"]), (200, "4.01"))
-        self.assertEqual(self.client.headers["OData-Version"], "4.01")
+        assert (status, value["$Version"]) == (200, "4.01")
+        assert self.client.headers["OData-Version"] == "4.01"
 
 
-class Sizes(ServiceTest):
+class TestSizes(ServiceTest):
     def test_answers_an_empty_batch(self):
-        self.assertEqual(self.client.batch(), {})
+        assert self.client.batch() == {}
 
     def test_performs_what_the_library_has_read(self):
         document = b'{"requests":[{"id":"a","method":"GET","url":"Nothing","url":"Books","headers":{"PREFER":"x"}}]}'
         status, value = self.client.ask("POST", "/$batch", document)
-        self.assertEqual((status, match(document, value)), (200, {"a": 200}))
+        assert (status, match(document, value)) == (200, {"a": 200})
 
     def test_refuses_a_number_that_is_not_whole(self):
         half = {**new_book("a", "x"), "body": {"Reader": 1.5}}
         status, value = self.client.ask("POST", "/$batch", {"requests": [half]})
-        self.assertEqual((status, value["error"]["code"]), (400, "F50"))
+        assert (status, value["error"]["code"]) == (400, "F50")
 
     def test_refuses_gets_by_which_the_response_gets_too_long(self):
-        self.assertEqual(self.client.ask("POST", "/Books", {"Id": "long", "Title": "t" * 1_000_000})[0], 201)
+        assert self.client.ask("POST", "/Books", {"Id": "long", "Title": "t" * 1_000_000})[0] == 201
         gets = [request(f"r{k}", "get", "Books('long')") for k in range(20)]
         found = self.client.batch(*gets, new_book("new", "small"), request("needs", "get", "Books", needs=["r19"]))
         statuses = [it["status"] for it in found.values()]
-        self.assertEqual((sorted(statuses[:20]), statuses[20]), ([200] * 16 + [507] * 4, 201))
+        assert (sorted(statuses[:20]), statuses[20]) == ([200] * 16 + [507] * 4, 201)
         refused = next(it for it in found.values() if it["status"] == 507)
-        self.assertEqual(refused["body"]["error"]["code"], "TooLong")
-        self.assertEqual(self.client.ask("DELETE", "/Books('long')")[0], 204)
+        assert refused["body"]["error"]["code"] == "TooLong"
+        assert self.client.ask("DELETE", "/Books('long')")[0] == 204
 
     def test_the_response_is_the_text_of_the_library(self):
         status, value = self.client.ask("POST", "/$batch", {"requests": [request("a", "get", "Loans")]})
         body = {"@context": "/library/$metadata#Loans", "value": []}
-        self.assertEqual((status, value), (200, {"responses": [{"body": body, "id": "a", "status": 200}]}))
-        self.assertEqual(self.client.headers["Content-Type"], "application/json")
-        self.assertEqual(int(self.client.headers["Content-Length"]), len(json.dumps(value, separators=(",", ":"))))
+        assert (status, value) == (200, {"responses": [{"body": body, "id": "a", "status": 200}]})
+        assert self.client.headers["Content-Type"] == "application/json"
+        assert int(self.client.headers["Content-Length"]) == len(json.dumps(value, separators=(",", ":")))

@@ -4,7 +4,8 @@ import json
 import os
 import socket
 import time
-import unittest
+
+import pytest
 
 from common import JSON, SECONDS, new_book, request, rows, until
 from exchanges import ClientTest, everything, head, post
@@ -16,39 +17,36 @@ GROUP = [new_book("a", "m", "g"), new_book("b", "dune", "g")]
 UNDONE = json.dumps({"requests": GROUP, "note@here": "n" * 9999}).encode()
 
 
-class Refusals(ClientTest):
+class TestRefusals(ClientTest):
     def test_refuses_other_media_types(self):
         for media in ("multipart/mixed; boundary=b", "text/plain", "application/jsonl", None):
-            with self.subTest(media=media):
-                status, value = self.client.ask("POST", "/$batch", BATCH, {"Content-Type": media} if media else {})
-                self.assertEqual((status, value["error"]["code"]), (415, "BadMediaType"))
-                self.assertEqual(self.client.headers["Accept"], "application/json")
+            status, value = self.client.ask("POST", "/$batch", BATCH, {"Content-Type": media} if media else {})
+            assert (status, value["error"]["code"]) == (415, "BadMediaType"), media
+            assert self.client.headers["Accept"] == "application/json"
         for media in ("application/json;odata.metadata=none", "Application/JSON"):
             status, _ = self.client.ask("POST", "/$batch", BATCH, {"Content-Type": media})
-            self.assertEqual(status, 200)
+            assert status == 200
 
-    def test_refuses_a_batch_by_its_least_fault(self):
-        for document, code, name, place in [
-            (b"", "F02", "NotJson", "batch"),
-            (b"[]", "F03", "NotObject", "batch"),
-            (b'{"requests":[7]}', "F10", "NotRequestObject", "/requests/0"),
-            (b'{"requests":[{"id":"a","method":"get","url":"/$batch"}]}', "F22", "NestedBatch", "/requests/0"),
-            (b" " * MAX_BODY, "F02", "NotJson", "batch"),
-        ]:
-            with self.subTest(code=code):
-                status, value = self.client.ask("POST", "/$batch", document)
-                error = value["error"]
-                self.assertEqual((status, error["code"], error["target"]), (400, code, place))
-                self.assertTrue(error["message"].startswith(f"{name}: "))
+    @pytest.mark.parametrize("document, code, name, place", [
+        (b"", "F02", "NotJson", "batch"),
+        (b"[]", "F03", "NotObject", "batch"),
+        (b'{"requests":[7]}', "F10", "NotRequestObject", "/requests/0"),
+        (b'{"requests":[{"id":"a","method":"get","url":"/$batch"}]}', "F22", "NestedBatch", "/requests/0"),
+        pytest.param(b" " * MAX_BODY, "F02", "NotJson", "batch", id="blanks"),
+    ])  # fmt: skip
+    def test_refuses_a_batch_by_its_least_fault(self, document, code, name, place):
+        status, value = self.client.ask("POST", "/$batch", document)
+        error = value["error"]
+        assert (status, error["code"], error["target"]) == (400, code, place)
+        assert error["message"].startswith(f"{name}: ")
 
-    def test_refuses_a_long_body_before_it_is_sent(self):
+    @pytest.mark.parametrize("more, sent", [([], b"{" * 1000), (["Expect: 100-continue"], b"")], ids=["some", "none"])
+    def test_refuses_a_long_body_before_it_is_sent(self, more, sent):
         lines = ["Content-Type: application/json", f"Content-Length: {MAX_BODY + 1}"]
-        for name, more, sent in [("some of it", [], b"{" * 1000), ("none of it", ["Expect: 100-continue"], b"")]:
-            with self.subTest(sent=name):
-                begun = time.monotonic()
-                found = self.exchange(head(*lines, *more) + sent, then_close_writing=False)
-                self.assert_answers(found, 413, "TooLong")
-                self.assertLess(time.monotonic() - begun, SECONDS / 2)
+        begun = time.monotonic()
+        found = self.exchange(head(*lines, *more) + sent, then_close_writing=False)
+        self.assert_answers(found, 413, "TooLong")
+        assert time.monotonic() - begun < SECONDS / 2
 
     def test_refuses_a_long_body_that_is_sent_at_once(self):
         lines = ["Content-Type: application/json", f"Content-Length: {MAX_BODY + 1}"]
@@ -59,33 +57,31 @@ class Refusals(ClientTest):
     def test_waits_for_a_body_that_is_announced(self):
         with self.connect() as connection:
             connection.sendall(post(BATCH, "Expect: 100-continue", "Connection: close")[: -len(BATCH)])
-            self.assertEqual(connection.recv(65536), b"HTTP/1.1 100 Continue\r\n\r\n")
+            assert connection.recv(65536) == b"HTTP/1.1 100 Continue\r\n\r\n"
             connection.sendall(BATCH)
             self.assert_answers(everything(connection), 200)
 
-    def test_refuses_bodies_without_a_length(self):
-        for lines, status, code in [
-            (["Transfer-Encoding: chunked"], 411, "LengthRequired"),
-            (["Transfer-Encoding: chunked", "Content-Length: 2"], 411, "LengthRequired"),
-            (["Content-Length: 2", "Content-Length: 3"], 400, "BadLength"),
-            (["Content-Length: -1"], 400, "BadLength"),
-            (["Content-Length: 0x2"], 400, "BadLength"),
-            (["Content-Length: " + "9" * 5000], 400, "BadLength"),
-        ]:
-            with self.subTest(lines=lines[0][:40]):
-                self.assert_answers(self.exchange(head("Content-Type: application/json", *lines) + b"{}"), status, code)
+    @pytest.mark.parametrize("lines, status, code", [
+        (["Transfer-Encoding: chunked"], 411, "LengthRequired"),
+        (["Transfer-Encoding: chunked", "Content-Length: 2"], 411, "LengthRequired"),
+        (["Content-Length: 2", "Content-Length: 3"], 400, "BadLength"),
+        (["Content-Length: -1"], 400, "BadLength"),
+        (["Content-Length: 0x2"], 400, "BadLength"),
+        (["Content-Length: " + "9" * 5000], 400, "BadLength"),
+    ])  # fmt: skip
+    def test_refuses_bodies_without_a_length(self, lines, status, code):
+        self.assert_answers(self.exchange(head("Content-Type: application/json", *lines) + b"{}"), status, code)
 
-    def test_refuses_heads_that_cannot_be_read(self):
-        for data, status in [
-            (b"hello\r\n\r\n", 400),
-            (b"GET /Books HTTP/3.0\r\n\r\n", 505),
-            (b"TRACE /Books HTTP/1.1\r\n\r\n", 501),
-            (b"GET /" + b"a" * 70_000 + b" HTTP/1.1\r\n\r\n", 414),
-            (head("A: " + "a" * 70_000), 431),
-            (head(*["A: a"] * 200), 431),
-        ]:
-            with self.subTest(data=data[:30]):
-                self.assert_answers(self.exchange(data), status, "BadRequest")
+    @pytest.mark.parametrize("data, status", [
+        (b"hello\r\n\r\n", 400),
+        (b"GET /Books HTTP/3.0\r\n\r\n", 505),
+        (b"TRACE /Books HTTP/1.1\r\n\r\n", 501),
+        (b"GET /" + b"a" * 70_000 + b" HTTP/1.1\r\n\r\n", 414),
+        (head("A: " + "a" * 70_000), 431),
+        (head(*["A: a"] * 200), 431),
+    ], ids=["no request", "version", "method", "long target", "long header", "many headers"])  # fmt: skip
+    def test_refuses_heads_that_cannot_be_read(self, data, status):
+        self.assert_answers(self.exchange(data), status, "BadRequest")
 
     def test_answers_the_next_request_of_a_connection(self):
         for method, path, headers, wanted in [
@@ -96,48 +92,48 @@ class Refusals(ClientTest):
             ("GET", "/Books", {}, 200),
         ]:
             status, _ = self.client.ask(method, path, b"{" if method == "POST" else None, headers)
-            self.assertEqual(status, wanted)
+            assert status == wanted
 
     def test_logs_a_line_for_each_answer(self):
         self.exchange("GET /logged\x1b[2J\u00ff HTTP/1.1\r\nHost: here\r\n\r\n".encode("latin-1"))
         self.client.ask("GET", "/logged")
         lines = until(lambda: [line for line in self.service.log if "/logged" in line], lambda it: len(it) == 2)
-        self.assertEqual([line.split()[-2:] for line in lines], [["404", "NotFound"]] * 2)
-        self.assertTrue(all(line.isprintable() for line in self.service.log))
+        assert [line.split()[-2:] for line in lines] == [["404", "NotFound"]] * 2
+        assert all(line.isprintable() for line in self.service.log)
 
 
-class Connections(ClientTest):
+class TestConnections(ClientTest):
     def test_answers_a_body_that_is_cut(self):
         self.assert_answers(self.exchange(post(BATCH)[:-5]), 400, "CutBody")
 
-    def test_cuts_off_a_client_that_is_slow(self):
-        for name, data, status in [("in the head", head()[:20], None), ("in the body", post(BATCH)[:-10], 408)]:
-            with self.subTest(where=name), self.connect() as connection:
-                begun = time.monotonic()
-                connection.sendall(data)
-                connection.settimeout(0.2)
-                found = b""
-                while time.monotonic() - begun < SECONDS:
-                    try:
-                        part = connection.recv(65536)
-                    except socket.timeout:
-                        connection.sendall(b"x")
-                        continue
-                    found += part
-                    if not part:
-                        break
-                self.assertLess(time.monotonic() - begun, 5)
-                self.assertEqual(found.split(b" ")[1:2], [b"%d" % status] if status else [])
+    @pytest.mark.parametrize("data, status", [(head()[:20], []), (post(BATCH)[:-10], [b"408"])], ids=["head", "body"])
+    def test_cuts_off_a_client_that_is_slow(self, data, status):
+        with self.connect() as connection:
+            begun = time.monotonic()
+            connection.sendall(data)
+            connection.settimeout(0.2)
+            found = b""
+            while time.monotonic() - begun < SECONDS:
+                try:
+                    part = connection.recv(65536)
+                except socket.timeout:
+                    connection.sendall(b"x")
+                    continue
+                found += part
+                if not part:
+                    break
+            assert time.monotonic() - begun < 5
+            assert found.split(b" ")[1:2] == status
 
     def test_cuts_off_a_client_that_takes_no_answer(self):
         book = {"Id": "long", "Title": "t" * 100_000}
-        self.assertEqual(self.client.ask("POST", "/Books", book)[0], 201)
+        assert self.client.ask("POST", "/Books", book)[0] == 201
         document = json.dumps({"requests": [request(f"r{k}", "get", "Books('long')") for k in range(150)]})
         with self.connect() as connection:
             connection.sendall(post(document.encode()))
             time.sleep(3)
             try:
-                self.assertLess(len(everything(connection)), 100_000 * 150)
+                assert len(everything(connection)) < 100_000 * 150
             except ConnectionResetError:
                 pass
 
@@ -146,8 +142,8 @@ class Connections(ClientTest):
         for connection in slow:
             connection.sendall(post(BATCH)[:-1])
         begun = time.monotonic()
-        self.assertEqual(self.client.statuses(new_book("a", "quick")), {"a": 201})
-        self.assertLess(time.monotonic() - begun, 1)
+        assert self.client.statuses(new_book("a", "quick")) == {"a": 201}
+        assert time.monotonic() - begun < 1
 
     def test_a_batch_whose_client_hangs_up_is_finished(self):
         requests = [new_book(f"r{k}", f"h{k}", group=f"g{k // 2}") for k in range(20)]
@@ -155,11 +151,12 @@ class Connections(ClientTest):
             connection.sendall(post(json.dumps({"requests": requests}).encode()))
         wanted = {f"h{k}" for k in range(20)}
         found = until(lambda: {id for id, *_ in rows(self.database)}, wanted.issubset)
-        self.assertLessEqual(wanted, found)
+        assert wanted <= found
 
 
-@unittest.skipUnless(os.path.isdir("/proc/self/fd"), "there is no /proc")
-class Memory(ClientTest):
+@pytest.mark.slow
+@pytest.mark.skipif(not os.path.isdir("/proc/self/fd"), reason="there is no /proc")
+class TestMemory(ClientTest):
     """Requests of all kinds, and what the process holds before and after them."""
 
     KINDS = (
@@ -182,7 +179,7 @@ class Memory(ClientTest):
                 # Each third client hangs up before it is answered.
                 if k % 3:
                     connection.shutdown(socket.SHUT_WR)
-                    self.assertTrue(everything(connection).startswith(b"HTTP/1.1 "), k)
+                    assert everything(connection).startswith(b"HTTP/1.1 "), k
 
     def held(self):
         """The kilobytes, threads and open files of the service."""
@@ -201,7 +198,7 @@ class Memory(ClientTest):
         memory, threads, files = self.held_at_rest()
         self.ask_all(2000)
         later = self.held_at_rest()
-        self.assertLess(later[0] - memory, 2048, "kilobytes")
-        self.assertLessEqual(later[1], threads + 1)
-        self.assertLessEqual(later[2], files + 2)
-        self.assertEqual(self.client.statuses(request("a", "get", "Books")), {"a": 200})
+        assert later[0] - memory < 2048, "kilobytes"
+        assert later[1] <= threads + 1
+        assert later[2] <= files + 2
+        assert self.client.statuses(request("a", "get", "Books")) == {"a": 200}

@@ -1,8 +1,8 @@
 """Preconditions, alone and in batches, and clients that cannot read what the service writes."""
 
-import os
 import sqlite3
-import tempfile
+
+import pytest
 
 from common import CONTINUE, JSON, Process, ServiceTest, new_book, request, rows
 
@@ -13,11 +13,11 @@ class ConditionTest(ServiceTest):
     def tag(self, path=DUNE):
         """The ETag of an entity, which its body and its head have."""
         status, value = self.client.ask("GET", path)
-        self.assertEqual((status, self.client.headers["ETag"]), (200, value["@etag"]))
+        assert (status, self.client.headers["ETag"]) == (200, value["@etag"])
         return value["@etag"]
 
 
-class Tags(ConditionTest):
+class TestTags(ConditionTest):
     def test_each_version_of_an_entity_has_another(self):
         path, found = "/library/Books('t')", []
         for method, target, body, status, has_tag in [
@@ -27,127 +27,128 @@ class Tags(ConditionTest):
             ("DELETE", path, None, 204, False),
             ("POST", "/Books", {"Id": "t", "Title": "T"}, 201, True),
         ]:
-            self.assertEqual(self.client.ask(method, target, body)[0], status)
+            assert self.client.ask(method, target, body)[0] == status
             shown = self.client.headers["ETag"]
-            self.assertEqual(shown is not None, has_tag)
+            assert (shown is not None) == has_tag
             if method != "DELETE":
                 found.append(self.tag(path))
-                self.assertIn(shown, (None, found[-1]))
-        self.assertEqual(len(set(found)), 4)
+                assert shown in (None, found[-1])
+        assert len(set(found)) == 4
 
     def test_lists_have_them_and_change_none(self):
         before = self.tag()
         _, value = self.client.ask("GET", "/Books")
-        self.assertIsNone(self.client.headers["ETag"])
-        self.assertEqual([it["@etag"] for it in value["value"] if it["Id"] == "dune"], [before])
-        self.assertEqual(self.client.ask("PATCH", DUNE, {"Title": 7})[0], 400)
-        self.assertEqual(self.tag(), before)
+        assert self.client.headers["ETag"] is None
+        assert [it["@etag"] for it in value["value"] if it["Id"] == "dune"] == [before]
+        assert self.client.ask("PATCH", DUNE, {"Title": 7})[0] == 400
+        assert self.tag() == before
 
-    def test_a_database_without_versions_gets_them(self):
-        with tempfile.TemporaryDirectory(prefix="service-") as folder:
-            path = os.path.join(folder, "library.sqlite")
-            database = sqlite3.connect(path)
-            database.executescript(
-                "CREATE TABLE Books (Id TEXT PRIMARY KEY NOT NULL, Title TEXT NOT NULL, Shelf TEXT, Reader INTEGER);"
-                "CREATE TABLE Loans (Id INTEGER PRIMARY KEY AUTOINCREMENT,"
-                " Book TEXT NOT NULL UNIQUE REFERENCES Books, Reader INTEGER NOT NULL);"
-                "INSERT INTO Books VALUES ('old', 'Old', NULL, NULL); PRAGMA user_version = 1;"
-            )
-            database.close()
-            for status in (204, 412):
-                service = Process(path)
+    def test_a_database_without_versions_gets_them(self, tmp_path):
+        path = str(tmp_path / "library.sqlite")
+        database = sqlite3.connect(path)
+        database.executescript(
+            "CREATE TABLE Books (Id TEXT PRIMARY KEY NOT NULL, Title TEXT NOT NULL, Shelf TEXT, Reader INTEGER);"
+            "CREATE TABLE Loans (Id INTEGER PRIMARY KEY AUTOINCREMENT,"
+            " Book TEXT NOT NULL UNIQUE REFERENCES Books, Reader INTEGER NOT NULL);"
+            "INSERT INTO Books VALUES ('old', 'Old', NULL, NULL); PRAGMA user_version = 1;"
+        )
+        database.close()
+        for status in (204, 412):
+            with Process(path) as service:
                 with service.client() as client:
                     found = client.ask("PATCH", "/Books('old')", {"Shelf": "A"}, {**JSON, "If-Match": '"1"'})[0]
-                self.assertEqual((found, service.stop()), (status, 0))
+                assert (found, service.stop()) == (status, 0)
 
 
-class Preconditions(ConditionTest):
-    def cases(self, tag):
-        """Headers, and what a patch and a get are answered that have them."""
-        return [
-            ({"If-Match": tag}, 204, 200),
-            ({"If-Match": "*"}, 204, 200),
-            ({"If-Match": f'"no", {tag},"never"'}, 204, 200),
-            ({"If-Match": '"no"'}, 412, 412),
-            ({"If-Match": f'"no,{tag[1:]}'}, 412, 412),
-            ({"If-Match": ""}, 412, 412),
-            # If-Match compares strongly, and If-None-Match weakly.
-            ({"If-Match": f"W/{tag}"}, 412, 412),
-            ({"If-None-Match": f"W/{tag}"}, 412, 304),
-            ({"If-None-Match": tag}, 412, 304),
-            ({"If-None-Match": f'"no", {tag}'}, 412, 304),
-            ({"If-None-Match": "*"}, 412, 304),
-            ({"If-None-Match": '"no"'}, 204, 200),
-            ({"If-Match": tag, "If-None-Match": tag}, 412, 304),
-            ({"If-Match": '"no"', "If-None-Match": tag}, 412, 412),
-            ({"If-Match": tag.strip('"')}, 400, 400),
-            ({"If-Match": f"*, {tag}"}, 400, 400),
-            ({"If-Match": f'"no {tag[1:]}'}, 400, 400),
-            ({"If-None-Match": f"w/{tag}"}, 400, 400),
-        ]
+# Headers, and what a patch and a get are answered that have them. TAG stands for the tag of the entity without its
+# first quote, and BARE for it without both.
+each_condition = pytest.mark.parametrize("conditions, patched, shown", [
+    ({"If-Match": '"TAG'}, 204, 200),
+    ({"If-Match": "*"}, 204, 200),
+    ({"If-Match": '"no", "TAG,"never"'}, 204, 200),
+    ({"If-Match": '"no"'}, 412, 412),
+    ({"If-Match": '"no,TAG'}, 412, 412),
+    ({"If-Match": ""}, 412, 412),
+    # If-Match compares strongly, and If-None-Match weakly.
+    ({"If-Match": 'W/"TAG'}, 412, 412),
+    ({"If-None-Match": 'W/"TAG'}, 412, 304),
+    ({"If-None-Match": '"TAG'}, 412, 304),
+    ({"If-None-Match": '"no", "TAG'}, 412, 304),
+    ({"If-None-Match": "*"}, 412, 304),
+    ({"If-None-Match": '"no"'}, 204, 200),
+    ({"If-Match": '"TAG', "If-None-Match": '"TAG'}, 412, 304),
+    ({"If-Match": '"no"', "If-None-Match": '"TAG'}, 412, 412),
+    ({"If-Match": "BARE"}, 400, 400),
+    ({"If-Match": '*, "TAG'}, 400, 400),
+    ({"If-Match": '"no TAG'}, 400, 400),
+    ({"If-None-Match": 'w/"TAG'}, 400, 400),
+])  # fmt: skip
 
-    def test_alone(self):
-        for k in range(len(self.cases('"1"'))):
-            tag = self.tag()
-            headers, patched, shown = self.cases(tag)[k]
-            with self.subTest(headers=headers):
-                status, value = self.client.ask("GET", DUNE, headers=headers)
-                self.assertEqual(status, shown)
-                if status == 304:
-                    self.assertEqual((value, self.client.headers["ETag"]), (None, tag))
-                self.assertEqual(self.client.ask("HEAD", DUNE, headers=headers)[0], shown)
-                status, value = self.client.ask("PATCH", DUNE, {"Title": f"T{k}"}, {**JSON, **headers})
-                self.assertEqual(status, patched)
-                self.assertEqual(self.tag() == tag, status != 204)
-                if status == 412:
-                    self.assertEqual(value["error"]["code"], "PreconditionFailed")
 
-    def test_in_a_batch(self):
-        for k in range(len(self.cases('"1"'))):
-            tag = self.tag()
-            headers, patched, shown = self.cases(tag)[k]
-            with self.subTest(headers=headers):
-                get = request("a", "get", "Books('dune')", headers=headers)
-                self.assertEqual(self.client.statuses(get), {"a": shown})
-                patch = request("a", "patch", "Books('dune')", {"Title": f"B{k}"}, headers=headers)
-                self.assertEqual(self.client.statuses(patch), {"a": patched})
-                self.assertEqual(self.tag() == tag, patched != 204)
+class TestPreconditions(ConditionTest):
+    def with_tag(self, conditions):
+        """The tag of the entity, and the headers with it."""
+        tag = self.tag()
+        return tag, {name: it.replace("TAG", tag[1:]).replace("BARE", tag[1:-1]) for name, it in conditions.items()}
+
+    @each_condition
+    def test_alone(self, conditions, patched, shown):
+        tag, headers = self.with_tag(conditions)
+        status, value = self.client.ask("GET", DUNE, headers=headers)
+        assert status == shown
+        if status == 304:
+            assert (value, self.client.headers["ETag"]) == (None, tag)
+        assert self.client.ask("HEAD", DUNE, headers=headers)[0] == shown
+        status, value = self.client.ask("PATCH", DUNE, {"Title": f"T of {tag}"}, {**JSON, **headers})
+        assert status == patched
+        assert (self.tag() == tag) == (status != 204)
+        if status == 412:
+            assert value["error"]["code"] == "PreconditionFailed"
+
+    @each_condition
+    def test_in_a_batch(self, conditions, patched, shown):
+        tag, headers = self.with_tag(conditions)
+        get = request("a", "get", "Books('dune')", headers=headers)
+        assert self.client.statuses(get) == {"a": shown}
+        patch = request("a", "patch", "Books('dune')", {"Title": f"B of {tag}"}, headers=headers)
+        assert self.client.statuses(patch) == {"a": patched}
+        assert (self.tag() == tag) == (patched != 204)
 
     def test_of_puts_and_deletes(self):
         for name, value in [("If-Match", '"no"'), ("If-None-Match", "*"), ("If-None-Match", self.tag())]:
             for method, body in [("PUT", {"Title": "Put"}), ("DELETE", None)]:
                 before = rows(self.database)
-                self.assertEqual(self.client.ask(method, DUNE, body, {**JSON, name: value})[0], 412)
-                self.assertEqual(rows(self.database), before)
-        self.assertEqual(self.client.ask("POST", "/Books", {"Id": "d", "Title": "D"})[0], 201)
+                assert self.client.ask(method, DUNE, body, {**JSON, name: value})[0] == 412
+                assert rows(self.database) == before
+        assert self.client.ask("POST", "/Books", {"Id": "d", "Title": "D"})[0] == 201
         headers = {"If-Match": self.client.headers["ETag"]}
-        self.assertEqual(self.client.ask("DELETE", "/Books('d')", None, headers)[0], 204)
+        assert self.client.ask("DELETE", "/Books('d')", None, headers)[0] == 204
 
     def test_other_errors_come_first(self):
         for headers in ({"If-Match": '"no"'}, {"If-Match": "*"}, {"If-None-Match": "*"}):
-            self.assertEqual(self.client.ask("PATCH", "/Books('none')", {}, {**JSON, **headers})[0], 404)
-            self.assertEqual(self.client.ask("GET", "/Books?$filter=Pages%20eq%201", None, headers)[0], 501)
-            self.assertEqual(self.client.ask("POST", DUNE, {}, {**JSON, **headers})[0], 405)
+            assert self.client.ask("PATCH", "/Books('none')", {}, {**JSON, **headers})[0] == 404
+            assert self.client.ask("GET", "/Books?$filter=Pages%20eq%201", None, headers)[0] == 501
+            assert self.client.ask("POST", DUNE, {}, {**JSON, **headers})[0] == 405
         # But not those of the body.
-        self.assertEqual(self.client.ask("PATCH", DUNE, [], {**JSON, "If-Match": '"no"'})[0], 412)
+        assert self.client.ask("PATCH", DUNE, [], {**JSON, "If-Match": '"no"'})[0] == 412
 
     def test_of_a_set_which_has_no_tag(self):
         book = {"Id": "s", "Title": "S"}
         for headers, status in [({"If-Match": '"1"'}, 412), ({"If-None-Match": "*"}, 412), ({"If-Match": "*"}, 201)]:
-            self.assertEqual(self.client.ask("POST", "/Books", book, {**JSON, **headers})[0], status)
-        self.assertEqual(self.client.ask("GET", "/Books", None, {"If-None-Match": '"1"'})[0], 200)
+            assert self.client.ask("POST", "/Books", book, {**JSON, **headers})[0] == status
+        assert self.client.ask("GET", "/Books", None, {"If-None-Match": '"1"'})[0] == 200
 
 
-class InBatches(ConditionTest):
+class TestInBatches(ConditionTest):
     def test_what_depends_on_304_is_answered_424(self):
         first = request("shown", "get", "Books('dune')", headers={"If-None-Match": self.tag()})
         batch = first, request("needs", "get", "Books", needs=["shown"]), new_book("other", "after304")
         # 304 is no error, so it ends no batch.
         for headers in (CONTINUE, JSON):
             found = self.client.batch(*batch, headers=headers)
-            self.assertEqual([it["status"] for it in found.values()], [304, 424, 201])
-            self.assertEqual(set(found["shown"]), {"id", "status", "headers"})
-            self.assertEqual(self.client.ask("DELETE", "/Books('after304')")[0], 204)
+            assert [it["status"] for it in found.values()] == [304, 424, 201]
+            assert set(found["shown"]) == {"id", "status", "headers"}
+            assert self.client.ask("DELETE", "/Books('after304')")[0] == 204
 
     def test_a_precondition_that_fails_undoes_its_group(self):
         before = rows(self.database)
@@ -163,17 +164,17 @@ class InBatches(ConditionTest):
                 new_book("c", "undone2", "g"),
                 request("d", "get", "Books", needs=["g"]),
             )
-            self.assertEqual(list(found.values()), [424, status, 424, 424])
-        self.assertEqual(rows(self.database), before)
+            assert list(found.values()) == [424, status, 424, 424]
+        assert rows(self.database) == before
 
     def test_one_of_several_updates_of_a_version_succeeds(self):
         headers = {"If-Match": self.tag()}
         found = self.client.statuses(
             *(request(f"r{k}", "patch", "Books('dune')", {"Shelf": f"S{k}"}, headers=headers) for k in range(8))
         )
-        self.assertEqual(sorted(found.values()), [204] + [412] * 7)
+        assert sorted(found.values()) == [204] + [412] * 7
         _, value = self.client.ask("GET", DUNE)
-        self.assertEqual(found["r" + value["Shelf"][1:]], 204)
+        assert found["r" + value["Shelf"][1:]] == 204
 
     def test_a_tag_may_be_that_of_an_earlier_request(self):
         def change(id, shelf, of, needs):
@@ -188,14 +189,14 @@ class InBatches(ConditionTest):
             change("none", "4", "list", ["list"]),
             change("early", "5", "again", ["list"]),
         )
-        self.assertEqual([it["status"] for it in found.values()], [200, 204, 204, 412, 200, 400, 400])
+        assert [it["status"] for it in found.values()] == [200, 204, 204, 412, 200, 400, 400]
         for id in ("none", "early"):
-            self.assertEqual(found[id]["body"]["error"]["code"], "NoETag")
-        self.assertEqual(self.client.ask("GET", "/Books('emma')")[1]["Shelf"], "2")
+            assert found[id]["body"]["error"]["code"] == "NoETag"
+        assert self.client.ask("GET", "/Books('emma')")[1]["Shelf"] == "2"
 
 
-class Formats(ServiceTest):
-    CASES = (
+class TestFormats(ServiceTest):
+    @pytest.mark.parametrize("headers, status", [
         ({"OData-MaxVersion": "4.01"}, 200),
         ({"OData-MaxVersion": "4.0"}, 200),
         ({"OData-MaxVersion": "5"}, 200),
@@ -208,20 +209,17 @@ class Formats(ServiceTest):
         ({"Accept": "text/html, application/json;q=0"}, 406),
         ({"Accept": "*/*, application/json; q=0.0"}, 406),
         ({"Accept": "application/*;q=0, */*"}, 406),
-    )
-
-    def test_refuses_clients_that_cannot_read_the_answer(self):
-        for headers, status in self.CASES:
-            with self.subTest(headers=headers):
-                self.assertEqual(self.client.ask("GET", "/Books", None, headers)[0], status)
-                batch = {"requests": [request("a", "get", "Books", headers=headers)]}
-                self.assertEqual(self.client.ask("POST", "/$batch", batch, {**JSON, **headers})[0], status)
-                self.assertEqual(self.client.statuses(*batch["requests"]), {"a": status})
+    ])  # fmt: skip
+    def test_refuses_clients_that_cannot_read_the_answer(self, headers, status):
+        assert self.client.ask("GET", "/Books", None, headers)[0] == status
+        batch = {"requests": [request("a", "get", "Books", headers=headers)]}
+        assert self.client.ask("POST", "/$batch", batch, {**JSON, **headers})[0] == status
+        assert self.client.statuses(*batch["requests"]) == {"a": status}
 
     def test_such_a_client_changes_nothing(self):
         before = rows(self.database)
         for headers, status in ({"Accept": "text/html"}, 406), ({"OData-MaxVersion": "3.0"}, 400):
-            self.assertEqual(self.client.ask("DELETE", DUNE, None, headers)[0], status)
+            assert self.client.ask("DELETE", DUNE, None, headers)[0] == status
             batch = {"requests": [request("a", "delete", "Books('dune')")]}
-            self.assertEqual(self.client.ask("POST", "/$batch", batch, {**JSON, **headers})[0], status)
-        self.assertEqual(rows(self.database), before)
+            assert self.client.ask("POST", "/$batch", batch, {**JSON, **headers})[0] == status
+        assert rows(self.database) == before

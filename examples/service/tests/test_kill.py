@@ -1,13 +1,12 @@
 """A service that is killed under load: after each start no group is half in the database."""
 
 import http.client
-import os
-import tempfile
 import threading
 import time
-import unittest
 from collections import Counter
 from random import Random
+
+import pytest
 
 from common import Process, new_book, request, rows
 
@@ -39,24 +38,23 @@ class Load:
             thread.join()
 
 
-class Kill(unittest.TestCase):
-    def test_no_group_is_half_in_the_database(self):
-        random, groups, answered = Random("kill"), Counter(), []
-        with tempfile.TemporaryDirectory(prefix="service-") as folder:
-            database = os.path.join(folder, "library.sqlite")
-            service = Process(database)
-            for k in range(KILLS):
-                load = Load(service, f"k{k}")
-                time.sleep(random.uniform(0.02, 0.3))
-                service.kill()
-                load.join()
-                answered += load.answered
-                service = Process(database)
-                with service.client() as client:
-                    self.assertEqual(client.statuses(request("a", "get", "Books")), {"a": 200})
-                self.assertEqual(rows(database, "pragma_integrity_check"), [("ok",)])
-                groups = Counter(id.rpartition(".")[0] for id, *_ in rows(database) if "." in id)
-                self.assertEqual(set(groups.values()) - {MEMBERS}, set())
-                self.assertEqual(set(answered) - set(groups), set(), "answered, and not in the database")
-            self.assertEqual(service.stop(), 0)
-        self.assertGreater(len(answered), KILLS)
+@pytest.mark.slow
+def test_no_group_is_half_in_the_database(tmp_path):
+    random, groups, answered, database = Random("kill"), Counter(), [], str(tmp_path / "library.sqlite")
+    for k in range(KILLS + 1):
+        with Process(database) as service:
+            with service.client() as client:
+                assert client.statuses(request("a", "get", "Books")) == {"a": 200}
+            assert rows(database, "pragma_integrity_check") == [("ok",)]
+            groups = Counter(id.rpartition(".")[0] for id, *_ in rows(database) if "." in id)
+            assert set(groups.values()) - {MEMBERS} == set()
+            assert set(answered) - set(groups) == set(), "answered, and not in the database"
+            if k == KILLS:
+                assert service.stop() == 0
+                break
+            load = Load(service, f"k{k}")
+            time.sleep(random.uniform(0.02, 0.3))
+            service.kill()
+            load.join()
+            answered += load.answered
+    assert len(answered) > KILLS

@@ -6,6 +6,8 @@ import re
 from concurrent.futures import ThreadPoolExecutor
 from random import Random
 
+import pytest
+
 from common import CONTINUE, JSON, ROOT, ServiceTest, rows, until
 from model import Library, good_batch
 from odb_batch import match
@@ -88,10 +90,9 @@ def documents():
     return found + [example(name, f"{name}{k}") for name in ("usual", "references") for k in range(CLIENTS)]
 
 
-class Load(ServiceTest):
-    def setUp(self):
-        super().setUp()
-        self.batches = documents()
+@pytest.mark.slow
+class TestLoad(ServiceTest):
+    batches = documents()
 
     def ask(self, numbers):
         """Sends batches on one connection; returns the responses by the numbers of the batches."""
@@ -110,28 +111,28 @@ class Load(ServiceTest):
             found = {k: value for part in pool.map(self.ask, shares) for k, value in part.items()}
         log = until(lambda: list(self.service.log), lambda it: sum("POST" in line for line in it) == len(self.batches))
         course = Course(self.batches)
-        self.assertEqual(course.follow(log), [])
+        assert course.follow(log) == []
         for name in ("Books", "Loans"):
             kept = [row[:-1] for row in rows(self.database, name)]  # without their versions
-            self.assertEqual(kept, [tuple(it.values()) for it in course.library.listed(name)])
+            assert kept == [tuple(it.values()) for it in course.library.listed(name)]
         succeeded = 0
         for k, batch in enumerate(self.batches):
             statuses = match(batch, found[k])
             succeeded += sum(status < 300 for status in statuses.values())
             for response in found[k]["responses"]:
                 self.assert_fits(course, response)
-        self.assertGreater(succeeded, BATCHES)
-        self.assertGreater(len(course.versions), BATCHES / 2)
+        assert succeeded > BATCHES
+        assert len(course.versions) > BATCHES / 2
 
     def assert_fits(self, course, response):
         """The response is that of the log or 424. A read shows what was committed, or what its group has written."""
         id, status = response["id"], response["status"]
-        self.assertIn(status, (course.statuses.get(id), 424))
+        assert status in (course.statuses.get(id), 424)
         if status == 200 and course.requests[id]["url"] in ("Books", "Loans"):
             name = course.requests[id]["url"]
             shown = [{key: it[key] for key in it if key != "@etag"} for it in response["body"]["value"]]
             if id in course.reads:
                 # The line of a commit may come after that of a read that shows it.
-                self.assertIn(shown, [it[name] for it in course.versions[: course.reads[id] + 1]])
+                assert shown in [it[name] for it in course.versions[: course.reads[id] + 1]]
             else:
-                self.assertEqual(shown, course.seen[id])
+                assert shown == course.seen[id]

@@ -1,11 +1,10 @@
 """Every order of threads: no group holds the one writer while it waits for what waits for the writer."""
 
 import json
-import os
-import tempfile
-import unittest
 from collections import Counter
 from unittest import mock
+
+import pytest
 
 import batches
 import store
@@ -33,13 +32,11 @@ RIVALS = (
 )
 
 
-class Orders(unittest.TestCase):
-    def setUp(self):
-        folder = tempfile.TemporaryDirectory(prefix="service-")
-        self.addCleanup(folder.cleanup)
-        self.database = os.path.join(folder.name, "library.sqlite")
+class TestOrders:
+    @pytest.fixture(autouse=True)
+    def take_turns(self, tmp_path, monkeypatch):
+        self.database = str(tmp_path / "library.sqlite")
         self.store = store.Store(self.database)
-        self.addCleanup(self.store.close)
         self.turns = None
         orders = self
 
@@ -54,10 +51,10 @@ class Orders(unittest.TestCase):
                 orders.turns.pause()
                 super().commit()
 
-        for owner, name, value in ((store, "Transaction", Transaction), (batches.LOG, "disabled", True)):
-            patched = mock.patch.object(owner, name, value)
-            patched.start()
-            self.addCleanup(patched.stop)
+        monkeypatch.setattr(store, "Transaction", Transaction)
+        monkeypatch.setattr(batches.LOG, "disabled", True)
+        yield
+        self.store.close()
 
     def perform(self, requests, width, mode, kind):
         """Performs a batch by the turns; returns the statuses of the responses, and what is in the database."""
@@ -80,34 +77,32 @@ class Orders(unittest.TestCase):
             self.turns = Turns(choices)
             found[self.perform(requests, width, mode, kind)] += 1
             choices = next_choices(self.turns)
-            self.assertLess(sum(found.values()), MAX_RUNS)
+            assert sum(found.values()) < MAX_RUNS
         return found
 
-    def test_a_group_begins_once_it_needs_nothing_outside(self):
-        for width in (1, 2, 8):
-            for mode in ("continue", "stop"):
-                with self.subTest(width=width, mode=mode):
-                    self.assertEqual(set(self.every_order(HELD, width, mode)), {((201, 201, 201), ("a1", "b1", "x1"))})
-                    self.assertEqual(set(self.every_order(FAILING, width, mode)), {((424, 409, 424, 424), ())})
+    @pytest.mark.parametrize("mode", ["continue", "stop"])
+    @pytest.mark.parametrize("width", [1, 2, 8])
+    def test_a_group_begins_once_it_needs_nothing_outside(self, width, mode):
+        assert set(self.every_order(HELD, width, mode)) == {((201, 201, 201), ("a1", "b1", "x1"))}
+        assert set(self.every_order(FAILING, width, mode)) == {((424, 409, 424, 424), ())}
 
-    def test_groups_take_turns(self):
-        for width in (1, 2, 8):
-            with self.subTest(width=width):
-                g_first, h_first = ((201, 201, 424, 409, 200), ("a1", "b1")), ((409, 424, 201, 201, 424), ("a1", "c1"))
-                found = self.every_order(RIVALS, width)
-                self.assertEqual(set(found), {g_first, h_first} if width > 1 else {g_first})
-                self.assertTrue(width == 1 or sum(found.values()) > 20)
+    @pytest.mark.parametrize("width", [1, 2, 8])
+    def test_groups_take_turns(self, width):
+        g_first, h_first = ((201, 201, 424, 409, 200), ("a1", "b1")), ((409, 424, 201, 201, 424), ("a1", "c1"))
+        found = self.every_order(RIVALS, width)
+        assert set(found) == ({g_first, h_first} if width > 1 else {g_first})
+        assert width == 1 or sum(found.values()) > 20
 
     def test_a_commit_that_fails_undoes_the_group(self):
         self.turns = Turns([])
         batch = (new_book("a", "a1", "g"), new_book("b", "b1", "g"), request("c", "get", "Books", needs=["g"]))
         with mock.patch.object(store.Transaction, "commit", side_effect=OSError("the disk is full")):
             found = self.perform(batch, 8, "continue", batches.Execution)
-        self.assertEqual(found, ((424, 500, 424), ()))
+        assert found == ((424, 500, 424), ())
 
     def test_a_report_that_never_comes_is_a_mistake_of_the_service(self):
         self.turns = Turns([])
-        with mock.patch.object(batches.Execution, "report", side_effect=ValueError), self.assertRaises(RuntimeError):
+        with mock.patch.object(batches.Execution, "report", side_effect=ValueError), pytest.raises(RuntimeError):
             self.perform(HELD, 8, "continue", batches.Execution)
 
     def test_finds_a_group_that_begins_too_early(self):
@@ -125,6 +120,6 @@ class Orders(unittest.TestCase):
                     work.commit()
                 return True
 
-        with mock.patch.object(batches.Unit, "may_begin", lambda unit: not unit.is_out), self.assertRaises(Stuck):
+        with mock.patch.object(batches.Unit, "may_begin", lambda unit: not unit.is_out), pytest.raises(Stuck):
             self.every_order(HELD, kind=Hasty)
 

@@ -4,12 +4,13 @@ import json
 import os
 import re
 import shlex
-import shutil
 import socket
 import subprocess
-import unittest
+
+import pytest
 
 from common import ROOT, SECONDS
+from support.commands import with_package
 
 SERVICE = os.path.join(ROOT, "examples", "service")
 
@@ -31,35 +32,39 @@ def commands_of_readme():
     return [" ".join(it.split()) for it in re.findall("`([^`]+)`", paragraph) if " " in it.strip()]
 
 
-class Pages(unittest.TestCase):
-    def test_the_pages_have_the_same_commands(self):
-        shown = re.search("```sh\n(.*?)```", page("docs", "service.md"), re.DOTALL)[1]
-        self.assertEqual(commands_of_readme(), shown.splitlines())
+def test_the_pages_have_the_same_commands():
+    shown = re.search("```sh\n(.*?)```", page("docs", "service.md"), re.DOTALL)[1]
+    assert commands_of_readme() == shown.splitlines()
 
-    @unittest.skipUnless(shutil.which("curl"), "curl is not installed")
-    def test_the_commands_of_the_readme_answer_the_batch(self):
-        build, start, ask = commands_of_readme()
-        self.assertEqual(build, "bin/odb_library python/odb_batch")  # the library of the tests is in another folder
-        self.assertTrue(start.startswith("PYTHONPATH=python "))
-        port = free_port()
-        words = [*shlex.split(start)[1:], "--port", port]
-        with subprocess.Popen(words, cwd=ROOT, stderr=subprocess.PIPE) as service:
+
+@pytest.mark.needs("curl")
+def test_the_commands_of_the_readme_answer_the_batch():
+    build, start, ask = commands_of_readme()
+    assert build == "bin/odb_library python/odb_batch"  # the library of the tests is in another folder
+    assert start.startswith("PYTHONPATH=python ")
+    port = free_port()
+    words = [*shlex.split(start)[1:], "--port", port]
+    with subprocess.Popen(words, cwd=ROOT, stderr=subprocess.PIPE, env=with_package()) as service:
+        try:
+            assert b"listening" in service.stderr.readline()
+            done = subprocess.run(
+                ["bash", "-c", ask.replace("localhost:8080", f"127.0.0.1:{port}")],
+                cwd=ROOT, stdout=subprocess.PIPE, stderr=subprocess.DEVNULL, timeout=SECONDS,
+            )  # fmt: skip
+        finally:
+            service.terminate()
             try:
-                self.assertIn(b"listening", service.stderr.readline())
-                done = subprocess.run(
-                    ["bash", "-c", ask.replace("localhost:8080", f"127.0.0.1:{port}")],
-                    cwd=ROOT, stdout=subprocess.PIPE, stderr=subprocess.DEVNULL, timeout=SECONDS,
-                )  # fmt: skip
-            finally:
-                service.terminate()
                 service.communicate(timeout=SECONDS)
-        found = {it["id"]: it["status"] for it in json.loads(done.stdout)["responses"]}
-        self.assertEqual(found, {"book": 200, "mark": 204, "loan": 201, "list": 200})
-        self.assertEqual(service.returncode, 0)
+            finally:
+                service.kill()
+    found = {it["id"]: it["status"] for it in json.loads(done.stdout)["responses"]}
+    assert found == {"book": 200, "mark": 204, "loan": 201, "list": 200}
+    assert service.returncode == 0
 
-    def test_the_excerpts_are_in_the_source(self):
-        modules = [page("examples", "service", name) for name in os.listdir(SERVICE) if name.endswith(".py")]
-        excerpts = re.findall("```python\n(.*?)```", page("docs", "service.md"), re.DOTALL)
-        self.assertEqual(len(excerpts), 2)
-        for excerpt in excerpts:
-            self.assertTrue(any(excerpt in module for module in modules), excerpt)
+
+def test_the_excerpts_are_in_the_source():
+    modules = [page("examples", "service", name) for name in os.listdir(SERVICE) if name.endswith(".py")]
+    excerpts = re.findall("```python\n(.*?)```", page("docs", "service.md"), re.DOTALL)
+    assert len(excerpts) == 2
+    for excerpt in excerpts:
+        assert any(excerpt in module for module in modules), excerpt

@@ -1,0 +1,152 @@
+"""Judges whether a service keeps what OData promises of batches in JSON. See docs/conformance.md."""
+
+from interruption import Interrupted, Interruption
+
+# From here on no module is interrupted while it is read.
+INTERRUPTION = Interruption()
+INTERRUPTION.catch()
+
+import argparse
+import fnmatch
+import json
+import os
+import re
+import sys
+from typing import Any, Dict, List
+from urllib.parse import urlsplit
+
+PACKAGE = os.path.join(os.path.dirname(os.path.abspath(__file__)), "..", "python")
+# Exit statuses; wrong arguments end with 2.
+BROKEN, UNUSABLE = 1, 3
+
+
+def url_of(text: str) -> str:
+    """The root URL of a service."""
+    try:
+        parts = urlsplit(text)
+        is_good = parts.scheme in ("http", "https") and parts.hostname and parts.port != 0 and text.isprintable()
+    except ValueError:
+        is_good = False
+    if not is_good or parts.query or parts.fragment or " " in text:
+        raise argparse.ArgumentTypeError(f"{text!r} is not the root of a service, such as http://localhost:8080/")
+    return text
+
+
+def body_of(text: str) -> Dict[str, Any]:
+    """The body of an entity."""
+    try:
+        value = json.loads(text)
+    except (ValueError, RecursionError):
+        value = None
+    if not isinstance(value, dict):
+        raise argparse.ArgumentTypeError(f"{text!r} is not an object of JSON")
+    return value
+
+
+def header_of(text: str) -> List[str]:
+    """The name and the value of a header."""
+    name, colon, value = text.partition(":")
+    if not colon or not re.fullmatch(r"[\w!#$%&'*+.^`|~-]+", name, re.ASCII) or not value.isprintable():
+        raise argparse.ArgumentTypeError(f"{text!r} is not a header, such as Authorization: Bearer 123")
+    return [name, value.strip()]
+
+
+def seconds_of(text: str) -> float:
+    if not re.fullmatch(r"[0-9]{1,4}(\.[0-9]+)?", text) or not 0 < float(text) <= 3600:
+        raise argparse.ArgumentTypeError(f"{text!r} is not a number of seconds up to 3600")
+    return float(text)
+
+
+def number_of(text: str) -> int:
+    if not re.fullmatch(r"[0-9]{1,5}", text) or not 1 <= int(text) <= 10_000:
+        raise argparse.ArgumentTypeError(f"{text!r} is not a whole number from 1 to 10000")
+    return int(text)
+
+
+def name_of(text: str) -> str:
+    if not re.fullmatch(r"\w+", text):
+        raise argparse.ArgumentTypeError(f"{text!r} is not a name")
+    return text
+
+
+def parser() -> argparse.ArgumentParser:
+    found = argparse.ArgumentParser(prog="conformance", description=__doc__)
+    found.add_argument("url", metavar="URL", type=url_of, nargs="?", help="the root of the service, above its $batch")
+    found.add_argument("--set", metavar="NAME", type=name_of, help="an entity set in which entities may be made")
+    found.add_argument("--key", metavar="NAME", type=name_of, help="the key property of its entities")
+    found.add_argument("--body", metavar="JSON", type=body_of, help="a body that creates an entity; the key is added")
+    found.add_argument("--header", metavar="H: V", type=header_of, action="append", default=[], help="of all requests")
+    found.add_argument("--requests", metavar="N", type=number_of, default=100, help="how many a batch may have; 100")
+    found.add_argument("--timeout", metavar="S", type=seconds_of, default=20.0, help="seconds for an answer; 20")
+    found.add_argument("--case", metavar="GLOB", action="append", help="runs cases of such names alone, as 'group-*'")
+    found.add_argument("--breaks", metavar="FOLDER", default="conformance-breaks", help="where breaks are written")
+    found.add_argument("--json", action="store_true", help="prints one document of JSON in place of the table")
+    found.add_argument("--list", action="store_true", help="lists the cases, and sends nothing")
+    return found
+
+
+def progress(at: int, name: str, count: int) -> None:
+    """Shows on a terminal how far the run is."""
+    if sys.stderr.isatty():
+        print(f"\r\033[K{at + 1}/{count} {name}" if name else "\r\033[K", end="", file=sys.stderr, flush=True)
+
+
+def judge(options: argparse.Namespace, cases: List[Any]) -> int:
+    """Runs the cases and prints what they show; returns the exit status."""
+    import report
+    from entities import Entities
+    from runner import Runner
+    from service import Service, Unusable
+
+    service = Service(options.url, dict(options.header), options.timeout, INTERRUPTION)
+    entities = Entities(service, options.set, options.key, options.body)
+    runner = Runner(service, entities, options.requests)
+    try:
+        results = runner.run(cases, lambda at, name: progress(at, name, len(cases)))
+    except (Unusable, Interrupted) as error:
+        progress(0, "", 0)
+        for url in [*entities.left, *entities.made.values()]:
+            print(f"not removed: {url}", file=sys.stderr)
+        print(f"error: {error}", file=sys.stderr)
+        INTERRUPTION.ignore()
+        return UNUSABLE
+    progress(0, "", 0)
+    if options.json:
+        print(report.json_text(report.document(service.root, results, entities.left)))
+    else:
+        print(report.table(results), *report.lines_of(results, entities.left, options.breaks), sep="\n")
+    try:
+        report.write_breaks(results, options.breaks)
+    except OSError as error:
+        print(f"error: {error.filename}: {error.strerror}", file=sys.stderr)
+        return UNUSABLE
+    return BROKEN if any(it.breaks for it in results) else 0
+
+
+def main() -> int:
+    arguments = parser()
+    options = arguments.parse_args()
+    try:
+        import odb_batch  # noqa: F401
+    except ModuleNotFoundError:
+        sys.path.append(PACKAGE)
+    try:
+        import report
+        from cases import all_cases
+    except ImportError as error:
+        print(f"error: {error}", file=sys.stderr)
+        return UNUSABLE
+    wanted = options.case or ["*"]
+    cases = [it for it in all_cases(options.requests) if any(fnmatch.fnmatchcase(it.name, glob) for glob in wanted)]
+    if not cases:
+        arguments.error(f"no case has a name like {' or '.join(map(repr, wanted))}")
+    if options.list:
+        print(report.listed(cases))
+        return 0
+    if None in (options.url, options.set, options.key, options.body):
+        arguments.error("needed are URL, --set, --key and --body, or --list")
+    return judge(options, cases)
+
+
+if __name__ == "__main__":
+    sys.exit(main())

@@ -1,0 +1,89 @@
+'use strict'
+
+const assert = require('node:assert/strict')
+const { test } = require('node:test')
+const { Refused, Run } = require('..')
+
+const BATCH = {
+  requests: [
+    { id: 'book', method: 'get', url: "Books('dune')" },
+    { id: 'mark', atomicityGroup: 'lend', dependsOn: ['book'], method: 'delete', url: "Books('dune')" },
+    { id: 'loan', atomicityGroup: 'lend', dependsOn: ['mark'], method: 'post', url: 'Loans' },
+    { id: 'list', dependsOn: ['lend'], method: 'get', url: 'Loans' },
+  ],
+}
+
+/** Calls a function with a run, which is closed then. */
+function withRun(options, use) {
+  const live = new Run(BATCH, options)
+  try {
+    return use(live)
+  } finally {
+    live.close()
+  }
+}
+
+/** The states of all requests. */
+function statesOf(live) {
+  return BATCH.requests.map(({ id }) => Object.values(live.state(id)))
+}
+
+/** Performs one unit after another, with these statuses or 200, and returns the units. */
+function unitsOf(live, statuses) {
+  const units = []
+  for (let unit = live.nextUnit(); unit !== null; unit = live.nextUnit()) {
+    units.push(unit)
+    for (const id of unit) {
+      live.start(id)
+      live.report(id, statuses[id] ?? 200)
+    }
+  }
+  return units
+}
+
+test('performs one unit after another', () => {
+  withRun({}, (live) => {
+    assert.deepEqual(unitsOf(live, {}), [['book'], ['mark', 'loan'], ['list']])
+    assert.equal(live.finished, true)
+  })
+})
+
+test('skips what needs a group that failed, and says what is undone', () => {
+  withRun({}, (live) => {
+    assert.deepEqual(unitsOf(live, { loan: 409 }), [['book'], ['mark', 'loan']])
+    assert.deepEqual(statesOf(live), [['reported', 200], ['undone', 424], ['reported', 409], ['skipped', 424]])
+  })
+})
+
+test('says what has become of a request', () => {
+  withRun({}, (live) => {
+    assert.deepEqual(live.state('book'), { state: 'ready', status: null })
+    live.start('book')
+    assert.deepEqual(live.state('book'), { state: 'running', status: null })
+    assert.deepEqual(live.state('mark'), { state: 'waiting', status: null })
+    assert.throws(() => live.state('lend'), { code: 'ERR_ODB_UNKNOWN_ID' })
+  })
+})
+
+test('starts nothing more in a run that is stopped', () => {
+  for (const mode of ['continue', 'stop']) {
+    withRun({ mode }, (live) => {
+      live.start('book')
+      live.stop()
+      live.stop()
+      assert.deepEqual([live.ready, live.running, live.finished, live.nextUnit()], [[], ['book'], false, null])
+      live.report('book', 200)
+      assert.equal(live.finished, true)
+      assert.deepEqual(statesOf(live), [['reported', 200], ...Array(3).fill(['skipped', 424])])
+      assert.throws(() => live.start('mark'), (error) => error instanceof Refused && error.code === 'S2')
+    })
+  }
+})
+
+test('refuses a closed run', () => {
+  const live = new Run(BATCH)
+  live.close()
+  for (const call of [() => live.stop(), () => live.nextUnit(), () => live.state('book')]) {
+    assert.throws(call, { code: 'ERR_ODB_CLOSED' })
+  }
+})

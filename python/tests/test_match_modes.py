@@ -1,0 +1,64 @@
+"""The modes of a match: a service that stops at its first error may leave out responses."""
+
+import json
+
+import pytest
+
+from odb_batch import Fault, match, output
+
+BATCH = {
+    "requests": [
+        {"id": "book", "method": "get", "url": "Books"},
+        {"id": "loan", "atomicityGroup": "lend", "dependsOn": ["book"], "method": "delete", "url": "Loans"},
+        {"id": "list", "dependsOn": ["lend"], "method": "get", "url": "Loans"},
+    ]
+}
+
+
+def responses(**statuses):
+    """A response document with these statuses."""
+    return {"responses": [{"id": id, "status": status} for id, status in statuses.items()]}
+
+
+def test_reads_what_is_left_out_as_424():
+    assert match(BATCH, responses(book=404), mode="stop") == {"book": 404, "loan": 424, "list": 424}
+    assert match(BATCH, responses(book=200, list=500), mode="stop") == {"book": 200, "loan": 424, "list": 500}
+
+
+@pytest.mark.parametrize("options", [{}, {"mode": "continue"}])
+def test_refuses_what_is_left_out(options):
+    with pytest.raises(Fault) as raised:
+        match(BATCH, responses(book=404), **options)
+    assert str(raised.value) == "F73 ResponseMissing /requests/1"
+
+
+@pytest.mark.parametrize(
+    "document, fault",
+    [
+        (responses(book=200), "F73 ResponseMissing /requests/1"),
+        (responses(book=404, page=424), "F71 UnknownResponse /responses/1"),
+        (responses(book=404, list=200), "F75 UnsoundSuccess /requests/2"),
+    ],
+)
+def test_refuses_other_faults_of_a_service_that_stops(document, fault):
+    with pytest.raises(Fault) as raised:
+        match(BATCH, document, mode="stop")
+    assert str(raised.value) == fault
+
+
+def test_refuses_another_mode():
+    with pytest.raises(ValueError):
+        match(BATCH, responses(book=404), mode="half")
+    with pytest.raises(ValueError):
+        output("match", BATCH, responses(book=404), mode="half")
+
+
+@pytest.mark.parametrize("form", ["json", "lines"])
+def test_prints_the_match_of_a_service_that_stops(form):
+    accepted, text = output("match", BATCH, responses(book=404), form=form, mode="stop")
+    assert accepted
+    if form == "lines":
+        assert text == b"ok 3 responses\nbook 404\nloan 424\nlist 424\n"
+    else:
+        assert [it["status"] for it in json.loads(text)["responses"]] == [404, 424, 424]
+    assert not output("match", BATCH, responses(book=404), form=form).accepted

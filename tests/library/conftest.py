@@ -1,0 +1,38 @@
+"""The environment of programs that load the library, and the packages over it."""
+
+import os
+import shutil
+import subprocess
+
+import pytest
+
+from support.commands import with_package
+from support.program import ROOT
+
+
+@pytest.fixture(scope="session")
+def environment(library):
+    """The variables of a program that loads the library, by the loader or by the package for Python."""
+    return {**with_package(), "LD_LIBRARY_PATH": library}
+
+
+@pytest.fixture(scope="session")
+def package(library):
+    """The package for Python, which loads the library."""
+    import odb_batch
+
+    return odb_batch
+
+
+@pytest.fixture(scope="session")
+def module(library, need, tmp_path_factory):
+    """The folder of a copy of the module for Node, with its addon, which the C compiler alone has made."""
+    need("node")
+    top = tmp_path_factory.mktemp("module")
+    shutil.copytree(os.path.join(ROOT, "node"), top / "node", ignore=shutil.ignore_patterns("*.node", "build"))
+    shutil.copytree(os.path.join(ROOT, "include"), top / "include")
+    done = subprocess.run([top / "node" / "compile", library], stderr=subprocess.PIPE, text=True)
+    if done.returncode == 70:
+        pytest.skip("node_api.h is not installed")
+    assert done.returncode == 0, done.stderr
+    return top / "node"

@@ -1,0 +1,304 @@
+/* Measures how much stack the calls of the library take: each is made by a thread with a stack of
+ * ODB_STACK_BYTES, on documents that nest as deep as they may and deeper, of objects, of arrays and of both by turns,
+ * and on a long chain of requests. What the C library takes of the stack for its thread is counted, too.
+ *
+ * A call that takes more ends the program by a signal, after its title. The last line is the most that a call
+ * took, `N of M bytes of stack`. The status is 1 if less than a quarter is left, for the program's thread-local
+ * variables and signal handlers, and for other C libraries. */
+
+#include "odb_batch.h"
+
+#include <pthread.h>
+#include <stdio.h>
+#include <stdlib.h>
+#include <string.h>
+#include <sys/mman.h>
+
+#define PAGE 4096
+#define FILLING 0xa5
+#define MOST_BYTES 4194304
+#define DEEPEST 124 /* levels of a body in a document of 127 */
+#define CHAIN 10000
+
+static char batch[MOST_BYTES], second[MOST_BYTES];
+static uint8_t text[MOST_BYTES];
+static size_t length;
+
+/* What a thread does, and whether it ended as it had to. */
+typedef int work(void);
+
+static const uint8_t *bytes(const char *document)
+{
+    return (const uint8_t *)document;
+}
+
+static int is_done(uint32_t status)
+{
+    return status == ODB_DONE;
+}
+
+static int check(void)
+{
+    return is_done(odb_check(bytes(batch), strlen(batch), text, sizeof text, &length, 7));
+}
+
+static int check_without_a_seed(void)
+{
+    return is_done(odb_check(bytes(batch), strlen(batch), text, sizeof text, &length, 0));
+}
+
+static int plan(void)
+{
+    return is_done(odb_plan(bytes(batch), strlen(batch), text, sizeof text, &length, 7));
+}
+
+static int canon(void)
+{
+    return is_done(odb_canon(bytes(batch), strlen(batch), text, sizeof text, &length, 7));
+}
+
+static int check_in_json(void)
+{
+    return is_done(odb_check_as(bytes(batch), strlen(batch), ODB_JSON, text, sizeof text, &length, 7));
+}
+
+static int plan_in_json(void)
+{
+    return is_done(odb_plan_as(bytes(batch), strlen(batch), ODB_JSON, text, sizeof text, &length, 7));
+}
+
+static int canon_in_json(void)
+{
+    return is_done(odb_canon_as(bytes(batch), strlen(batch), ODB_JSON, text, sizeof text, &length, 7));
+}
+
+static int match_in_json(void)
+{
+    return is_done(odb_match_as(bytes(batch), strlen(batch), bytes(second), strlen(second), ODB_JSON,
+                                text, sizeof text, &length, 7));
+}
+
+static int run_in_json(void)
+{
+    return is_done(odb_run_as(bytes(batch), strlen(batch), bytes(second), strlen(second), ODB_CONTINUE, ODB_MAX_WIDTH,
+                              ODB_JSON, text, sizeof text, &length, 7));
+}
+
+static int replay_in_json(void)
+{
+    return is_done(odb_replay_as(bytes(batch), strlen(batch), bytes(second), strlen(second), ODB_CONTINUE, ODB_MAX_WIDTH,
+                                 ODB_WIDE, 1, ODB_JSON, text, sizeof text, &length, 7));
+}
+
+static int refused_in_json(void)
+{
+    return odb_check_as(bytes(batch), strlen(batch), ODB_JSON, text, sizeof text, &length, 7) == ODB_REFUSED;
+}
+
+static int refused(void)
+{
+    return odb_check(bytes(batch), strlen(batch), text, sizeof text, &length, 7) == ODB_REFUSED;
+}
+
+static int match(void)
+{
+    return is_done(odb_match(bytes(batch), strlen(batch), bytes(second), strlen(second), text, sizeof text, &length, 7));
+}
+
+static int replay(void)
+{
+    return is_done(odb_replay(bytes(batch), strlen(batch), bytes(second), strlen(second), ODB_CONTINUE, ODB_MAX_WIDTH,
+                              ODB_WIDE, 1, text, sizeof text, &length, 7));
+}
+
+static int run(void)
+{
+    return is_done(odb_run(bytes(batch), strlen(batch), bytes(second), strlen(second), ODB_CONTINUE, ODB_MAX_WIDTH,
+                           text, sizeof text, &length, 7));
+}
+
+/* Opens a run after the events in `second`, which end it, and makes its response. */
+static int live_after_events(void)
+{
+    odb_live_run opened;
+    if (odb_run_open(bytes(batch), strlen(batch), bytes(second), strlen(second), ODB_STOP, 1, &opened, text, sizeof text, &length, 7))
+        return 0;
+    int right = is_done(odb_run_response(&opened, text, sizeof text, &length));
+    odb_run_close(opened);
+    return right;
+}
+
+/* Opens a run, and makes all of its calls: its one request is reported with the body in `second`. */
+static int live(void)
+{
+    static const char none[] = "{\"events\":[]}", headers[] = "{\"ETag\":\"7\"}";
+    odb_live_run opened;
+    uint32_t positions[1], state, status;
+    size_t count;
+    if (odb_run_open(bytes(batch), strlen(batch), bytes(none), strlen(none), ODB_STOP, 1, &opened, text, sizeof text, &length, 7))
+        return 0;
+    int right = is_done(odb_run_ready(&opened, positions, 1, &count))
+        && is_done(odb_run_position(&opened, bytes("a"), 1, positions))
+        && is_done(odb_run_ids(&opened, text, sizeof text, &length))
+        && is_done(odb_run_next_unit(&opened, positions, 1, &count))
+        && is_done(odb_run_start(&opened, 0)) && is_done(odb_run_state(&opened, 0, &state, &status))
+        && is_done(odb_run_running(&opened, positions, 1, &count))
+        && is_done(odb_run_report(&opened, 0, 200, bytes(headers), strlen(headers), bytes(second), strlen(second)))
+        && odb_run_finished(&opened) && is_done(odb_run_undone(&opened, positions, 1, &count))
+        && is_done(odb_run_response(&opened, text, sizeof text, &length));
+    odb_run_stop(&opened);
+    odb_run_close(opened);
+    return right;
+}
+
+#define OBJECT "{\"k\":"
+
+/* What the even and the odd levels of a value that nests open and close with. */
+static const struct shape {
+    const char *name, *open[2], *close[2];
+} shapes[] = {
+    {"objects", {OBJECT, OBJECT}, {"}", "}"}},
+    {"arrays", {"[", "["}, {"]", "]"}},
+    {"both by turns", {"[", OBJECT}, {"]", "}"}},
+};
+
+#define SHAPES (sizeof shapes / sizeof *shapes)
+
+static const struct shape *shape = shapes;
+
+/* Appends a value that nests so deep. */
+static void nest(char *document, int levels)
+{
+    char *end = document + strlen(document);
+    for (int level = 0; level < levels; level++)
+        end = stpcpy(end, shape->open[level % 2]);
+    end = stpcpy(end, "1");
+    for (int level = levels; level-- > 0;)
+        end = stpcpy(end, shape->close[level % 2]);
+}
+
+/* Makes a document of a text, a value that nests, and a text. */
+static void make(char *document, const char *before, int levels, const char *after)
+{
+    strcpy(document, before);
+    nest(document, levels);
+    strcat(document, after);
+}
+
+static void make_deep(int levels)
+{
+    make(batch, "{\"requests\":[{\"id\":\"a\",\"method\":\"post\",\"url\":\"X\","
+                "\"headers\":{\"Content-Type\":\"application/json\"},\"body\":", levels, "}]}");
+}
+
+/* Makes a batch in which each request needs the one before it, and an entry for each in another document. */
+static void make_chain(const char *name, const char *more)
+{
+    char *end = stpcpy(batch, "{\"requests\":["), *other = second + sprintf(second, "{\"%s\":[", name);
+    for (int i = 0; i < CHAIN; i++) {
+        end += sprintf(end, "%s{\"id\":\"r%d\",\"method\":\"get\",\"url\":\"X\"", i ? "," : "", i);
+        end += i ? sprintf(end, ",\"dependsOn\":[\"r%d\"]}", i - 1) : sprintf(end, "}");
+        other += sprintf(other, "%s{\"id\":\"r%d\",\"status\":200%s}", i ? "," : "", i, more);
+    }
+    strcpy(end, "]}");
+    strcpy(other, "]}");
+}
+
+static void *perform(void *given)
+{
+    work *const *done = given;
+    return (*done)() ? text : NULL;
+}
+
+static size_t most;
+static int wrong;
+
+/* Makes a stack whose bytes are known, above a page on which a thread that goes beyond it ends. */
+static uint8_t *new_stack(void)
+{
+    uint8_t *page = mmap(NULL, PAGE + ODB_STACK_BYTES, PROT_READ | PROT_WRITE, MAP_PRIVATE | MAP_ANONYMOUS, -1, 0);
+    if (page == MAP_FAILED || mprotect(page, PAGE, PROT_NONE))
+        exit(70);
+    return memset(page + PAGE, FILLING, ODB_STACK_BYTES);
+}
+
+/* Does the work in a thread, and measures how much of its stack was written. */
+static void measure(const char *title, work *done)
+{
+    pthread_t thread;
+    pthread_attr_t attributes;
+    void *result = NULL;
+    uint8_t *stack = new_stack();
+    printf("%s: ", title);
+    fflush(stdout);
+    if (pthread_attr_init(&attributes) || pthread_attr_setstack(&attributes, stack, ODB_STACK_BYTES)
+        || pthread_create(&thread, &attributes, perform, &done) || pthread_join(thread, &result))
+        exit(70);
+    size_t left = 0;
+    while (left < ODB_STACK_BYTES && stack[left] == FILLING)
+        left++;
+    size_t used = ODB_STACK_BYTES - left;
+    wrong += result == NULL;
+    printf("%zu%s\n", used, result == NULL ? ", is wrong" : "");
+    most = used > most ? used : most;
+    pthread_attr_destroy(&attributes);
+    munmap(stack - PAGE, PAGE + ODB_STACK_BYTES);
+}
+
+/* Makes each call on documents whose bodies nest as deep as they may, and deeper. */
+static void measure_deep(void)
+{
+    make_deep(DEEPEST);
+    measure("a check of a deep body", check);
+    measure("a check of a deep body without a seed", check_without_a_seed);
+    measure("a check of a deep body in JSON", check_in_json);
+    measure("a plan of a deep body", plan);
+    measure("a plan of a deep body in JSON", plan_in_json);
+    measure("a canonical text of a deep body", canon);
+    measure("a canonical text of a deep body in JSON", canon_in_json);
+    make(second, "{\"responses\":[{\"id\":\"a\",\"status\":200,\"body\":", DEEPEST, "}]}");
+    measure("a match of a deep body", match);
+    measure("a match of a deep body in JSON", match_in_json);
+    make(second, "{\"outcomes\":[{\"id\":\"a\",\"status\":200,\"body\":", DEEPEST, "}]}");
+    measure("a replay of a deep body", replay);
+    measure("a replay of a deep body in JSON", replay_in_json);
+    make(second, "{\"events\":[{\"start\":\"a\"},{\"report\":\"a\",\"status\":200,\"body\":", DEEPEST, "}]}");
+    measure("a run of a deep body", run);
+    measure("a run of a deep body in JSON", run_in_json);
+    measure("a live run after a deep body", live_after_events);
+    make(second, "", DEEPEST, "");
+    measure("a live run of a deep body", live);
+    make_deep(100000);
+    measure("a check of a body that is too deep", refused);
+    measure("a check of a body that is too deep in JSON", refused_in_json);
+}
+
+/* Makes each call on a batch in which each request needs the one before it. */
+static void measure_chain(void)
+{
+    make_chain("outcomes", "");
+    measure("a check of a chain", check);
+    measure("a check of a chain without a seed", check_without_a_seed);
+    measure("a check of a chain in JSON", check_in_json);
+    measure("a plan of a chain", plan);
+    measure("a plan of a chain in JSON", plan_in_json);
+    measure("a canonical text of a chain in JSON", canon_in_json);
+    measure("a canonical text of a chain", canon);
+    measure("a replay of a chain", replay);
+    measure("a replay of a chain in JSON", replay_in_json);
+    make_chain("responses", "");
+    measure("a match of a chain", match);
+    measure("a match of a chain in JSON", match_in_json);
+}
+
+int main(void)
+{
+    for (size_t at = 0; at < SHAPES; at++) {
+        shape = &shapes[at];
+        printf("%s\n", shape->name);
+        measure_deep();
+    }
+    measure_chain();
+    printf("%zu of %d bytes of stack\n", most, ODB_STACK_BYTES);
+    return wrong != 0 || most > ODB_STACK_BYTES / 4 * 3;
+}

@@ -1,0 +1,90 @@
+"""The programs of docs/embedding.md, and those of examples/ that it names, in the languages that are installed.
+
+In pages/ is what calls them: each prints what a check and a live run of one request return.
+"""
+
+import re
+import shutil
+import subprocess
+import sys
+
+import pytest
+
+from support.commands import run
+from support.embedding import ANSWERED, IN_NODE, IN_PYTHON, LIVE, ONE, STRICT, block, text_of
+from support.program import EXAMPLES, ROOT
+
+PAGES = f"{ROOT}/tests/library/pages"
+PROGRAMS = ("check", "live run")
+
+
+def lay_out(folder, *copied, **written):
+    """Copies files to a folder, and writes some; a name's last underscore stands for the point in it."""
+    folder.mkdir(exist_ok=True)
+    for path in copied:
+        shutil.copy(path, folder)
+    for name, text in written.items():
+        (folder / ".".join(name.rsplit("_", 1))).write_text(text, encoding="utf-8")
+
+
+def skip_before(tool, word, pattern, *wanted):
+    """Skips the test where the tool is missing, or older than wanted, as it says of itself."""
+    if shutil.which(tool) is None:
+        pytest.skip(f"{tool} is not installed")
+    said = subprocess.run([tool, word], stdout=subprocess.PIPE, stderr=subprocess.STDOUT, text=True).stdout
+    if tuple(map(int, re.search(pattern, said).groups())) < wanted:
+        pytest.skip(f"{tool} {'.'.join(map(str, wanted))} is not installed")
+
+
+@pytest.mark.parametrize("is_live", [False, True], ids=PROGRAMS)
+def test_c(is_live, library, environment, tmp_path):
+    lay_out(tmp_path, f"{PAGES}/live.c", page_c=block("c"), run_inc=block("c", 1))
+    source, wanted = ("live.c", '{"responses":[{"body":{},"id":"a","status":200}]}\n') if is_live else ("page.c", ONE)
+    flags = ["-std=c99", *STRICT, f"-I{ROOT}/include", f"-L{library}"]
+    run("cc", *flags, "-o", "page", source, "-lodb_batch", cwd=tmp_path)
+    run("./page", wanted=wanted, env=environment, cwd=tmp_path)
+
+
+@pytest.mark.needs("rustc")
+@pytest.mark.parametrize("is_live", [False, True], ids=PROGRAMS)
+def test_rust(is_live, library, environment, tmp_path):
+    program = text_of("examples", "live_run.rs") if is_live else block("rust")
+    lay_out(tmp_path, page_rs=program + text_of("tests", "library", "pages", "live.rs" if is_live else "check.rs"))
+    run("rustc", "--edition=2021", "-Dwarnings", "-L", library, "page.rs", cwd=tmp_path)
+    run("./page", wanted=ANSWERED if is_live else ONE, env=environment, cwd=tmp_path)
+
+
+def test_go(library, environment, tmp_path):
+    skip_before("go", "version", r"go(\d+)\.(\d+)", 1, 20)
+    lay_out(tmp_path, f"{EXAMPLES}/live_run.go", go_mod="module page\n\ngo 1.20\n", page_go=block("go"))
+    lay_out(tmp_path / "main", f"{PAGES}/main.go")
+    flags = {"CGO_CFLAGS": f"-I{ROOT}/include", "CGO_LDFLAGS": f"-L{library}"}
+    run("go", "run", "./main", wanted=ONE + ANSWERED, cwd=tmp_path, env={**environment, **flags})
+
+
+def test_java(environment, tmp_path):
+    skip_before("javac", "-version", r"(\d+)", 22)
+    lay_out(tmp_path, f"{EXAMPLES}/OdbRun.java", f"{PAGES}/Page.java", Odb_java=block("java"))
+    run("javac", "Odb.java", "OdbRun.java", "Page.java", cwd=tmp_path)
+    run("java", "--enable-native-access=ALL-UNNAMED", "Page", wanted=ONE + ANSWERED, cwd=tmp_path, env=environment)
+
+
+@pytest.mark.needs("dotnet")
+def test_csharp(environment, tmp_path):
+    lay_out(tmp_path, f"{EXAMPLES}/OdbRun.cs", f"{PAGES}/Page.cs", f"{PAGES}/page.csproj", Odb_cs=block("csharp"))
+    run("dotnet", "run", wanted=ONE + ANSWERED, cwd=tmp_path, env=environment)
+
+
+@pytest.mark.parametrize("at, wanted", [(0, IN_PYTHON), (1, LIVE)], ids=PROGRAMS)
+def test_python(at, wanted, environment, tmp_path):
+    lay_out(tmp_path, page_py=block("python", at))
+    found = {key: value for key, value in environment.items() if key != "ODB_BATCH_LIBRARY"}  # by the loader
+    run(sys.executable, "page.py", wanted=wanted, cwd=tmp_path, env=found)
+
+
+@pytest.mark.parametrize("at, wanted", [(0, IN_NODE), (1, LIVE)], ids=PROGRAMS)
+def test_node(at, wanted, module, tmp_path):
+    lay_out(tmp_path, page_js=block("js", at))
+    (tmp_path / "node_modules").mkdir()
+    (tmp_path / "node_modules" / "odb-batch").symlink_to(module)
+    run("node", "page.js", wanted=wanted, cwd=tmp_path)

@@ -1,0 +1,80 @@
+"""Each call of the library takes the seed that it is given, by names that crowd the tables of one seed.
+
+The names, and what is slow, are those of the test of the program. A batch of names for a seed drawn here has to be
+slow with this seed, in each call that takes one; and not with another seed, nor without one. What is written is
+compared too, and also the response of a run that was opened so.
+"""
+
+import ctypes
+import secrets
+import time
+
+import pytest
+
+from support import contents, crowds, seeds
+
+# Half of the names that the program is given, in a table with half as many groups.
+LOW_BITS = seeds.LOW_BITS - 1
+NAMES = (seeds.IDS + seeds.GROUPS) // 2
+
+ROOM = 4_000_000
+POLICY = (0, 10_000)
+LINES, STOP = 0, 1
+
+# The commands, each with the options of its calls.
+OPTIONS = {"check": (), "plan": (), "canon": (), "match": (), "run": POLICY, "replay": (*POLICY, 0, 0)}
+
+pytestmark = pytest.mark.slow
+
+
+class Calls:
+    """The calls on a batch and what a run of it gave."""
+
+    def __init__(self, library, names):
+        self.library, self.content = library, seeds.content_of(names)
+        self.texts = {kind: text.encode() for kind, text in contents.documents_of(self.content).items()}
+
+    def seconds(self, name, documents, options):
+        """The processor time of a call, which has to be done, and to write what the command prints."""
+        begun = time.process_time()
+        status, text = self.library.call(name, documents, options, ROOM)
+        spent = time.process_time() - begun
+        assert status == self.library.DONE, name
+        assert text.decode() == self.content.wanted(name.split("_")[1]) or name == "odb_run_open", name
+        return spent
+
+    def timed(self, seed):
+        """The processor time of each call with a seed, by its name."""
+        self.library._SEED, spent, handle = seed, {}, self.library.Handle()
+        for command, options in OPTIONS.items():
+            documents = tuple(self.texts[kind] for kind in contents.KINDS[command])
+            spent[f"odb_{command}"] = self.seconds(f"odb_{command}", documents, options)
+            spent[f"odb_{command}_as"] = self.seconds(f"odb_{command}_as", documents, (*options, LINES))
+        documents = tuple(self.texts[kind] for kind in contents.KINDS["match"])
+        spent["odb_match_with"] = self.seconds("odb_match_with", documents, (STOP, LINES))
+        documents, place = (self.texts["batch"], self.texts["events"]), ctypes.byref(handle)
+        spent["odb_run_open"] = self.seconds("odb_run_open", documents, (*POLICY, place))
+        self.seconds("odb_run_response", (), (place,))
+        self.library.close_run(handle)
+        return spent
+
+    def least(self, seed):
+        """The least time of each call in some tries."""
+        tries = [self.timed(seed) for _ in range(seeds.TRIES)]
+        return {name: min(it[name] for it in tries) for name in tries[0]}
+
+
+@pytest.fixture
+def library_of_package(package, monkeypatch):
+    """The part of the package that calls the library; its seed is put back."""
+    monkeypatch.setattr(package._library, "_SEED", package._library._SEED)
+    return package._library
+
+
+def test_each_call_takes_its_seed(library_of_package, tmp_path):
+    drawn = secrets.randbits(64)
+    names = crowds.colliding_names(tmp_path, NAMES, LOW_BITS, seeds.TAG_BITS, drawn)
+    plain = Calls(library_of_package, crowds.random_names(NAMES)).least(drawn)
+    crowd = Calls(library_of_package, names)
+    slow = lambda seed: [name for name, spent in crowd.least(seed).items() if spent > seeds.SLOW * plain[name]]
+    assert (slow(drawn), slow(drawn ^ 1), slow(0)) == (list(plain), [], [])

@@ -1,0 +1,33 @@
+"""The programs of docs/embedding.md and examples/, and what they print."""
+
+import os
+import re
+
+from .program import ROOT
+
+STRICT = ["-Wall", "-Wextra", "-Werror", "-pedantic"]
+
+# What a check and a live run of one request print.
+ONE = "ok 1 requests 0 groups\n"
+ANSWERED = '{"responses":[{"id":"a","status":204}]}\n'
+
+# What the first programs in Python and Node print.
+IN_PYTHON = "Counts(requests=1, groups=0)\n['a']\n"
+IN_NODE = "{ requests: 1, groups: 0 } [ 'a' ]\n"
+
+# The response that the live runs of the page print.
+LIVE = (
+    '{"responses":[{"body":{"of":"a"},"headers":{"etag":"7"},"id":"a","status":200},'
+    '{"body":{"of":"b"},"headers":{"etag":"7"},"id":"b","status":200}]}\n'
+)
+
+
+def text_of(*names):
+    """The text of a file of the repository."""
+    with open(os.path.join(ROOT, *names), encoding="utf-8") as file:
+        return file.read()
+
+
+def block(language, at=0):
+    """The program of docs/embedding.md in a language; a later one if there are several."""
+    return re.findall(rf"```{language}\n(.*?)```", text_of("docs", "embedding.md"), re.DOTALL)[at]
