@@ -9,11 +9,11 @@ use Rattle.odb_doc.specs.batch.Records.{Record}
 use Rattle.odb_check.specs.declared.need.Need.{Need}
 use Rattle.odb_check.specs.declared.need.Need.TheVariants.{One, Group}
 use Rattle.odb_check.specs.Levels.{greatest_of, greatest_below, unit_level, level_needed, next_level, levels_below, level_at, level_of_unit, HasLevels}
-use Rattle.odb_check.specs.Needs.{needs_at}
+use Rattle.odb_check.specs.Needs.{needs_at, needs_of_each}
 use Rattle.odb_check.specs.PlanGraph.{IsNeedAmong}
 use Rattle.odb_check.specs.Units.{unit_at, unit_count}
 use Rattle.odb_doc.proofs.ElementLemmas.{Contains-head, Contains-tail}
-use Rattle.odb_check.proofs.BelowLemmas.{set_cases}
+use Rattle.odb_check.proofs.BelowLemmas.{length-list_below, get_or-list_below, set_cases}
 use Rattle.odb_check.proofs.UnitLemmas.{unit_before}
 
 -- the levels of the first n requests, and of the units among these
@@ -159,6 +159,10 @@ has_levels rs before = record {
       ∙ greatest_of-same (λ need. level_needed (slice_index (levels_below rs i)) (unit_level rs i (levels_below rs i)) need + 1) (λ need. level_needed (level_at rs) (level_of_unit rs) need + 1) (needs_at rs i)
       (λ need inside. ap (λ m. m + 1) (needed_stays rs before i h need inside));
 }
+
+-- the row of a request among the needs of each
+pub row_is : (rs : List Record) (needs : List (List Need)) (i : ℕ) → needs ≡ needs_of_each rs → i < length rs → (i < length needs) × (get_or needs i [] ≡ needs_at rs i)
+row_is rs needs i are h = (omega (arith, ap length are, length-list_below (length rs) (needs_at rs)), ap (λ rows. get_or rows i []) are ∙ get_or-list_below (length rs) (needs_at rs) i [] h)
 
 -- the levels of what is needed are known
 pub levels_known : (rs : List Record) → HasNeedsBefore rs → (i : ℕ) → i < length rs → (levels units : ℕ) → levels ≡ i → units ≡ unit_count rs → All (IsNeedAmong levels units) (needs_at rs i)

@@ -12,4 +12,4 @@ pub mod ReferenceLemmas
 pub mod WalkLemmas
 pub mod LevelLemmas
 pub mod PlanLemmas
-pub mod OffsetLemmas
+pub mod PartLemmas

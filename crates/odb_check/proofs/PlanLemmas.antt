@@ -223,7 +223,10 @@ needs_known plan i =
     let rs = plan_records plan in
     subst (λ n. All (IsNeedAmong n (unit_count rs)) (needs_at rs i)) (sym (length-list_below (length rs) (unit_at rs))) (needs_within rs i)
 
-pub ruleset plan_needs = (shaped, needs_known)
+-- the needs that a plan keeps
+pub kept_needs : (plan : Plan) → plan.needs ≡ (plan_graph plan).needs
+unfolding batch_plan_graph
+kept_needs plan = plan.needed
 
 earlier_case : (rs : List Record) → HasGoodNames rs → (i : ℕ) → i < length rs → (need : Need) → Contains (needs_at rs i) need → IsEarlier (plan_graph_of rs) i need
 earlier_case rs good i h (One r) inside = (needs_before rs good).one i r inside

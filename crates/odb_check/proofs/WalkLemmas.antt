@@ -1,5 +1,5 @@
 -- The walk over the requests: the names of each, and its least fault.
-use Rattle.std.proofs.Common.{◌≡◌, ◌<◌, ◌+◌, ◌⊎◌, ℕ, List, [], ◌∷◌, ◌++◌, Option, Some, None, refl, sym, ap, ◌∙◌, subst, inl, inr, arith, length, take, get_or, append_assoc, rules}
+use Rattle.std.proofs.Common.{◌≡◌, ◌<◌, ◌+◌, ◌⊎◌, ℕ, List, [], ◌∷◌, ◌++◌, Option, Some, None, refl, sym, ap, ◌∙◌, subst, inl, inr, arith, length, take, get_or, rules}
 use Rattle.std.specs.Borrow.{Bor}
 use Rattle.std.specs.Prelude.{Contains, Result, Ok, Err, IfErr, IsErrAnd}
 use Rattle.std.specs.List.{filter_map, cons_option}
@@ -32,19 +32,19 @@ pub same_error : {T : Type 0} (r : Result T CheckFault) (P : CheckFault → Type
 same_error (Ok v) P fault is holds = absurd is
 same_error (Err e) P fault is holds = subst P (sym is) holds
 
--- some names are known, what they resolve to was added to a list, and has the stamp
-pub record AddsNames (rs : List Record) (names : List (List ℕ)) (stamp : ℕ) (before after : List Need) (ones groups : List ℕ) : Type 0 where
+-- some names are known, the list is what they resolve to, and this has the stamp
+pub record AreResolved (rs : List Record) (names : List (List ℕ)) (stamp : ℕ) (list : List Need) (ones groups : List ℕ) : Type 0 where
   pub known : (name : List ℕ) → Contains names name → ¬ (need_of rs name ≡ None)
-  pub added : after ≡ before ++ filter_map (need_of rs) names
+  pub list_is : list ≡ filter_map (need_of rs) names
   pub marked : AreMarksOf rs (filter_map (need_of rs) names) stamp ones groups
 
 -- one more name, from what each call ensures
-pub names_more : (rs : List Record) (names : List (Bor (List ℕ))) (k : ℕ) (d : Bor (List ℕ)) (need : Need) (stamp : ℕ) {before list list' : List Need} {ones ones' groups groups' : List ℕ}
+pub names_more : (rs : List Record) (names : List (Bor (List ℕ))) (k : ℕ) (d : Bor (List ℕ)) (need : Need) (stamp : ℕ) {list list' : List Need} {ones ones' groups groups' : List ℕ}
     → k < length names → Some need ≡ need_of rs (get_or names k d).now
-    → AddsNames rs (texts_in (take k names)) stamp before list ones groups
+    → AreResolved rs (texts_in (take k names)) stamp list ones groups
     → list' ≡ list ++ need ∷ [] → ones' ≡ ones_with need stamp ones → groups' ≡ groups_with need stamp groups
-    → AddsNames rs (texts_in (take (k + 1) names)) stamp before list' ones' groups'
-names_more rs names k d need stamp {before} {list} {list'} {ones} {ones'} {groups} {groups'} inside means adds list_is ones_are groups_are =
+    → AreResolved rs (texts_in (take (k + 1) names)) stamp list' ones' groups'
+names_more rs names k d need stamp {list} {list'} {ones} {ones'} {groups} {groups'} inside means are list_is ones_are groups_are =
     let texts = texts_in (take k names) in
     let name = (get_or names k d).now in
     let named = filter_map (need_of rs) texts in
@@ -52,11 +52,11 @@ names_more rs names k d need stamp {before} {list} {list'} {ones} {ones'} {group
     let more : filter_map (need_of rs) (texts ++ name ∷ []) ≡ named ++ need ∷ [] = filter_map-append (need_of rs) texts (name ∷ []) ∙ ap (λ o. named ++ cons_option o []) (sym means) in
     rw next (record {
       known = λ other h. elim (Contains-push_cases texts name other h) [
-        | inl earlier ↦ adds.known other earlier
+        | inl earlier ↦ are.known other earlier
         | inr same ↦ λ e. let nothing : Some need ≡ None = means ∙ ap (need_of rs) same ∙ e in cc
       ];
-      added = list_is ∙ ap (λ xs. xs ++ need ∷ []) adds.added ∙ append_assoc before named (need ∷ []) ∙ ap (λ xs. before ++ xs) (sym more);
-      marked = rw (more, ones_are, groups_are) (marks_more rs named need stamp ones groups (need_within rs name need (sym means)) adds.marked);
+      list_is = list_is ∙ ap (λ xs. xs ++ need ∷ []) are.list_is ∙ sym more;
+      marked = rw (more, ones_are, groups_are) (marks_more rs named need stamp ones groups (need_within rs name need (sym means)) are.marked);
     })
 
 -- a name that resolves to nothing is unknown
@@ -75,10 +75,9 @@ names_known rs i known h = by_meaning (need_of rs h.name) refl
     by_meaning (Some need) e = meant_known rs h.name need (is_meant rs h.name need e) h.holds.0 h.holds.1
 
 -- what the names resolve to, and then what the reference adds
-pub needs_added : (rs : List Record) (i : ℕ) (before middle further : List Need) → middle ≡ before ++ named_at rs i → further_needs rs i ≡ further → middle ++ further ≡ before ++ needs_at rs i
-needs_added rs i before middle further first second =
-    ap (λ xs. xs ++ further) first ∙ append_assoc before (named_at rs i) further ∙ ap (λ xs. before ++ xs)
-    (ap (λ xs. named_at rs i ++ xs) (sym second) ∙ sym (filter_map-append (need_of rs) (names_at rs i) (further_names (names_at rs i) (reference_at rs i))))
+pub needs_are : (rs : List Record) (i : ℕ) (named further : List Need) → named ≡ named_at rs i → further_needs rs i ≡ further → named ++ further ≡ needs_at rs i
+needs_are rs i named further first second =
+    ap (λ xs. xs ++ further) first ∙ ap (λ xs. named_at rs i ++ xs) (sym second) ∙ sym (filter_map-append (need_of rs) (names_at rs i) (further_names (names_at rs i) (reference_at rs i)))
 
 -- ---- the first fault is the least
 

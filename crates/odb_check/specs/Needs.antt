@@ -1,9 +1,10 @@
 -- What the requests of a batch need (OData JSON Format 4.01, section 19.1, `dependsOn`, and section 19.2).
-use Rattle.std.specs.Prelude.{ℕ, List, [], ◌∷◌, ◌++◌, Option, Some, None, bytes_eq, cond}
+use Rattle.std.specs.Prelude.{ℕ, List, [], ◌∷◌, ◌++◌, Option, Some, None, bytes_eq, cond, length}
 use Rattle.std.specs.List.{list_any, filter_map}
 use Rattle.odb_doc.specs.batch.Records.{Record}
 use Rattle.odb_check.specs.declared.need.Need.{Need}
 use Rattle.odb_check.specs.declared.need.Need.TheVariants.{One, Group}
+use Rattle.odb_check.specs.Firsts.{list_below}
 use Rattle.odb_check.specs.Positions.{names_at, reference_at}
 use Rattle.odb_check.specs.Units.{position_of, unit_of_group}
 
@@ -29,3 +30,7 @@ needed_names rs i = names_at rs i ++ further_names (names_at rs i) (reference_at
 -- what these names resolve to
 abbrev pub needs_at : List Record → ℕ → List Need
 needs_at rs i = filter_map (need_of rs) (needed_names rs i)
+
+-- the needs of each request
+abbrev pub needs_of_each : List Record → List (List Need)
+needs_of_each rs = list_below (length rs) (needs_at rs)

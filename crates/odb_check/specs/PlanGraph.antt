@@ -4,7 +4,7 @@ use Rattle.odb_doc.specs.batch.Records.{Record}
 use Rattle.odb_check.specs.declared.need.Need.{Need}
 use Rattle.odb_check.specs.declared.need.Need.TheVariants.{One, Group}
 use Rattle.odb_check.specs.Firsts.{list_below}
-use Rattle.odb_check.specs.Needs.{needs_at}
+use Rattle.odb_check.specs.Needs.{needs_at, needs_of_each}
 use Rattle.odb_check.specs.Positions.{id_at, group_at, names_at, reference_at}
 use Rattle.odb_check.specs.Units as all
 
@@ -24,7 +24,7 @@ needs_of plan i = slice_index_or plan.needs i []
 
 -- the plan of a list of requests
 abbrev pub plan_graph_of : List Record → PlanGraph
-plan_graph_of rs = record { units = list_below (length rs) (all.unit_at rs); unit_count = all.unit_count rs; needs = list_below (length rs) (needs_at rs) }
+plan_graph_of rs = record { units = list_below (length rs) (all.unit_at rs); unit_count = all.unit_count rs; needs = needs_of_each rs }
 
 -- position by position these are the units and needs of the requests
 pub record IsPlanGraphOf (rs : List Record) (plan : PlanGraph) : Type 0 where

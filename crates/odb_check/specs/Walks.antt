@@ -1,6 +1,6 @@
 -- For invariants and private clauses: what the walks over the requests find, that over identifiers and groups, and
 -- that over names and references.
-use Rattle.std.specs.Prelude.{◌≡◌, ℕ, suc, List, length}
+use Rattle.std.specs.Prelude.{◌≡◌, ℕ, List}
 use Rattle.std.specs.List.{filter_map}
 use Rattle.odb_doc.specs.LeastRules.{NoneBroken, IsLeast}
 use Rattle.odb_doc.specs.LeastRules as least_rules
@@ -9,11 +9,9 @@ use Rattle.odb_check.specs.declared.fault.NameRule.{NameRule}
 use Rattle.odb_check.specs.declared.fault.CheckFault.{CheckFault}
 use Rattle.odb_check.specs.declared.fault.CheckFault.TheVariants as faults
 use Rattle.odb_check.specs.declared.need.Need.{Need}
-use Rattle.odb_check.specs.declared.needs.Needs.{Needs}
 use Rattle.odb_check.specs.FaultTable.{number, phase}
-use Rattle.odb_check.specs.Firsts.{joined_below, list_below}
 use Rattle.odb_check.specs.NameFaults.{IsBrokenAt}
-use Rattle.odb_check.specs.Needs.{further_names, need_of, needs_at}
+use Rattle.odb_check.specs.Needs.{further_names, need_of}
 use Rattle.odb_check.specs.Positions.{names_at, reference_at}
 
 -- the rule belongs to the phase, and is broken at i
@@ -44,12 +42,3 @@ named_at rs i = filter_map (need_of rs) (names_at rs i)
 -- what the reference resolves to, unless it is among the names
 abbrev pub further_needs : List Record → ℕ → List Need
 further_needs rs i = filter_map (need_of rs) (further_names (names_at rs i) (reference_at rs i))
-
--- the needs of the first n requests, one after another, and where those of each begin
-pub record AreNeedsOf (rs : List Record) (n : ℕ) (needs : List Need) (offsets : List ℕ) : Type 0 where
-  pub needs_are : needs ≡ joined_below n (needs_at rs)
-  pub offsets_are : offsets ≡ list_below (suc n) (λ k. length (joined_below k (needs_at rs)))
-
--- the needs of all requests
-abbrev pub AreNeeds : List Record → Needs → Type 0
-AreNeeds rs needs = AreNeedsOf rs (length rs) needs.list.items needs.offsets.items

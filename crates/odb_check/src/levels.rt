@@ -3,12 +3,12 @@
 ghost use Rattle.std.specs.Prelude.{◌≡◌, ◌≤◌, ◌<◌, ◌+◌, ℕ, length, slice_index, All, IfOk};
 ghost use Rattle.odb_check.specs.LeastNameFault.{HasGoodNames};
 ghost use Rattle.odb_check.specs.Levels.{level_needed, levels_below, next_level};
+ghost use Rattle.odb_check.specs.Needs.{needs_of_each};
 ghost use Rattle.odb_check.specs.Requests.{requests};
 ghost use Rattle.odb_check.specs.PlanGraph.{IsNeedAmong};
-ghost use Rattle.odb_check.specs.Walks.{AreNeeds};
 
 use crate::need::Need;
-use crate::needs::{Needs, needs_of_request};
+use crate::needs::Needs;
 use crate::tables::Tables;
 use std::alloc::{AllocError, Global};
 
@@ -46,14 +46,14 @@ pub(crate) fn levels_of(
     needs: &Needs,
 ) -> Result<Vec<u32>, AllocError>
     requires good { HasGoodNames (requests tables.now) }
-    requires needs { AreNeeds (requests tables.now) needs.now }
+    requires needs { needs.now ≡ needs_of_each (requests tables.now) }
     ensures { IfOk result (λ levels. levels.items
         ≡ levels_below (requests tables.now) (length (requests tables.now))) }
 {
     let mut levels = Vec::with_capacity(alloc, tables.len() as usize)?;
     let mut unit_levels = vec![in alloc; 0_u32; tables.unit_count() as usize]?;
     for i in 0..tables.len() {
-        let level = next_level(needs_of_request(tables, needs, i), &levels, &unit_levels);
+        let level = next_level(needs.row(i), &levels, &unit_levels);
         levels.push(level)?;
         let unit = tables.unit_of(i) as usize;
         unit_levels[unit] = unit_levels[unit].max(level);

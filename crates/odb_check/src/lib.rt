@@ -24,6 +24,7 @@ mod walk;
 
 pub use fault::{CheckFault, NameRule};
 pub use need::Need;
+pub use needs::Needs;
 pub use plan::Plan;
 pub use seed::Seed;
 pub use verdict::{check, check_with};

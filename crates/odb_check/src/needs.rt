@@ -1,46 +1,84 @@
-//! The needs of all requests in one list, and where those of each request begin.
+//! The needs of all requests in one list, and where those of each request are.
 
-ghost use Rattle.std.specs.Prelude.{◌≡◌, ◌≤◌, ◌<◌, length, slice_index, slice_range};
-ghost use Rattle.odb_check.specs.Needs.{needs_at};
-ghost use Rattle.odb_check.specs.Requests.{requests};
-ghost use Rattle.odb_check.specs.Walks.{AreNeeds};
+ghost use Rattle.std.specs.Prelude.{◌≡◌, ◌==◌, ◌<◌, ◌++◌, ◌∷◌, [], length, slice_index_or, OnOk};
 
 use crate::need::Need;
-use crate::tables::Tables;
+use std::alloc::{AllocError, Global};
+use std::marker::Model;
 
-/// The needs of all requests of a batch, one request after another.
+/// The needs of each request, in one list: a plan has those of its batch.
 #[derive(Drop)]
-pub(crate) struct Needs {
-    pub(crate) list: Vec<Need>,
-    /// Where the needs of each request begin in the list, and where those of the last end.
-    pub(crate) offsets: Vec<usize>,
+pub struct Needs {
+    list: Vec<Need>,
+    /// Where the needs of each request begin and end in the list.
+    parts: Vec<(usize, usize)>,
+}
+
+impl Model for Needs {
+    ghost use Rattle.std.specs.Prelude.{List};
+    ghost use Rattle.odb_check.specs.declared.need.Need.{Need};
+
+    ghost Value = { List (List Need) };
+
+    ghost use Rattle.odb_check.specs.Parts.{rows_of, HasParts};
+
+    ghost view = { rows_of };
+
+    ghost invariant = { HasParts };
+}
+
+impl Clone for Needs {
+    ghost is_clone = { λ needs copy. copy ≡ needs };
+
+    fn clone(&self) -> Result<Needs, AllocError> {
+        Ok(Needs {
+            list: self.list.clone()?,
+            parts: self.parts.clone()?,
+        })
+    }
 }
 
 impl Needs {
-    /// The needs from one place of the list up to another.
-    fn part(&self, from: usize, to: usize) -> &[Need]
-        requires order { from ≤ to }
-        requires inside { to ≤ length self.now.list.items }
-        ensures { result.now ≡ slice_range self.now.list.items from to }
+    /// The needs of no request.
+    pub(crate) fn new(alloc: Global) -> Needs
+        ensures { result ≡ [] }
     {
+        Needs {
+            list: Vec::new(alloc),
+            parts: Vec::new(alloc),
+        }
+    }
+
+    /// Adds the needs of the next request.
+    pub(crate) fn push(&mut self, row: &[Need]) -> Result<(), AllocError>
+        ensures { OnOk result (self.new ≡ self.old ++ row.now ∷ []) }
+    {
+        let from = self.list.len();
+        self.list.extend_from_slice(row)?;
+        self.parts.push((from, self.list.len()))?;
+        Ok(())
+    }
+
+    /// Returns the number of requests.
+    pub fn len(&self) -> usize
+        ensures { result ≡ length self.now }
+    {
+        self.parts.len()
+    }
+
+    /// Returns whether there are no requests.
+    pub fn is_empty(&self) -> bool
+        ensures { result ≡ (length self.now == 0) }
+    {
+        self.len() == 0
+    }
+
+    /// Returns the needs of the request at a position.
+    pub fn row(&self, i: u32) -> &[Need]
+        requires { i < length self.now }
+        ensures { result.now ≡ slice_index_or self.now i [] }
+    {
+        let (from, to) = self.parts[i as usize];
         &self.list[from..to]
     }
-
-    /// Where the needs of the request at `i` begin, or those of the last end.
-    fn offset(&self, i: usize) -> usize
-        requires { i < length self.now.offsets.items }
-        ensures { result ≡ slice_index self.now.offsets.items i }
-    {
-        self.offsets[i]
-    }
-}
-
-/// The needs of the request at `i`.
-#[tactic(auto, using(crate::proofs::OffsetLemmas::part_of))]
-pub(crate) fn needs_of_request<'n>(tables: &Tables<'_>, needs: &'n Needs, i: u32) -> &'n [Need]
-    requires position { i < length (requests tables.now) }
-    requires needs { AreNeeds (requests tables.now) needs.now }
-    ensures { result.now ≡ needs_at (requests tables.now) i }
-{
-    needs.part(needs.offset(i as usize), needs.offset(i as usize + 1))
 }

@@ -1,16 +1,15 @@
 //! The plan of a batch: its units, and what each request needs.
 
 ghost use Rattle.std.specs.Prelude.{◌==◌, ◌≡◌, ◌≤◌, ◌<◌, length, slice_get, All, Some};
-ghost use Rattle.std.proofs.Props.{props};
 ghost use Rattle.odb_doc.specs.batch.Records.{IsWellFormedRecord, record_of};
 ghost use Rattle.odb_check.specs.LeastNameFault.{HasGoodNames};
 ghost use Rattle.odb_check.specs.Levels.{level_at, levels_below};
+ghost use Rattle.odb_check.specs.Needs.{needs_of_each};
 ghost use Rattle.odb_check.specs.Requests.{requests};
 ghost use Rattle.odb_check.specs.Units as units;
-ghost use Rattle.odb_check.specs.Walks.{AreNeeds};
 
 use crate::need::Need;
-use crate::needs::{Needs, needs_of_request};
+use crate::needs::Needs;
 use crate::tables::Tables;
 use odb_doc::Request;
 use std::ops::Range;
@@ -26,7 +25,7 @@ pub struct Plan<'b> {
     pub(crate) needs: Needs,
     pub(crate) levels: Vec<u32>,
     ghost good: { HasGoodNames (requests tables) },
-    ghost needed: { AreNeeds (requests tables) needs } by { Prim.hlevel props },
+    ghost needed: { needs ≡ needs_of_each (requests tables) },
     ghost leveled: { levels.items ≡ levels_below (requests tables) (length (requests tables)) },
 }
 
@@ -108,14 +107,20 @@ impl<'b> Plan<'b> {
 
     /// Returns the dependencies of the request at a position: its `dependsOn` entries in order,
     /// without repeats, then the request that its URL refers to unless it is already among them.
-    #[tactic(auto, using(crate::proofs::PlanLemmas::plan_needs))]
     pub fn needs(&self, i: u32) -> &[Need]
         requires { i < length (plan_graph self.now).units }
         ensures value { result.now ≡ needs_at (plan_records self.now) i }
         ensures needs { result.now ≡ plan_graphs.needs_of (plan_graph self.now) i }
         ensures known { All (IsNeed (plan_graph self.now)) result.now }
     {
-        needs_of_request(&self.tables, &self.needs, i)
+        self.needs.row(i)
+    }
+
+    /// Returns the dependencies of each request.
+    pub fn all_needs(&self) -> &Needs
+        ensures { result.now ≡ (plan_graph self.now).needs }
+    {
+        &self.needs
     }
 
     /// Returns the length of the longest dependency chain that ends at the request at a position.

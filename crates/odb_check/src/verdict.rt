@@ -4,10 +4,10 @@ ghost use Rattle.std.specs.Prelude.{◌≡◌, length, None, OnOk, IfOk, IfErr};
 ghost use Rattle.odb_doc.specs.batch.Batches.{records};
 ghost use Rattle.odb_check.specs.LeastNameFault.{HasGoodNames, RefusesNames};
 ghost use Rattle.odb_check.specs.Levels.{levels_below};
+ghost use Rattle.odb_check.specs.Needs.{needs_of_each};
 ghost use Rattle.odb_check.specs.Plans.{plan_records};
 ghost use Rattle.odb_check.specs.Requests.{requests};
 ghost use Rattle.odb_check.specs.Seeds.{IsSeeded};
-ghost use Rattle.odb_check.specs.Walks.{AreNeeds};
 
 use crate::fault::CheckFault;
 use crate::ids::check_ids;
@@ -23,7 +23,7 @@ use std::alloc::Global;
 /// The needs and the levels of a batch whose names fit together.
 fn needs_and_levels(alloc: Global, tables: &Tables<'_>) -> Result<(Needs, Vec<u32>), CheckFault>
     ensures good { OnOk result (HasGoodNames (requests tables.now)) }
-    ensures needs { IfOk result (λ found. AreNeeds (requests tables.now) found.0) }
+    ensures needs { IfOk result (λ found. found.0 ≡ needs_of_each (requests tables.now)) }
     ensures levels { IfOk result (λ found. found.1.items
         ≡ levels_below (requests tables.now) (length (requests tables.now))) }
     ensures least { IfErr result (λ fault. RefusesNames fault (requests tables.now)) }

@@ -1,14 +1,14 @@
 //! The walk over all requests that looks up what each names, and stops at the first fault.
 
-ghost use Rattle.std.specs.Prelude.{◌≡◌, ◌<◌, ◌+◌, ◌++◌, length, OnOk, IfOk, IfErr};
+ghost use Rattle.std.specs.Prelude.{◌≡◌, ◌<◌, ◌+◌, length, OnOk, IfOk, IfErr};
 ghost use Rattle.odb_doc.specs.Names.{texts_in};
 ghost use Rattle.odb_check.specs.LeastNameFault.{HasGoodNames, RefusesNames};
 ghost use Rattle.odb_check.specs.Marks.{AreMarksOf, AreUpTo};
 ghost use Rattle.odb_check.specs.NameFaults.{IsBrokenAt};
-ghost use Rattle.odb_check.specs.Needs.{needs_at};
+ghost use Rattle.odb_check.specs.Needs.{needs_at, needs_of_each};
 ghost use Rattle.odb_check.specs.Positions.{names_at};
 ghost use Rattle.odb_check.specs.Requests.{requests};
-ghost use Rattle.odb_check.specs.Walks.{BreaksNone, FailsAt, HasValidIds, AreNeeds, named_at};
+ghost use Rattle.odb_check.specs.Walks.{BreaksNone, FailsAt, HasValidIds, named_at};
 ghost use Rattle.odb_check.specs.declared.fault.NameRule.TheVariants as rules;
 
 use crate::fault::{CheckFault, NameRule};
@@ -19,14 +19,16 @@ use crate::needs::Needs;
 use crate::tables::Tables;
 use std::alloc::Global;
 
-/// F40: adds and marks what the names of the request at `i` resolve to, unless one resolves to nothing.
+/// F40: makes `row` what the names of the request at `i` resolve to, and marks it, unless one resolves to
+/// nothing.
+///
 /// Clients often list the requests just before, or some in a row, so each name is guessed: the first as
 /// that of a request just before, and each further one as the id after the one before it.
-fn add_names(
+fn resolve_names(
     tables: &Tables<'_>,
     i: u32,
     names: &[&str],
-    list: &mut Vec<Need>,
+    row: &mut Vec<Need>,
     marks: &mut Marks,
 ) -> Result<(), CheckFault>
     requires position { i < length (requests tables.now) }
@@ -34,11 +36,12 @@ fn add_names(
     requires names { texts_in names.now ≡ names_at (requests tables.now) i }
     requires marks { AreUpTo (requests tables.now) i marks.old.ones.items marks.old.groups.items }
     ensures known { OnOk result (¬ IsBrokenAt rules.UnknownName (requests tables.now) i) }
-    ensures added { OnOk result (list.new.items ≡ list.old.items ++ named_at (requests tables.now) i) }
+    ensures row { OnOk result (row.new.items ≡ named_at (requests tables.now) i) }
     ensures marked { OnOk result (AreMarksOf (requests tables.now) (named_at (requests tables.now) i)
         (i + 1) marks.new.ones.items marks.new.groups.items) }
     ensures least { IfErr result (FailsAt 4 (requests tables.now) i) }
 {
+    row.clear();
     let mut guess = (i as usize).saturating_sub(names.len()) as u32;
     for name in names {
         let Some(need) = tables.need_near(guess, name) else {
@@ -47,7 +50,7 @@ fn add_names(
             return Err(CheckFault::Request { at, rule });
         };
         marks.mark(need, i + 1);
-        list.push(need)?;
+        row.push(need)?;
         if let Need::One(position) = need {
             guess = position.saturating_add(1);
         }
@@ -55,30 +58,29 @@ fn add_names(
     Ok(())
 }
 
-/// Adds the needs of the request at `i`, or reports the first rule on names and references that it
-/// breaks.
-#[tactic(auto, using(crate::proofs::WalkLemmas::needs_added))]
-fn add_request(
+/// Makes `row` the needs of the request at `i`, or reports the first rule on names and references that
+/// it breaks.
+#[tactic(auto, using(crate::proofs::WalkLemmas::needs_are))]
+fn resolve_needs(
     tables: &Tables<'_>,
     i: u32,
-    list: &mut Vec<Need>,
+    row: &mut Vec<Need>,
     marks: &mut Marks,
 ) -> Result<(), CheckFault>
     requires position { i < length (requests tables.now) }
     requires valid_ids { HasValidIds (requests tables.now) }
     requires marks { AreUpTo (requests tables.now) i marks.old.ones.items marks.old.groups.items }
     ensures none { OnOk result (BreaksNone 4 (requests tables.now) i) }
-    ensures needs { OnOk result (list.new.items ≡ list.old.items ++ needs_at (requests tables.now) i) }
+    ensures needs { OnOk result (row.new.items ≡ needs_at (requests tables.now) i) }
     ensures marks { OnOk result (AreUpTo (requests tables.now) (i + 1) marks.new.ones.items
         marks.new.groups.items) }
     ensures least { IfErr result (FailsAt 4 (requests tables.now) i) }
 {
-    let from = list.len();
-    add_names(tables, i, tables.names(i), list, marks)?;
+    resolve_names(tables, i, tables.names(i), row, marks)?;
     let resolved = Resolved {
         tables,
         i,
-        named: &list[from..],
+        named: row,
         marks,
     };
     if let Some(rule) = resolved.broken_rule() {
@@ -86,7 +88,7 @@ fn add_request(
         return Err(CheckFault::Request { at, rule });
     }
     if let Some(need) = resolved.further_need() {
-        list.push(need)?;
+        row.push(need)?;
     }
     Ok(())
 }
@@ -95,16 +97,15 @@ fn add_request(
 pub(crate) fn all_needs(alloc: Global, tables: &Tables<'_>) -> Result<Needs, CheckFault>
     requires { HasValidIds (requests tables.now) }
     ensures good { OnOk result (HasGoodNames (requests tables.now)) }
-    ensures needs { IfOk result (AreNeeds (requests tables.now)) }
+    ensures needs { IfOk result (λ needs. needs ≡ needs_of_each (requests tables.now)) }
     ensures least { IfErr result (λ fault. RefusesNames fault (requests tables.now)) }
 {
     let mut marks = Marks::new(alloc, tables)?;
-    let mut list = Vec::new(alloc);
-    let mut offsets = Vec::new(alloc);
-    offsets.push(0)?;
+    let mut needs = Needs::new(alloc);
+    let mut row = Vec::new(alloc);
     for i in 0..tables.len() {
-        add_request(tables, i, &mut list, &mut marks)?;
-        offsets.push(list.len())?;
+        resolve_needs(tables, i, &mut row, &mut marks)?;
+        needs.push(&row)?;
     }
-    Ok(Needs { list, offsets })
+    Ok(needs)
 }

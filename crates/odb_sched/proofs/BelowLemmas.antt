@@ -1,12 +1,12 @@
 -- Tests of the numbers below a number, and of the elements of a list, against 'there is one' and 'for each'.
-use Rattle.std.proofs.Common.{◌≡◌, ℕ, zero, suc, ◌<◌, ◌∙◌, ap, sym, refl, arith, Bool, true, false, ◌&&◌, not, cond, List, [], ◌∷◌, get_or, inl, inr, Contains, Some, is_none, All, Decides, find, if◌then◌else◌}
+use Rattle.std.proofs.Common.{◌≡◌, ℕ, zero, suc, ◌<◌, ◌∙◌, ap, sym, refl, arith, Bool, true, false, ◌&&◌, not, cond, List, [], ◌∷◌, get_or, inl, inr, subst, Contains, Some, None, is_none, All, Decides, find, if◌then◌else◌}
 use Rattle.std.specs.List.{list_any, list_all}
-use Rattle.std.proofs.lemmas.Bool.{cases_Bool, true≢false}
+use Rattle.std.proofs.lemmas.Bool.{cases_Bool, cases_lt, true≢false}
 use Rattle.std.proofs.lemmas.Bool.Decides.{Decides-below_or, Decides-below_and}
 use Rattle.std.proofs.lemmas.List.Folds.{list_any_at, Any-from_list_any}
 use Rattle.std.proofs.lemmas.List.Sums.{list_all-from_AllPass, AllPass-from_list_all}
 use Rattle.std.proofs.lemmas.List.Elements.{All-contains, Contains-get_or}
-use Rattle.odb_check.specs.Firsts.{any_below, all_below, passing_below}
+use Rattle.odb_check.specs.Firsts.{any_below, all_below, first_below, passing_below}
 
 pub any_below-Decides : (n : ℕ) (test : ℕ → Bool) → Decides (any_below n test) ((k : ℕ) × (k < n) × (test k ≡ true))
 any_below-Decides n test = Decides-below_or test (λ k. test k ≡ true) (λ m. any_below m test) (λ k. ((λ e. e), (λ e. e))) refl (λ _. refl) n
@@ -64,3 +64,21 @@ passing_below-within (suc n) test = at (test n) (passing_below-within n test)
     at true rest zero d within = omega arith
     at true rest (suc k) d within = let below : get_or (passing_below n test) k d < n = rest k d (omega arith) in omega arith
     at false rest k d within = let below : get_or (passing_below n test) k d < n = rest k d within in omega arith
+
+-- if no number below n passes, there is no first
+pub none_passes : (n : ℕ) (test : ℕ → Bool) → ((k : ℕ) → k < n → test k ≡ false) → first_below n test ≡ None
+none_passes zero test fails = refl
+none_passes (suc n) test fails = rw (none_passes n test (λ k below. fails k (omega (arith, below))), fails n (omega arith)) refl
+
+-- a number that passes is the first if none before it does
+pub first_is : (n : ℕ) (test : ℕ → Bool) (b : ℕ) → b < n → test b ≡ true → ((k : ℕ) → k < b → test k ≡ false) → first_below n test ≡ Some b
+first_is zero test b within passes fails = absurd (omega (arith, within))
+first_is (suc n) test b within passes fails =
+    elim (cases_lt b n) [
+      | inl less ↦ rw (first_is n test b less passes fails) refl
+      | inr more ↦
+          let same : b ≡ n = omega (arith, within, more) in
+          subst (λ c. first_below (suc n) test ≡ Some c) (sym same)
+          (let here : test n ≡ true = subst (λ c. test c ≡ true) same passes in
+          rw (none_passes n test (λ k below. fails k (omega (arith, below, same))), here) refl)
+    ]

@@ -25,7 +25,7 @@ count_map test [] = refl
 count_map test (x ∷ xs) = rw (sum_by-cons (λ y. cond (test y) 1 0) x xs, sum_by-cons (λ b. cond b 1 0) (test x) (map test xs), count_map test xs) refl
 
 -- no element is counted exactly when all pass the contrary test
-none_unmet : {X : Type 0} (test : X → Bool) (xs : List X) → (count_by (λ x. not (test x)) xs == 0) ≡ list_all test xs
+pub none_unmet : {X : Type 0} (test : X → Bool) (xs : List X) → (count_by (λ x. not (test x)) xs == 0) ≡ list_all test xs
 none_unmet test [] = refl
 none_unmet test (x ∷ xs) = rw (sum_by-cons (λ y. cond (not (test y)) 1 0) x xs, ← none_unmet test xs) (at (test x))
   where
@@ -61,7 +61,7 @@ full_is count width = elim (cases_lt count width) [
 pub skipped_is : (state : State) (counted : Progress) (i : ℕ) → IsReached state → IsCounted state counted → i < size state → is_skipped state.plan_graph counted.counts.failed i ≡ unit_failed state (unit_of state.plan_graph i)
 skipped_is state counted i reached are within = are.counts.units.failed (unit_of state.plan_graph i) (reached.laws.counted i within)
 
-unmet_is : (state : State) (counted : Progress) (i : ℕ) → IsCounted state counted → i < size state → (get_or counted.counts.unmet.items i 0 == 0) ≡ all_satisfied state i
+pub unmet_is : (state : State) (counted : Progress) (i : ℕ) → IsCounted state counted → i < size state → (get_or counted.counts.unmet.items i 0 == 0) ≡ all_satisfied state i
 unmet_is state counted i are within = ap (λ n. n == 0) (are.counts.unmet i within) ∙ none_unmet (satisfied_in state.plan_graph state.phases) (needs_of state.plan_graph i)
 
 regroup : (fresh stopped failed satisfied room : Bool) → ((fresh && not failed && satisfied) && not stopped && room) ≡ (fresh && not stopped && not failed && satisfied && room)

@@ -50,11 +50,11 @@ need_row plan rows key i need are known inside (m, below, at) same =
     (k, within, eqb-true _ _ passes)
 
 -- a need with the key of a member is of the unit, and so is one with the key of the unit
-of_member : (plan : PlanGraph) (u r : ℕ) (need : Need) → r < length plan.units → unit_of plan r ≡ u → key_of plan need ≡ r → unit_needed plan need ≡ u
+pub of_member : (plan : PlanGraph) (u r : ℕ) (need : Need) → r < length plan.units → unit_of plan r ≡ u → key_of plan need ≡ r → unit_needed plan need ≡ u
 of_member plan u r (One s) within here same = ap (unit_of plan) same ∙ here
 of_member plan u r (Group v) within here same = absurd (omega arith)
 
-of_unit : (plan : PlanGraph) (u i : ℕ) (need : Need) → IsPlan plan → i < length plan.units → Contains (needs_of plan i) need → key_of plan need ≡ length plan.units + u → unit_needed plan need ≡ u
+pub of_unit : (plan : PlanGraph) (u i : ℕ) (need : Need) → IsPlan plan → i < length plan.units → Contains (needs_of plan i) need → key_of plan need ≡ length plan.units + u → unit_needed plan need ≡ u
 of_unit plan u i (One s) laws within has same = let earlier : s < i = laws.earlier i (One s) within has in absurd (omega arith)
 of_unit plan u i (Group v) laws within has same = omega arith
 

@@ -59,7 +59,7 @@ counted_more n count value counts before here =
     ap (λ ns. ns ++ count ∷ []) before ∙ ap (λ m. list_below n value ++ m ∷ []) here ∙ ap (λ m. list_below m value) next
 
 -- if each element passes, all are counted
-count_elements : {X : Type 0} (test : X → Bool) (xs : List X) → All (λ x. test x ≡ true) xs → count_by test xs ≡ length xs
+pub count_elements : {X : Type 0} (test : X → Bool) (xs : List X) → All (λ x. test x ≡ true) xs → count_by test xs ≡ length xs
 count_elements test [] each = refl
 count_elements test (x ∷ xs) each =
     let here : test x ≡ true = each 0 x (omega arith) in
@@ -82,7 +82,7 @@ pending_first plan u = count_same (length plan.units) _ _ (λ i below. rw (ap ha
     at false = refl
 
 -- and nothing is satisfied
-not_satisfied : (plan : PlanGraph) (need : Need) → ((u : ℕ) → u < plan.unit_count → 0 < members_in plan u) → IsNeed plan need → satisfied_in plan (fresh plan) need ≡ false
+pub not_satisfied : (plan : PlanGraph) (need : Need) → ((u : ℕ) → u < plan.unit_count → 0 < members_in plan u) → IsNeed plan need → satisfied_in plan (fresh plan) need ≡ false
 not_satisfied plan (One r) some known = ap has_succeeded (fresh_at plan r)
 not_satisfied plan (Group u) some known =
     let left : 0 < members_in plan u = some u known in

@@ -1,22 +1,15 @@
 -- The numbers of a plan are its units and needs.
-use Rattle.std.proofs.Common.{◌≡◌, ◌↔◌, ℕ, suc, ◌<◌, ◌+◌, ◌-◌, ◌∙◌, sym, ap, subst, arith, List, [], ◌∷◌, ◌++◌, length, get_or, take, drop, inl, inr, Bool, true, rules}
-use Rattle.std.specs.Prelude.{slice_index}
+use Rattle.std.proofs.Common.{◌≡◌, ◌↔◌, ℕ, ◌<◌, ◌+◌, ◌∙◌, sym, ap, subst, arith, List, [], ◌∷◌, ◌++◌, length, get_or, inl, inr, Bool, true, rules}
 use Rattle.std.proofs.lemmas.Bool.{cases_lt}
-use Rattle.std.proofs.lemmas.List.{get_or_append_left, get_or_at, get_or_default, get_or_read, length_push, same_lists}
-use Rattle.odb_doc.specs.batch.Records.{Record}
+use Rattle.std.proofs.lemmas.List.{get_or_append_left, get_or_at, get_or_default, length_push, same_lists}
 use lib.Pointwise.{pointwise, pointwise_decides}
 use Rattle.odb_check.specs.contracts.need.NeedPartialEq.TheImpl.{eq-value}
 use Rattle.odb_check.specs.declared.need.Need.{Need}
 use Rattle.odb_check.specs.declared.need.Need.TheVariants.{One}
-use Rattle.odb_check.specs.Firsts.{joined_below, list_below}
-use Rattle.odb_check.specs.Needs.{needs_at}
-use Rattle.odb_check.specs.PlanGraph.{PlanGraph, IsPlan, IsPlanGraphOf, IsSpan, unit_of, needs_of}
-use Rattle.odb_check.specs.Walks.{AreNeedsOf}
-use Rattle.odb_check.proofs.OffsetLemmas.{part_of}
+use Rattle.odb_check.specs.PlanGraph.{PlanGraph, IsPlan, IsSpan, unit_of, needs_of}
 use Rattle.odb_sched.specs.declared.graph.Graph.TheInside.{Inside}
 use Rattle.odb_sched.specs.invariants.Dependents.{AreDependents}
-use Rattle.odb_sched.specs.invariants.Graphs.{AreAlike, AreOffsets, AreParts, AreSpans, IsGraph, part_at, plan_graph_kept}
-use Rattle.odb_check.proofs.BelowLemmas.{length-list_below, get_or-list_below}
+use Rattle.odb_sched.specs.invariants.Graphs.{AreAlike, AreSpans, IsGraph, plan_graph_kept}
 
 -- where the units so far begin and end
 pub record AreSpansBelow (plan : PlanGraph) (n : ℕ) (members : List (ℕ × ℕ)) : Type 0 where
@@ -35,42 +28,20 @@ spans_more plan n from to members written are write span = subst (AreSpansBelow 
   ];
 })
 
--- the needs of the requests are their parts of the list of all
-pub parts_are : (rs : List Record) (plan : PlanGraph) (n : ℕ) (list : List Need) (offsets : List ℕ) → n ≡ length rs → IsPlanGraphOf rs plan → AreNeedsOf rs n list offsets → AreParts plan list offsets
-parts_are rs plan n list offsets all plan_graph are =
-    let size : length plan.units ≡ n = plan_graph.size ∙ sym all in
-    record {
-      offsets_are = record {
-        each = ap length are.offsets_are ∙ length-list_below (suc n) (λ k. length (joined_below k (needs_at rs))) ∙ ap suc (sym size);
-        order = λ i within. (part_of rs n list offsets i are (omega (arith, within, size))).order;
-        within = λ i within. (part_of rs n list offsets i are (omega (arith, within, size))).inside;
-      };
-      parts = λ i within. (part_of rs n list offsets i are (omega (arith, within, size))).part ∙ sym (plan_graph.needs i (omega (arith, within, plan_graph.size)));
-    }
-
 abbrev plan_graph_from : List ℕ → ℕ → List (List Need) → PlanGraph
 plan_graph_from units count needs = record { units = units; unit_count = count; needs = needs }
 
 -- these are the units and needs of a plan
-pub kept_is : (g : Inside) (plan : PlanGraph) → IsPlan plan → g.units.items ≡ plan.units → length g.members.items ≡ plan.unit_count → AreParts plan g.needs.list.items g.needs.offsets.items → plan_graph_kept g ≡ plan
-kept_is g plan laws units count parts =
-    let each : length g.units.items ≡ length plan.units = ap length units in
-    let needs : list_below (length g.units.items) (part_at g.needs.list.items g.needs.offsets.items) ≡ plan.needs =
-    same_lists _ _ (length-list_below (length g.units.items) (part_at g.needs.list.items g.needs.offsets.items) ∙ each ∙ sym laws.as_long) (λ k d below.
-    let within : k < length g.units.items = subst (λ n. k < n) (length-list_below (length g.units.items) (part_at g.needs.list.items g.needs.offsets.items)) below in
-    let inside : k < length plan.units = omega arith in
-    get_or-list_below (length g.units.items) (part_at g.needs.list.items g.needs.offsets.items) k d within ∙ parts.parts k inside ∙ get_or_default plan.needs k [] d (omega (arith, laws.as_long, inside))) in
-    ap (λ us. plan_graph_from us (length g.members.items) (plan_graph_kept g).needs) units ∙ ap (λ n. plan_graph_from plan.units n (plan_graph_kept g).needs) count ∙ ap (λ ns. plan_graph_from plan.units plan.unit_count ns) needs
+pub kept_is : (g : Inside) (plan : PlanGraph) → g.units.items ≡ plan.units → length g.members.items ≡ plan.unit_count → g.needs ≡ plan.needs → plan_graph_kept g ≡ plan
+kept_is g plan units count needs =
+    ap (λ us. plan_graph_from us (length g.members.items) g.needs) units ∙ ap (λ n. plan_graph_from plan.units n g.needs) count ∙ ap (plan_graph_from plan.units plan.unit_count) needs
 
-pub graph_is : (g : Inside) (plan : PlanGraph) → IsPlan plan → g.units.items ≡ plan.units → length g.members.items ≡ plan.unit_count → AreParts plan g.needs.list.items g.needs.offsets.items → AreSpans plan g.members.items → AreDependents plan g.dependents → IsGraph g
-graph_is g plan laws units count parts spans dependents =
-    let same = kept_is g plan laws units count parts in
-    record {
-      order = subst IsPlan (sym same) laws;
-      spans = subst (λ s. AreSpans s g.members.items) (sym same) spans;
-      offsets = subst (λ n. AreOffsets n g.needs.list.items g.needs.offsets.items) (sym (ap length units)) parts.offsets_are;
-      dependents = subst (λ s. AreDependents s g.dependents) (sym same) dependents;
-    }
+pub graph_is : (g : Inside) (plan : PlanGraph) → IsPlan plan → plan_graph_kept g ≡ plan → AreSpans plan g.members.items → AreDependents plan g.dependents → IsGraph g
+graph_is g plan laws same spans dependents = record {
+  order = subst IsPlan (sym same) laws;
+  spans = subst (λ s. AreSpans s g.members.items) (sym same) spans;
+  dependents = subst (λ s. AreDependents s g.dependents) (sym same) dependents;
+}
 
 -- two plans are the same if their requests have the same units and needs
 pub same_plans : (plan other : PlanGraph) → IsPlan plan → IsPlan other → length plan.units ≡ length other.units → plan.unit_count ≡ other.unit_count → ((i : ℕ) → i < length other.units → AreAlike plan other i) → plan ≡ other
@@ -80,14 +51,6 @@ same_plans plan other laws laws_other each count alike =
     let inside : k < length plan.units = omega (arith, below, laws.as_long) in
     get_or_default plan.needs k d [] below ∙ (alike k (omega (arith, inside, each))).1 ∙ get_or_default other.needs k [] d (omega (arith, inside, each, laws_other.as_long))) in
     ap (λ us. plan_graph_from us plan.unit_count plan.needs) units ∙ ap (λ n. plan_graph_from other.units n plan.needs) count ∙ ap (λ ns. plan_graph_from other.units other.unit_count ns) needs
-
--- the part of the list that was read
-pub part_read : (list read : List Need) (offsets : List ℕ) (n i from to : ℕ) → AreOffsets n list offsets → i < n → from ≡ get_or offsets i from → to ≡ get_or offsets (i + 1) to → read ≡ list → take (to - from) (drop from read) ≡ get_or (list_below n (part_at list offsets)) i []
-part_read list read offsets n i from to are within begins ends same =
-    let first : from ≡ slice_index offsets i = (get_or_read offsets i from (omega (arith, are.each, within)) begins 0) in
-    let last : to ≡ slice_index offsets (i + 1) = (get_or_read offsets (i + 1) to (omega (arith, are.each, within)) ends 0) in
-    ap (λ xs. take (to - from) (drop from xs)) same ∙ ap (λ k. take (to - k) (drop k list)) first ∙ ap (λ k. take (k - slice_index offsets i) (drop (slice_index offsets i) list)) last
-    ∙ sym (get_or-list_below n (part_at list offsets) i [] within)
 
 -- the comparison of two needs tells whether they are one
 same_needs : (need other : Need) → (eq-value.it need other ≡ true → need ≡ other) × (need ≡ other → eq-value.it need other ≡ true)

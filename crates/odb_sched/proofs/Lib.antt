@@ -26,6 +26,9 @@ pub mod SkippedLemmas
 pub mod FailLemmas
 pub mod SatisfyingLemmas
 pub mod UnmetLemmas
+pub mod OuterLemmas
+pub mod OpeningLemmas
+pub mod UnitLemmas
 pub mod SucceedLemmas
 pub mod SameLemmas
 pub mod ReadyLemmas

@@ -1,5 +1,5 @@
 -- What holds before any event holds after each event that may come.
-use Rattle.std.proofs.Common.{◌≡◌, ℕ, ◌<◌, ◌+◌, ◌*◌, ◌∙◌, sym, refl, ap, arith, true, false, cond, List, length, get_or, set, replicate, inl, inr, count_by, get_or-set_other}
+use Rattle.std.proofs.Common.{◌≡◌, ℕ, ◌<◌, ◌+◌, ◌*◌, ◌∙◌, sym, refl, ap, arith, Bool, true, false, cond, List, length, get_or, set, replicate, inl, inr, count_by, get_or-set_other}
 use Rattle.std.proofs.lemmas.Bool.{cases_eq, both_ways, and_parts}
 use Rattle.std.proofs.lemmas.List.{length-set, length-replicate}
 use Rattle.std.proofs.lemmas.List.Folds.{sum_by-replicate}
@@ -39,6 +39,10 @@ reached_first plan policy laws = record {
 -- no event asks for the requests
 pub reached_with : (requests : List Record) (state : State) → IsReached state → IsReached (with_requests requests state)
 reached_with requests state reached = record { laws = reached.laws; each = reached.each; narrow = reached.narrow; needs = reached.needs; statuses = reached.statuses }
+
+-- nor is it asked whether the caller has stopped the run
+pub reached_closed : (state : State) (closed : Bool) → IsReached state → IsReached (record state { closed = closed })
+reached_closed state closed reached = record { laws = reached.laws; each = reached.each; narrow = reached.narrow; needs = reached.needs; statuses = reached.statuses }
 
 -- how many run after a write over a phase
 count_after : (phases : List Phase) (i : ℕ) (new : Phase) → i < length phases → count_by is_running (set phases i new) + weight (get_or phases i Unstarted) ≡ count_by is_running phases + weight new

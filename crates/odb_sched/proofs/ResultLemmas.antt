@@ -128,14 +128,14 @@ unit_succeeded-from state table u reached finished unstopped agrees good = succe
     has_succeeded-from (phase_at state i) (each_over state i finished unstopped within (rw here sound))
     (false_from_ne_true _ (λ failed. both_ways _ sound (subst (λ v. unit_failed state v ≡ true) here (fails-from_Fails state.plan_graph (λ j. has_failed (phase_at state j)) (unit_of state.plan_graph i) reached.laws (own i within failed))))))
 
-never_stopped : (state : State) → state.policy.mode ≡ Continue → is_stopped state ≡ false
-never_stopped state mode = rw mode refl
+never_stopped : (state : State) → state.closed ≡ false → state.policy.mode ≡ Continue → is_stopped state ≡ false
+never_stopped state going mode = rw (going, mode) refl
 
-pub one_result : (state : State) → IsReached state → is_finished state ≡ true → state.policy.mode ≡ Continue → HasOneResult state
-one_result state reached finished mode table agrees i within = (
+pub one_result : (state : State) → IsReached state → is_finished state ≡ true → state.closed ≡ false → state.policy.mode ≡ Continue → HasOneResult state
+one_result state reached finished going mode table agrees i within = (
   (
     (λ e. (agrees_with_table state reached table agrees i within e).0),
-    (λ good. answered-from state i within (unit_succeeded-from state table (unit_of state.plan_graph i) reached finished (never_stopped state mode) agrees good)),
+    (λ good. answered-from state i within (unit_succeeded-from state table (unit_of state.plan_graph i) reached finished (never_stopped state going mode) agrees good)),
   ),
   (λ e. (agrees_with_table state reached table agrees i within e).1),
 )
@@ -160,6 +160,6 @@ agrees_with state statuses has i outcome within at =
     let status = has i outcome within at in
     rw at (λ j. record { status = status j; headers = outcome.headers; body = outcome.body })
 
-pub result_by_statuses : (state : State) → IsReached state → is_finished state ≡ true → state.policy.mode ≡ Continue → HasResultByStatuses state
-result_by_statuses state reached finished mode statuses has i within =
-    (one_result state reached finished mode (table_with state statuses) (agrees_with state statuses has) i within).0
+pub result_by_statuses : (state : State) → IsReached state → is_finished state ≡ true → state.closed ≡ false → state.policy.mode ≡ Continue → HasResultByStatuses state
+result_by_statuses state reached finished going mode statuses has i within =
+    (one_result state reached finished going mode (table_with state statuses) (agrees_with state statuses has) i within).0

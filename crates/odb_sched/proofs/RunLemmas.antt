@@ -61,6 +61,15 @@ pub policy-after_all : (state : State) (events : List Event) → (after_all stat
 policy-after_all state [] = refl
 policy-after_all state (e ∷ es) = policy-after_all (after state e) es ∙ policy-after state e
 
+closed-after : (state : State) (event : Event) → (after state event).closed ≡ state.closed
+closed-after state (Start i) = refl
+closed-after state (Report i outcome) = refl
+
+-- no event closes a run
+pub closed-after_all : (state : State) (events : List Event) → (after_all state events).closed ≡ state.closed
+closed-after_all state [] = refl
+closed-after_all state (e ∷ es) = closed-after_all (after state e) es ∙ closed-after state e
+
 requests-after : (state : State) (event : Event) → (after state event).requests ≡ state.requests
 requests-after state (Start i) = refl
 requests-after state (Report i outcome) = refl

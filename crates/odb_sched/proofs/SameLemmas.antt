@@ -23,7 +23,7 @@ as_before test phases i new same j = elim (get_or-set_cases phases i j new) [
 ]
 
 -- if the same requests have succeeded, the same needs are satisfied
-satisfied_same : (plan : PlanGraph) (phases other : List Phase) → ((j : ℕ) → has_succeeded (get_or phases j Unstarted) ≡ has_succeeded (get_or other j Unstarted)) → (need : Need) → satisfied_in plan phases need ≡ satisfied_in plan other need
+pub satisfied_same : (plan : PlanGraph) (phases other : List Phase) → ((j : ℕ) → has_succeeded (get_or phases j Unstarted) ≡ has_succeeded (get_or other j Unstarted)) → (need : Need) → satisfied_in plan phases need ≡ satisfied_in plan other need
 satisfied_same plan phases other same (One r) = same r
 satisfied_same plan phases other same (Group u) = ap (λ (f : ℕ → Bool). all_below (length plan.units) (λ j. not (unit_of plan j == u) || f j)) (fun_ext same)
 

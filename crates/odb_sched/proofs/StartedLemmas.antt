@@ -1,5 +1,5 @@
 -- A started request moves from the ready ones to the running ones, and nothing else that is counted changes.
-use Rattle.std.proofs.Common.{◌≡◌, ◌<◌, ◌∙◌, ℕ, Bool, List, sym, ap, subst, true, false, set, get_or, refl, length, get_or-set_other}
+use Rattle.std.proofs.Common.{◌≡◌, ◌<◌, ◌||◌, ◌∙◌, ℕ, Bool, List, sym, ap, subst, true, false, set, get_or, refl, length, get_or-set_other}
 use Rattle.std.proofs.lemmas.Bool.{and_left}
 use Rattle.odb_check.specs.PlanGraph.{PlanGraph}
 use Rattle.odb_sched.specs.declared.policy.Policy.{Policy}
@@ -11,6 +11,7 @@ use Rattle.odb_sched.specs.run.State.{is_unstarted, is_running, has_succeeded, h
 use Rattle.odb_sched.specs.run.Steps.{stopped_in}
 use Rattle.odb_sched.specs.invariants.Counts.{AreCounts, HasReady, is_skipped}
 use Rattle.odb_sched.specs.invariants.Kept.{IsCounted, state_of}
+use Rattle.odb_sched.specs.invariants.Openings.{AreOpenings}
 use Rattle.odb_sched.proofs.KeptLemmas.{written_at, written_back}
 use Rattle.odb_sched.proofs.PhaseLemmas.{Unstarted-from}
 use Rattle.odb_sched.proofs.SameLemmas.{as_before, unmet_same, pending_same, propagated_same, running_same}
@@ -37,14 +38,15 @@ counts_started plan phases t i ready running within fresh counts is_ready is_run
     }
 
 -- the counts of a run with this request started
-pub counted_started : (plan : PlanGraph) (policy : Policy) (phases written : List Phase) (counted new : Progress) (i : ℕ) (ready running : List Bool) → i < length plan.units → is_unstarted (get_or phases i Unstarted) ≡ true
-    → IsCounted (state_of plan policy phases) counted → ready ≡ set counted.counts.ready i false → running ≡ set counted.counts.running i true → written ≡ set phases i Running
-    → new.counts ≡ record counted.counts { ready = ready; running = running } → new.stopped ≡ counted.stopped → IsCounted (state_of plan policy written) new
-counted_started plan policy phases written counted new i ready running within fresh are is_ready is_running_set write counts stopped =
+pub counted_started : (plan : PlanGraph) (policy : Policy) (closed : Bool) (phases written : List Phase) (counted new : Progress) (i : ℕ) (ready running : List Bool) → i < length plan.units → is_unstarted (get_or phases i Unstarted) ≡ true
+    → IsCounted (state_of plan policy closed phases) counted → ready ≡ set counted.counts.ready i false → running ≡ set counted.counts.running i true → written ≡ set phases i Running
+    → new.counts ≡ record counted.counts { ready = ready; running = running } → new.stopped ≡ counted.stopped → AreOpenings plan written new.openings → IsCounted (state_of plan policy closed written) new
+counted_started plan policy closed phases written counted new i ready running within fresh are is_ready is_running_set write counts stopped openings =
     let phased : i < length phases = rw are.counts.ready.entries.phased within in
     let runs : is_running (get_or written i Unstarted) ≡ true = ap is_running (written_at phases written i Running phased write) in
     let back = written_back phases written i Unstarted Running write (Unstarted-from _ fresh) in
     record {
       counts = subst (λ ps. AreCounts plan ps new.counts) (sym write) (subst (λ t. AreCounts plan (set phases i Running) t) (sym counts) (counts_started plan phases counted.counts i ready running within fresh are.counts is_ready is_running_set));
-      stopped = stopped ∙ are.stopped ∙ ap (stopped_in policy.mode) (sym back) ∙ stopped_by_start policy.mode written i runs;
+      openings = openings;
+      stopped = stopped ∙ are.stopped ∙ ap (λ b. closed || b) (ap (stopped_in policy.mode) (sym back) ∙ stopped_by_start policy.mode written i runs);
     }

@@ -43,6 +43,11 @@ stopped_by_report mode phases i within = at (stops mode) ∙ ap (λ b. stops mod
     at true = refl
     at false = refl
 
+-- so is one that was stopped, whatever stopped it before
+pub stopped_still : (closed : Bool) (mode : Mode) (phases : List Phase) (i : ℕ) → i < length phases → ((closed || stopped_in mode (set phases i Running)) || (stops mode && has_erred (get_or phases i Unstarted))) ≡ (closed || stopped_in mode phases)
+stopped_still true mode phases i within = refl
+stopped_still false mode phases i within = stopped_by_report mode phases i within
+
 erred_first : (n : ℕ) → list_any has_erred (replicate n Unstarted) ≡ false
 erred_first zero = refl
 erred_first (suc n) = erred_first n

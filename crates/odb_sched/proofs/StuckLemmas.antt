@@ -24,7 +24,7 @@ abbrev pub is_over : State → ℕ → Bool
 is_over state i = is_reported (phase_at state i) || unit_failed state (unit_of state.plan_graph i)
 
 -- a request that is over and whose unit has not failed has succeeded
-over_succeeded : (state : State) (j : ℕ) → IsPlan state.plan_graph → j < size state → is_over state j ≡ true → unit_failed state (unit_of state.plan_graph j) ≡ false → has_succeeded (phase_at state j) ≡ true
+pub over_succeeded : (state : State) (j : ℕ) → IsPlan state.plan_graph → j < size state → is_over state j ≡ true → unit_failed state (unit_of state.plan_graph j) ≡ false → has_succeeded (phase_at state j) ≡ true
 over_succeeded state j laws within over sound = has_succeeded-from (phase_at state j)
     (elim (or_cases (is_reported (phase_at state j)) (unit_failed state (unit_of state.plan_graph j)) over) [
       | inl reported ↦ reported
@@ -33,7 +33,7 @@ over_succeeded state j laws within over sound = has_succeeded-from (phase_at sta
     (false_from_ne_true (has_failed (phase_at state j)) (λ failed. both_ways _ sound (fails-from_Fails state.plan_graph (λ i. has_failed (phase_at state i)) (unit_of state.plan_graph j) laws (own j within failed))))
 
 -- if the unit of a request has not failed, no unit that the request needs has
-sound_needed : (state : State) (i : ℕ) (need : Need) → IsPlan state.plan_graph → i < size state → Contains (needs_of state.plan_graph i) need → unit_failed state (unit_of state.plan_graph i) ≡ false → unit_failed state (unit_needed state.plan_graph need) ≡ false
+pub sound_needed : (state : State) (i : ℕ) (need : Need) → IsPlan state.plan_graph → i < size state → Contains (needs_of state.plan_graph i) need → unit_failed state (unit_of state.plan_graph i) ≡ false → unit_failed state (unit_needed state.plan_graph need) ≡ false
 sound_needed state i need laws within has sound = elim (cases_eq (unit_needed state.plan_graph need) (unit_of state.plan_graph i)) [
   | inl same ↦ rw same sound
   | inr other ↦ false_from_ne_true _ (λ failed. both_ways _ sound (fails-from_Fails state.plan_graph (λ j. has_failed (phase_at state j)) (unit_of state.plan_graph i) laws
@@ -54,7 +54,7 @@ satisfied_at_first state i (Group u) laws within sound before has =
     ])
 
 -- none runs, so the count of running requests is 0
-none_counted : (state : State) → length state.phases ≡ size state → any_below (size state) (λ i. is_running (phase_at state i)) ≡ false → running_count state ≡ 0
+pub none_counted : (state : State) → length state.phases ≡ size state → any_below (size state) (λ i. is_running (phase_at state i)) ≡ false → running_count state ≡ 0
 none_counted state each none = count_none is_running state.phases (λ k d within.
     false_from_ne_true _ (λ runs. both_ways _ none ((any_below-Decides (size state) (λ i. is_running (phase_at state i))).1 (k, omega arith, ap is_running (get_or_default state.phases k Unstarted d within) ∙ runs))))
 
@@ -75,7 +75,7 @@ first_may_start state reached none unstopped i first =
     })
 
 -- none runs in an unfinished run, so it is not stopped and some request is not over
-unfinished_parts : (state : State) → is_finished state ≡ false → any_below (size state) (λ i. is_running (phase_at state i)) ≡ false → (is_stopped state ≡ false) × (all_below (size state) (is_over state) ≡ false)
+pub unfinished_parts : (state : State) → is_finished state ≡ false → any_below (size state) (λ i. is_running (phase_at state i)) ≡ false → (is_stopped state ≡ false) × (all_below (size state) (is_over state) ≡ false)
 unfinished_parts state unfinished none = elim (and_cases (not (any_below (size state) (λ i. is_running (phase_at state i)))) (is_stopped state || all_below (size state) (is_over state)) unfinished) [
   | inl some ↦ absurd (both_ways _ some (not_from_false _ none))
   | inr open_end ↦ or_parts _ _ open_end

@@ -37,7 +37,7 @@ pub none_pending : (plan : PlanGraph) (phases : List Phase) (u : ℕ) → (pendi
 none_pending plan phases u = none_counted (length plan.units) _ _ (λ i. not_both (unit_of plan i == u) (has_succeeded (get_or phases i Unstarted)))
 
 -- if each element is counted by one test as by three others, so is the list
-three : {X : Type 0} (whole first second third : X → Bool) (xs : List X) → All (λ x. cond (whole x) 1 0 ≡ cond (first x) 1 0 + (cond (second x) 1 0 + cond (third x) 1 0)) xs
+pub three : {X : Type 0} (whole first second third : X → Bool) (xs : List X) → All (λ x. cond (whole x) 1 0 ≡ cond (first x) 1 0 + (cond (second x) 1 0 + cond (third x) 1 0)) xs
     → count_by whole xs ≡ count_by first xs + (count_by second xs + count_by third xs)
 three whole first second third [] each = refl
 three whole first second third (x ∷ xs) each =
@@ -46,7 +46,7 @@ three whole first second third (x ∷ xs) each =
     rw (sum_by-cons (λ y. cond (whole y) 1 0) x xs, sum_by-cons (λ y. cond (first y) 1 0) x xs, sum_by-cons (λ y. cond (second y) 1 0) x xs, sum_by-cons (λ y. cond (third y) 1 0) x xs) (omega arith)
 
 -- what is counted only if something holds
-counted_if : {X : Type 0} (holds : Bool) (test : X → Bool) (xs : List X) → count_by (λ x. holds && test x) xs ≡ (if holds then count_by test xs else 0)
+pub counted_if : {X : Type 0} (holds : Bool) (test : X → Bool) (xs : List X) → count_by (λ x. holds && test x) xs ≡ (if holds then count_by test xs else 0)
 counted_if true test xs = refl
 counted_if false test xs = count_none (λ x. false) xs (λ k d within. refl)
 
@@ -74,7 +74,7 @@ other_unit plan phases i u other = all_alike (length plan.units) _ _ (λ j withi
 ])
 
 -- a need that is not satisfied while a request runs is not satisfied afterwards, or is of the request, or of its unit if that has succeeded
-one_need : (plan : PlanGraph) (phases : List Phase) (i : ℕ) (need : Need) → i < length plan.units → length phases ≡ length plan.units → has_succeeded (get_or phases i Unstarted) ≡ true → IsNeed plan need
+pub one_need : (plan : PlanGraph) (phases : List Phase) (i : ℕ) (need : Need) → i < length plan.units → length phases ≡ length plan.units → has_succeeded (get_or phases i Unstarted) ≡ true → IsNeed plan need
     → cond (not (satisfied_in plan (set phases i Running) need)) 1 0
     ≡ cond (not (satisfied_in plan phases need)) 1 0 + (cond (key_of plan need == i) 1 0 + cond (succeeded_in plan phases (unit_of plan i) && (key_of plan need == length plan.units + unit_of plan i)) 1 0)
 one_need plan phases i (One r) within each done known =

@@ -3,6 +3,8 @@ pub mod State
 pub mod Failing
 pub mod Steps
 pub mod Runs
+pub mod States
+pub mod Units
 pub mod Answers
 pub mod Laws
 pub mod Choosing

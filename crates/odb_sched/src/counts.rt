@@ -6,11 +6,13 @@ ghost use Rattle.odb_dense.specs.Lists.{ListsOnce};
 ghost use Rattle.odb_sched.specs.declared.phase.Phase.TheVariants.{Unstarted};
 ghost use Rattle.odb_sched.specs.invariants.Ends.{IsEndOf};
 ghost use Rattle.odb_sched.specs.invariants.Counts as counted;
+ghost use Rattle.odb_sched.specs.invariants.Openings.{is_passed, IsFirstFree};
 ghost use Rattle.odb_check.specs.PlanGraph.{IsNeed};
 ghost use Rattle.odb_sched.specs.invariants.Kept.{first_of};
 ghost use Rattle.odb_sched.specs.run.Steps.{satisfied_in};
 
 use crate::graph::Graph;
+use crate::openings::Openings;
 use crate::order::End;
 use crate::phase::Phase;
 use crate::policy::Policy;
@@ -105,13 +107,16 @@ fn all_unstarted(alloc: Global, count: u32) -> Result<Vec<Phase>, AllocError>
     Ok(phases)
 }
 
-/// How far a run has come: the phases of its requests, what is counted beside them, and whether an
-/// error has stopped it.
+/// How far a run has come: the phases of its requests, what is counted beside them and of the units,
+/// and whether it is stopped.
 #[derive(Drop)]
 pub(crate) struct Progress {
     pub(crate) phases: Vec<Phase>,
     pub(crate) counts: Counts,
+    pub(crate) openings: Openings,
     pub(crate) stopped: bool,
+    /// Whether the caller has stopped it.
+    pub(crate) closed: bool,
 }
 
 impl Progress {
@@ -123,11 +128,14 @@ impl Progress {
             ≡ replicate (length graph.now.plan_graph.units) Unstarted) }
         ensures counts { IfOk result (λ progress. (policy : Policy)
             → IsCounted (first_of graph.now.plan_graph policy) progress) }
+        ensures going { IfOk result (λ progress. progress.closed ≡ false) }
     {
         Ok(Progress {
             phases: all_unstarted(alloc, graph.len())?,
             counts: Counts::new(alloc, graph)?,
+            openings: Openings::new(alloc, graph)?,
             stopped: false,
+            closed: false,
         })
     }
 
@@ -167,6 +175,14 @@ impl Progress {
             }
         }
         None
+    }
+
+    /// Stops the run.
+    pub(crate) fn stop(&mut self)
+        ensures { self.new ≡ record self.old { stopped = true; closed = true } }
+    {
+        self.stopped = true;
+        self.closed = true;
     }
 
     /// Returns whether as many requests are running as the width allows.
@@ -219,5 +235,33 @@ impl Progress {
             return None;
         }
         end.of(&mut self.counts.ready)
+    }
+
+    /// Returns the first unit that may begin, or `None` if there is none.
+    pub(crate) fn next_unit(&mut self, policy: Policy) -> Option<u32>
+        requires begun { length self.old.openings.begun.items ≡ length self.old.openings.free }
+        requires failed { length self.old.counts.failed ≡ length self.old.openings.free }
+        ensures rest { self.new ≡ record self.old {
+          openings = record self.old.openings {
+            free = self.new.openings.free;
+          };
+        } }
+        ensures each { length self.new.openings.free ≡ length self.old.openings.free }
+        ensures sound { (u : ℕ) → slice_index_or self.new.openings.free u false ≡ true
+            → slice_index_or self.old.openings.free u false ≡ true }
+        ensures kept { (u : ℕ) → slice_index_or self.old.openings.free u false ≡ true
+            → is_passed self.old.openings self.old.counts.failed u ≡ false
+            → slice_index_or self.new.openings.free u false ≡ true }
+        ensures none { result ≡ None → (u : ℕ) → (slice_index_or self.old.openings.free u false
+            && not (is_passed self.old.openings self.old.counts.failed u) && not self.old.stopped
+            && nat_lt (count_by (λ runs. runs) self.old.counts.running) policy.width) ≡ false }
+        ensures some { IfSome result (IsFirstFree self.old.openings self.old.counts.failed) }
+        ensures allowed { IsSome result → (self.old.stopped ≡ false)
+            × (nat_lt (count_by (λ runs. runs) self.old.counts.running) policy.width ≡ true) }
+    {
+        if self.is_closed(policy) {
+            return None;
+        }
+        self.openings.first(&self.counts.failed)
     }
 }

@@ -1,6 +1,6 @@
 //! A finished run beside its plan.
 
-ghost use Rattle.std.specs.Prelude.{All, option_map, ℕ, ◌≡◌, ◌<◌, ◌↔◌, true, length, IfOk, IfSome, IsSome};
+ghost use Rattle.std.specs.Prelude.{All, option_map, ℕ, ◌≡◌, ◌<◌, ◌↔◌, true, false, length, IfOk, IfSome, IsSome};
 ghost use Rattle.odb_check.specs.Plans.{plan_records};
 ghost use Rattle.odb_sched.specs.declared.policy.Mode.TheVariants.{Continue};
 ghost use Rattle.odb_sched.specs.run.State as state;
@@ -91,12 +91,13 @@ impl<'p> Done<'p> {
         self.plan
     }
 
-    /// What holds of the answers of every finished run, as [`crate::laws::every_result`] states it of
+    /// What holds of the answers of every finished run, the first two unless its caller stopped it, as [`crate::laws::every_result`] states it of
     /// lists of events. It changes nothing.
     pub fn laws(&self)
         ensures finished { steps.is_finished self.now ≡ true }
-        ensures one_result { self.now.policy.mode ≡ Continue → laws.HasOneResult self.now }
-        ensures by_statuses { self.now.policy.mode ≡ Continue
+        ensures one_result { self.now.closed ≡ false → self.now.policy.mode ≡ Continue
+            → laws.HasOneResult self.now }
+        ensures by_statuses { self.now.closed ≡ false → self.now.policy.mode ≡ Continue
             → laws.HasResultByStatuses self.now }
         ensures agrees_with_table { laws.AgreesWithTable self.now }
         ensures all_or_none { laws.IsAllOrNone self.now }

@@ -6,22 +6,14 @@ ghost use Rattle.odb_check.specs.PlanGraph as plan_graphs;
 ghost use Rattle.odb_check.specs.PlanGraph.{IsNeed, IsSpan};
 ghost use Rattle.odb_sched.specs.invariants.Dependents.{AreDependents};
 ghost use Rattle.odb_sched.specs.invariants.Dependents as needed;
-ghost use Rattle.odb_sched.specs.invariants.Graphs.{AreAlike, AreParts, AreSpans, need_pairs, all_pairs};
+ghost use Rattle.odb_sched.specs.invariants.Graphs.{AreAlike, AreSpans, need_pairs, all_pairs};
 
 use odb_check::laws::every_plan;
-use odb_check::{Need, Plan};
+use odb_check::{Need, Needs, Plan};
 use odb_dense::Rows;
 use std::alloc::{AllocError, Global};
 use std::marker::Model;
 use std::ops::Range;
-
-/// The needs of all requests, one request after another.
-#[derive(Drop)]
-pub(crate) struct Needs {
-    pub(crate) list: Vec<Need>,
-    /// Where the needs of each request begin in the list, and where those of the last end.
-    pub(crate) offsets: Vec<usize>,
-}
 
 /// The numbers of a plan, which borrow nothing of it: its units, what each request needs, and which
 /// requests depend on each request and on each unit.
@@ -72,22 +64,6 @@ fn members_of(alloc: Global, plan: &Plan<'_>) -> Result<Vec<(u32, u32)>, AllocEr
         members.push((span.start, span.end))?;
     }
     Ok(members)
-}
-
-/// Returns the needs of all requests.
-fn needs_of(alloc: Global, plan: &Plan<'_>) -> Result<Needs, AllocError>
-    ensures { IfOk result (λ needs.
-        AreParts (plan_graph plan.now) needs.list.items needs.offsets.items) }
-{
-    every_plan(plan);
-    let mut list = Vec::new(alloc);
-    let mut offsets = Vec::new(alloc);
-    offsets.push(0)?;
-    for i in 0..plan.len() {
-        list.extend_from_slice(plan.needs(i))?;
-        offsets.push(list.len())?;
-    }
-    Ok(Needs { list, offsets })
 }
 
 /// Returns the key of a dependency. The keys of units follow those of all requests.
@@ -146,7 +122,7 @@ impl Graph {
         Ok(Graph {
             units: units_of(alloc, plan)?,
             members: members_of(alloc, plan)?,
-            needs: needs_of(alloc, plan)?,
+            needs: plan.all_needs().clone()?,
             dependents: all_dependents(alloc, plan)?,
         })
     }
@@ -198,9 +174,7 @@ impl Graph {
         ensures needs { result.now ≡ plan_graphs.needs_of self.now.plan_graph i }
         ensures known { All (IsNeed self.now.plan_graph) result.now }
     {
-        let from = self.needs.offsets[i as usize];
-        let to = self.needs.offsets[i as usize + 1];
-        &self.needs.list[from..to]
+        self.needs.row(i)
     }
 
     /// Returns the requests that depend on a request.

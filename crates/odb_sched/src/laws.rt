@@ -23,6 +23,7 @@ ghost use Rattle.odb_sched.specs.run.Failing.{Fails, fails};
 ghost use Rattle.odb_sched.specs.run.Steps.{may_start, may_report, is_finished, BarsStart, IsStartCause, BarsReport, IsReportCause};
 ghost use Rattle.odb_sched.specs.run.Runs.{IsRun, state_after, phase_of, Refuses};
 ghost use Rattle.odb_sched.specs.run.Laws.{HaveSucceeded, StartsAfterDependencies, IsNeverStuck, HasFewEvents, HasOneResult, HasResultByStatuses, AgreesWithTable, IsAllOrNone, RestsOnSuccesses, SucceedsByMembers};
+ghost use Rattle.odb_sched.specs.run.Units.{FirstNeedsNothing, HasNextUnit, UnitsGoOn};
 ghost use Rattle.odb_doc.specs.batch.Records.{Record};
 ghost use Rattle.odb_sched.specs.run.Answers.{HasStatuses};
 
@@ -54,6 +55,25 @@ pub fn every_start(plan: &Plan<'_>)
     ensures free { (state : State) (i : ℕ) → state.plan_graph ≡ plan_graph plan.now
         → length state.phases ≡ size state → i < size state → 10000 ≤ state.policy.width
         → ¬ IsStartCause state i WidthReached }
+{
+    every_plan(plan);
+}
+
+/// Units that are performed as a whole, one after another or several at once, do not get stuck. Of the
+/// units that are neither over nor failed, the first needs nothing more of other units. If a unit needs
+/// nothing more of other units, has not failed and is not over, then one of its members is running or may
+/// start, unless the run is stopped or the width is used up. So a run that is not finished, in which nothing
+/// is running and each unit that has begun is over or has failed, has a unit that may begin.
+pub fn every_unit(plan: &Plan<'_>)
+    ensures first { (policy : Policy) (events : List Event)
+        → IsRun plan.now policy events
+        → FirstNeedsNothing (state_after plan.now policy events) }
+    ensures goes_on { (policy : Policy) (events : List Event)
+        → IsRun plan.now policy events
+        → UnitsGoOn (state_after plan.now policy events) }
+    ensures next { (policy : Policy) (events : List Event)
+        → IsRun plan.now policy events
+        → HasNextUnit (state_after plan.now policy events) }
 {
     every_plan(plan);
 }

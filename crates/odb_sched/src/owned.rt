@@ -1,6 +1,6 @@
 //! A run that borrows nothing: which event may come, and what it changes.
 
-ghost use Rattle.std.specs.Prelude.{◌≡◌, ◌≢◌, ◌==◌, ◌<◌, ◌≤◌, ◌↔◌, ℕ, [], true, false, None, All, length, IsTrue, IsOk, IfOk, IfErr, IfSome, OnOk, OnErr, option_map};
+ghost use Rattle.std.specs.Prelude.{◌≡◌, ◌≢◌, ◌==◌, ◌<◌, ◌≤◌, ◌↔◌, ℕ, [], true, false, None, All, length, IsTrue, IsOk, IfOk, IfErr, IfSome, OnOk, OnErr};
 ghost use Rattle.odb_check.specs.Plans.{plan_records};
 ghost use Rattle.odb_check.specs.PlanGraph.{unit_of};
 ghost use Rattle.odb_dense.specs.Lists.{ListsOnce};
@@ -8,15 +8,14 @@ ghost use Rattle.odb_sched.specs.declared.refusal.StartRefusal.TheVariants.{Widt
 ghost use Rattle.odb_sched.specs.run.Choosing.{IsNext, IsNone, AllowsOrder, ReportsFirst, StartsFirst, ready_set, running_set};
 ghost use Rattle.odb_sched.specs.run.Steps.{IsStartCause, IsReportCause};
 ghost use Rattle.odb_sched.specs.invariants.Ends.{IsAt};
-ghost use Rattle.odb_sched.specs.run.Answers as answers;
 ghost use Rattle.odb_sched.specs.run.State as state;
 ghost use Rattle.odb_sched.specs.invariants.Kept.{first_of, IsReached};
 ghost use Rattle.odb_sched.specs.run.Steps as steps;
-ghost use Rattle.odb_sched.specs.run.Laws as laws;
-ghost use Rattle.odb_sched.specs.declared.policy.Mode.TheVariants as modes;
-ghost use Rattle.odb_doc.specs.Statuses.{is_status};
 
-use crate::answer::Answer;
+mod moment;
+mod stop;
+mod units;
+
 use crate::counts::Progress;
 use crate::event::Step;
 use crate::graph::Graph;
@@ -26,7 +25,7 @@ use crate::policy::Policy;
 use crate::refusal::{ReportRefusal, StartRefusal};
 use odb_check::Plan;
 use odb_doc::Outcome;
-use odb_doc::status::{is_status, is_success};
+use odb_doc::status::is_status;
 use std::alloc::{AllocError, Global};
 use std::marker::Model;
 
@@ -166,6 +165,7 @@ impl OwnedRun {
         }
         self.progress.counts.ready.remove(i);
         self.progress.counts.running.insert(i);
+        self.progress.openings.begin(self.graph.unit_of(i));
         self.progress.put(i, Phase::Running);
         Ok(())
     }
@@ -305,7 +305,7 @@ impl OwnedRun {
     }
 
     /// Returns what has happened to a request.
-    fn phase(&self, i: u32) -> &Phase
+    pub(crate) fn phase(&self, i: u32) -> &Phase
         requires { i < state.size self.now }
         ensures { result.now ≡ state.phase_at self.now i }
     {
@@ -313,89 +313,11 @@ impl OwnedRun {
     }
 
     /// Returns whether all members of the request's unit have succeeded.
-    fn unit_succeeded(&self, i: u32) -> bool
+    pub(crate) fn unit_succeeded(&self, i: u32) -> bool
         requires { i < state.size self.now }
         ensures { result ≡ steps.unit_succeeded self.now (unit_of self.now.plan_graph i) }
     {
         self.progress.counts.pending[self.graph.unit_of(i) as usize] == 0
-    }
-
-    /// Returns whether a request reported a success that has to be undone.
-    fn is_undone(&self, i: u32) -> bool
-        requires { i < state.size self.now }
-        ensures { result ≡ answers.is_undone self.now i }
-    {
-        self.phase(i).has_succeeded() && !self.unit_succeeded(i)
-    }
-
-    /// Returns the positions of the requests that reported a success but whose unit did not succeed:
-    /// from the last to the first. If the run is finished, they are answered 424.
-    ///
-    /// Costs O(requests).
-    ///
-    /// # Errors
-    ///
-    /// If memory for the positions cannot be allocated.
-    pub fn undone(&self, alloc: Global) -> Result<Vec<u32>, AllocError>
-        ensures value { IfOk result (λ positions. positions.items ≡ answers.undone self.now) }
-        ensures within { IfOk result (λ positions.
-            All (λ i. i < state.size self.now) positions.items) }
-    {
-        let mut positions = Vec::new(alloc);
-        for i in (0..self.len()).rev() {
-            if self.is_undone(i) {
-                positions.push(i)?;
-            }
-        }
-        Ok(positions)
-    }
-
-    /// Returns the answer to request `i`, counted from 0, of a finished run. Its status is from 200 to
-    /// 599.
-    pub fn answer(&self, i: u32) -> Answer<'_>
-        requires finished { steps.is_finished self.now ≡ true }
-        requires request { i < state.size self.now }
-        ensures value { answers.shown result ≡ answers.answer self.now i }
-        ensures status { IsTrue (is_status (answers.status_of (answers.shown result))) }
-    {
-        self.reached();
-        match self.phase(i) {
-            Phase::Reported(outcome) => {
-                if is_success(outcome.status) && !self.unit_succeeded(i) {
-                    Answer::FailedDependency
-                } else {
-                    Answer::Reported(outcome)
-                }
-            }
-            _ => Answer::FailedDependency,
-        }
-    }
-
-    /// Returns the outcome that request `i` reported, if it did: also one that has to be undone.
-    pub fn reported(&self, i: u32) -> Option<&Outcome>
-        requires { i < state.size self.now }
-        ensures { option_map (λ outcome. outcome.now) result ≡ answers.reported self.now i }
-    {
-        match self.phase(i) {
-            Phase::Reported(outcome) => Some(outcome),
-            _ => None,
-        }
-    }
-
-    /// What holds of the answers of every finished run, as [`crate::laws::every_result`] states it of
-    /// lists of events. It changes nothing.
-    pub fn laws(&self)
-        requires { steps.is_finished self.now ≡ true }
-        ensures one_result { self.now.policy.mode ≡ modes.Continue → laws.HasOneResult self.now }
-        ensures by_statuses { self.now.policy.mode ≡ modes.Continue
-            → laws.HasResultByStatuses self.now }
-        ensures agrees_with_table { laws.AgreesWithTable self.now }
-        ensures all_or_none { laws.IsAllOrNone self.now }
-        ensures rests_on_successes { laws.RestsOnSuccesses self.now }
-        ensures statuses { answers.HasStatuses self.now }
-        ensures answered { (i : ℕ) → is_status (answers.status_of (answers.answer self.now i)) ≡ true }
-    {
-        self.reached();
     }
 
     /// What holds of every state that a run comes to. It changes nothing.

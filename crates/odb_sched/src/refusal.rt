@@ -15,8 +15,8 @@ pub enum StartRefusal {
     /// S1: it was started before.
     #[error("the request has started before")]
     AlreadyStarted,
-    /// S2: an error has stopped the run.
-    #[error("an error has stopped the run")]
+    /// S2: the run is stopped, by an error or by its caller.
+    #[error("the run is stopped")]
     Stopped,
     /// S3: a request of its unit did not succeed, or depends on something of another unit that
     /// failed.

@@ -217,12 +217,17 @@ impl Progress {
     pub(crate) fn report(&mut self, graph: &Graph, policy: Policy, i: u32, outcome: Outcome)
         requires request { i < length graph.now.plan_graph.units }
         requires running { state.is_running (slice_index_or self.old.phases.items i Unstarted) ≡ true }
-        requires counts { IsCounted (state_of graph.now.plan_graph policy self.old.phases.items) self.old }
+        requires counts { IsCounted (state_of graph.now.plan_graph policy self.old.closed
+            self.old.phases.items) self.old }
         ensures phases { self.new.phases.items ≡ slice_set self.old.phases.items i (Reported outcome) }
-        ensures counts { IsCounted (state_of graph.now.plan_graph policy self.new.phases.items) self.new }
+        ensures counts { IsCounted (state_of graph.now.plan_graph policy self.new.closed
+            self.new.phases.items) self.new }
+        ensures closed { self.new.closed ≡ self.old.closed }
     {
         self.put(i, Phase::Reported(outcome));
         take_report(graph, &self.phases, i, &mut self.counts);
+        self.openings
+            .take_report(graph, &self.phases, i, &self.counts);
         self.stopped = is_stopped(self.stopped, policy, &self.phases[i as usize]);
     }
 }

@@ -45,11 +45,11 @@ impl<'p> Model for Scheduler<'p> {
 
     ghost coded = { Prim.hlevel (codes, data_code, method_code, policies.the_row.coded, phase.the_row.coded) };
 
-    ghost use Rattle.odb_sched.specs.invariants.Kept.{planned_state, IsOfPlan};
+    ghost use Rattle.odb_sched.specs.invariants.Kept.{planned_state, IsDriven};
 
     ghost view = { planned_state };
 
-    ghost invariant = { IsOfPlan };
+    ghost invariant = { IsDriven };
 }
 
 impl<'p> Scheduler<'p> {
@@ -71,7 +71,8 @@ impl<'p> Scheduler<'p> {
 
     /// Returns the run without its requests.
     pub fn into_owned(self) -> OwnedRun
-        ensures { result ≡ state.without_requests self.entry }
+        ensures state { result ≡ state.without_requests self.entry }
+        ensures going { result.closed ≡ false }
     {
         self.run.reached();
         self.run

@@ -1,5 +1,5 @@
 -- What a run keeps from one event to the next, and what holds of every state that it reaches.
-use Rattle.std.specs.Prelude.{List, [], length, replicate, ◌≡◌, ℕ, ◌<◌, ◌≤◌, true, false}
+use Rattle.std.specs.Prelude.{Bool, List, [], length, replicate, ◌≡◌, ℕ, ◌<◌, ◌≤◌, true, false}
 use Rattle.odb_check.specs.PlanGraph.{PlanGraph, IsPlan}
 pub use Rattle.odb_check.specs.PlanGraph.{IsSpan, IsNeed}
 use Rattle.odb_sched.specs.declared.policy.Policy.{Policy}
@@ -16,14 +16,15 @@ use Rattle.odb_sched.specs.declared.done.Done.TheInside as done
 use Rattle.odb_sched.specs.declared.done.Held.{Held}
 use Rattle.odb_sched.specs.declared.done.Held.TheVariants.{Own, Lent}
 use Rattle.odb_sched.specs.invariants.Counts.{AreCounts}
+use Rattle.odb_sched.specs.invariants.Openings.{AreOpenings}
 
 -- the state, without its requests, of a run of this plan under this policy, with these phases
-abbrev pub state_of : PlanGraph → Policy → List Phase → State
-state_of plan policy phases = record { requests = []; plan_graph = plan; policy = policy; phases = phases }
+abbrev pub state_of : PlanGraph → Policy → Bool → List Phase → State
+state_of plan policy closed phases = record { requests = []; plan_graph = plan; policy = policy; closed = closed; phases = phases }
 
 -- before any event
 abbrev pub first_of : PlanGraph → Policy → State
-first_of plan policy = state_of plan policy (replicate (length plan.units) Unstarted)
+first_of plan policy = state_of plan policy false (replicate (length plan.units) Unstarted)
 
 -- what holds of a state before any event, and after each event that may come
 pub record IsReached (state : State) : Type 0 where
@@ -38,11 +39,12 @@ pub record IsReached (state : State) : Type 0 where
 -- the counts and the stop are those of the state
 pub record IsCounted (state : State) (counted : Progress) : Type 0 where
   pub counts : AreCounts state.plan_graph state.phases counted.counts
+  pub openings : AreOpenings state.plan_graph state.phases counted.openings
   pub stopped : counted.stopped ≡ is_stopped state
 
 -- the state of a run, of no requests
 abbrev pub kept_state : Inside → State
-kept_state s = state_of s.graph.plan_graph s.policy s.progress.phases.items
+kept_state s = state_of s.graph.plan_graph s.policy s.progress.closed s.progress.phases.items
 
 -- what a run keeps
 pub record IsKept (s : Inside) : Type 0 where
@@ -53,9 +55,10 @@ pub record IsKept (s : Inside) : Type 0 where
 abbrev pub planned_state : scheduler.Inside → State
 planned_state s = with_requests (plan_records s.plan.now) s.run
 
--- the numbers of the run are those of the plan
-abbrev pub IsOfPlan : scheduler.Inside → Type 0
-IsOfPlan s = s.run.plan_graph ≡ plan_graph s.plan.now
+-- the numbers of the run are those of the plan, and it is not closed
+pub record IsDriven (s : scheduler.Inside) : Type 0 where
+  pub of_plan : s.run.plan_graph ≡ plan_graph s.plan.now
+  pub going : s.run.closed ≡ false
 
 -- the state of a run that is owned or lent
 abbrev pub held_state : Held → State

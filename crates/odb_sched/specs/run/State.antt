@@ -14,11 +14,12 @@ use Rattle.odb_sched.specs.declared.event.Event.{Event}
 use Rattle.odb_sched.specs.declared.event.Event.TheVariants.{Start, Report}
 use Rattle.odb_doc.specs.Statuses.{is_error, is_success}
 
--- the shape is that of the requests; the phases are by position
+-- the shape is that of the requests; the phases are by position; the run is closed once its caller has stopped it
 pub record State : Type 0 where
   pub requests : List Record
   pub plan_graph : PlanGraph
   pub policy : Policy
+  pub closed : Bool
   pub phases : List Phase
 
 -- how many requests there are
@@ -39,7 +40,7 @@ without_requests state = with_requests [] state
 
 -- before any event, of these requests
 abbrev pub first_state : List Record → Policy → State
-first_state requests policy = record { requests = requests; plan_graph = batch_plan_graph requests; policy = policy; phases = replicate (length (batch_plan_graph requests).units) Unstarted }
+first_state requests policy = record { requests = requests; plan_graph = batch_plan_graph requests; policy = policy; closed = false; phases = replicate (length (batch_plan_graph requests).units) Unstarted }
 
 -- before any event, of the requests of a plan
 abbrev pub initial : Plan → Policy → State
@@ -52,6 +53,10 @@ started state i = record state { phases = slice_set state.phases i Running }
 -- after a report
 abbrev pub reported : State → ℕ → Outcome → State
 reported state i outcome = record state { phases = slice_set state.phases i (Reported outcome) }
+
+-- after the caller has stopped it
+abbrev pub stopped : State → State
+stopped state = record state { closed = true }
 
 abbrev pub after : State → Event → State
 after state (Start i) = started state i

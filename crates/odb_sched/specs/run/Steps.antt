@@ -55,8 +55,9 @@ stops Stop = true
 abbrev pub stopped_in : Mode → List Phase → Bool
 stopped_in mode phases = stops mode && list_any has_erred phases
 
+-- a run is stopped by its caller, or by an error
 abbrev pub is_stopped : State → Bool
-is_stopped state = stopped_in state.policy.mode state.phases
+is_stopped state = state.closed || stopped_in state.policy.mode state.phases
 
 -- how many requests run
 abbrev pub running_count : State → ℕ

@@ -4,14 +4,14 @@ use Rattle.std.proofs.Common.{ap, ◌∙◌}
 use Rattle.odb_sched.specs.run.Runs.{state_after}
 use Rattle.odb_sched.specs.run.State.{initial}
 use Rattle.odb_sched.proofs.ResultLemmas.{one_result, result_by_statuses, agrees_with_table, all_or_none, rests_on_successes}
-use Rattle.odb_sched.proofs.RunLemmas.{reached_run, policy-after_all}
+use Rattle.odb_sched.proofs.RunLemmas.{reached_run, closed-after_all, policy-after_all}
 use Rattle.odb_sched.proofs.laws.every_result.Goals as goal
 
 pub returns-clause-one_result : goal.returns-clause-one_result
-returns-clause-one_result c = λ policy events continues run finished. one_result _ (reached_run c.args.plan.now policy events c.every_plan.ensures.order run) finished (ap (λ (p : Policy). p.mode) (policy-after_all (initial c.args.plan.now policy) events) ∙ continues)
+returns-clause-one_result c = λ policy events continues run finished. one_result _ (reached_run c.args.plan.now policy events c.every_plan.ensures.order run) finished (closed-after_all (initial c.args.plan.now policy) events) (ap (λ (p : Policy). p.mode) (policy-after_all (initial c.args.plan.now policy) events) ∙ continues)
 
 pub returns-clause-by_statuses : goal.returns-clause-by_statuses
-returns-clause-by_statuses c = λ policy events continues run finished. result_by_statuses _ (reached_run c.args.plan.now policy events c.every_plan.ensures.order run) finished (ap (λ (p : Policy). p.mode) (policy-after_all (initial c.args.plan.now policy) events) ∙ continues)
+returns-clause-by_statuses c = λ policy events continues run finished. result_by_statuses _ (reached_run c.args.plan.now policy events c.every_plan.ensures.order run) finished (closed-after_all (initial c.args.plan.now policy) events) (ap (λ (p : Policy). p.mode) (policy-after_all (initial c.args.plan.now policy) events) ∙ continues)
 
 pub returns-clause-agrees_with_table : goal.returns-clause-agrees_with_table
 returns-clause-agrees_with_table c = λ policy events run. agrees_with_table _ (reached_run c.args.plan.now policy events c.every_plan.ensures.order run)

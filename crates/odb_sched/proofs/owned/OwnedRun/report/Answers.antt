@@ -15,9 +15,10 @@ report-requires-clause-running c =
 
 pub invariant_of-self : goal.invariant_of-self
 invariant_of-self c = record {
-  reached = subst (λ phases. IsReached (state_of c.self.inside.graph.plan_graph c.self.inside.policy phases)) (sym c.report.ensures.phases)
+  reached = subst (λ closed. IsReached (state_of c.self.inside.graph.plan_graph c.self.inside.policy closed c.report.new.self.phases.items)) (sym c.report.ensures.closed)
+      (subst (λ phases. IsReached (state_of c.self.inside.graph.plan_graph c.self.inside.policy c.self.inside.progress.closed phases)) (sym c.report.ensures.phases)
       (reached_reported _ c.args.i c.args.outcome c.self.invariant.reached (subst (λ state. c.args.i < size state) (sym c.self.view_is) c.requires)
-      (subst (λ state. may_report state c.args.i c.args.outcome ≡ true) (sym c.self.view_is) (c.report_refusal.ensures.none c.in_default.is)));
+      (subst (λ state. may_report state c.args.i c.args.outcome ≡ true) (sym c.self.view_is) (c.report_refusal.ensures.none c.in_default.is))));
   counts = c.report.ensures.counts;
 }
 

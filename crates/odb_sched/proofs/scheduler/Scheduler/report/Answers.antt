@@ -7,7 +7,10 @@ use Rattle.odb_sched.proofs.OwnedLemmas.{either_way, report_cause_with}
 use Rattle.odb_sched.proofs.scheduler.Scheduler.report.Goals as goal
 
 pub invariant_of-self : goal.invariant_of-self
-invariant_of-self c = either_way c.report.result c.report.ensures.ok c.report.ensures.err (λ is. ap (λ (s : State). s.plan_graph) is ∙ c.self.invariant) (λ is. ap (λ (s : State). s.plan_graph) is ∙ c.self.invariant)
+invariant_of-self c = record {
+  of_plan = either_way c.report.result c.report.ensures.ok c.report.ensures.err (λ is. ap (λ (s : State). s.plan_graph) is ∙ c.self.invariant.of_plan) (λ is. ap (λ (s : State). s.plan_graph) is ∙ c.self.invariant.of_plan);
+  going = either_way c.report.result c.report.ensures.ok c.report.ensures.err (λ is. ap (λ (s : State). s.closed) is ∙ c.self.invariant.going) (λ is. ap (λ (s : State). s.closed) is ∙ c.self.invariant.going);
+}
 
 pub returns-clause-ok : goal.returns-clause-ok
 returns-clause-ok c = rw (← c.self.view_is)

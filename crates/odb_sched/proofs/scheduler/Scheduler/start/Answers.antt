@@ -9,7 +9,10 @@ use Rattle.odb_sched.proofs.OwnedLemmas.{either_way, ok_so, start_cause_with}
 use Rattle.odb_sched.proofs.scheduler.Scheduler.start.Goals as goal
 
 pub invariant_of-self : goal.invariant_of-self
-invariant_of-self c = either_way c.start.result c.start.ensures.ok c.start.ensures.err (λ is. ap (λ (s : State). s.plan_graph) is ∙ c.self.invariant) (λ is. ap (λ (s : State). s.plan_graph) is ∙ c.self.invariant)
+invariant_of-self c = record {
+  of_plan = either_way c.start.result c.start.ensures.ok c.start.ensures.err (λ is. ap (λ (s : State). s.plan_graph) is ∙ c.self.invariant.of_plan) (λ is. ap (λ (s : State). s.plan_graph) is ∙ c.self.invariant.of_plan);
+  going = either_way c.start.result c.start.ensures.ok c.start.ensures.err (λ is. ap (λ (s : State). s.closed) is ∙ c.self.invariant.going) (λ is. ap (λ (s : State). s.closed) is ∙ c.self.invariant.going);
+}
 
 pub returns-clause-ok : goal.returns-clause-ok
 returns-clause-ok c = rw (← c.self.view_is)
@@ -28,6 +31,6 @@ returns-clause-err c = rw (← c.self.view_is)
 
 pub returns-clause-dependencies_first : goal.returns-clause-dependencies_first
 returns-clause-dependencies_first c = ok_so c.start.result (λ is_ok.
-    let same : c.args.self.now.plan_graph ≡ plan_graph c.self.inside.plan.now = ap (λ (s : State). s.plan_graph) (sym c.self.view_is) ∙ c.self.invariant in
+    let same : c.args.self.now.plan_graph ≡ plan_graph c.self.inside.plan.now = ap (λ (s : State). s.plan_graph) (sym c.self.view_is) ∙ c.self.invariant.of_plan in
     subst (λ requests. HaveSucceeded requests c.args.self.now c.args.i) (ap (λ (s : State). s.requests) c.self.view_is)
     (c.every_start.ensures.dependencies_first c.args.self.now c.args.i same ((returns-clause-allowed c).0 is_ok)))

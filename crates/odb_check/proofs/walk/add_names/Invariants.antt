@@ -1,9 +1,0 @@
-use Rattle.std.proofs.Common.{◌+◌, take}
-use Rattle.odb_doc.specs.Names.{texts_in}
-use Rattle.odb_check.specs.Requests.{requests}
-use Rattle.odb_check.proofs.WalkLemmas.{AddsNames}
-use Rattle.odb_check.proofs.walk.add_names.Given as goal
-
--- the names so far are added
-abbrev pub invariant-loop-name : goal.invariant-loop-name
-invariant-loop-name l = AddsNames (requests l.tables) (texts_in (take l.name-index l.names)) (l.i + 1) l.initial.list.items l.list.items l.marks.ones.items l.marks.groups.items

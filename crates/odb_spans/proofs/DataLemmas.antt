@@ -1,0 +1,164 @@
+-- The bodies in the tree of a document are those of its data.
+use Rattle.std.proofs.Common.{◌≡◌, ◌∙◌, ℕ, ◌≤◌, max, List, [], ◌∷◌, Bool, true, false, cond, Option, Some, None, option_map, option_and_then, unwrap_or, codes, bytes_eq, refl, sym, ap, subst, arith}
+use Rattle.std.specs.Prelude.{⊤}
+use Rattle.std.specs.List.{AllZip}
+use Rattle.json.specs.Json as json
+use Rattle.json.specs.Find.{later_or}
+use Rattle.json.specs.Find as tree
+use Rattle.json.specs.Tree.{depth, items_depth, members_depth}
+use Rattle.serde_json.specs.Data.{Data, null, boolean, number, string, array, object, Items, no_items, item, no_members}
+use Rattle.serde_json.specs.Find.{get_member, as_array}
+use Rattle.serde_json.specs.Read.{number_of, of_json, of_items, of_members, max_depth}
+use Rattle.odb_doc.specs.Members.{given}
+use Rattle.odb_doc.specs.Members as doc
+use Rattle.odb_doc.specs.batch.Bodies.{body_of}
+use Rattle.odb_doc.specs.batch.Shapes.{elements}
+use Rattle.odb_spans.specs.Spans.{HasBodyAt}
+use Rattle.odb_spans.specs.Parts.{HasBodyText, HaveBodiesIn, HaveBodyTexts, IsTextOf, IsValueSpan, given_json, list_of}
+use Rattle.odb_spans.specs.declared.span.Span.{Span}
+use Rattle.odb_spans.proofs.LookupLemmas.{Corresponds, get-read}
+use Rattle.odb_spans.proofs.ReadLemmas.{read-tokens}
+
+-- ---- what was read
+
+record MapsTo {A : Type 0} (f : A → Data) (o : Option A) (d : Data) : Type 0 where
+  value : A
+  some : o ≡ Some value
+  is : d ≡ f value
+
+maps-to : {A : Type 0} (f : A → Data) (o : Option A) (d : Data) → option_map f o ≡ Some d → MapsTo f o d
+maps-to f None d e = absurd (cc (e))
+maps-to f (Some a) d e = let same : f a ≡ d = cc (e) in record { value = a; some = refl; is = sym same }
+
+-- ---- the depth of what is found
+
+abbrev Within : ℕ → Option json.Json → Type 0
+Within n None = ⊤
+Within n (Some j) = depth j ≤ n
+
+less : (m n : ℕ) (o : Option json.Json) → m ≤ n → Within m o → Within n o
+less m n None le h = tt
+less m n (Some j) le h = omega (arith, h)
+
+later-within : (n m : ℕ) (o p : Option json.Json) → Within m o → m ≤ n → Within n p → Within n (later_or o p)
+later-within n m None p h le k = k
+later-within n m (Some j) p h le k = omega (arith, h)
+
+if-within : (n : ℕ) (b : Bool) (j : json.Json) → depth j ≤ n → Within n (cond b (Some j) None)
+if-within n true j h = h
+if-within n false j h = tt
+
+member-within : (name : List ℕ) (ms : json.Members) → Within (members_depth ms) (tree.get_member name ms)
+member-within name json.no_members = tt
+member-within name (json.member k j ms) =
+    later-within (max (depth j) (members_depth ms)) (members_depth ms) (tree.get_member name ms) (cond (bytes_eq k name) (Some j) None) (member-within name ms) (omega arith) (if-within _ (bytes_eq k name) j (omega arith))
+
+-- ---- the body of one request
+
+given-body : (text : List ℕ) (j : json.Json) (d : Data) (span : Span) (o : Option Data) → depth j ≤ max_depth → of_json j ≡ Some d → o ≡ Some d → given (Some d) ≡ Some d → IsTextOf text span j → (request : Data) → body_of request ≡ given o → HasBodyAt text request (Some span)
+given-body text j d span o shallow reads is kept part request body =
+    (d, body ∙ ap given is ∙ kept, record { order = part.order; within = part.within; reads = (part.utf8, read-tokens _ j part.spelled shallow ∙ reads) })
+
+-- what was read of a value other than null is not null
+kept : (j i : json.Json) (d : Data) → given_json (Some j) ≡ Some i → of_json j ≡ Some d → (given (Some d) ≡ Some d) × (j ≡ i)
+kept json.null i d e reads = absurd (cc (e))
+kept (json.boolean b) i d e reads = let h = maps-to {A = ⊤} (λ _. boolean b) (Some tt) d reads in (subst (λ x. given (Some x) ≡ Some x) (sym h.is) refl, cc (e))
+kept (json.number s) i d e reads = let h = maps-to number (number_of s) d reads in (subst (λ x. given (Some x) ≡ Some x) (sym h.is) refl, cc (e))
+kept (json.string s) i d e reads = let h = maps-to {A = ⊤} (λ _. string s) (Some tt) d reads in (subst (λ x. given (Some x) ≡ Some x) (sym h.is) refl, cc (e))
+kept (json.array js) i d e reads = let h = maps-to array (of_items js) d reads in (subst (λ x. given (Some x) ≡ Some x) (sym h.is) refl, cc (e))
+kept (json.object ms) i d e reads = let h = maps-to object (of_members ms no_members) d reads in (subst (λ x. given (Some x) ≡ Some x) (sym h.is) refl, cc (e))
+
+-- what was read of a value that is treated as absent is so too
+absent : (j : json.Json) (d : Data) → given_json (Some j) ≡ None → of_json j ≡ Some d → given (Some d) ≡ None
+absent json.null d e reads = let same : null ≡ d = cc (reads) in ap (λ x. given (Some x)) (sym same)
+absent (json.boolean b) d e reads = absurd (cc (e))
+absent (json.number s) d e reads = absurd (cc (e))
+absent (json.string s) d e reads = absurd (cc (e))
+absent (json.array js) d e reads = absurd (cc (e))
+absent (json.object ms) d e reads = absurd (cc (e))
+
+body-found : (text : List ℕ) (o : Option json.Json) (p : Option Data) (span : Option Span) (request : Data) → body_of request ≡ given p → Corresponds o p None → Within max_depth o → IsValueSpan text span (given_json o) → HasBodyAt text request span
+body-found text None p None request body same shallow is = body ∙ ap given same
+body-found text None p (Some s) request body same shallow is = absurd (cc (is.1))
+body-found text (Some j) p None request body same shallow is = body ∙ ap given same.is ∙ absent j same.value is same.read
+body-found text (Some j) p (Some s) request body same shallow is =
+    let h = kept j is.0 same.value is.1 same.read in
+    given-body text j same.value s p shallow same.read same.is h.0 (subst (IsTextOf text s) (sym h.1) is.2) request body
+
+no-body : (text : List ℕ) (span : Option Span) (request : Data) → body_of request ≡ None → IsValueSpan text span None → HasBodyAt text request span
+no-body text None request body is = body
+no-body text (Some s) request body is = absurd (cc (is.1))
+
+body-data : (text : List ℕ) (j : json.Json) (d : Data) (span : Option Span) → depth j ≤ max_depth → of_json j ≡ Some d → HasBodyText text j span → HasBodyAt text d span
+body-data text json.null d span shallow reads is = let same : null ≡ d = cc (reads) in no-body text span d (ap body_of (sym same)) is
+body-data text (json.boolean b) d span shallow reads is = let same : boolean b ≡ d = cc (reads) in no-body text span d (ap body_of (sym same)) is
+body-data text (json.number s) d span shallow reads is = let h = maps-to number (number_of s) d reads in no-body text span d (ap body_of h.is) is
+body-data text (json.string s) d span shallow reads is = let same : string s ≡ d = cc (reads) in no-body text span d (ap body_of (sym same)) is
+body-data text (json.array js) d span shallow reads is = let h = maps-to array (of_items js) d reads in no-body text span d (ap body_of h.is) is
+body-data text (json.object ms) d span shallow reads is =
+    let h = maps-to object (of_members ms no_members) d reads in
+    let found = get-read (codes "body") ms h.value h.some in
+    body-found text (tree.get_member (codes "body") ms) (get_member (codes "body") h.value) span d (ap body_of h.is) found (less (members_depth ms) max_depth (tree.get_member (codes "body") ms) (omega (arith, shallow)) (member-within (codes "body") ms)) is
+
+-- ---- the bodies of all requests
+
+record ItemsRead (j : json.Json) (js : json.Items) (ds : Items) : Type 0 where
+  first : Data
+  others : Items
+  reads : of_json j ≡ Some first
+  more : of_items js ≡ Some others
+  is : ds ≡ item first others
+
+rest-read : (j : json.Json) (js : json.Items) (d : Data) (ds : Items) (o : Option Items) → of_json j ≡ Some d → of_items js ≡ o → option_map (item d) o ≡ Some ds → ItemsRead j js ds
+rest-read j js d ds None reads more e = absurd (cc (e))
+rest-read j js d ds (Some us) reads more e = let same : item d us ≡ ds = cc (e) in record { first = d; others = us; reads = reads; more = more; is = sym same }
+
+item-read : (j : json.Json) (js : json.Items) (ds : Items) (o : Option Data) → of_json j ≡ o → option_and_then (λ d. option_map (item d) (of_items js)) o ≡ Some ds → ItemsRead j js ds
+item-read j js ds None reads e = absurd (cc (e))
+item-read j js ds (Some d) reads e = rest-read j js d ds (of_items js) reads refl e
+
+none-zip : {A B : Type 0} (R : A → Option Span → Type 0) (S : B → Option Span → Type 0) (spans : List (Option Span)) → AllZip R [] spans → AllZip S [] spans
+none-zip R S [] h = tt
+none-zip R S (s ∷ spans) h = absurd h
+
+items-data : (text : List ℕ) (js : json.Items) (ds : Items) (spans : List (Option Span)) → items_depth js ≤ max_depth → of_items js ≡ Some ds → HaveBodyTexts text (list_of js) spans → AllZip (HasBodyAt text) (doc.list_of ds) spans
+items-data text json.no_items ds spans shallow e have =
+    let same : no_items ≡ ds = cc (e) in
+    subst (λ x. AllZip (HasBodyAt text) (doc.list_of x) spans) same (none-zip (HasBodyText text) (HasBodyAt text) spans have)
+items-data text (json.item j js) ds [] shallow e have = absurd have
+items-data text (json.item j js) ds (s ∷ spans) shallow e have =
+    let h = item-read j js ds (of_json j) refl e in
+    subst (λ x. AllZip (HasBodyAt text) (doc.list_of x) (s ∷ spans)) (sym h.is)
+    (body-data text j h.first s (omega (arith, shallow)) h.reads have.0, items-data text js h.others spans (omega (arith, shallow)) h.more have.1)
+
+abbrev listed : Option Data → List Data
+listed o = unwrap_or (option_map doc.list_of (option_and_then as_array o)) []
+
+none-listed : (text : List ℕ) (o : Option Data) (spans : List (Option Span)) → listed o ≡ [] → HaveBodyTexts text [] spans → AllZip (HasBodyAt text) (listed o) spans
+none-listed text o spans none have = subst (λ l. AllZip (HasBodyAt text) l spans) (sym none) (none-zip (HasBodyText text) (HasBodyAt text) spans have)
+
+value-data : (text : List ℕ) (j : json.Json) (d : Data) (spans : List (Option Span)) → depth j ≤ max_depth → of_json j ≡ Some d → HaveBodiesIn text spans (Some j) → AllZip (HasBodyAt text) (listed (Some d)) spans
+value-data text json.null d spans shallow reads have = let same : null ≡ d = cc (reads) in none-listed text (Some d) spans (ap (λ x. listed (Some x)) (sym same)) have
+value-data text (json.boolean b) d spans shallow reads have = let same : boolean b ≡ d = cc (reads) in none-listed text (Some d) spans (ap (λ x. listed (Some x)) (sym same)) have
+value-data text (json.number s) d spans shallow reads have = let h = maps-to number (number_of s) d reads in none-listed text (Some d) spans (ap (λ x. listed (Some x)) h.is) have
+value-data text (json.string s) d spans shallow reads have = let same : string s ≡ d = cc (reads) in none-listed text (Some d) spans (ap (λ x. listed (Some x)) (sym same)) have
+value-data text (json.object ms) d spans shallow reads have = let h = maps-to object (of_members ms no_members) d reads in none-listed text (Some d) spans (ap (λ x. listed (Some x)) h.is) have
+value-data text (json.array js) d spans shallow reads have =
+    let h = maps-to array (of_items js) d reads in
+    subst (λ x. AllZip (HasBodyAt text) (listed (Some x)) spans) (sym h.is) (items-data text js h.value spans (omega (arith, shallow)) h.some have)
+
+found-data : (text : List ℕ) (o : Option json.Json) (p : Option Data) (spans : List (Option Span)) → Within max_depth o → Corresponds o p None → HaveBodiesIn text spans o → AllZip (HasBodyAt text) (listed p) spans
+found-data text None p spans shallow same have = none-listed text p spans (ap listed same) have
+found-data text (Some j) p spans shallow same have = subst (λ x. AllZip (HasBodyAt text) (listed x) spans) (sym same.is) (value-data text j same.value spans shallow same.read have)
+
+pub bodies-data : (text : List ℕ) (j : json.Json) (d : Data) (spans : List (Option Span)) → depth j ≤ max_depth → of_json j ≡ Some d → HaveBodiesIn text spans (tree.get (codes "requests") j) → AllZip (HasBodyAt text) (elements d) spans
+bodies-data text json.null d spans shallow reads have = let same : null ≡ d = cc (reads) in subst (λ x. AllZip (HasBodyAt text) (elements x) spans) same (none-zip (HasBodyText text) (HasBodyAt text) spans have)
+bodies-data text (json.boolean b) d spans shallow reads have = let same : boolean b ≡ d = cc (reads) in subst (λ x. AllZip (HasBodyAt text) (elements x) spans) same (none-zip (HasBodyText text) (HasBodyAt text) spans have)
+bodies-data text (json.number s) d spans shallow reads have = let h = maps-to number (number_of s) d reads in subst (λ x. AllZip (HasBodyAt text) (elements x) spans) (sym h.is) (none-zip (HasBodyText text) (HasBodyAt text) spans have)
+bodies-data text (json.string s) d spans shallow reads have = let same : string s ≡ d = cc (reads) in subst (λ x. AllZip (HasBodyAt text) (elements x) spans) same (none-zip (HasBodyText text) (HasBodyAt text) spans have)
+bodies-data text (json.array js) d spans shallow reads have = let h = maps-to array (of_items js) d reads in subst (λ x. AllZip (HasBodyAt text) (elements x) spans) (sym h.is) (none-zip (HasBodyText text) (HasBodyAt text) spans have)
+bodies-data text (json.object ms) d spans shallow reads have =
+    let h = maps-to object (of_members ms no_members) d reads in
+    let found = get-read (codes "requests") ms h.value h.some in
+    let within = less (members_depth ms) max_depth (tree.get_member (codes "requests") ms) (omega (arith, shallow)) (member-within (codes "requests") ms) in
+    subst (λ x. AllZip (HasBodyAt text) (elements x) spans) (sym h.is) (found-data text (tree.get_member (codes "requests") ms) (get_member (codes "requests") h.value) spans within found have)

@@ -1,0 +1,15 @@
+mod WordLemmas
+mod ContentLemmas
+mod LexLemmas
+mod TokenLemmas
+mod PlaceLemmas
+mod ExtentLemmas
+mod ScanLemmas
+mod WalkLemmas
+mod PartLemmas
+mod ReadLemmas
+mod NullLemmas
+mod MemberLemmas
+mod BracketLemmas
+mod LookupLemmas
+mod DataLemmas

@@ -1,0 +1,56 @@
+use Rattle.std.proofs.Common.{◌≡◌, ℕ, List, [], ◌+◌, get_or, Some, Result, Ok, Err, IfOk, sym, subst, arith, All, length}
+use Rattle.json.specs.Token.{Token}
+use Rattle.json.specs.Json as json
+use Rattle.std.proofs.lemmas.List.Elements.{All-nil}
+use Rattle.odb_spans.specs.Spans.{IsWithin}
+use Rattle.odb_spans.specs.Parts.{GivesBodies, GivesItems, HasValue, HaveBodiesIn}
+use Rattle.odb_spans.proofs.BracketLemmas.{array-at, array-byte}
+use Rattle.odb_spans.proofs.PartLemmas.{value-part, value-within}
+use Rattle.odb_spans.proofs.bodies.bodies_at.Goals.{then-at-document-via-then-at-document, then-at-document-via-else-at-document+then-document-at-ne91}
+use Rattle.odb_spans.proofs.bodies.bodies_at.Goals as goal
+
+no-array : (text : List ℕ) (at : ℕ) (j : json.Json) (ts : List Token) → HasValue text at j ts → (get_or text at 0 ≡ 91 → ⊥) → HaveBodiesIn text [] (Some j)
+no-array text at json.null ts v other = tt
+no-array text at (json.boolean b) ts v other = tt
+no-array text at (json.number s) ts v other = tt
+no-array text at (json.string s) ts v other = tt
+no-array text at (json.object ms) ts v other = tt
+no-array text at (json.array js) ts v other = absurd (other (array-byte text at js ts v))
+
+if-ok : {A E : Type 0} (P Q : A → Type 0) (r : Result A E) → ((a : A) → P a → Q a) → IfOk r P → IfOk r Q
+if-ok P Q (Ok a) f h = f a h
+if-ok P Q (Err e) f h = tt
+
+pub returns-then-at-document : goal.returns-then-at-document
+returns-then-at-document c =
+    let text = c.args.document.now in
+    let end = c.value_end in
+    record {
+      order = omega (arith, end.ensures.extent);
+      within = end.ensures.within;
+      bounds = subst (All (IsWithin (length text))) (sym c.new.ensures.items) (All-nil (IsWithin (length text)));
+      gives = λ j ts v. (
+        subst (λ l. HaveBodiesIn text l (Some j)) (sym c.new.ensures.items)
+            (no-array text c.args.at j ts v (elim c.then-at-document.branch as (λ _. get_or text c.args.at 0 ≡ 91 → ⊥) [
+              | then-at-document-via-then-at-document w ↦ λ here. let within = value-within text c.args.at j ts v in omega (arith, within, w.if-at-document.true)
+              | then-at-document-via-else-at-document+then-document-at-ne91 w ↦ w.if-document-at-ne91.true
+            ])),
+        (value-part text c.args.at end.result j ts v end.ensures.extent end.ensures.within (end.ensures.boundary v.utf8)).ended,
+      );
+    }
+
+pub returns : goal.returns
+returns c =
+    let text = c.args.document.now in
+    let at = c.args.at in
+    if-ok (λ found. GivesItems text (at + 1) found.0.items found.1) (λ found. GivesBodies text at found.0.items found.1) c.bodies_among.result
+    (λ found items. record {
+      order = omega (arith, items.order);
+      within = items.within;
+      bounds = items.bounds;
+      gives = λ j ts v.
+          (let array = array-at text at j ts v c.if-document-at-ne91.false in
+          let all = items.gives array.inner ts array.has in
+          (subst (λ i. HaveBodiesIn text found.0.items (Some i)) (sym array.is) all.0, all.1));
+    })
+    c.bodies_among.ensures

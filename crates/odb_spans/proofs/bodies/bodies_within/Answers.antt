@@ -1,0 +1,40 @@
+use Rattle.std.proofs.Common.{codes, subst}
+use Rattle.odb_spans.specs.Parts.{HaveBodiesIn, IsNameIn}
+use Rattle.odb_spans.proofs.PartLemmas.{value-part}
+use Rattle.odb_spans.proofs.MemberLemmas.{end-members, passed-other, passed-same}
+use Rattle.odb_spans.proofs.bodies.bodies_within.Goals as goal
+
+pub returns-in-End : goal.returns-in-End
+returns-in-End c = record {
+  bounds = c.members.invariant.bounds;
+  finds = λ ms ts has.
+      (end-members (codes "requests") c.args.document.now c.members.at c.in-End.field-0 (HaveBodiesIn c.args.document.now c.members.bodies.items) ms ts (c.members.invariant.remaining ms ts has) c.in-End.ensures).holds;
+}
+
+pub members-preserved-then-branch : goal.members-preserved-then-branch
+members-preserved-then-branch c =
+    let text = c.args.document.now in
+    let member = c.member_at-member.result in
+    let found = c.in_ok-found-in-Element in
+    let named = subst (IsNameIn text member.name (codes "requests")) c.if-branch.true c.in_ok-is_named-in-Element.ensures in
+    record {
+      within = found.ensures.within;
+      bounds = found.ensures.bounds;
+      remaining = λ ms ts has.
+          passed-same (codes "requests") text c.members.at c.in-Element.first member ms ts (HaveBodiesIn text c.members.bodies.items) (HaveBodiesIn text found.found.items) found.end
+          (c.members.invariant.remaining ms ts has) c.in-Element.ensures c.member_at-member.ensures named found.ensures.gives;
+    }
+
+pub members-preserved : goal.members-preserved
+members-preserved c =
+    let text = c.args.document.now in
+    let member = c.member_at-member.result in
+    let end = c.value_end-at in
+    let named = subst (IsNameIn text member.name (codes "requests")) c.if-branch.false c.in_ok-is_named-in-Element.ensures in
+    record {
+      within = end.ensures.within;
+      bounds = c.members.invariant.bounds;
+      remaining = λ ms ts has.
+          passed-other (codes "requests") text c.members.at c.in-Element.first member ms ts (HaveBodiesIn text c.members.bodies.items) end.result (c.members.invariant.remaining ms ts has) c.in-Element.ensures c.member_at-member.ensures named
+          (λ j us v. (value-part text member.value end.result j us v end.ensures.extent end.ensures.within (end.ensures.boundary v.utf8)).ended);
+    }

@@ -1,0 +1,53 @@
+use Rattle.std.proofs.Common.{Some, codes, refl, subst, arith}
+use Rattle.odb_spans.specs.Parts.{IsNameIn, IsValueSpan}
+use Rattle.odb_spans.specs.declared.span.Span.{Span}
+use Rattle.odb_spans.proofs.PartLemmas.{value-part}
+use Rattle.odb_spans.proofs.MemberLemmas.{end-members, passed-other, passed-same}
+use Rattle.odb_spans.proofs.body.body_among.Goals as goal
+
+pub returns-in-End : goal.returns-in-End
+returns-in-End c =
+    let steps = c.in-End.ensures in
+    record {
+      order = omega (arith, c.members.invariant.order, steps.0);
+      within = steps.1;
+      bounds = c.members.invariant.bounds;
+      finds = λ ms ts has.
+          (let e = end-members (codes "body") c.args.document.now c.members.at c.in-End.end (IsValueSpan c.args.document.now c.members.body) ms ts (c.members.invariant.remaining ms ts has) steps in
+          (e.holds, e.ended));
+    }
+
+pub members-preserved-then-branch : goal.members-preserved-then-branch
+members-preserved-then-branch c =
+    let text = c.args.document.now in
+    let steps = c.in-Element.ensures in
+    let member = c.member_at-member.result in
+    let is = c.member_at-member.ensures in
+    let end = c.value_end-at in
+    let span : Span = record { start = member.value; end = end.result } in
+    let named = subst (IsNameIn text member.name (codes "body")) c.if-branch.true c.in_ok-is_named-in-Element.ensures in
+    record {
+      order = omega (arith, c.members.invariant.order, steps.0, is.some, is.order, end.ensures.extent);
+      within = end.ensures.within;
+      bounds = (omega (arith, end.ensures.extent), end.ensures.within);
+      remaining = λ ms ts has.
+          passed-same (codes "body") text c.members.at c.in-Element.first member ms ts (IsValueSpan text c.members.body) (IsValueSpan text (Some span)) end.result (c.members.invariant.remaining ms ts has) steps is named
+          (λ j us v. (let part = value-part text member.value end.result j us v end.ensures.extent end.ensures.within (end.ensures.boundary v.utf8) in ((j, refl, part.text_of), part.ended)));
+    }
+
+pub members-preserved : goal.members-preserved
+members-preserved c =
+    let text = c.args.document.now in
+    let steps = c.in-Element.ensures in
+    let member = c.member_at-member.result in
+    let is = c.member_at-member.ensures in
+    let end = c.value_end-at in
+    let named = subst (IsNameIn text member.name (codes "body")) c.if-branch.false c.in_ok-is_named-in-Element.ensures in
+    record {
+      order = omega (arith, c.members.invariant.order, steps.0, is.some, is.order, end.ensures.extent);
+      within = end.ensures.within;
+      bounds = c.members.invariant.bounds;
+      remaining = λ ms ts has.
+          passed-other (codes "body") text c.members.at c.in-Element.first member ms ts (IsValueSpan text c.members.body) end.result (c.members.invariant.remaining ms ts has) steps is named
+          (λ j us v. (value-part text member.value end.result j us v end.ensures.extent end.ensures.within (end.ensures.boundary v.utf8)).ended);
+    }

@@ -1,0 +1,14 @@
+use Rattle.std.proofs.Common.{◌∙◌, sym, arith}
+use Rattle.std.proofs.lemmas.Str.{IsCharBoundary-after_ascii}
+use Rattle.odb_spans.proofs.WalkLemmas.{past-blank}
+use Rattle.odb_spans.proofs.walk.past_blanks.Goals as goal
+
+pub loop-end-preserved : goal.loop-end-preserved
+loop-end-preserved c =
+    let is = c.in-Blank.ensures in
+    record {
+      same = sym (past-blank c.args.text.now c.loop-end.end c.loop-end-test.true is) ∙ c.loop-end.invariant.same;
+      after = omega (arith, c.loop-end.invariant.after);
+      within = omega (arith, c.loop-end-test.true);
+      boundary = λ utf8 here. IsCharBoundary-after_ascii c.args.text.now c.loop-end.end utf8 c.loop-end-test.true is.ascii;
+    }

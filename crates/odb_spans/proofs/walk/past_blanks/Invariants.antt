@@ -1,0 +1,16 @@
+use Rattle.std.proofs.Common.{◌≡◌, ◌≤◌, ◌-◌, length}
+use Rattle.std.specs.Prelude.{IsUtf8}
+use Rattle.std.specs.Str.{IsCharBoundary}
+use Rattle.odb_spans.specs.Walks.{lexemes_from}
+use Rattle.odb_spans.proofs.walk.past_blanks.Given as goal
+
+abbrev pub invariant-loop-end : goal.invariant-loop-end
+invariant-loop-end l = record {
+  same : lexemes_from l.text l.end ≡ lexemes_from l.text l.at;
+  after : l.at ≤ l.end;
+  within : l.end ≤ length l.text;
+  boundary : IsUtf8 l.text → IsCharBoundary l.text l.at → IsCharBoundary l.text l.end;
+}
+
+abbrev pub decreases-loop-end : goal.decreases-loop-end
+decreases-loop-end l = length l.text - l.end

@@ -1,0 +1,8 @@
+-- What public clauses cite, and has to be believed.
+pub mod Spans
+-- What private clauses and proofs cite: nothing to believe.
+pub mod Extents
+pub mod Kinds
+pub mod Parts
+pub mod States
+pub mod Walks

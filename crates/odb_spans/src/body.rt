@@ -1,0 +1,76 @@
+//! The body of one request.
+
+ghost use Rattle.std.specs.Prelude.{◌≤◌, ◌<◌, ℕ, length, IfOk, codes};
+ghost use Rattle.odb_spans.specs.Spans.{IsWithin};
+ghost use Rattle.odb_spans.specs.Parts.{FindsMember, GivesBody, IsGiven, IsNullAt};
+
+use crate::extent::value_end;
+use crate::member::{is_named, member_at};
+use crate::span::Span;
+use crate::walk::{Step, next};
+use std::alloc::{AllocError, Global};
+
+/// Returns the value of the last member `body`, if any, and where the object ends. `start` is after its
+/// opening brace.
+fn body_among(
+    alloc: Global,
+    document: &[u8],
+    start: usize,
+) -> Result<(Option<Span>, usize), AllocError>
+    requires { start ≤ length document.now }
+    ensures { IfOk result (λ found. FindsMember (codes "body") document.now start found.0 found.1) }
+{
+    let mut at = start;
+    let mut body = None;
+    'members: loop {
+        match next(document, at) {
+            Step::End(end) => return Ok((body, end)),
+            Step::Element(first) => {
+                let member = member_at(document, first);
+                at = value_end(document, member.value);
+                if is_named(alloc, document, member.name, "body")? {
+                    body = Some(Span {
+                        start: member.value,
+                        end: at,
+                    });
+                }
+            }
+        }
+    }
+}
+
+/// Returns whether the span is that of `null`.
+fn is_null(document: &[u8], span: Span) -> bool
+    ensures { IsNullAt document.now span result }
+{
+    span.start < document.len() && document[span.start] == b'n'
+}
+
+/// Returns the span, or none if it is that of `null`.
+fn given(document: &[u8], value: Option<Span>) -> Option<Span>
+    ensures given { IsGiven document.now value result }
+    ensures bounds { (len : ℕ) → IsWithin len value → IsWithin len result }
+{
+    let span = value?;
+    if is_null(document, span) {
+        None
+    } else {
+        Some(span)
+    }
+}
+
+/// Returns the body of the request at a position, if any, and where the request ends.
+pub(crate) fn body_at(
+    alloc: Global,
+    document: &[u8],
+    at: usize,
+) -> Result<(Option<Span>, usize), AllocError>
+    requires { at < length document.now }
+    ensures { IfOk result (λ found. GivesBody document.now at found.0 found.1) }
+{
+    if document[at] != b'{' {
+        return Ok((None, value_end(document, at)));
+    }
+    let (body, end) = body_among(alloc, document, at + 1)?;
+    Ok((given(document, body), end))
+}

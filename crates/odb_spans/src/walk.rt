@@ -1,0 +1,79 @@
+//! From one element of an array or an object to the next.
+
+ghost use Rattle.std.specs.Prelude.{◌≡◌, ◌≤◌, ◌<◌, ℕ, List, ◌∷◌, length, get_or, true, false, IsUtf8};
+ghost use Rattle.std.specs.Str.{IsCharBoundary};
+ghost use Rattle.json.specs.Token.{Token};
+ghost use Rattle.json.specs.Lex as lexer;
+ghost use Rattle.json.specs.Align.{is_blank, is_good};
+ghost use Rattle.odb_spans.specs.Walks.{Faces, IsInside, IsSolidAt, Steps, lexemes_from, tokens_from};
+
+use crate::byte::Kind;
+
+/// Where the next element of an array or the next name of an object begins, or where the array or the
+/// object ends.
+#[derive(Clone, Copy)]
+pub(crate) enum Step {
+    Element(usize),
+    End(usize),
+}
+
+/// Returns where the next byte is that is not blank.
+pub(crate) fn past_blanks(text: &[u8], at: usize) -> usize
+    requires { at ≤ length text.now }
+    ensures same { lexemes_from text.now result ≡ lexemes_from text.now at }
+    ensures after { at ≤ result }
+    ensures within { result ≤ length text.now }
+    ensures solid { IsSolidAt text.now result }
+    ensures boundary { IsUtf8 text.now → IsCharBoundary text.now at
+        → IsCharBoundary text.now result }
+{
+    let mut end = at;
+    while end < text.len() {
+        let Kind::Blank = Kind::of(text[end]) else {
+            return end;
+        };
+        end += 1;
+    }
+    end
+}
+
+/// Returns where the next element, the next value or the closing bracket is, after a comma or a colon.
+pub(crate) fn past_separator(text: &[u8], at: usize) -> usize
+    requires { at ≤ length text.now }
+    ensures faces { (q : lexer.Place) (t : Token) (ts : List Token) → IsInside q → is_good t ≡ true
+        → tokens_from q text.now at ≡ t ∷ ts → Faces text.now result t ts }
+    ensures colon { (t : Token) (ts : List Token) → is_good t ≡ true
+        → tokens_from lexer.after_key text.now at ≡ t ∷ ts
+        → tokens_from lexer.fresh text.now result ≡ t ∷ ts }
+    ensures after { at ≤ result }
+    ensures within { result ≤ length text.now }
+    ensures solid { IsSolidAt text.now result }
+    ensures boundary { IsUtf8 text.now → IsCharBoundary text.now at
+        → IsCharBoundary text.now result }
+{
+    let first = past_blanks(text, at);
+    let Some(kind) = Kind::at(text, first) else {
+        return first;
+    };
+    if kind.is_separator() {
+        past_blanks(text, first + 1)
+    } else {
+        first
+    }
+}
+
+/// Returns the next step in an array or an object: `at` is after its opening bracket or an element.
+pub(crate) fn next(text: &[u8], at: usize) -> Step
+    requires { at ≤ length text.now }
+    ensures { Steps text.now at result }
+{
+    let first = past_separator(text, at);
+    let Some(kind) = Kind::at(text, first) else {
+        return Step::End(first);
+    };
+    if kind.closes() {
+        Step::End(first + 1)
+    } else {
+        Step::Element(first)
+    }
+}
