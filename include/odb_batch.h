@@ -64,7 +64,7 @@ enum {
  * applies. The run is as it was. */
 enum {
     ODB_ALREADY_STARTED = 11, /* S1: the request has started before */
-    ODB_STOPPED = 12,         /* S2: an error has stopped the run */
+    ODB_STOPPED = 12,         /* S2: the run is stopped, by an error or by `odb_run_stop` */
     ODB_UNIT_FAILED = 13,     /* S3: the unit of the request has failed */
     ODB_WAITING = 14,         /* S4: a request or group that it needs has not succeeded */
     ODB_WIDTH_REACHED = 15,   /* S5: the width limit is reached */
@@ -72,7 +72,7 @@ enum {
     ODB_BAD_STATUS = 22       /* P2: the status is not from 200 to 599 */
 };
 
-/* `mode`: what an error, a status from 400 to 599, does to a run. */
+/* `mode`: what an error, a status from 400 to 599, does to a run, or to a service whose responses are matched. */
 enum {
     ODB_CONTINUE = 0, /* what depends on the request is skipped */
     ODB_STOP = 1      /* nothing is started any more */
@@ -152,6 +152,13 @@ uint32_t odb_replay_as(const uint8_t *batch, size_t batch_size, const uint8_t *o
                        uint32_t mode, uint32_t width, uint32_t order, uint32_t trace, uint32_t form,
                        uint8_t *text, size_t text_size, size_t *text_length, uint64_t seed);
 
+/* Matches as `odb_match_as` does, by the mode of the service. In the mode ODB_STOP, if a response has a status from 400 to
+ * 599, each request without a response is read as answered 424; in ODB_CONTINUE each has to have one. `mode` is one of
+ * these, and `form` is ODB_LINES or ODB_JSON: else returns ODB_WRONG_OPTION. Otherwise returns what `odb_check` does. */
+uint32_t odb_match_with(const uint8_t *batch, size_t batch_size, const uint8_t *responses, size_t responses_size,
+                        uint32_t mode, uint32_t form,
+                        uint8_t *text, size_t text_size, size_t *text_length, uint64_t seed);
+
 /* A live run: a caller starts requests and reports how they ended, and learns what may start then. Requests are
  * named by their positions in the batch, from 0.
  *
@@ -160,8 +167,8 @@ uint32_t odb_replay_as(const uint8_t *batch, size_t batch_size, const uint8_t *o
  *              and is not closed; nothing checks that.
  *   Threads    One thread at a time may be in the calls on one handle, on any thread; runs of their own need
  *              no lock.
- *   Memory     A handle owns a copy of the ids and groups of the batch, and all outcomes that were reported. No call
- *              keeps what it was passed.
+ *   Memory     A handle owns a copy of the ids and groups of the batch, and of all that was reported. No call keeps
+ *              what it was passed.
  *   NULL       `run`, `count` and `position` must not be NULL. `positions` and `id` may be, which are a buffer
  *              and an id of size 0.
  *   Overlap    The place of the handle, `*count` and `*position` must not overlap the other arguments. */
@@ -207,9 +214,40 @@ uint32_t odb_run_ids(odb_live_run *run, uint8_t *text, size_t text_size, size_t 
  * request) time, and allocates nothing. */
 uint32_t odb_run_start(odb_live_run *run, uint32_t position);
 
+/* Copies the positions of the first unit that may begin to a buffer of `positions_size` numbers: of the members of a
+ * group, or of one request without a group, in order. A unit may begin if none of its members has started, it has not
+ * failed, what its members need of other units has succeeded, the run is not stopped, and fewer requests are running
+ * than the width allows. `*count` is set to the number of them, which is 0 if no unit may begin now. Returns ODB_DONE,
+ * or ODB_SMALL_BUFFER if they do not fit, and the buffer is as it was. A handle as above, whose run stays as it is:
+ * start each of them by `odb_run_start`, once it is ready. All calls of a run take O(requests) time together, beside
+ * O(positions) for each. */
+uint32_t odb_run_next_unit(odb_live_run *run, uint32_t *positions, size_t positions_size, size_t *count);
+
+/* Stops a run: from now on no request starts, by ODB_STOPPED. What is running is reported as before, and what has not
+ * started is answered 424: then `odb_run_response` writes the response of a finished run. A handle as above. Takes
+ * constant time. */
+void odb_run_stop(odb_live_run *run);
+
+/* What `odb_run_state` says of a request. */
+enum {
+    ODB_STATE_WAITING = 0,  /* it may not start yet */
+    ODB_STATE_READY = 1,    /* it may start now */
+    ODB_STATE_RUNNING = 2,  /* it has started and not reported */
+    ODB_STATE_REPORTED = 3, /* it has reported a status */
+    ODB_STATE_SKIPPED = 4,  /* it never starts any more: its unit has failed, or the run is stopped */
+    ODB_STATE_UNDONE = 5    /* the run is finished, and the request has to be undone: see `odb_run_undone` */
+};
+
+/* Sets `*state` to the state of a request, from ODB_STATE_WAITING to ODB_STATE_UNDONE, and `*status` to the status that
+ * it has reported, or 0; once the run is finished, to the status that it is answered. Returns ODB_DONE; or
+ * ODB_WRONG_OPTION if there is no such position, and both are as they were. `state` and `status` must not be NULL, nor
+ * overlap. A handle as above. Takes constant time. */
+uint32_t odb_run_state(odb_live_run *run, uint32_t position, uint32_t *state, uint32_t *status);
+
 /* Takes the outcome of a request: an HTTP status, headers and a body. The headers are a JSON object of strings
- * whose names differ in lower case. The body is JSON of whole numbers that nests at most 124 deep, so that `odb_match`
- * reads the response. Each may be empty or NULL, as the JSON null, for none.
+ * whose names differ in lower case. The body is JSON that nests at most 124 deep, so that `odb_match` reads the
+ * response, which repeats its bytes as they are, whatever numbers it has. Each may be empty or NULL, as the JSON
+ * null, for none.
  * Returns ODB_DONE; or, with the run as it was, ODB_WRONG_OPTION if there is no such position,
  * ODB_REFUSED if the headers or the body are not of this form, ODB_OUT_OF_MEMORY, or the cause, ODB_NOT_RUNNING or
  * ODB_BAD_STATUS. A handle as above. All reports of a run take O(requests + dependencies) time together, beside
@@ -221,9 +259,9 @@ uint32_t odb_run_report(odb_live_run *run, uint32_t position, uint32_t status,
 /* Returns 1 if no event may come any more, else 0. A handle as above. Takes constant time. */
 uint32_t odb_run_finished(odb_live_run *run);
 
-/* Writes what `odb_run` writes of the batch and the events so far: the response and a newline, or the line of F66
- * if the run is not finished. Returns what `odb_check` does. A handle as above, whose run stays as it is. Takes O(n)
- * time for a text of n bytes: nothing is read again. */
+/* Writes what `odb_run` writes of the batch and the events so far, but with each reported body as it is: the response
+ * and a newline, or the line of F66 if the run is not finished. Returns what `odb_check` does. A handle as above, whose
+ * run stays as it is. Takes O(n) time for a text of n bytes: nothing is read again. */
 uint32_t odb_run_response(odb_live_run *run, uint8_t *text, size_t text_size, size_t *text_length);
 
 /* Frees a run. Neither the handle nor a copy of it may be passed to a call any more. */
@@ -314,6 +352,14 @@ static inline uint32_t odb_inline_match_as(ODB_INLINE_IN(batch), ODB_INLINE_IN(r
                         text_length, seed);
 }
 
+static inline uint32_t odb_inline_match_with(ODB_INLINE_IN(batch), ODB_INLINE_IN(responses), uint32_t mode,
+                                             uint32_t form, ODB_INLINE_TEXT, uint64_t seed)
+{
+    uint8_t none = 0;
+    return odb_match_with(ODB_INLINE_SLICE(batch), ODB_INLINE_SLICE(responses), mode, form, ODB_INLINE_SLICE(text),
+                          text_length, seed);
+}
+
 static inline uint32_t odb_inline_run_as(ODB_INLINE_IN(batch), ODB_INLINE_IN(events), uint32_t mode, uint32_t width,
                                          uint32_t form, ODB_INLINE_TEXT, uint64_t seed)
 {
@@ -360,6 +406,13 @@ static inline uint32_t odb_inline_run_undone(odb_live_run *run, uint32_t *positi
     return odb_run_undone(run, ODB_INLINE_SLICE(positions), count);
 }
 
+static inline uint32_t odb_inline_run_next_unit(odb_live_run *run, uint32_t *positions, size_t positions_size,
+                                                size_t *count)
+{
+    uint32_t none = 0;
+    return odb_run_next_unit(run, ODB_INLINE_SLICE(positions), count);
+}
+
 static inline uint32_t odb_inline_run_position(odb_live_run *run, ODB_INLINE_IN(id), uint32_t *position)
 {
     uint8_t none = 0;
@@ -395,12 +448,14 @@ static inline uint32_t odb_inline_run_response(odb_live_run *run, ODB_INLINE_TEX
 #define odb_plan_as odb_inline_plan_as
 #define odb_canon_as odb_inline_canon_as
 #define odb_match_as odb_inline_match_as
+#define odb_match_with odb_inline_match_with
 #define odb_run_as odb_inline_run_as
 #define odb_replay_as odb_inline_replay_as
 #define odb_run_open odb_inline_run_open
 #define odb_run_ready odb_inline_run_ready
 #define odb_run_running odb_inline_run_running
 #define odb_run_undone odb_inline_run_undone
+#define odb_run_next_unit odb_inline_run_next_unit
 #define odb_run_position odb_inline_run_position
 #define odb_run_ids odb_inline_run_ids
 #define odb_run_report odb_inline_run_report

@@ -16,7 +16,8 @@ const MAX_WIDTH = 10000
 const NONE = ''
 
 // The names of the options of a call.
-const OF_RUN = ['mode', 'width']
+const OF_MATCH = ['mode']
+const OF_RUN = [...OF_MATCH, 'width']
 const OF_REPLAY = [...OF_RUN, 'order', 'trace']
 const OF_OUTPUT = [...OF_REPLAY, 'form']
 
@@ -83,8 +84,8 @@ function canon(batch) {
   return answer('canon', batch, NONE).subarray(0, -1)
 }
 
-function match(batch, responses) {
-  const lines = linesOf(answer('match', batch, responses)).slice(1)
+function match(batch, responses, options = {}) {
+  const lines = linesOf(answer('match', batch, responses, optionsOf(options, OF_MATCH))).slice(1)
   return new Map(lines.map((line) => line.split(' ')).map(([id, status]) => [id, Number(status)]))
 }
 

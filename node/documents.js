@@ -7,6 +7,7 @@ const { types } = require('node:util')
 // How deep a document may nest.
 const MOST_LEVELS = 127
 
+const NO_BIGINT = 'a BigInt has no JSON: pass the JSON text as bytes'
 const LONE_SURROGATE = /\p{Surrogate}/u
 
 /** What kind of object a value is, as `Object`, `Map` or `Uint16Array`; `Object` also of an instance of a class. */
@@ -36,6 +37,7 @@ function textOf(value) {
   } catch (error) {
     // Else it is the caller's stack that is used up.
     if (error instanceof RangeError && isTooDeep(value)) return '['.repeat(MOST_LEVELS + 1)
+    if (error instanceof TypeError && error.message.includes('BigInt')) throw new TypeError(NO_BIGINT, { cause: error })
     throw error
   }
 }

@@ -35,7 +35,16 @@ export interface PlannedRequest {
   needs: string[]
 }
 
-/** Options of a run. In each call an option with another name throws a `TypeError`. */
+/** Options of a match. In each call an option with another name throws a `TypeError`. */
+export interface MatchOptions {
+  /**
+   * `stop` is for a service that stops at its first error: if a response has a status from 400 to 599, each request
+   * without a response is read as answered 424; `continue` is the default.
+   */
+  mode?: 'continue' | 'stop'
+}
+
+/** Options of a run. */
 export interface RunOptions {
   /** `stop` starts nothing more after a status from 400 to 599; `continue` is the default. */
   mode?: 'continue' | 'stop'
@@ -129,9 +138,9 @@ export function canon(batch: Document): Bytes
 
 /**
  * Matches the response document of a service against a batch. Returns the status of the response to each
- * request, by its id, in the order of the batch.
+ * request, by its id, in the order of the batch. Throws a `RangeError` for a mode that is none of its values.
  */
-export function match(batch: Document, responses: Document): Map<string, number>
+export function match(batch: Document, responses: Document, options?: MatchOptions): Map<string, number>
 
 /**
  * Runs a batch by recorded events, and returns the response document, as JSON without a newline. Throws a
@@ -183,6 +192,17 @@ export interface LiveOptions extends RunOptions {
   events?: Events
 }
 
+/** What has become of a request of a live run. */
+export interface RequestState {
+  /**
+   * `waiting` if it may not start yet, `ready` if it may start now, `skipped` if it never starts any more, since its
+   * unit has failed or the run is stopped; once the run is finished, `undone` if it has to be undone.
+   */
+  state: 'waiting' | 'ready' | 'running' | 'reported' | 'skipped' | 'undone'
+  /** The status that it has reported, or null; once the run is finished, the status that it is answered. */
+  status: number | null
+}
+
 /**
  * A live run of a batch: it says which requests may start now, and in the end what the batch is answered.
  * The caller performs the requests. It starts those that are ready, in any order, and reports what each is
@@ -221,6 +241,27 @@ export class Run {
   readonly undone: string[]
 
   /**
+   * Returns the ids of the first unit that may begin, or null if no unit may begin now. A unit is a group, or one
+   * request without a group. It may begin if none of its members has started, it has not failed, what its members
+   * need of other units has succeeded, the run is not stopped, and fewer requests are running than the width
+   * allows. For who performs a group as a whole, as in a transaction: start and report its members one after
+   * another, each once it is ready.
+   */
+  nextUnit(): string[] | null
+
+  /**
+   * Returns what has become of a request, and whether it may start now. It takes constant time, and throws for an
+   * unknown id as `start`.
+   */
+  state(id: string): RequestState
+
+  /**
+   * Stops the run: from now on no request starts. What is running has to be reported as before, and what has not
+   * started is answered 424.
+   */
+  stop(): void
+
+  /**
    * Starts a request: call it just before the request is sent. Throws {@link Refused} with the first of the
    * causes S1 to S5 if it may not start, and a `RangeError` with the code `ERR_ODB_UNKNOWN_ID` if no
    * request of the batch has this id.
@@ -234,10 +275,11 @@ export class Run {
    *
    * @param status The final status, from 200 to 599.
    * @param headers The headers that the response shows.
-   * @param body The body: a value that `JSON.stringify` can write, or bytes, which are its JSON; null,
-   *   undefined and no bytes are no body. Its numbers are whole, and it nests at most 124 deep: else, and for
-   *   other headers than strings with different names, throws the {@link Fault} that they have in a recorded
-   *   event, and the request is still running.
+   * @param body The body: its JSON text as bytes, which the response repeats byte for byte, whatever numbers
+   *   they have; or a value that `JSON.stringify` can write, a string too. null, undefined and no bytes are no
+   *   body. It nests at most 124 deep: else, and for other headers than strings with different names, throws
+   *   the {@link Fault} that they have in a recorded event, and the request is still running. A BigInt throws a
+   *   `TypeError`.
    */
   report(id: string, status: number, headers?: HeaderValues, body?: unknown): void
 

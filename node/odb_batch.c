@@ -33,7 +33,7 @@ static uint32_t make(void *given, struct bytes text, size_t *length)
     case 2:
         return odb_canon_as(a.at, a.size, it->form, text.at, text.size, length, it->seed);
     case 3:
-        return odb_match_as(a.at, a.size, b.at, b.size, it->form, text.at, text.size, length, it->seed);
+        return odb_match_with(a.at, a.size, b.at, b.size, it->mode, it->form, text.at, text.size, length, it->seed);
     case 4:
         return odb_run_as(a.at, a.size, b.at, b.size, it->mode, it->width, it->form,
                           text.at, text.size, length, it->seed);

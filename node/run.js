@@ -28,7 +28,7 @@ function settleEvent(name, status, id) {
   settle(name, status, '')
 }
 
-/** The JSON of a value; nothing if there is none. */
+/** The JSON of a value, which bytes are already; nothing if there is none. */
 function partOf(value) {
   return value === undefined || value === null ? NOTHING : arrayOf(value) ?? jsonOf(value)
 }
@@ -46,6 +46,9 @@ function faultOf(headers, body) {
   }
   return new Fault('F02', 'NotJson', 'report')
 }
+
+// The states of a request, by their numbers.
+const STATES = ['waiting', 'ready', 'running', 'reported', 'skipped', 'undone']
 
 class Run {
   #run
@@ -122,6 +125,23 @@ class Run {
 
   get finished() {
     return addon.finished(this.#open) === 1
+  }
+
+  nextUnit() {
+    const [status, positions] = this.#listing('nextUnit')
+    settle('nextUnit', status, '')
+    return positions.length > 0 ? this.#idsOf(positions) : null
+  }
+
+  state(id) {
+    const numbers = new Uint32Array(2)
+    settleEvent('state', addon.state(this.#open, this.#position(id), numbers), id)
+    const [state, status] = numbers
+    return { state: STATES[state], status: status > 0 ? status : null }
+  }
+
+  stop() {
+    addon.stop(this.#open)
   }
 
   start(id) {

@@ -2,8 +2,11 @@
  * of the event loop, or when another run is opened in the same turn.
  *
  *   open(batch, events, mode, width) -> [status, text, run]
- *   ready(run, positions), running(run, positions), undone(run, positions) -> [status, count]
+ *   ready(run, positions), running(run, positions), undone(run, positions), nextUnit(run, positions)
+ *     -> [status, count]
+ *   state(run, position, numbers) -> status, with the state and its status in `numbers`
  *   start(run, position), report(run, position, status, headers, body), finished(run) -> status
+ *   stop(run)
  *   ids(run, size), response(run, size) -> [status, text]
  *   close(run)
  *
@@ -211,6 +214,37 @@ static napi_value undone(napi_env env, napi_callback_info info)
     return list(env, info, odb_run_undone);
 }
 
+static napi_value next_unit(napi_env env, napi_callback_info info)
+{
+    return list(env, info, odb_run_next_unit);
+}
+
+static napi_value state(napi_env env, napi_callback_info info)
+{
+    struct live *live;
+    napi_typedarray_type type;
+    uint32_t position;
+    size_t size = 0;
+    napi_value it[3];
+    void *numbers = NULL;
+    if (!read_arguments(env, info, it, 3) || !read_live(env, it[0], &live) || !read_number(env, it[1], &position)
+        || napi_get_typedarray_info(env, it[2], &type, &size, &numbers, NULL, NULL) != napi_ok
+        || type != napi_uint32_array || size < 2)
+        return wrong_arguments(env);
+    uint32_t *found = numbers;
+    return number_of(env, odb_run_state(&live->run, position, &found[0], &found[1]));
+}
+
+static napi_value stop(napi_env env, napi_callback_info info)
+{
+    struct live *live;
+    napi_value it[1];
+    if (!read_arguments(env, info, it, 1) || !read_live(env, it[0], &live))
+        return wrong_arguments(env);
+    odb_run_stop(&live->run);
+    return NULL;
+}
+
 static napi_value start(napi_env env, napi_callback_info info)
 {
     struct live *live;
@@ -297,6 +331,7 @@ napi_status export_runs(napi_env env, napi_value exports)
         {"open", open_run},     {"ready", ready},       {"running", running},
         {"start", start},       {"report", report},     {"finished", finished},
         {"undone", undone},     {"ids", ids},           {"response", response},
+        {"nextUnit", next_unit}, {"state", state},      {"stop", stop},
         {"close", close_run},
     };
     for (size_t i = 0; i < sizeof calls / sizeof *calls; i++) {

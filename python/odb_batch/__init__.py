@@ -52,7 +52,7 @@ from ._commands import (
 from ._documents import Document, Events, Report, Start
 from ._faults import Fault, OdbError, Refused
 from ._library import VERSION as __version__
-from ._runs import Run
+from ._runs import RequestState, Run
 
 __all__ = [
     "Command",
@@ -70,6 +70,7 @@ __all__ = [
     "Refused",
     "Replay",
     "Report",
+    "RequestState",
     "Run",
     "Start",
     "__version__",

@@ -127,11 +127,16 @@ def _number(names: Tuple[str, ...], what: str, value: str) -> int:
     return names.index(value)
 
 
+def _mode_number(mode: Mode) -> int:
+    """The number of a mode."""
+    return _number(MODES, "mode", mode)
+
+
 def policy(mode: Mode, width: int) -> Tuple[int, int]:
     """The numbers of a policy."""
     if isinstance(width, bool) or not isinstance(width, int) or not 1 <= width <= MAX_WIDTH:
         raise ValueError(f"width must be a whole number from 1 to {MAX_WIDTH}, not {width!r}")
-    return _number(MODES, "mode", mode), width
+    return _mode_number(mode), width
 
 
 def failure_of(name: str, status: int) -> Exception:
@@ -197,17 +202,25 @@ def canon(batch: Document) -> bytes:
     return answer("odb_canon", batch)[:-1]
 
 
-def match(batch: Document, responses: Document) -> Dict[str, int]:
+def match(batch: Document, responses: Document, *, mode: Mode = "continue") -> Dict[str, int]:
     """Matches the response document of a service against a batch.
+
+    Args:
+        batch: The batch.
+        responses: The response document of the service.
+        mode: ``"continue"``, or ``"stop"`` for a service that stops at its first error: if a response has a
+            status from 400 to 599, each request without a response is read as answered 424.
 
     Returns:
         The status of the response to each request, by its id, in the order of the batch.
 
     Raises:
         Fault: A document is refused, or the responses do not fit the batch.
+        ValueError: The mode is not one of its values.
         MemoryError: An allocation failed.
     """
-    lines = answer("odb_match", batch, responses).decode().splitlines()[1:]
+    options = (_mode_number(mode), FORMS.index("lines"))
+    lines = answer("odb_match_with", batch, responses, options=options).decode().splitlines()[1:]
     return {id: int(status) for id, status in (line.split(" ") for line in lines)}
 
 
@@ -294,7 +307,8 @@ def output(
         second: The document that :func:`match`, :func:`run` or :func:`replay` takes beside the batch.
         form: ``"json"`` for one line of JSON, as ``odb_batch --json`` prints, or ``"lines"``. A canonical
             text, a response and a trace are the same in both.
-        order, mode, width, trace: The options of :func:`replay`, of which ``run`` takes mode and width.
+        order, mode, width, trace: The options of :func:`replay`, of which ``run`` takes mode and width, and
+            ``match`` the mode.
 
     Raises:
         ValueError: The command, or an option that it takes, has a value that it may not have.
@@ -304,11 +318,14 @@ def output(
     if (second is None) == (_number(COMMANDS, "command", command) > 2):
         raise TypeError(f"{command} takes {'no second' if second is not None else 'a second'} document")
     numbers: Tuple[int, ...] = policy(mode, width) if command in ("run", "replay") else ()
+    if command == "match":
+        numbers = (_mode_number(mode),)
     if command == "replay":
         numbers = (*numbers, _number(ORDERS, "order", order), int(bool(trace)))
     given = (bytes_of(batch),) if second is None else (bytes_of(batch), events_of(second))
     options = (*numbers, _number(FORMS, "form", form))
-    status, text = _library.call(f"odb_{command}_as", given, options, sum(map(len, given)) + _MORE)
+    name = "odb_match_with" if command == "match" else f"odb_{command}_as"
+    status, text = _library.call(name, given, options, sum(map(len, given)) + _MORE)
     if status in (_library.DONE, _library.REFUSED):
         return Output(status == _library.DONE, text)
     raise failure_of(command, status)

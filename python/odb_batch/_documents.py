@@ -64,16 +64,33 @@ def _dict_of(value: Any) -> Dict[Any, Any]:
     raise TypeError(f"{type(value).__name__} has no JSON")
 
 
-def json_of(value: Any) -> bytes:
+_ENCODER = json.JSONEncoder(ensure_ascii=False, separators=(",", ":"), default=_dict_of)
+# Of a body: a NaN or an infinity raises a ValueError, while one in a document is refused by the library.
+_BODY_ENCODER = json.JSONEncoder(ensure_ascii=False, allow_nan=False, separators=(",", ":"), default=_dict_of)
+
+
+def _written(value: Any, encoder: json.JSONEncoder) -> bytes:
     """The JSON of a value. For one that is too deep to be written, as one that contains itself, a text that is refused
     as too deep, too."""
     try:
-        return _utf8(json.dumps(value, ensure_ascii=False, separators=(",", ":"), default=_dict_of))
+        return _utf8(encoder.encode(value))
     except (RecursionError, ValueError):
-        # Else it is the caller's stack that is used up, or a number with too many digits.
+        # Else it is the caller's stack that is used up, a number with too many digits, or a NaN.
         if _is_too_deep(value):
             return b"[" * (_MOST_LEVELS + 1)
         raise
+
+
+def json_of(value: Any) -> bytes:
+    """The JSON of a value of a document."""
+    return _written(value, _ENCODER)
+
+
+def body_of(body: Any) -> bytes:
+    """The JSON text of a body: bytes as they are, another value as ``json`` writes it; nothing if there is none."""
+    if isinstance(body, (bytes, bytearray, memoryview)):
+        return bytes_of(body)
+    return b"" if body is None else _written(body, _BODY_ENCODER)
 
 
 def bytes_of(document: Document) -> bytes:

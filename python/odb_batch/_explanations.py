@@ -163,7 +163,8 @@ EXPLANATIONS = {
     ),
     "F63": (
         "The body of a recorded outcome or of a reported event has a number that is not whole, as in F50. It\n"
-        "might not be written as it was recorded. Record the number as a string, or as an integer."
+        "might not be written as it was recorded. Record the number as a string, or as an integer. A report to a\n"
+        "live run is not refused by it: the response repeats the text of its body."
     ),
     "F64": (
         "The document is not an object whose single member events is an array; or an element is neither a\n"
@@ -195,7 +196,8 @@ EXPLANATIONS = {
     ),
     "F73": (
         "The request has no response. One that was never sent is answered too, with 424 (OData Protocol 4.01,\n"
-        "section 11.7). Services that stop after a first error and leave out the rest are refused by this."
+        "section 11.7). A service that stops at its first error may leave out the rest (section 8.2.8.3): with\n"
+        "--stop a request without a response is read as answered 424, if a response has a status from 400 to 599."
     ),
     "F74": (
         "The response names another atomicity group than its request, or only one of the two names a group.\n"

@@ -26,6 +26,7 @@ _SIZE = ctypes.POINTER(ctypes.c_size_t)
 _TEXT = [ctypes.c_void_p, ctypes.c_size_t, _SIZE]
 _SEEDED = [*_TEXT, ctypes.c_uint64]
 _RUN = [ctypes.POINTER(Handle)]
+_PLACE = ctypes.POINTER(ctypes.c_uint32)
 _POSITIONS = [ctypes.POINTER(ctypes.c_uint32), ctypes.c_size_t, _SIZE]
 
 # The parameters of each function.
@@ -40,12 +41,16 @@ _PARAMETERS: Dict[str, List[Any]] = {
     "odb_plan_as": [*_BYTES, *_NUMBER, *_SEEDED],
     "odb_canon_as": [*_BYTES, *_NUMBER, *_SEEDED],
     "odb_match_as": [*_BYTES, *_BYTES, *_NUMBER, *_SEEDED],
+    "odb_match_with": [*_BYTES, *_BYTES, *_NUMBER * 2, *_SEEDED],
     "odb_run_as": [*_BYTES, *_BYTES, *_NUMBER * 3, *_SEEDED],
     "odb_replay_as": [*_BYTES, *_BYTES, *_NUMBER * 5, *_SEEDED],
     "odb_run_open": [*_BYTES, *_BYTES, *_NUMBER * 2, *_RUN, *_SEEDED],
     "odb_run_ready": [*_RUN, *_POSITIONS],
     "odb_run_running": [*_RUN, *_POSITIONS],
     "odb_run_undone": [*_RUN, *_POSITIONS],
+    "odb_run_next_unit": [*_RUN, *_POSITIONS],
+    "odb_run_state": [*_RUN, *_NUMBER, _PLACE, _PLACE],
+    "odb_run_stop": [*_RUN],
     "odb_run_ids": [*_RUN, *_TEXT],
     "odb_run_start": [*_RUN, *_NUMBER],
     "odb_run_report": [*_RUN, *_NUMBER * 2, *_BYTES, *_BYTES],
@@ -87,6 +92,7 @@ def _declare(library: ctypes.CDLL) -> str:
             function = getattr(library, name)
             function.argtypes, function.restype = parameters, ctypes.c_uint32
         library.odb_run_close.restype = None
+        library.odb_run_stop.restype = None
     except AttributeError as error:
         raise ImportError(f"{NAME} is not the library of odb_batch: {error}") from None
     found = number // 10000, number // 100 % 100
@@ -120,6 +126,11 @@ def call_run(name: str, handle: Handle, *arguments: Any) -> int:
     """Calls a function over a run, and returns its status."""
     function: Callable[..., int] = getattr(_LIBRARY, name)
     return function(ctypes.byref(handle), *arguments)
+
+
+def stop_run(handle: Handle) -> None:
+    """Stops a run."""
+    _LIBRARY.odb_run_stop(ctypes.byref(handle))
 
 
 def close_run(handle: Handle) -> None:

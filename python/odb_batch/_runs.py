@@ -4,11 +4,11 @@ import ctypes
 import threading
 import weakref
 from types import TracebackType
-from typing import Any, List, Mapping, NoReturn, Optional, SupportsIndex, Tuple, Type
+from typing import Any, List, Literal, Mapping, NamedTuple, NoReturn, Optional, SupportsIndex, Tuple, Type
 
 from . import _library
 from ._commands import MAX_WIDTH, Mode, answer, failure_of, policy
-from ._documents import Document, Events, bytes_of, events_of, json_of
+from ._documents import Document, Events, body_of, bytes_of, events_of, json_of
 from ._faults import Fault, Refused
 
 # Why a start or a report is refused, by the status that says so.
@@ -22,6 +22,25 @@ _CAUSES = {
     22: ("P2", "BadStatus"),
 }
 _MOST = 2**32 - 1
+
+_State = Literal["waiting", "ready", "running", "reported", "skipped", "undone"]
+
+# The states of a request, by their numbers.
+_STATES: Tuple[_State, ...] = ("waiting", "ready", "running", "reported", "skipped", "undone")
+
+
+class RequestState(NamedTuple):
+    """What has become of a request of a live run.
+
+    A request is ``"waiting"`` if it may not start yet, ``"ready"`` if it may start now, ``"running"``,
+    ``"reported"``, or ``"skipped"`` if it never starts any more, since its unit has failed or the run is
+    stopped. Once the run is finished, a request that has to be undone is ``"undone"``.
+    """
+
+    #: What has become of the request.
+    state: _State
+    #: The status that it has reported, or None; once the run is finished, the status that it is answered.
+    status: Optional[int]
 
 
 class Run:
@@ -142,6 +161,58 @@ class Run:
         with self._lock:
             return bool(self._call("odb_run_finished"))
 
+    def next_unit(self) -> Optional[Tuple[str, ...]]:
+        """Returns the ids of the first unit that may begin, or None if no unit may begin now.
+
+        A unit is a group, or one request without a group. It may begin if none of its members has started,
+        it has not failed, what its members need of other units has succeeded, the run is not stopped, and fewer
+        requests are running than the width allows. For who performs a group as a whole, as in a transaction:
+        start and report its members one after another, each once it is ready.
+
+        >>> from odb_batch import Run
+        >>> batch = {"requests": [{"id": "a", "method": "get", "url": "Books"},
+        ...                       {"id": "b", "method": "post", "url": "Loans", "atomicityGroup": "g", "dependsOn": ["a"]},
+        ...                       {"id": "c", "method": "post", "url": "Loans", "atomicityGroup": "g"}]}
+        >>> with Run(batch) as run:
+        ...     run.next_unit()
+        ...     run.start("a")
+        ...     run.report("a", 200)
+        ...     run.next_unit()
+        ('a',)
+        ('b', 'c')
+
+        Raises:
+            ValueError: The run is closed.
+        """
+        status, positions = self._positions("odb_run_next_unit")
+        _settle("odb_run_next_unit", status, "")
+        return tuple(self._ids[position] for position in positions) or None
+
+    def state(self, id: str) -> RequestState:
+        """Returns what has become of a request, and whether it may start now. It takes constant time.
+
+        Raises:
+            KeyError: No request of the batch has this id.
+            ValueError: The run is closed.
+        """
+        position = self._at[id]
+        state, status = ctypes.c_uint32(), ctypes.c_uint32()
+        with self._lock:
+            end = self._call("odb_run_state", position, ctypes.byref(state), ctypes.byref(status))
+        _settle("odb_run_state", end, id)
+        return RequestState(_STATES[state.value], status.value or None)
+
+    def stop(self) -> None:
+        """Stops the run: from now on no request starts. What is running has to be reported as before, and what
+        has not started is answered 424.
+
+        Raises:
+            ValueError: The run is closed.
+        """
+        with self._lock:
+            self._require_open()
+            _library.stop_run(self._handle)
+
     def start(self, id: str) -> None:
         """Starts a request: call it just before the request is sent.
 
@@ -163,22 +234,23 @@ class Run:
             status: The final status, from 200 to 599. A request without any answer, as over a connection
                 that broke, is reported, too: as 502 or 504, or the run would wait for it forever.
             headers: The headers that the response shows, or None.
-            body: The body, a value that ``json`` can write, or bytes, which are its JSON; None and empty
-                bytes are no body. Its numbers are whole, and it nests at most 124 deep.
+            body: The body: its JSON text as bytes, which the response repeats byte for byte, whatever
+                numbers they have; or a value that ``json`` can write, a ``str`` too. None and empty bytes
+                are no body. It nests at most 124 deep.
 
         Raises:
             Refused: The report may not come, by the first of the causes P1 and P2.
             Fault: The headers or the body are refused, by the fault that they have in a recorded event;
                 the request is still running.
             KeyError: No request of the batch has this id.
-            ValueError: The run is closed.
+            ValueError: The run is closed, or the body holds a NaN or an infinity, which have no JSON.
             MemoryError: An allocation failed.
         """
         if isinstance(status, bool) or not isinstance(status, int):
             raise TypeError(f"a status is a whole number, not {status!r}")
         position = self._at[id]
         heads = b"" if headers is None else json_of(dict(headers))
-        text = _body(body)
+        text = body_of(body)
         number = min(max(status, 0), _MOST)
         with self._lock:
             end = self._call("odb_run_report", position, number, heads, len(heads), text, len(text))
@@ -244,13 +316,6 @@ def _settle(name: str, status: int, id: str) -> None:
         raise Refused(*_CAUSES[status], id)
     if status != _library.DONE:
         raise failure_of(name, status)
-
-
-def _body(body: Any) -> bytes:
-    """The JSON of a body; nothing if there is none."""
-    if isinstance(body, (bytes, bytearray, memoryview)):
-        return bytes_of(body)
-    return b"" if body is None else json_of(body)
 
 
 def _fault(headers: bytes, body: bytes) -> Fault:

@@ -89,13 +89,18 @@ fn width_of(text: &str) -> Option<u32> {
     (1..=MAX_WIDTH).contains(&width).then_some(width)
 }
 
-/// Returns the policy that the options of a run ask for.
-fn policy_of(args: &ArgMatches<'_>) -> Result<Policy, BadArguments> {
-    let mode = if args.get_flag(names::STOP) {
+/// Returns whether an error stops the run, or the service.
+fn mode_of(args: &ArgMatches<'_>) -> Mode {
+    if args.get_flag(names::STOP) {
         Mode::Stop
     } else {
         Mode::Continue
-    };
+    }
+}
+
+/// Returns the policy that the options of a run ask for.
+fn policy_of(args: &ArgMatches<'_>) -> Result<Policy, BadArguments> {
+    let mode = mode_of(args);
     let Some(text) = args.get_str(names::WIDTH) else {
         return Ok(Policy::free(mode));
     };
@@ -119,7 +124,9 @@ fn task_of(name: &str, args: &ArgMatches<'_>) -> Result<Option<Task>, BadArgumen
         names::PLAN if args.get_flag(names::DOT) => Task::Draw,
         names::PLAN => Task::Plan,
         names::CANON => Task::Canon,
-        names::MATCH => Task::Match,
+        names::MATCH => Task::Match {
+            mode: mode_of(args),
+        },
         names::REPLAY => Task::Replay {
             policy: policy_of(args)?,
             order: order_of(args),
@@ -144,7 +151,7 @@ fn origin_of<'a>(args: &ArgMatches<'a>, id: &str) -> Origin<'a> {
 /// Returns where the second document of a task is read.
 fn second_of<'a>(args: &ArgMatches<'a>, task: Task) -> Origin<'a> {
     match task {
-        Task::Match => origin_of(args, names::RESPONSES),
+        Task::Match { .. } => origin_of(args, names::RESPONSES),
         Task::Replay { .. } => origin_of(args, names::OUTCOMES),
         Task::Run { .. } => origin_of(args, names::EVENTS),
         Task::Check | Task::Plan | Task::Draw | Task::Canon => Origin::Nowhere,
@@ -162,7 +169,7 @@ fn log_of(args: &ArgMatches<'_>) -> Option<LogOptions> {
 /// Returns the form in which a task is answered. A plan and a match of a line of a log are always JSON.
 fn form_of(args: &ArgMatches<'_>, task: Task) -> Form {
     let is_json = match task {
-        Task::Plan | Task::Match => args.get_flag(names::LINES),
+        Task::Plan | Task::Match { .. } => args.get_flag(names::LINES),
         _ => false,
     };
     if is_json || args.get_flag(names::JSON) {

@@ -101,6 +101,11 @@ const STOP: Argument = Argument {
     help: "Start nothing more after a status from 400 to 599",
 };
 
+const LEFT_OUT: Argument = Argument {
+    help: "Read each request without a response as answered 424 if a response has a status from 400 to 599",
+    ..STOP
+};
+
 const WIDTH: Argument = Argument {
     id: names::WIDTH,
     kind: Kind::Value("N"),
@@ -211,7 +216,9 @@ const MATCH: Row = Row {
     notes: "Example: odb_batch match batch.json responses.json\n\n\
         Exit status: 0 for responses that fit, 1 for a fault of a document or responses that do not fit, \
         2 for wrong arguments, 3 if a file or the output fails, 4 if out of memory",
-    arguments: &[BATCH, RESPONSES, JSON, PAIRS, FLUSH, NUMBER, QUIET],
+    arguments: &[
+        BATCH, RESPONSES, LEFT_OUT, JSON, PAIRS, FLUSH, NUMBER, QUIET,
+    ],
 };
 
 const RUN: Row = Row {

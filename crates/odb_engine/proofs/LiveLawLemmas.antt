@@ -25,15 +25,17 @@ use Rattle.odb_sched.specs.run.State.{State, after, first_state, size, without_r
 use Rattle.odb_sched.specs.run.Answers.{answer}
 use Rattle.odb_sched.specs.run.Steps.{is_finished, may_come}
 use Rattle.odb_check.specs.Texts.{newline}
-use Rattle.odb_reply.specs.NotWhole.{HasWholeBodies}
+use Rattle.odb_reply.specs.BodyTexts.{HasNoText}
+use Rattle.odb_reply.specs.NotWhole.{HasWholeBodies, HasWholeValue}
 use Rattle.odb_reply.specs.Responses.{labels_of, text_of}
+use Rattle.odb_reply.proofs.RestLemmas.{text_with-none}
 use Rattle.odb_engine.specs.declared.ending.Ended.{Ended}
 use Rattle.odb_engine.specs.declared.ending.Ended.TheVariants.{Done}
 use Rattle.odb_doc.specs.Refusals.{Printed}
 use Rattle.odb_engine.specs.Cascade.{Accepts, Answers}
 use Rattle.odb_text.specs.Lines.{response_line}
-use Rattle.odb_engine.specs.Live.{IsAfter, IsLeastOfState, IsOpened, Live, Opens, RecordsOneMore, Shows, with_run}
-use Rattle.odb_engine.specs.Live.IsLeastOfState.{OfBody, OfEnd as AtEnd}
+use Rattle.odb_engine.specs.Live.{IsAfter, IsLeastOfLive, IsOpened, Live, Opens, RecordsOneMore, Shows, with_run}
+use Rattle.odb_engine.specs.Live.IsLeastOfLive.{OfBody, OfEnd as AtEnd}
 use Rattle.odb_engine.specs.Runs.{AreEventsIn, AreResolved, IsHistoryOf, IsLeastOfRun, Runs, RunsBatch, RunsEvents, RunsValue, end_of}
 use Rattle.odb_engine.specs.Runs.IsLeastOfRun.{OfIds, OfEvent, OfEnd}
 use Rattle.odb_engine.proofs.LawLemmas.{AreFunctional, answers_accepted, refused_no_value, same_batch}
@@ -92,20 +94,21 @@ module _ (causes : HaveOneCause) (policy : Policy) (batch : List Record) (good :
   finished-one finished ended text (inr y) =
       (sym y.ends, ap (λ (l : List Event). response_line (end_of policy batch l)) (same-events causes policy batch good ns es y.events resolved y.resolved) ∙ sym y.result)
 
-  -- the live run after the events
-  abbrev pub lived : Live
-  lived = record { labels = labels_of batch; run = without_requests last }
+  -- the live run after the events, with these texts
+  abbrev pub lived : List (Option (List ℕ)) → Live
+  lived texts = record { labels = labels_of batch; texts = texts; run = without_requests last }
 
-  pub live-one : (a b : Ended) (s t : List ℕ) → Shows lived a s → RunsEvents policy batch ns b t → (a ≡ b) × (s ≡ t)
-  live-one a b s t (inl x) y = at x.is
+  pub live-one : (texts : List (Option (List ℕ))) → HasNoText texts → (a b : Ended) (s t : List ℕ) → Shows (lived texts) a s → RunsEvents policy batch ns b t → (a ≡ b) × (s ≡ t)
+  live-one texts none a b s t (inl x) y = at x.is
     where
-      at : IsLeastOfState lived.run x.refusal → (a ≡ b) × (s ≡ t)
+      at : IsLeastOfLive (lived texts) x.refusal → (a ≡ b) × (s ≡ t)
       at (AtEnd goes is) = one-run causes policy batch good ns a b s t (inl (record { refusal = x.refusal; is = OfEnd es resolved run goes is; ends = x.ends; line = x.line })) y
-      at (OfBody i finished body row) = absurd (body.holds (whole i body.within))
-  live-one a b s t (inr (finished, (ends, is))) y =
+      at (OfBody i finished body row) = absurd (body.holds (subst (λ text. HasWholeValue (answer (without_requests last) i) text) (sym (none i)) (whole i body.within)))
+  live-one texts none a b s t (inr (finished, (ends, is))) y =
       let same = finished-one finished b t y in
+      let untexted = ap (λ bs. bs ++ newline ∷ []) (text_with-none (labels_of batch) texts (answer last) none) in
       let lines = ap (λ (rs : List Record). text_of (labels_of rs) (answer last) ++ newline ∷ []) (sym (requests-after_all first es)) in
-      (ends ∙ same.0, is ∙ lines ∙ same.1)
+      (ends ∙ same.0, is ∙ untexted ∙ lines ∙ same.1)
 
 -- ---- from bytes
 
@@ -123,8 +126,8 @@ module _ (law : AreFunctional) (causes : HaveOneCause) (history : AreOneHistory)
           let in_document : AreEventsIn events ns = record { value = has.value; document = has.document; holds = lists } in
           let same = second.one_reading event_faults.event_row RefusesEvents IsEventsDocument AreEventsOf history events ns opened.after.named in_document opened.after.named_in in
           let sound = well-formed (elements opened.after.named_in.value) opened.after.named opened.after.named_in.holds.0.1 opened.after.named_in.holds.1 in
-          live-one causes policy batch good opened.after.named opened.after.events opened.after.resolved opened.after.may_come (whole-bodies policy batch opened.after.named opened.after.events opened.after.resolved sound) a b s t
-          (subst (λ (x : Live). Shows x a s) (λ k. record { labels = opened.labels k; run = opened.after.state k }) shows)
+          live-one causes policy batch good opened.after.named opened.after.events opened.after.resolved opened.after.may_come (whole-bodies policy batch opened.after.named opened.after.events opened.after.resolved sound) live.texts opened.texts a b s t
+          (subst (λ (x : Live). Shows x a s) (λ k. record { labels = opened.labels k; texts = live.texts; run = opened.after.state k }) shows)
           (subst (λ xs. RunsEvents policy batch xs b t) same writes)
 
   pub live-text : (batch events : List ℕ) (live : Live) (a b : Ended) (s t : List ℕ) → Opens policy batch events live → Shows live a s → Answers (Runs policy (Some events)) batch b t → (a ≡ b) × (s ≡ t)
@@ -174,6 +177,6 @@ module _ (law : AreFunctional) (history : AreOneHistory) (policy : Policy) where
           batch = batched.batch;
           plan_graph = batched.plan_graph;
           is_batch = batched.is_batch;
-          holds = (batched.holds.0, record { labels = is.labels; after = after-next batched.batch events more live.run e is.after (subst (λ rs. RecordsOneMore rs events more e) (same_batch law batch _ _ next opens) next.holds.holds.1) within may });
+          holds = (batched.holds.0, record { labels = is.labels; texts = is.texts; after = after-next batched.batch events more live.run e is.after (subst (λ rs. RecordsOneMore rs events more e) (same_batch law batch _ _ next opens) next.holds.holds.1) within may });
         };
       }

@@ -1,5 +1,5 @@
 -- Runs that go on after recorded events.
-use Rattle.std.proofs.Common.{◌≡◌, ◌∙◌, ℕ, List, length, Some, Result, Ok, Err, OnOk, OnErr, true, inl, inr, refl, sym, ap}
+use Rattle.std.proofs.Common.{◌≡◌, ◌∙◌, ℕ, zero, suc, List, length, replicate, None, Some, Result, Ok, Err, OnOk, OnErr, true, inl, inr, refl, sym, ap}
 use Rattle.serde_json.specs.Data.{Data}
 use Rattle.odb_doc.specs.declared.fault.DocFault.{DocFault}
 use Rattle.odb_doc.specs.declared.fault.TextFault.{TextFault}
@@ -23,14 +23,15 @@ use Rattle.odb_sched.specs.run.Resolving.{RefusesNamed}
 use Rattle.odb_sched.specs.run.Runs.{Refuses}
 use Rattle.odb_sched.specs.run.State.{State, first_state}
 use Rattle.odb_sched.specs.run.Steps.{is_finished}
-use Rattle.odb_reply.specs.NotWhole.{IsFirstNotWhole}
+use Rattle.odb_reply.specs.BodyTexts.{HasNoText}
+use Rattle.odb_reply.specs.NotWhole.{IsFirstNotWholeValue}
 use Rattle.odb_engine.specs.declared.ending.Ended.TheVariants.{Refused}
 use Rattle.odb_engine.specs.declared.halt.Halt.{Halt}
 use Rattle.odb_engine.specs.Cascade.{Accepts, IsLeast, line_of}
 use Rattle.odb_engine.specs.Halts.{Found, Halted, RefusesNamesOf}
-use Rattle.odb_engine.specs.Live.{IsLeastAfter, IsLeastOfState, Live, Shows}
+use Rattle.odb_engine.specs.Live.{IsLeastAfter, IsLeastOfLive, Live, Shows}
 use Rattle.odb_engine.specs.Live.IsLeastAfter.{OfIds, OfEvent}
-use Rattle.odb_engine.specs.Live.IsLeastOfState.{OfBody}
+use Rattle.odb_engine.specs.Live.IsLeastOfLive.{OfBody}
 use Rattle.odb_engine.specs.LiveRuns.{IsOfOneBatch}
 use Rattle.odb_engine.specs.Runs.{AreEventsIn, AreResolved}
 use Rattle.odb_engine.specs.declared.live.LiveRun.TheInside.{Inside}
@@ -50,18 +51,26 @@ barred-after policy batch bytes named are events (refusals.Report at cause) reso
 barred-after policy batch bytes named are events refusals.OutOfMemory resolved stops shown row = absurd (cc row)
 
 -- a body that holds a number that is not whole
-pub not-whole : (state : State) → is_finished state ≡ true → (fault : TextFault) → ((at : ℕ) → fault ≡ texts.NotWhole at → IsFirstNotWhole state at)
-    → (shown : Printed) → text_row fault ≡ Some shown → IsLeastOfState state shown
-not-whole state finished (texts.NotWhole at) first shown row = OfBody at finished (first at refl) row
-not-whole state finished texts.OutOfMemory first shown row = absurd (cc row)
+pub not-whole : (live : Live) → is_finished live.run ≡ true → (fault : TextFault) → ((at : ℕ) → fault ≡ texts.NotWhole at → IsFirstNotWholeValue live.texts live.run at)
+    → (shown : Printed) → text_row fault ≡ Some shown → IsLeastOfLive live shown
+not-whole live finished (texts.NotWhole at) first shown row = OfBody at finished (first at refl) row
+not-whole live finished texts.OutOfMemory first shown row = absurd (cc row)
 
 -- the fault of a run is shown of it
-pub refused : (live : Live) (halt : Halt) → Halted (IsLeastOfState live.run) halt → Found (Shows live) (Err halt)
-refused live halt = Halted-weaker (IsLeastOfState live.run) (λ refusal. Shows live Refused (line_of refusal)) (λ refusal so. inl (reports (IsLeastOfState live.run) refusal so)) halt
+pub refused : (live : Live) (halt : Halt) → Halted (IsLeastOfLive live) halt → Found (Shows live) (Err halt)
+refused live halt = Halted-weaker (IsLeastOfLive live) (λ refusal. Shows live Refused (line_of refusal)) (λ refusal so. inl (reports (IsLeastOfLive live) refusal so)) halt
 
 -- a run that has gone on is of the same batch
 pub kept-with : (kept : Inside) (run : State) → run.plan_graph ≡ kept.run.plan_graph → IsOfOneBatch kept → IsOfOneBatch (record kept { run = run })
-kept-with kept run same of = record { batch = of.batch; good = of.good; labels = of.labels; plan_graph = same ∙ of.plan_graph; each = of.each ∙ ap (λ (g : PlanGraph). length g.units) (sym same) }
+kept-with kept run same of =
+    let count = ap (λ (g : PlanGraph). length g.units) (sym same) in
+    record { batch = of.batch; good = of.good; labels = of.labels; plan_graph = same ∙ of.plan_graph; each = of.each ∙ count; places = of.places ∙ count }
+
+-- there is no text where each is absent
+pub no-text : (count : ℕ) → HasNoText (replicate count None)
+no-text zero i = refl
+no-text (suc count) zero = refl
+no-text (suc count) (suc i) = no-text count i
 
 -- an event keeps the units and needs, whether it comes or not
 pub same-graph : {E : Type 0} (result : Result (Unit {0}) E) (old next new : State) → next.plan_graph ≡ old.plan_graph → OnOk result (new ≡ next) → OnErr result (new ≡ old) → new.plan_graph ≡ old.plan_graph

@@ -5,6 +5,7 @@ use Rattle.std.specs.List.{AllZip}
 use Rattle.serde_json.specs.Data.{Data}
 use Rattle.odb_doc.specs.declared.fault.Place.TheVariants as places
 use Rattle.odb_doc.specs.batch.Records.{Record}
+use Rattle.odb_sched.specs.declared.policy.Mode.{Mode}
 use Rattle.odb_reply.specs.declared.match_fault.MatchFault.{MatchFault}
 use Rattle.odb_reply.specs.declared.response_fault.ResponseFault.{ResponseFault}
 use Rattle.odb_reply.specs.Fits.{Fits, IsTableOf}
@@ -14,7 +15,7 @@ use Rattle.odb_reply.specs.ResponseDocuments.{Entry, IsResponseDocument, Refuses
 use Rattle.odb_reply.specs.ResponseDocuments as response_documents
 use Rattle.odb_doc.specs.Refusals.{Printed}
 use Rattle.odb_engine.specs.Cascade.{line_of, IsOne}
-use Rattle.odb_engine.specs.Matches.{MatchesIn, MatchesEntries, MatchesValue, Misfits, match_text}
+use Rattle.odb_engine.specs.Matches.{MatchesIn, MatchesEntries, MatchesValue, Misfits, decided, match_text}
 use Rattle.odb_engine.specs.Inputs.{BySecond}
 use Rattle.odb_engine.specs.declared.form.Form.{Form}
 use Rattle.odb_engine.proofs.LawLemmas.{document_one}
@@ -44,6 +45,6 @@ entries_one law form batch entries a b s t (inr x) (inr y) =
     (x.prints.0 ∙ sym y.prints.0, x.prints.1 ∙ ap (match_text form batch) same.1 ∙ sym y.prints.1)
 
 -- a batch and the value of a response document have one text
-pub matches_value_one : AreOneMatch → (form : Form) (batch : List Record) (value : Data) → IsOne (MatchesValue form batch value)
-matches_value_one law form batch = reading_one response_documents.responses_row RefusesResponses IsResponseDocument (λ value. AllZip ReadsAs (responses_in value))
-    (record { one_fault = law.one_fault; no_fault = law.no_fault; one_reading = λ value. law.one_list (responses_in value) }) (MatchesEntries form batch) (entries_one law form batch)
+pub matches_value_one : AreOneMatch → (mode : Mode) (form : Form) (batch : List Record) (value : Data) → IsOne (MatchesValue mode form batch value)
+matches_value_one law mode form batch = reading_one response_documents.responses_row RefusesResponses IsResponseDocument (λ value. AllZip ReadsAs (responses_in value))
+    (record { one_fault = law.one_fault; no_fault = law.no_fault; one_reading = λ value. law.one_list (responses_in value) }) (λ entries. MatchesEntries form batch (decided mode batch entries)) (λ entries. entries_one law form batch (decided mode batch entries))

@@ -94,7 +94,7 @@ task-one law tasks.Check form given known batch good a b s t x y = (x.0 ∙ sym 
 task-one law tasks.Plan form given known batch good a b s t x y = (x.0 ∙ sym y.0, x.1 ∙ sym y.1)
 task-one law tasks.Draw form given known batch good a b s t x y = (x.0 ∙ sym y.0, x.1 ∙ sym y.1)
 task-one law tasks.Canon form given known batch good a b s t x y = canonical_one batch a b s t x y
-task-one law tasks.Match form given known batch good a b s t x y = given-one given known places.Responses (MatchesValue form batch) (matches_value_one law.matching form batch) a b s t x y
+task-one law (tasks.Match mode) form given known batch good a b s t x y = given-one given known places.Responses (MatchesValue mode form batch) (matches_value_one law.matching mode form batch) a b s t x y
 task-one law (tasks.Replay policy order traced) form given known batch good a b s t x y =
     given-one given known places.Outcomes (ReplaysValue (AllowsOrder order) policy traced batch) (replays_value_one order (law.order order) law.recorded policy traced batch) a b s t x y
 task-one law (tasks.Run policy) form given known batch good a b s t x y = given-one given known places.Events (RunsValue policy batch) (runs_value_one law.causes law.history policy batch good) a b s t x y

@@ -1,5 +1,5 @@
 -- A run that goes on after recorded events, and what is written of it.
-use Rattle.std.specs.Prelude.{◌≡◌, ◌⊎◌, ℕ, List, [], ◌∷◌, ◌++◌, Option, Some, None, true, false, if◌then◌else◌}
+use Rattle.std.specs.Prelude.{◌≡◌, ◌⊎◌, ℕ, List, [], ◌∷◌, ◌++◌, Option, Some, None, true, false, slice_set, if◌then◌else◌}
 use Rattle.odb_check.specs.Texts.{newline}
 use Rattle.odb_doc.specs.declared.fault.TextFault.TheVariants.{NotWhole}
 use Rattle.odb_doc.specs.batch.Records.{Record}
@@ -16,19 +16,25 @@ use Rattle.odb_sched.specs.run.Runs.{IsRunFrom, StopsAt}
 use Rattle.odb_sched.specs.run.Answers.{answer}
 use Rattle.odb_sched.specs.run.State.{State, first_state, without_requests}
 use Rattle.odb_sched.specs.run.Steps.{is_finished}
-use Rattle.odb_reply.specs.NotWhole.{IsFirstNotWhole}
-use Rattle.odb_reply.specs.Responses.{LabelValue, labels_of, text_of}
+use Rattle.odb_reply.specs.BodyTexts.{HasNoText, text_with}
+use Rattle.odb_reply.specs.NotWhole.{IsFirstNotWholeValue}
+use Rattle.odb_reply.specs.Responses.{LabelValue, labels_of}
 use Rattle.odb_engine.specs.Cascade.{Writes, Prints, Reports, IsLeast, Accepts}
 use Rattle.odb_engine.specs.Runs.{AreEventsIn, AreResolved, IsLeastOfEvents, end_of, unfinished}
 
--- a run, and the ids and groups of the requests of its batch
+-- a run, the ids and groups of the requests of its batch, and by position the bodies that were reported as text
 pub record Live : Type 0 where
   pub labels : List LabelValue
+  pub texts : List (Option (List ℕ))
   pub run : State
 
 -- the same with its run in this state
 abbrev pub with_run : Live → State → Live
 with_run live run = record live { run = run }
+
+-- the same with this text, if any, as the body of the request at a position
+abbrev pub with_text : Live → ℕ → Option (List ℕ) → Live
+with_text live i text = record live { texts = slice_set live.texts i text }
 
 -- The bytes are a document of events, which are a run of the batch, and this is the state after them, of no requests.
 pub record IsAfter (policy : Policy) (batch : List Record) (bytes : List ℕ) (run : State) : Type 0 where
@@ -46,9 +52,10 @@ pub data IsLeastAfter (policy : Policy) (batch : List Record) (bytes : List ℕ)
   OfIds : (named : List EventValue) → AreEventsIn bytes named → (at : ℕ) → IsFirstUnknown batch named at → resolve_row (UnknownEvent at) ≡ Some refusal → IsLeastAfter policy batch bytes refusal
   OfEvent : (named : List EventValue) → AreEventsIn bytes named → (events : List Event) (cause : RunRefusal) → AreResolved batch named events → StopsAt (first_state batch policy) events cause → run_row cause ≡ Some refusal → IsLeastAfter policy batch bytes refusal
 
--- the ids and groups are those of the batch, and the run is that after the events in these bytes
+-- the ids and groups are those of the batch, the run is that after the events in these bytes, and no body is a text
 pub record IsOpened (policy : Policy) (batch : List Record) (bytes : List ℕ) (live : Live) : Type 0 where
   pub labels : live.labels ≡ labels_of batch
+  pub texts : HasNoText live.texts
   pub after : IsAfter policy batch bytes live.run
 
 -- the live run of the batch in a document, after the events in another
@@ -63,14 +70,15 @@ IsLeastOfOpening policy batch events refusal = IsLeast batch refusal ⊎ Accepts
 abbrev pub end_row : State → Option Printed
 end_row state = if is_finished state then None else Some unfinished
 
--- why a state has no response: it is not finished, or else it answers a request by a number that is not whole
-pub data IsLeastOfState (state : State) (refusal : Printed) : Type 0 where
-  OfEnd : is_finished state ≡ false → refusal ≡ unfinished → IsLeastOfState state refusal
-  OfBody : (at : ℕ) → is_finished state ≡ true → IsFirstNotWhole state at → text_row (NotWhole at) ≡ Some refusal → IsLeastOfState state refusal
+-- Why a live run has no response: it is not finished, or else it answers a request by a value with a number that is not
+-- whole.
+pub data IsLeastOfLive (live : Live) (refusal : Printed) : Type 0 where
+  OfEnd : is_finished live.run ≡ false → refusal ≡ unfinished → IsLeastOfLive live refusal
+  OfBody : (at : ℕ) → is_finished live.run ≡ true → IsFirstNotWholeValue live.texts live.run at → text_row (NotWhole at) ≡ Some refusal → IsLeastOfLive live refusal
 
 -- what is written of a live run: the response if it is finished
 abbrev pub Shows : Live → Writes
-Shows live ended text = Reports (IsLeastOfState live.run) ended text ⊎ ((is_finished live.run ≡ true) × Prints (text_of live.labels (answer live.run) ++ newline ∷ []) ended text)
+Shows live ended text = Reports (IsLeastOfLive live) ended text ⊎ ((is_finished live.run ≡ true) × Prints (text_with live.labels live.texts (answer live.run) ++ newline ∷ []) ended text)
 
 -- A document of events records one event more than another, at its end, which is this event of the batch.
 pub record RecordsOneMore (batch : List Record) (events more : List ℕ) (event : Event) : Type 0 where

@@ -4,7 +4,10 @@ use Rattle.std.specs.List.{AllZip}
 use Rattle.serde_json.specs.Data.{Data}
 use Rattle.odb_doc.specs.declared.fault.Place.TheVariants as places
 use Rattle.odb_doc.specs.batch.Records.{Record}
+use Rattle.odb_sched.specs.declared.policy.Mode.{Mode}
+use Rattle.odb_sched.specs.declared.policy.Mode.TheVariants.{Continue, Stop}
 use Rattle.odb_reply.specs.declared.match_fault.MatchFault.{MatchFault}
+use Rattle.odb_reply.specs.Completed.{completed}
 use Rattle.odb_reply.specs.Fits.{Fits, IsTableOf}
 use Rattle.odb_reply.specs.LeastMatchFault.{RefusesMatch}
 use Rattle.odb_reply.specs.MatchFaults.{match_row}
@@ -30,6 +33,11 @@ IsFaultOfResponses = HasFault RefusesResponses responses_row
 abbrev pub Lists : Data → List Entry → Type 0
 Lists value entries = IsResponseDocument value × AllZip ReadsAs (responses_in value) entries
 
+-- the responses by which a match is decided: if the service stops at its first error, with those that it may leave out
+abbrev pub decided : Mode → List Record → List Entry → List Entry
+decided Continue batch entries = entries
+decided Stop batch entries = completed batch entries
+
 -- the responses do not fit the batch, and this is the least fault
 pub record Misfits (batch : List Record) (entries : List Entry) (refusal : Printed) : Type 0 where
   pub fault : MatchFault
@@ -48,14 +56,15 @@ pub record PrintsFit (form : Form) (batch : List Record) (entries : List Entry) 
 abbrev pub MatchesEntries : Form → List Record → List Entry → Writes
 MatchesEntries form batch entries ended text = Reports (Misfits batch entries) ended text ⊎ PrintsFit form batch entries ended text
 
--- what is written of a batch and the value of a response document, with the result in a form
-abbrev pub MatchesValue : Form → List Record → Data → Writes
-MatchesValue form batch value ended text = Reports (IsFaultOfResponses value) ended text ⊎ ((entries : List Entry) × Lists value entries × MatchesEntries form batch entries ended text)
+-- what is written of a batch and the value of a response document, by whether an error stops the service, with the result
+-- in a form
+abbrev pub MatchesValue : Mode → Form → List Record → Data → Writes
+MatchesValue mode form batch value ended text = Reports (IsFaultOfResponses value) ended text ⊎ ((entries : List Entry) × Lists value entries × MatchesEntries form batch (decided mode batch entries) ended text)
 
 -- the same of the bytes of a response document
-abbrev pub MatchesIn : Form → List Record → List ℕ → Writes
-MatchesIn form batch = OfDocument places.Responses (MatchesValue form batch)
+abbrev pub MatchesIn : Mode → Form → List Record → List ℕ → Writes
+MatchesIn mode form batch = OfDocument places.Responses (MatchesValue mode form batch)
 
--- the result as lines of words
+-- of a service that continues after an error, the result as lines of words
 abbrev pub Matches : List Record → List ℕ → Writes
-Matches = MatchesIn Lines
+Matches = MatchesIn Continue Lines

@@ -23,7 +23,7 @@ OfTask tasks.Check form second batch = CountsIn form batch
 OfTask tasks.Plan form second batch = PlansIn form batch
 OfTask tasks.Draw form second batch = Drawings batch
 OfTask tasks.Canon form second batch = Canonical batch
-OfTask tasks.Match form second batch = OfGiven second places.Responses (MatchesValue form batch)
+OfTask (tasks.Match mode) form second batch = OfGiven second places.Responses (MatchesValue mode form batch)
 OfTask (tasks.Replay policy order traced) form second batch = OfGiven second places.Outcomes (ReplaysValue (AllowsOrder order) policy traced batch)
 OfTask (tasks.Run policy) form second batch = OfGiven second places.Events (RunsValue policy batch)
 
@@ -33,7 +33,7 @@ takes_second tasks.Check = false
 takes_second tasks.Plan = false
 takes_second tasks.Draw = false
 takes_second tasks.Canon = false
-takes_second tasks.Match = true
+takes_second (tasks.Match mode) = true
 takes_second (tasks.Replay policy order traced) = true
 takes_second (tasks.Run policy) = true
 

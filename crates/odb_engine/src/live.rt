@@ -1,8 +1,11 @@
 //! Live runs: a run that its caller drives, with what its response needs of the batch.
 
-ghost use Rattle.std.specs.Prelude.{◌≡◌, ◌≢◌, ◌<◌, ◌↔◌, true, All, Err, IfOk, IfErr, OnOk, OnErr, IsOk, IsTrue, string_bytes};
+ghost use Rattle.std.specs.Prelude.{◌≡◌, ◌≢◌, ◌<◌, ◌↔◌, true, All, None, Some, replicate, Err, IfOk, IfErr, OnOk, OnErr, IsOk, IsTrue, string_bytes};
+ghost use Rattle.serde_json.specs.Read.{read};
 ghost use Rattle.odb_check.specs.Plans.{plan_records};
-ghost use Rattle.odb_sched.specs.run.Answers.{undone};
+ghost use Rattle.odb_reply.specs.BodyTexts.{value_with};
+ghost use Rattle.odb_reply.specs.Readable.{HasShallowValues};
+ghost use Rattle.odb_sched.specs.run.Answers.{answer, undone};
 ghost use Rattle.odb_sched.specs.run.State.{size};
 ghost use Rattle.odb_sched.specs.run.State as state;
 ghost use Rattle.odb_sched.specs.run.Steps.{IsReportCause, IsStartCause, is_finished, may_report, may_start};
@@ -10,6 +13,8 @@ ghost use Rattle.odb_engine.specs.declared.halt.Halt.TheVariants as halts;
 ghost use Rattle.odb_engine.specs.Halts.{Found, Halted, HaltsBy};
 ghost use Rattle.odb_engine.specs.Labels.{id_lines, position_of};
 ghost use Rattle.odb_engine.specs.Live as live;
+
+mod units;
 
 use crate::command::plan_of;
 use crate::halt::Halt;
@@ -20,17 +25,19 @@ use crate::setup::Setup;
 use odb_check::laws::every_plan;
 use odb_check::{Plan, Seed};
 use odb_doc::{Batch, Events, Outcome, Place};
-use odb_reply::response_of;
+use odb_reply::{JsonText, response_of};
 use odb_sched::{OwnedRun, Policy, ReportRefusal, StartRefusal, resolve, run};
 use std::alloc::{AllocError, Global};
 use std::marker::Model;
 
-/// A run of a batch that the check accepts, and the ids and groups of its requests. It borrows nothing
-/// of the batch.
+/// A run of a batch that the check accepts, the ids and groups of its requests, and the bodies that were
+/// reported as text. It borrows nothing of the batch.
 #[derive(Drop)]
 pub struct LiveRun {
     run: OwnedRun,
     labels: OwnedLabels,
+    /// The bodies that were reported as text, by position.
+    texts: Vec<Option<JsonText>>,
 }
 
 impl Model for LiveRun {
@@ -72,6 +79,17 @@ fn run_after(
     Ok(scheduler.into_owned())
 }
 
+/// Returns a list of so many absent texts.
+fn no_texts(alloc: Global, count: u32) -> Result<Vec<Option<JsonText>>, AllocError>
+    ensures { IfOk result (λ texts. texts.items ≡ replicate count None) }
+{
+    let mut texts = Vec::with_capacity(alloc, count as usize)?;
+    for _ in 0..count {
+        texts.push(None)?;
+    }
+    Ok(texts)
+}
+
 /// Returns the live run of a plan after the recorded events in a document.
 fn open_on(alloc: Global, plan: &Plan<'_>, events: &[u8], policy: Policy) -> Result<LiveRun, Halt>
     ensures run { IfOk result (live.IsOpened policy (plan_records plan.now) events.now) }
@@ -80,10 +98,10 @@ fn open_on(alloc: Global, plan: &Plan<'_>, events: &[u8], policy: Policy) -> Res
     ensures read { result ≢ Err halts.Read }
 {
     every_plan(plan);
-    let _count = plan.len();
     let run = run_after(alloc, plan, events, policy)?;
     let labels = OwnedLabels::of(alloc, plan)?;
-    Ok(LiveRun { run, labels })
+    let texts = no_texts(alloc, plan.len())?;
+    Ok(LiveRun { run, labels, texts })
 }
 
 /// Returns the run of the batch in a document after the recorded events in another, which may be none:
@@ -91,7 +109,8 @@ fn open_on(alloc: Global, plan: &Plan<'_>, events: &[u8], policy: Policy) -> Res
 ///
 /// The policy sets whether an error stops the run and how many requests may run at once. Names are
 /// looked up by the seed. Takes O(n log n) time and O(n) memory for n bytes of documents; what is kept
-/// is O(requests + dependencies), the ids and groups, and the outcomes that the events report.
+/// is O(requests + dependencies), the ids and groups, and the outcomes that the events report. Their bodies
+/// are values.
 ///
 /// # Errors
 ///
@@ -159,6 +178,35 @@ impl LiveRun {
         self.run.report(i, outcome)
     }
 
+    /// Takes the outcome of a running request and its body as JSON text, which the response repeats byte for
+    /// byte, whatever numbers it has. Without a text the body is that of the outcome.
+    ///
+    /// # Errors
+    ///
+    /// The first of P1 and P2 that applies, with the outcome; the run is unchanged.
+    pub fn report_text(
+        &mut self,
+        i: u32,
+        outcome: Outcome,
+        body: Option<JsonText>,
+    ) -> Result<(), (ReportRefusal, Outcome)>
+        requires { i < size self.old.run }
+        ensures ok { OnOk result (self.new ≡ live.with_text
+            (live.with_run self.old (state.reported self.old.run i outcome)) i body) }
+        ensures allowed { IsOk result ↔ IsTrue (may_report self.old.run i outcome) }
+        ensures cause { IfErr result (λ e. IsReportCause self.old.run i outcome e.0) }
+        ensures back { IfErr result (λ e. e.1 ≡ outcome) }
+        ensures err { OnErr result (self.new ≡ self.old) }
+    {
+        match self.run.report(i, outcome) {
+            Ok(()) => {
+                self.texts[i as usize] = body;
+                Ok(())
+            }
+            Err(refused) => Err(refused),
+        }
+    }
+
     /// Returns the position of the request with this id, or `None` if there is none, as for bytes that
     /// are not UTF-8.
     ///
@@ -180,23 +228,27 @@ impl LiveRun {
         self.labels.lines(alloc)
     }
 
-    /// Returns what [`crate::run_batch`] writes of the batch after the same events: the response and a
-    /// newline if the run is finished.
+    /// Returns what [`crate::run_batch`] writes of the batch after the same events, but with each body that
+    /// was reported as text in its place: the response and a newline if the run is finished.
     ///
-    /// Takes time and memory in proportion to the response.
+    /// Takes time and memory in proportion to the response. If no body that is a value nests more than 124
+    /// deep, `serde_json` reads the line as the response, in which each text is the value that it is read as.
     ///
     /// # Errors
     ///
-    /// `Refused` by F66 if the run is not finished, or by F50 if it answers a request by a number that is
-    /// not whole; `OutOfMemory` if an allocation fails. Never `Read`.
+    /// `Refused` by F66 if the run is not finished, or by F50 if it answers a request by a body that is a
+    /// value with a number that is not whole; `OutOfMemory` if an allocation fails. Never `Read`.
     pub fn response(&self, alloc: Global) -> Result<String, Halt>
         ensures found { Found (live.Shows self.now) result }
         ensures read { result ≢ Err halts.Read }
+        ensures reads_back { IfOk result (λ text. HasShallowValues self.now.texts self.now.run
+            → read (string_bytes text)
+            ≡ Some (value_with self.now.labels self.now.texts (answer self.now.run))) }
     {
         if !self.run.is_finished() {
             return Err(UNFINISHED);
         }
-        let mut text = response_of(alloc, &self.labels, &self.run)?;
+        let mut text = response_of(alloc, &self.labels, &self.texts, &self.run)?;
         text.push('\n')?;
         Ok(text)
     }

@@ -4,12 +4,13 @@ ghost use Rattle.std.specs.Prelude.{◌≡◌, ◌≢◌, ◌⊎◌, length, fal
 ghost use Rattle.serde_json.specs.View.{view};
 ghost use Rattle.odb_check.specs.Plans.{plan_records};
 ghost use Rattle.odb_reply.specs.Fits.{statuses};
+ghost use Rattle.odb_reply.specs.ResponseDocuments.{entries};
 ghost use Rattle.odb_engine.specs.declared.halt.Halt.TheVariants as halts;
 ghost use Rattle.odb_engine.specs.Cascade.{Answers};
 ghost use Rattle.odb_engine.specs.Inputs.{AskedFor, BySecond, IsFresh, ReadsFew, SomeDocument};
 ghost use Rattle.odb_engine.specs.Engines.{Ends};
 ghost use Rattle.odb_engine.specs.Halts.{Found};
-ghost use Rattle.odb_engine.specs.Matches.{Matches, MatchesValue, match_text};
+ghost use Rattle.odb_engine.specs.Matches.{Matches, MatchesValue, decided, match_text};
 
 use crate::command::answer_task;
 use crate::disposal::DropOrLeak;
@@ -22,6 +23,7 @@ use odb_check::Plan;
 use odb_doc::Place;
 use odb_io::{Input, Output};
 use odb_reply::{Responses, Table, match_responses};
+use odb_sched::Mode;
 use odb_text::{match_json, match_lines};
 use serde_json::Value;
 use std::alloc::{AllocError, Global};
@@ -44,17 +46,41 @@ fn match_text(
     }
 }
 
-/// Returns what is printed of the responses in a value.
-pub fn matched(alloc: Global, plan: &Plan<'_>, value: Value, setup: Setup) -> Result<String, Halt>
-    ensures found { Found (MatchesValue setup.form (plan_records plan.now) (view value)) result }
+/// Returns the responses by which a match is decided: if the service stops at its first error, with those that
+/// it may leave out.
+fn decided<'a>(
+    alloc: Global,
+    plan: &Plan<'a>,
+    responses: Responses<'a>,
+    mode: Mode,
+) -> Result<Responses<'a>, AllocError>
+    ensures { IfOk result (λ all. entries all
+        ≡ decided mode (plan_records plan.now) (entries responses.entry)) }
+{
+    match mode {
+        Mode::Continue => Ok(responses),
+        Mode::Stop => responses.completed(alloc, plan),
+    }
+}
+
+/// Returns what is printed of the responses in a value, by whether an error stops the service.
+pub fn matched(
+    alloc: Global,
+    plan: &Plan<'_>,
+    value: Value,
+    mode: Mode,
+    setup: Setup,
+) -> Result<String, Halt>
+    ensures found { Found (MatchesValue mode setup.form (plan_records plan.now) (view value)) result }
     ensures read { result ≢ Err halts.Read }
 {
     let value = DropOrLeak {
         value,
         disposal: setup.disposal,
     };
+    let read = Responses::read(alloc, &value.value)?;
     let responses = DropOrLeak {
-        value: Responses::read(alloc, &value.value)?,
+        value: decided(alloc, plan, read, mode)?,
         disposal: setup.disposal,
     };
     let table = match_responses(alloc, plan, &responses.value)?;
@@ -67,7 +93,7 @@ pub fn matched(alloc: Global, plan: &Plan<'_>, value: Value, setup: Setup) -> Re
 /// The responses fit the batch if each request has exactly one and nothing else has one, if each has
 /// the group of its request, and if no success rests on a failure. The responses are read only if the
 /// check accepts the batch. The inputs must be new, and the output must not have failed.
-/// [`answer_task`] takes a [`Setup`] too.
+/// [`answer_task`] takes a [`Setup`] too, and in [`Task::Match`] the mode of a service that stops at its first error.
 ///
 /// Takes O(n log n) time and O(n) memory for documents of n bytes.
 ///
@@ -91,5 +117,8 @@ pub fn match_batch<R: Read, S: Read, W: Write>(
     ensures batch { ReadsFew R.remaining batch.old batch.new }
     ensures responses { ReadsFew S.remaining responses.old responses.new }
 {
-    answer_task(alloc, batch, responses, output, Task::Match, Setup::plain())
+    let task = Task::Match {
+        mode: Mode::Continue,
+    };
+    answer_task(alloc, batch, responses, output, task, Setup::plain())
 }

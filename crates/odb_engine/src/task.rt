@@ -22,7 +22,7 @@ use crate::source::Source;
 use odb_check::Plan;
 use odb_doc::{Batch, Place};
 use odb_io::{Input, Output};
-use odb_sched::{Order, Policy};
+use odb_sched::{Mode, Order, Policy};
 use std::alloc::Global;
 use std::io::{Read, Write};
 
@@ -37,8 +37,11 @@ pub enum Task {
     Draw,
     /// Write its canonical text.
     Canon,
-    /// Match the responses of a service against it.
-    Match,
+    /// Match the responses of a service against it. In `Mode::Stop` the service stops at its first error, and may
+    /// leave out responses after one.
+    Match {
+        mode: Mode,
+    },
     /// Write the response of a run with recorded outcomes, in this order; after the trace of the steps if
     /// `traced` is set.
     Replay {
@@ -59,7 +62,7 @@ impl Task {
     {
         match self {
             Task::Check | Task::Plan | Task::Draw | Task::Canon => false,
-            Task::Match | Task::Replay { .. } | Task::Run { .. } => true,
+            Task::Match { .. } | Task::Replay { .. } | Task::Run { .. } => true,
         }
     }
 }
@@ -80,9 +83,9 @@ impl Command for Task {
             Task::Plan => planned_text(alloc, plan, setup.form),
             Task::Draw => drawn_text(alloc, plan),
             Task::Canon => canonical_text(alloc, batch),
-            Task::Match => {
+            Task::Match { mode } => {
                 let responses = second.value(alloc, Place::Responses)?;
-                matched(alloc, plan, responses, setup)
+                matched(alloc, plan, responses, mode, setup)
             }
             Task::Replay {
                 policy,

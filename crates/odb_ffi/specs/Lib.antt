@@ -3,6 +3,7 @@ pub mod Returns
 pub mod Options
 pub mod Positions
 pub mod Live
+pub mod Units
 pub mod Handles
 -- What a slot owns.
 pub mod Owned

@@ -1,22 +1,23 @@
 -- What a call on a live run returns, and how the run changes.
 use Rattle.std.specs.Prelude.{◌≡◌, ◌≢◌, ◌<◌, ◌≤◌, ◌+◌, ℕ, List, [], Option, Some, None, min, true, false}
-use Rattle.serde_json.specs.Data.{Data, depth}
+use Rattle.serde_json.specs.Data.{Data}
 use Rattle.odb_doc.specs.declared.fault.DocFault.{DocFault}
 use Rattle.odb_doc.specs.declared.fault.DocFault.TheVariants as faults
 use Rattle.odb_doc.specs.declared.recorded.outcome.Outcome.{Outcome}
 use Rattle.odb_doc.specs.Documents.{IsDocument, RefusesDocument}
-use Rattle.odb_doc.specs.recorded.OutcomeValues.{IsShallow}
-use Rattle.odb_doc.specs.recorded.Parts.{HasParts, AreNoParts}
+use Rattle.odb_doc.specs.Headers.{IsHeaders}
+use Rattle.odb_doc.specs.recorded.Parts.{HasParts}
 use Rattle.odb_sched.specs.declared.policy.Policy.{Policy}
 use Rattle.odb_sched.specs.declared.refusal.StartRefusal.{StartRefusal}
 use Rattle.odb_sched.specs.declared.refusal.ReportRefusal.{ReportRefusal}
 use Rattle.odb_sched.specs.run.Steps.{IsStartCause, IsReportCause, start_number, report_number, is_finished, may_start, may_report}
 use Rattle.odb_sched.specs.run.Answers.{undone}
 use Rattle.odb_sched.specs.run.State.{State, size, started, reported}
+use Rattle.odb_reply.specs.BodyTexts.{IsBody, IsNoBody}
 use Rattle.odb_engine.specs.Cascade as cascade
 use Rattle.odb_engine.specs.declared.live.LiveRun.{LiveRun}
 use Rattle.odb_engine.specs.Labels.{position_of}
-use Rattle.odb_engine.specs.Live.{Opens, IsLeastOfOpening, with_run}
+use Rattle.odb_engine.specs.Live.{Opens, IsLeastOfOpening, with_run, with_text}
 use Rattle.odb_ffi.specs.Positions.{Are, GivesPositions}
 use Rattle.odb_ffi.specs.Returns.{IsOutOfMemory, Returns}
 
@@ -46,37 +47,43 @@ pub data Starts (old new : LiveRun) (i status : ℕ) : Type 0 where
   Refused : (cause : StartRefusal) → i < size old.run → IsStartCause old.run i cause → status ≡ 10 + start_number cause → new ≡ old → Starts old new i status
   NoRequest : size old.run ≤ i → status ≡ 2 → new ≡ old → Starts old new i status
 
--- what the report of a request with an outcome returns
-pub data Takes (old new : LiveRun) (i : ℕ) (outcome : Outcome) (status : ℕ) : Type 0 where
-  Taken : may_report old.run i outcome ≡ true → status ≡ 0 → new ≡ with_run old (reported old.run i outcome) → Takes old new i outcome status
-  Refused : (cause : ReportRefusal) → IsReportCause old.run i outcome cause → status ≡ 20 + report_number cause → new ≡ old → Takes old new i outcome status
+-- what the report of a request with an outcome, and with its body as text if it has one, returns
+pub data Takes (old new : LiveRun) (i : ℕ) (outcome : Outcome) (text : Option (List ℕ)) (status : ℕ) : Type 0 where
+  Taken : may_report old.run i outcome ≡ true → status ≡ 0 → new ≡ with_text (with_run old (reported old.run i outcome)) i text → Takes old new i outcome text status
+  Refused : (cause : ReportRefusal) → IsReportCause old.run i outcome cause → status ≡ 20 + report_number cause → new ≡ old → Takes old new i outcome text status
 
 -- the bytes are the JSON of this value, or there are none
 pub data IsPart (bytes : List ℕ) : Option Data → Type 0 where
   Absent : bytes ≡ [] → IsPart bytes None
   Present : (d : Data) → IsDocument bytes d → IsPart bytes (Some d)
 
--- The outcome has this status, and the headers and the body in these bytes. A status above 65,535 is as 65,535, which no run
--- takes either. The body nests at most 124 deep, so that a document of events can record the outcome.
-pub record IsReported (status : ℕ) (headers body : List ℕ) (outcome : Outcome) : Type 0 where
+-- The outcome has this status, the headers in these bytes, and no body. A status above 65,535 is as 65,535, which no run
+-- takes either.
+pub record IsReported (status : ℕ) (headers : List ℕ) (outcome : Outcome) : Type 0 where
   pub headers_value : Option Data
   pub of_headers : IsPart headers headers_value
-  pub body_value : Option Data
-  pub of_body : IsPart body body_value
-  pub parts : HasParts (min status 65535) headers_value body_value outcome
-  pub shallow : IsShallow outcome.body
+  pub parts : HasParts (min status 65535) headers_value None outcome
 
--- no report has these headers and this body: one of them is no JSON, they are not of the right form, or the body nests more
--- than 124 deep
-pub data NoReport (headers body : List ℕ) : Type 0 where
-  OfHeaders : (fault : DocFault) → fault ≢ faults.OutOfMemory → RefusesDocument fault headers → NoReport headers body
-  OfBody : (fault : DocFault) → fault ≢ faults.OutOfMemory → RefusesDocument fault body → NoReport headers body
-  OfParts : (headers_value body_value : Option Data) → IsPart headers headers_value → IsPart body body_value → AreNoParts headers_value body_value → NoReport headers body
-  OfDepth : (value : Data) → IsDocument body value → 124 < depth value → NoReport headers body
+-- no report has these headers: they are no JSON, or no object of strings whose names differ in lower case
+pub data HasNoHeaders (headers : List ℕ) : Type 0 where
+  OfDocument : (fault : DocFault) → fault ≢ faults.OutOfMemory → RefusesDocument fault headers → HasNoHeaders headers
+  OfValue : (value : Option Data) → IsPart headers value → ¬ IsHeaders value → HasNoHeaders headers
+
+-- The text of the body in these bytes, which are JSON that nests at most 124 deep: just these bytes, or none if there are
+-- none or if they are the JSON null.
+pub data IsReportedBody (bytes : List ℕ) (text : Option (List ℕ)) : Type 0 where
+  Absent : bytes ≡ [] → text ≡ None → IsReportedBody bytes text
+  Present : IsBody bytes text → IsReportedBody bytes text
+
+-- What the report of a request with an outcome and with a body in these bytes returns. Nothing has changed but with 0.
+pub data TakesBody (old new : LiveRun) (i : ℕ) (outcome : Outcome) (body : List ℕ) (returned : ℕ) : Type 0 where
+  Taken : (text : Option (List ℕ)) → IsReportedBody body text → Takes old new i outcome text returned → TakesBody old new i outcome body returned
+  Refused : IsNoBody body → returned ≡ 1 → new ≡ old → TakesBody old new i outcome body returned
+  OutOfMemory : returned ≡ 4 → new ≡ old → TakesBody old new i outcome body returned
 
 -- What the report of a request returns. Nothing has changed but with 0.
 pub data Reports (old new : LiveRun) (i status : ℕ) (headers body : List ℕ) (returned : ℕ) : Type 0 where
-  Taken : (outcome : Outcome) → i < size old.run → IsReported status headers body outcome → Takes old new i outcome returned → Reports old new i status headers body returned
-  Refused : NoReport headers body → returned ≡ 1 → new ≡ old → Reports old new i status headers body returned
+  Taken : (outcome : Outcome) → i < size old.run → IsReported status headers outcome → TakesBody old new i outcome body returned → Reports old new i status headers body returned
+  Refused : HasNoHeaders headers → returned ≡ 1 → new ≡ old → Reports old new i status headers body returned
   NoRequest : size old.run ≤ i → returned ≡ 2 → new ≡ old → Reports old new i status headers body returned
   OutOfMemory : returned ≡ 4 → new ≡ old → Reports old new i status headers body returned

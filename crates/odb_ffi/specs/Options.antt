@@ -35,6 +35,14 @@ IsForm number form = number ≡ form_number form
 abbrev pub NamesNoForm : ℕ → Type 0
 NamesNoForm number = 1 < number
 
+-- the number names the mode
+abbrev pub IsMode : ℕ → Mode → Type 0
+IsMode number mode = number ≡ mode_number mode
+
+-- the number names no mode
+abbrev pub NamesNoMode : ℕ → Type 0
+NamesNoMode number = 1 < number
+
 -- these numbers name the policy
 pub record IsPolicy (mode width : ℕ) (policy : Policy) : Type 0 where
   pub of_mode : mode ≡ mode_number policy.mode
@@ -43,13 +51,18 @@ pub record IsPolicy (mode width : ℕ) (policy : Policy) : Type 0 where
 
 -- these numbers name no policy
 abbrev pub NamesNoPolicy : ℕ → ℕ → Type 0
-NamesNoPolicy mode width = (1 < mode) ⊎ ((width ≡ 0) ⊎ (10000 < width))
+NamesNoPolicy mode width = NamesNoMode mode ⊎ ((width ≡ 0) ⊎ (10000 < width))
 
 abbrev pub NamesNoOrder : ℕ → Type 0
 NamesNoOrder order = 2 < order
 
 abbrev pub NamesNoFlag : ℕ → Type 0
 NamesNoFlag flag = 1 < flag
+
+-- the number names the mode of the match
+abbrev pub IsMatch : ℕ → Task → Type 0
+IsMatch mode (tasks.Match named) = IsMode mode named
+IsMatch mode _ = ⊥
 
 -- these numbers name the run
 abbrev pub IsRun : ℕ → ℕ → Task → Type 0

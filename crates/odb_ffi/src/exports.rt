@@ -2,7 +2,7 @@
 //!
 //! A slice is a pointer and then a length for C, and `alloc` is nothing. Each call has a second one, as
 //! [`odb_check_as`], that also takes a form: 0 for lines, as the first writes, and 1 for one line of JSON, as
-//! `--json` of the command writes.
+//! `--json` of the command writes. [`odb_match_with`] takes a mode beside the form.
 //!
 //! A call sets `text_length` to the length of the text, and returns
 //! - 0 if the text is the result, and 1 if it is the line of a fault: then `text` begins with it;
@@ -14,15 +14,17 @@
 //! `seed`; 0 is no seed, and look-ups take O(log n) comparisons. The documents are not copied.
 
 ghost use Rattle.std.specs.Prelude.{◌≡◌, []};
+ghost use Rattle.odb_sched.specs.declared.policy.Mode.TheVariants as modes;
 ghost use Rattle.odb_engine.specs.declared.form.Form.TheVariants as forms;
 ghost use Rattle.odb_engine.specs.declared.task.Task.TheVariants as tasks;
 ghost use Rattle.odb_ffi.specs.Options as options;
 ghost use Rattle.odb_ffi.specs.Returns.{Does, Returns, ReturnsBy};
 
 use crate::answer::{answer, answer_as, wrong_option};
-use crate::options::{replay_of, run_of};
+use crate::options::{match_of, replay_of, run_of};
 use odb_engine::Form::Lines;
 use odb_engine::Task::{Canon, Check, Match, Plan};
+use odb_sched::Mode;
 use std::alloc::Global;
 
 /// The version of the library, MAJOR.MINOR.PATCH, as MAJOR * 10000 + MINOR * 100 + PATCH.
@@ -139,14 +141,15 @@ pub extern "C" fn odb_match(
     text_length: &mut usize,
     seed: u64,
 ) -> u32
-    ensures { Returns (Does tasks.Match forms.Lines batch.now responses.now)
+    ensures { Returns (Does (tasks.Match modes.Continue) forms.Lines batch.now responses.now)
         result text_length.new text.old text.new }
 {
+    let mode = Mode::Continue;
     answer(
         alloc,
         batch,
         responses,
-        Match,
+        Match { mode },
         Lines,
         seed,
         text,
@@ -166,19 +169,44 @@ pub extern "C" fn odb_match_as(
     seed: u64,
 ) -> u32
     ensures { ReturnsBy (options.IsForm form) (options.NamesNoForm form)
-        (λ form. Returns (Does tasks.Match form batch.now responses.now))
+        (λ form. Returns (Does (tasks.Match modes.Continue) form batch.now responses.now))
         result text_length.new text.old text.new }
 {
+    let mode = Mode::Continue;
     answer_as(
         alloc,
         batch,
         responses,
-        Match,
+        Match { mode },
         form,
         seed,
         text,
         text_length,
     )
+}
+
+/// Does what [`odb_match_as`] does, of a service in a mode: `mode` is 0 for one that continues after an error, and
+/// 1 for one that stops at its first error, as `odb_batch match --stop` does.
+#[unsafe(no_mangle)]
+pub extern "C" fn odb_match_with(
+    alloc: Global,
+    batch: &[u8],
+    responses: &[u8],
+    mode: u32,
+    form: u32,
+    text: &mut [u8],
+    text_length: &mut usize,
+    seed: u64,
+) -> u32
+    ensures { ReturnsBy (options.IsMatch mode) (options.NamesNoMode mode)
+        (λ task. ReturnsBy (options.IsForm form) (options.NamesNoForm form)
+        (λ form. Returns (Does task form batch.now responses.now)))
+        result text_length.new text.old text.new }
+{
+    match match_of(mode) {
+        Some(task) => answer_as(alloc, batch, responses, task, form, seed, text, text_length),
+        None => wrong_option(text_length),
+    }
 }
 
 /// Runs the batch in a document by the recorded events in another, as `odb_batch run` does. The response is

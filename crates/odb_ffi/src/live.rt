@@ -8,10 +8,11 @@ ghost use Rattle.odb_sched.specs.run.State as state;
 ghost use Rattle.odb_sched.specs.run.Steps.{report_number};
 ghost use Rattle.odb_ffi.specs.Live as calls;
 
-use crate::outcome::{NoOutcome, outcome_of};
+use crate::outcome::{NoOutcome, body_of, outcome_of};
 use crate::status;
 use odb_doc::Outcome;
 use odb_engine::{Answer, Ended, Form, LiveRun};
+use odb_reply::JsonText;
 use odb_sched::ReportRefusal;
 use std::alloc::{AllocError, Global};
 
@@ -35,14 +36,26 @@ pub fn start(live: &mut LiveRun, position: u32) -> u32
     }
 }
 
-/// Takes an outcome of a request.
-fn take(live: &mut LiveRun, position: u32, outcome: Outcome) -> u32
+/// Takes an outcome of a request, and its body as text, if it has one.
+fn take(live: &mut LiveRun, position: u32, outcome: Outcome, body: Option<JsonText>) -> u32
     requires { position < state.size live.old.run }
-    ensures { calls.Takes live.old live.new position outcome result }
+    ensures { calls.Takes live.old live.new position outcome body result }
 {
-    match live.report(position, outcome) {
+    match live.report_text(position, outcome, body) {
         Ok(()) => status::DONE,
         Err(refused) => status_of(refused),
+    }
+}
+
+/// Takes an outcome of a request, and its body as JSON.
+fn take_body(live: &mut LiveRun, alloc: Global, position: u32, outcome: Outcome, body: &[u8]) -> u32
+    requires { position < state.size live.old.run }
+    ensures { calls.TakesBody live.old live.new position outcome body.now result }
+{
+    match body_of(alloc, body) {
+        Ok(text) => take(live, position, outcome, text),
+        Err(NoOutcome::Refused) => status::REFUSED,
+        Err(NoOutcome::OutOfMemory) => status::OUT_OF_MEMORY,
     }
 }
 
@@ -60,8 +73,8 @@ pub fn report(
     if position >= live.run().len() {
         return status::WRONG_OPTION;
     }
-    match outcome_of(alloc, status, headers, body) {
-        Ok(outcome) => take(live, position, outcome),
+    match outcome_of(alloc, status, headers) {
+        Ok(outcome) => take_body(live, alloc, position, outcome, body),
         Err(NoOutcome::Refused) => status::REFUSED,
         Err(NoOutcome::OutOfMemory) => status::OUT_OF_MEMORY,
     }

@@ -19,16 +19,24 @@ pub fn seed_of(seed: u64) -> Seed
     }
 }
 
+/// Returns the mode that a number names, or `None` if it may not be.
+fn mode_of(mode: u32) -> Option<Mode>
+    ensures some { IfSome result (options.IsMode mode) }
+    ensures none { result ≡ None → options.NamesNoMode mode }
+{
+    match mode {
+        0 => Some(Mode::Continue),
+        1 => Some(Mode::Stop),
+        _ => None,
+    }
+}
+
 /// Returns the policy that two numbers name, or `None` if one of them may not be.
 pub fn policy_of(mode: u32, width: u32) -> Option<Policy>
     ensures some { IfSome result (options.IsPolicy mode width) }
     ensures none { result ≡ None → options.NamesNoPolicy mode width }
 {
-    let mode = match mode {
-        0 => Mode::Continue,
-        1 => Mode::Stop,
-        _ => return None,
-    };
+    let mode = mode_of(mode)?;
     if width > MAX_WIDTH {
         return None;
     }
@@ -70,6 +78,15 @@ fn flag_of(number: u32) -> Option<bool>
         1 => Some(true),
         _ => None,
     }
+}
+
+/// Returns the match of a service in the mode that a number names, or `None` if it may not be.
+pub fn match_of(mode: u32) -> Option<Task>
+    ensures some { IfSome result (options.IsMatch mode) }
+    ensures none { result ≡ None → options.NamesNoMode mode }
+{
+    let mode = mode_of(mode)?;
+    Some(Task::Match { mode })
 }
 
 /// Returns the run that two numbers name, or `None` if one of them may not be.

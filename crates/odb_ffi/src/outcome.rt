@@ -1,22 +1,24 @@
-//! An outcome of headers and a body as JSON.
+//! An outcome of headers as JSON, and its body as JSON text.
 
-ghost use Rattle.std.specs.Prelude.{◌≡◌, ◌≢◌, ◌⊎◌, ◌↔◌, Err, option_map, min, IfOk, IfErr, IsTrue};
+ghost use Rattle.std.specs.Prelude.{◌≡◌, ◌≢◌, None, Err, option_map, min, IfOk, IfErr};
 ghost use Rattle.serde_json.specs.View.{view};
 ghost use Rattle.odb_doc.specs.declared.fault.DocFault.TheVariants as faults;
 ghost use Rattle.odb_doc.specs.Documents.{RefusesDocument};
-ghost use Rattle.odb_doc.specs.recorded.OutcomeValues.{IsShallow};
-ghost use Rattle.odb_doc.specs.recorded.Parts.{AreNoParts, HasParts};
-ghost use Rattle.odb_ffi.specs.Live.{IsPart, IsReported, NoReport};
+ghost use Rattle.odb_doc.specs.Headers.{IsHeaders};
+ghost use Rattle.odb_doc.specs.recorded.Parts.{HasParts};
+ghost use Rattle.odb_reply.specs.BodyTexts.{IsNoBody};
+ghost use Rattle.odb_ffi.specs.Live.{HasNoHeaders, IsPart, IsReported, IsReportedBody};
 ghost use Rattle.odb_ffi.specs.declared.outcome.NoOutcome.TheVariants as none;
 
-use odb_doc::{DocFault, Outcome, nests_within, parse};
+use odb_doc::{DocFault, Outcome, parse};
+use odb_reply::{BodyFault, JsonText};
 use serde_json::Value;
 use std::alloc::Global;
 
 /// Why a report has no outcome.
 #[derive(Clone, Copy)]
 pub enum NoOutcome {
-    /// The headers or the body are not JSON of the right form, or the body nests too deep.
+    /// The headers or the body are not of the right form.
     Refused,
     /// An allocation failed.
     OutOfMemory,
@@ -47,7 +49,7 @@ fn part_of(alloc: Global, bytes: &[u8]) -> Result<Option<Value>, DocFault>
     }
 }
 
-/// Returns why there is no outcome by the fault of a part.
+/// Returns why there is no outcome by the fault of its headers.
 fn without(fault: DocFault) -> NoOutcome
     ensures { result ≡ none.Refused → fault ≢ faults.OutOfMemory }
 {
@@ -57,74 +59,41 @@ fn without(fault: DocFault) -> NoOutcome
     }
 }
 
-/// Returns whether the body nests at most 124 deep, as in a document of events, where it is three levels
-/// deeper.
-fn is_shallow(body: &Option<Value>) -> bool
-    ensures { IsTrue result ↔ IsShallow (option_map view body.now) }
+/// Returns the outcome with this status, these headers and no body.
+fn outcome_with(alloc: Global, status: u16, headers: Option<Value>) -> Result<Outcome, NoOutcome>
+    ensures some { IfOk result (HasParts status (option_map view headers) None) }
+    ensures refused { result ≡ Err none.Refused → ¬ IsHeaders (option_map view headers) }
 {
-    match body {
-        Some(value) => nests_within(value, 124),
-        None => true,
-    }
-}
-
-/// Returns the outcome with these headers and this body.
-fn outcome_with(
-    alloc: Global,
-    status: u16,
-    headers: Option<Value>,
-    body: Option<Value>,
-) -> Result<Outcome, NoOutcome>
-    ensures some { IfOk result
-        (HasParts status (option_map view headers) (option_map view body)) }
-    ensures refused { result ≡ Err none.Refused
-        → AreNoParts (option_map view headers) (option_map view body) }
-{
-    match Outcome::of_parts(alloc, status, headers, body) {
+    match Outcome::of_parts(alloc, status, headers, None) {
         Ok(Some(outcome)) => Ok(outcome),
         Ok(None) => Err(NoOutcome::Refused),
         Err(_) => Err(NoOutcome::OutOfMemory),
     }
 }
 
-/// Returns the outcome with these headers and this body, if the body nests no deeper than a recorded one.
-fn shallow_outcome_with(
-    alloc: Global,
-    status: u16,
-    headers: Option<Value>,
-    body: Option<Value>,
-) -> Result<Outcome, NoOutcome>
-    ensures some { IfOk result (λ outcome.
-        HasParts status (option_map view headers) (option_map view body) outcome
-        × IsShallow outcome.body) }
-    ensures refused { result ≡ Err none.Refused
-        → AreNoParts (option_map view headers) (option_map view body)
-        ⊎ ¬ IsShallow (option_map view body) }
+/// Returns the outcome with this status, with the headers in these bytes, which may be none, and with no
+/// body. A status above 65,535 is as 65,535.
+pub fn outcome_of(alloc: Global, status: u32, headers: &[u8]) -> Result<Outcome, NoOutcome>
+    ensures some { IfOk result (IsReported status headers.now) }
+    ensures refused { result ≡ Err none.Refused → HasNoHeaders headers.now }
 {
-    if is_shallow(&body) {
-        outcome_with(alloc, status, headers, body)
-    } else {
-        Err(NoOutcome::Refused)
+    match part_of(alloc, headers) {
+        Ok(headers) => outcome_with(alloc, status_of(status), headers),
+        Err(fault) => Err(without(fault)),
     }
 }
 
-/// Returns the outcome with this status and with the headers and the body in these bytes, which may
-/// be none. A status above 65,535 is as 65,535.
-pub fn outcome_of(
-    alloc: Global,
-    status: u32,
-    headers: &[u8],
-    body: &[u8],
-) -> Result<Outcome, NoOutcome>
-    ensures some { IfOk result (IsReported status headers.now body.now) }
-    ensures refused { result ≡ Err none.Refused → NoReport headers.now body.now }
+/// Returns the text of the body in these bytes: `None` if there are none, or if they are the JSON null.
+pub fn body_of(alloc: Global, bytes: &[u8]) -> Result<Option<JsonText>, NoOutcome>
+    ensures some { IfOk result (IsReportedBody bytes.now) }
+    ensures refused { result ≡ Err none.Refused → IsNoBody bytes.now }
 {
-    let headers = match part_of(alloc, headers) {
-        Ok(headers) => headers,
-        Err(fault) => return Err(without(fault)),
-    };
-    match part_of(alloc, body) {
-        Ok(body) => shallow_outcome_with(alloc, status_of(status), headers, body),
-        Err(fault) => Err(without(fault)),
+    if bytes.is_empty() {
+        return Ok(None);
+    }
+    match JsonText::read(alloc, bytes) {
+        Ok(text) => Ok(text),
+        Err(BodyFault::Refused) => Err(NoOutcome::Refused),
+        Err(BodyFault::OutOfMemory) => Err(NoOutcome::OutOfMemory),
     }
 }

@@ -1,5 +1,5 @@
 -- What the response to a finished run lists, and that it fits the batch.
-use Rattle.std.proofs.Common.{◌≡◌, ◌∙◌, ◌+◌, ◌<◌, ℕ, zero, suc, true, List, [], ◌∷◌, length, Option, Some, None, option_map, option_and_then, slice_get, refl, ap, sym, subst, arith, ◌≤◌, nat_le, nat_lt, leb-true, ltb-true, Contains, IfSome, IsSome, All}
+use Rattle.std.proofs.Common.{◌≡◌, ◌∙◌, ◌+◌, ◌<◌, ℕ, zero, suc, true, List, [], ◌∷◌, length, Option, Some, None, option_map, option_and_then, slice_get, refl, ap, ap₂, sym, subst, arith, ◌≤◌, nat_le, nat_lt, leb-true, ltb-true, Contains, IfSome, IsSome, All}
 use Rattle.std.proofs.lemmas.List.Elements.{All-nil, All-cons}
 use Rattle.std.specs.List.{AllZip}
 use Rattle.std.proofs.lemmas.Bool.{true≢false, and_parts}
@@ -19,6 +19,7 @@ use Rattle.odb_sched.specs.run.State.{State, size}
 use Rattle.odb_doc.specs.Statuses.{is_success, is_status}
 use Rattle.odb_reply.specs.Fits.{id_in, Responds, Succeeds, IsSatisfied, Fits, ListsFit}
 use Rattle.odb_reply.specs.ResponseDocuments.{Entry, IsResponse, IsResponseDocument, IsStatus, ReadsAs}
+use Rattle.odb_reply.specs.BodyTexts.{text_at, valued, value_with, values_of}
 use Rattle.odb_reply.specs.Responses.{LabelValue, label_of, labels_of, response, responses_from, response_value, value_of}
 use Rattle.odb_check.proofs.PositionLemmas.{id_within}
 use Rattle.odb_reply.specs.Places.{IsOnce}
@@ -43,6 +44,23 @@ entry_at answers i (request ∷ requests) zero = let same : i ≡ i + 0 = omega 
 entry_at answers i (request ∷ requests) (suc k) =
     let same : i + 1 + k ≡ i + suc k = omega arith in
     entry_at answers (i + 1) requests k ∙ ap (λ j. option_map (λ r. entry_for (label_of r) (answers j)) (slice_get requests k)) same
+
+-- ---- bodies that were reported as text
+
+-- the status is that of the answer
+same-status : (answered : Option Outcome) (text : Option (List ℕ)) → status_of (valued answered text) ≡ status_of answered
+same-status None None = refl
+same-status None (Some text) = refl
+same-status (Some outcome) None = refl
+same-status (Some outcome) (Some text) = refl
+
+same-entries : (texts : List (Option (List ℕ))) (answers : ℕ → Option Outcome) (i : ℕ) (requests : List Record) → entries_from (values_of texts answers) i requests ≡ entries_from answers i requests
+same-entries texts answers i [] = refl
+same-entries texts answers i (request ∷ requests) =
+    ap₂ (λ (status : ℕ) (es : List Entry). record { id = request.id; group = request.group; status = status } ∷ es) (same-status (answers i) (text_at texts i)) (same-entries texts answers (i + 1) requests)
+
+pub texted-statuses : (texts : List (Option (List ℕ))) (answers : ℕ → Option Outcome) → ((i : ℕ) → is_status (status_of (answers i)) ≡ true) → (i : ℕ) → is_status (status_of (values_of texts answers i)) ≡ true
+texted-statuses texts answers statuses i = ap is_status (same-status (answers i) (text_at texts i)) ∙ statuses i
 
 -- ---- whether they fit
 
@@ -135,13 +153,20 @@ fits_answered state once sound same count = record {
       satisfied_answered state i need once sound same count (id_within rs i e.id responds.id) answered needed;
 }
 
+pub ListsFit-texted : (texts : List (Option (List ℕ))) (state : State) → IsOnce state.requests → RestsOnSuccesses state → IsPlanGraphOf state.requests state.plan_graph → size state ≡ length state.requests
+    → ListsFit state.requests (value_with (labels_of state.requests) texts (answer state))
+ListsFit-texted texts state once sound same count =
+    let answers = values_of texts (answer state) in
+    record {
+      listed = listed state;
+      says = rw (responses_in-value (labels_of state.requests) answers)
+          (subst (λ (es : List Entry). AllZip ReadsAs (responses_from answers 0 (labels_of state.requests)) es) (same-entries texts (answer state) 0 state.requests) (says_entries answers 0 state.requests));
+      fits = fits_answered state once sound same count;
+    }
+
 pub ListsFit-answered : (state : State) → IsOnce state.requests → RestsOnSuccesses state → IsPlanGraphOf state.requests state.plan_graph → size state ≡ length state.requests
     → ListsFit state.requests (response_value state)
-ListsFit-answered state once sound same count = record {
-  listed = listed state;
-  says = rw (responses_in-value (labels_of state.requests) (answer state)) (says_entries (answer state) 0 state.requests);
-  fits = fits_answered state once sound same count;
-}
+ListsFit-answered state once sound same count = ListsFit-texted [] state once sound same count
 
 -- ---- the response is a response document
 

@@ -5,6 +5,8 @@ pub mod OneLemmas
 mod ReadableLemmas
 pub mod SliceLemmas
 pub mod IdLemmas
+pub mod CompletedLemmas
+mod LeftOutLemmas
 pub mod PlaceLemmas
 pub mod RowLemmas
 pub mod UnitLemmas
@@ -13,3 +15,9 @@ pub mod FitLemmas
 pub mod AnsweredLemmas
 pub mod OneFaultLemmas
 mod DoneLemmas
+mod JsonTextLemmas
+mod StringLemmas
+mod LexLemmas
+mod PieceLemmas
+mod SpliceLemmas
+mod TextedLemmas

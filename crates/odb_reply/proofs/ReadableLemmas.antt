@@ -16,7 +16,7 @@ use Rattle.odb_doc.specs.recorded.OutcomeValues.{IsHeldOutcome, IsShallow}
 use Rattle.odb_reply.specs.Readable.{AnswersBy, HasShallowBodies, IsReadable}
 use Rattle.odb_reply.specs.Responses.{LabelValue, answer_body, answer_headers, response_members, responses_from, value_of}
 
-safe-status : (n status : ℕ) → is_status status ≡ true → IsSafe n (number (unsigned status))
+pub safe-status : (n status : ℕ) → is_status status ≡ true → IsSafe n (number (unsigned status))
 safe-status n status good =
     let below : status < 600 = ltb-true status 600 (and_parts (nat_le 200 status) (nat_lt status 600) good).1 in
     record { held = omega arith; whole = refl; shallow = omega arith }

@@ -1,48 +1,56 @@
 -- The text of the responses, response by response.
-use Rattle.std.proofs.Common.{sym, ◌≡◌, ◌∙◌, ℕ, ◌+◌, ◌≤◌, List, ◌++◌, length, Option, Some, option_map, nat_lt, true, refl, ap, codes, arith, append_assoc, lt-ltb}
+use Rattle.std.proofs.Common.{sym, ◌≡◌, ◌∙◌, ℕ, ◌+◌, ◌≤◌, List, [], ◌∷◌, ◌++◌, length, Option, Some, nat_lt, true, refl, ap, codes, arith, append_assoc, lt-ltb}
 use Rattle.std.proofs.lemmas.List.{drop_all}
 use Rattle.std.specs.Prelude.{slice_get}
-use Rattle.serde_json.specs.Written.{compact_text, comma_if}
+use Rattle.serde_json.specs.View.{items_of}
+use Rattle.serde_json.specs.Written.{comma_if, compact_text, items_text}
 use Rattle.serde_json.proofs.OnLiterals.{serde_json_on_literals}
 use Rattle.odb_doc.specs.declared.recorded.outcome.Outcome.{Outcome}
-use Rattle.odb_doc.specs.Texts.{member_part}
-use Rattle.serde_json.specs.Data.{string}
-use Rattle.odb_sched.specs.run.Answers.{status_of}
-use Rattle.odb_doc.specs.canonical.Canonical.{headers_value}
-use Rattle.odb_reply.specs.Responses.{LabelValue, response, text_of, answer_body, answer_headers}
-use Rattle.odb_reply.specs.Parts.{rest_text, end_part}
-use Rattle.odb_reply.proofs.PartLemmas.{response-parts}
+use Rattle.odb_reply.specs.BodyTexts.{HasNoText, response_with, responses_with, text_at, text_with}
+use Rattle.odb_reply.specs.Responses.{LabelValue, response, responses_from, text_of}
+use Rattle.odb_reply.specs.Parts.{rest_text}
+use Rattle.odb_reply.proofs.PartLemmas.{response-untexted}
 use Rattle.odb_doc.proofs.ElementLemmas.{drop_at}
 
 -- the whole text is its start, and then the responses
-pub text_of-prefix : (labels : List LabelValue) (answers : ℕ → Option Outcome) → text_of labels answers ≡ codes "{\"responses\":[" ++ rest_text labels answers 0
-unfolding text_of rest_text serde_json_on_literals
-text_of-prefix labels answers = refl
-
--- with the start, the buffer and all responses are the whole text
-pub text_of-begun : (labels : List LabelValue) (answers : ℕ → Option Outcome) (buffer : List ℕ) → buffer ≡ codes "{\"responses\":[" → buffer ++ rest_text labels answers 0 ≡ text_of labels answers
-text_of-begun labels answers buffer is = ap (λ text. text ++ rest_text labels answers 0) is ∙ sym (text_of-prefix labels answers)
+pub text_with-prefix : (labels : List LabelValue) (texts : List (Option (List ℕ))) (answers : ℕ → Option Outcome) → text_with labels texts answers ≡ codes "{\"responses\":[" ++ rest_text labels texts answers 0
+unfolding text_with rest_text serde_json_on_literals
+text_with-prefix labels texts answers = refl
 
 -- after the last response comes the end
-pub rest_text-none : (labels : List LabelValue) (answers : ℕ → Option Outcome) (i : ℕ) → length labels ≤ i → rest_text labels answers i ≡ codes "]}"
+pub rest_text-none : (labels : List LabelValue) (texts : List (Option (List ℕ))) (answers : ℕ → Option Outcome) (i : ℕ) → length labels ≤ i → rest_text labels texts answers i ≡ codes "]}"
 unfolding rest_text
-rest_text-none labels answers i end = rw (drop_all i labels end) refl
+rest_text-none labels texts answers i end = rw (drop_all i labels end) refl
 
 -- with the end, the buffer is the whole rest
-pub rest_text-last : (labels : List LabelValue) (answers : ℕ → Option Outcome) (i : ℕ) (buffer ended : List ℕ) → length labels ≤ i → ended ≡ buffer ++ codes "]}" → buffer ++ rest_text labels answers i ≡ ended
-rest_text-last labels answers i buffer ended end is = ap (λ text. buffer ++ text) (rest_text-none labels answers i end) ∙ sym is
+pub rest_text-last : (labels : List LabelValue) (texts : List (Option (List ℕ))) (answers : ℕ → Option Outcome) (i : ℕ) (buffer ended : List ℕ) → length labels ≤ i → ended ≡ buffer ++ codes "]}"
+    → buffer ++ rest_text labels texts answers i ≡ ended
+rest_text-last labels texts answers i buffer ended end is = ap (λ text. buffer ++ text) (rest_text-none labels texts answers i end) ∙ sym is
 
--- the response to a request, and then the rest
-pub rest_text-more : (labels : List LabelValue) (answers : ℕ → Option Outcome) (i : ℕ) (label : LabelValue) → slice_get labels i ≡ Some label
-    → rest_text labels answers i ≡ (comma_if (nat_lt 0 i) ++ compact_text (response label (answers i))) ++ rest_text labels answers (i + 1)
+-- the response to a request, with the comma before it, and then the rest
+pub rest_text-more : (labels : List LabelValue) (texts : List (Option (List ℕ))) (answers : ℕ → Option Outcome) (i : ℕ) (label : LabelValue) → slice_get labels i ≡ Some label
+    → rest_text labels texts answers i ≡ (comma_if (nat_lt 0 i) ++ response_with label (answers i) (text_at texts i)) ++ rest_text labels texts answers (i + 1)
 unfolding rest_text
-rest_text-more labels answers i label is =
-    let later : nat_lt 0 (i + 1) ≡ true = lt-ltb 0 (i + 1) (omega arith) in
-    rw (drop_at labels i label is, later) (simp append_assoc)
+rest_text-more labels texts answers i label is = rw (drop_at labels i label is) (simp append_assoc)
 
--- the parts of a response, and then the rest
-pub rest_text-parts : (labels : List LabelValue) (answers : ℕ → Option Outcome) (i : ℕ) (label : LabelValue) → slice_get labels i ≡ Some label
-    → rest_text labels answers i
-    ≡ (comma_if (nat_lt 0 i) ++ (codes "{" ++ (member_part (codes "\"atomicityGroup\":") (option_map string label.group) ++ (member_part (codes "\"body\":") (answer_body (answers i)) ++ (member_part (codes "\"headers\":") (headers_value (answer_headers (answers i))) ++ end_part label.id (status_of (answers i))))))) ++ rest_text labels answers (i + 1)
-rest_text-parts labels answers i label is =
-    rest_text-more labels answers i label is ∙ ap (λ text. text ++ rest_text labels answers (i + 1)) (response-parts (nat_lt 0 i) label (answers i))
+-- ---- without texts
+
+untexted-from : (texts : List (Option (List ℕ))) (answers : ℕ → Option Outcome) → HasNoText texts → (i : ℕ) (labels : List LabelValue)
+    → responses_with texts answers i labels ≡ items_text (nat_lt 0 i) (items_of (responses_from answers i labels))
+unfolding serde_json_on_literals
+untexted-from texts answers none i [] = refl
+untexted-from texts answers none i (label ∷ labels) =
+    let comma = comma_if (nat_lt 0 i) in
+    let rest = items_of (responses_from answers (i + 1) labels) in
+    ap (λ text. comma ++ (response_with label (answers i) text ++ responses_with texts answers (i + 1) labels)) (none i)
+    ∙ ap (λ bs. comma ++ (bs ++ responses_with texts answers (i + 1) labels)) (response-untexted label (answers i))
+    ∙ ap (λ bs. comma ++ (compact_text (response label (answers i)) ++ bs)) (untexted-from texts answers none (i + 1) labels ∙ ap (λ later. items_text later rest) (lt-ltb 0 (i + 1) (omega arith)))
+
+-- the text is that of the value
+pub text_with-none : (labels : List LabelValue) (texts : List (Option (List ℕ))) (answers : ℕ → Option Outcome) → HasNoText texts → text_with labels texts answers ≡ text_of labels answers
+unfolding text_with text_of serde_json_on_literals
+text_with-none labels texts answers none = ap (λ text. codes "{\"responses\":[" ++ (text ++ codes "}")) (untexted-from texts answers none 0 labels)
+
+-- with the start, the buffer and all responses are the whole text
+pub text_of-begun : (labels : List LabelValue) (answers : ℕ → Option Outcome) (buffer : List ℕ) → buffer ≡ codes "{\"responses\":[" → buffer ++ rest_text labels [] answers 0 ≡ text_of labels answers
+text_of-begun labels answers buffer is = ap (λ text. text ++ rest_text labels [] answers 0) is ∙ sym (text_with-prefix labels [] answers) ∙ text_with-none labels [] answers (λ i. refl)

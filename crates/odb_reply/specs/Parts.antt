@@ -1,15 +1,32 @@
 -- For invariants and private clauses: the text of a response by its parts.
-use Rattle.std.specs.Prelude.{ℕ, List, ◌++◌, Option, nat_lt, decimal, drop, codes}
-use Rattle.serde_json.specs.Data.{string}
-use Rattle.serde_json.specs.View.{items_of}
-use Rattle.serde_json.specs.Written.{compact_text, items_text}
+use Rattle.std.specs.Prelude.{◌≡◌, ◌<◌, ◌++◌, ℕ, Bool, List, Option, Some, None, is_some, drop, codes}
+use Rattle.serde_json.specs.Data.{Data}
+use Rattle.serde_json.specs.Find.{as_null}
+use Rattle.odb_doc.specs.Documents.{IsDocument}
 use Rattle.odb_doc.specs.declared.recorded.outcome.Outcome.{Outcome}
-use Rattle.odb_reply.specs.Responses.{LabelValue, responses_from}
+use Rattle.odb_doc.specs.Headers.{IsInOrder}
+use Rattle.odb_doc.specs.recorded.OutcomeValues.{IsHeldOutcome}
+use Rattle.odb_sched.specs.run.Answers.{answer}
+use Rattle.odb_sched.specs.run.State.{State, size}
+use Rattle.odb_reply.specs.BodyTexts.{IsBody, responses_with, text_at}
+use Rattle.odb_reply.specs.Responses.{LabelValue}
 
--- the last two members, and the end of the object
-abbrev pub end_part : List ℕ → ℕ → List ℕ
-end_part id status = codes "\"id\":" ++ (compact_text (string id) ++ (codes ",\"status\":" ++ (decimal status ++ codes "}")))
+-- the bytes are a document, and by this its value is null or not
+pub record HasNull (bytes : List ℕ) (is_null : Bool) : Type 0 where
+  pub value : Data
+  pub document : IsDocument bytes value
+  pub null : is_null ≡ is_some (as_null value)
+
+-- The outcome is read again from the text of its response: memory holds it, and its body if that is a value; a text of its
+-- body is one.
+abbrev pub IsHeldBy : Outcome → Option (List ℕ) → Type 0
+IsHeldBy outcome None = IsHeldOutcome outcome
+IsHeldBy outcome (Some text) = IsInOrder outcome.headers × IsBody text (Some text)
+
+-- the same of each outcome that answers a request
+abbrev pub AreHeldBy : List (Option (List ℕ)) → State → Type 0
+AreHeldBy texts state = (i : ℕ) (outcome : Outcome) → i < size state → answer state i ≡ Some outcome → IsHeldBy outcome (text_at texts i)
 
 -- the text of the responses from a position on, to the end
-unfoldable pub rest_text : List LabelValue → (ℕ → Option Outcome) → ℕ → List ℕ
-rest_text labels answers i = items_text (nat_lt 0 i) (items_of (responses_from answers i (drop i labels))) ++ codes "}"
+unfoldable pub rest_text : List LabelValue → List (Option (List ℕ)) → (ℕ → Option Outcome) → ℕ → List ℕ
+rest_text labels texts answers i = responses_with texts answers i (drop i labels) ++ codes "}"

@@ -1,5 +1,6 @@
--- For invariants and private clauses: the places at which the responses to requests were found, and their statuses.
-use Rattle.std.specs.Prelude.{◌≡◌, ◌<◌, ℕ, List, length, Option, Some, None, Bool, true, false, slice_get, slice_set, slice_index, slice_index_or}
+-- For invariants and private clauses: the places at which the responses to requests were found, their statuses, and which
+-- requests have a response.
+use Rattle.std.specs.Prelude.{◌≡◌, ◌<◌, ℕ, List, length, take, Option, Some, None, Bool, true, false, slice_get, slice_set, slice_index, slice_index_or}
 use Rattle.odb_doc.specs.LeastRules.{NoneBroken, BreaksIn, IsFirst, IsLeast}
 use Rattle.odb_doc.specs.batch.Records.{Record}
 use Rattle.odb_check.specs.declared.need.Need.{Need}
@@ -12,6 +13,7 @@ use Rattle.odb_reply.specs.declared.match_fault.MatchRule.TheVariants.{UnknownRe
 use Rattle.odb_reply.specs.declared.match_fault.MatchFault.{MatchFault}
 use Rattle.odb_reply.specs.declared.match_fault.MatchFault.TheVariants as faults
 use Rattle.odb_reply.specs.ResponseDocuments.{Entry}
+use Rattle.odb_reply.specs.Completed.{is_answered}
 use Rattle.odb_reply.specs.Fits.{id_in, Responds, IsTableOf}
 use Rattle.odb_reply.specs.LeastMatchFault.{phase}
 use Rattle.odb_reply.specs.MatchFaults.{Breaks, number}
@@ -55,6 +57,11 @@ pub record AreNoted (rs : List Record) (es : List Entry) (n : ℕ) (found : Plac
   pub count : length found ≡ length rs
   pub noted : (i k : ℕ) → slice_get found i ≡ Some (Some k) → (k < n) × IsNotedAt rs es i k
   pub each : (k : ℕ) (id : List ℕ) → k < n → id_in es k ≡ Some id → (i : ℕ) × (id_at rs i ≡ Some id) × (slice_get found i ≡ Some (Some k))
+
+-- the mark of each request: whether one of the first n responses has its id
+pub record AreMarks (rs : List Record) (es : List Entry) (n : ℕ) (marks : List Bool) : Type 0 where
+  pub count : length marks ≡ length rs
+  pub each : (i : ℕ) (r : Record) → slice_get rs i ≡ Some r → slice_get marks i ≡ Some (is_answered (take n es) r.id)
 
 -- this place was found at position i, and the response there has this status
 pub record IsListed (es : List Entry) (found : Places) (i k status : ℕ) : Type 0 where

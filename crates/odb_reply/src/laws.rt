@@ -3,27 +3,33 @@
 //!
 //! The laws are clauses of functions that change nothing.
 
-ghost use Rattle.std.specs.Prelude.{◌≡◌, ◌↔◌, ◌++◌, ℕ, true, List, Some, IsSome, codes, length};
+ghost use Rattle.std.specs.Prelude.{◌≡◌, ◌↔◌, ◌++◌, ℕ, true, List, Some, IsSome, IsTrue, codes, length};
 ghost use Rattle.std.specs.List.{AllZip};
 ghost use Rattle.serde_json.specs.Data.{Data};
 ghost use Rattle.serde_json.specs.Read.{read};
 ghost use Rattle.odb_doc.specs.batch.Records.{Record};
 ghost use Rattle.odb_check.specs.Laws.{HasPositions};
 ghost use Rattle.odb_check.specs.PlanGraph.{IsPlanGraphOf};
-ghost use Rattle.odb_sched.specs.run.Answers.{answer};
+ghost use Rattle.odb_doc.specs.Statuses.{is_status};
+ghost use Rattle.odb_sched.specs.run.Answers.{answer, status_of};
 ghost use Rattle.odb_sched.specs.run.State.{size};
 ghost use Rattle.odb_sched.specs.run.Steps.{is_finished};
 ghost use Rattle.odb_reply.specs.declared.match_fault.MatchFault.{MatchFault};
 ghost use Rattle.odb_reply.specs.declared.response_fault.ResponseFault.{ResponseFault};
+ghost use Rattle.odb_reply.specs.declared.match_fault.MatchRule.TheVariants.{ResponseMissing};
+ghost use Rattle.odb_reply.specs.Completed.{completed, has_error};
+ghost use Rattle.odb_reply.specs.BodyTexts.{value_with};
 ghost use Rattle.odb_reply.specs.Fits.{Fits, IsTableOf, ListsFit};
 ghost use Rattle.odb_reply.specs.LeastMatchFault.{HasNoMisfit, RefusesMatch};
 ghost use Rattle.odb_reply.specs.MatchFaults as match_faults;
+ghost use Rattle.odb_reply.specs.MatchFaults.{Breaks};
 ghost use Rattle.odb_reply.specs.ResponseDocuments.{Entry, IsResponseDocument, RefusesResponses, ReadsAs};
 ghost use Rattle.odb_reply.specs.ResponseDocuments as response_documents;
 ghost use Rattle.odb_reply.specs.OnePerId.{HasOnePerId};
 ghost use Rattle.odb_reply.specs.Readable.{AnswersBy, IsReadable};
 ghost use Rattle.odb_reply.specs.Responses.{labels_of, response_text, response_value, text_of, value_of};
 
+use crate::json_text::JsonText;
 use crate::labels::Labels;
 use odb_sched::{Done, OwnedRun};
 
@@ -57,6 +63,17 @@ pub fn one_match()
         → (places ≡ others) × (statuses ≡ different) }
 {}
 
+/// What is true of responses that are completed, as [`crate::Responses::completed`] does it: if one of them is an
+/// error, each request of the batch has one afterwards, so F73 does not apply. They are unchanged if each request
+/// has one already.
+pub fn every_completion()
+    ensures none_missing { (requests : List Record) (responses : List Entry) → has_error responses ≡ true
+        → (i : ℕ) → ¬ Breaks requests (completed requests responses) ResponseMissing i }
+    ensures unchanged { (requests : List Record) (responses : List Entry)
+        → ((i : ℕ) → ¬ Breaks requests responses ResponseMissing i)
+        → completed requests responses ≡ responses }
+{}
+
 /// What is true of the response to a finished run by these ids and groups.
 ///
 /// For each batch that has them: each id of the batch is the id of exactly one response, and no
@@ -84,6 +101,26 @@ pub fn every_labeled<L: Labels>(labels: &L, run: &OwnedRun)
     run.laws();
     odb_doc::laws::every_value();
     let _labels = labels;
+}
+
+/// What is true of the response to a finished run by these ids and groups, of which some bodies were
+/// reported as text: as [`every_labeled`] states it. Each text stands for the value that it is read as.
+pub fn every_texted<L: Labels>(labels: &L, texts: &[Option<JsonText>], run: &OwnedRun)
+    requires labels { length (L.labels labels.now) ≡ size run.now }
+    requires finished { is_finished run.now ≡ true }
+    ensures one_per_id { (batch : List Record) → labels_of batch ≡ L.labels labels.now
+        → HasPositions batch
+        → HasOnePerId batch (value_with (L.labels labels.now) texts.now (answer run.now)) }
+    ensures fits { (batch : List Record) → labels_of batch ≡ L.labels labels.now
+        → HasPositions batch → IsPlanGraphOf batch run.now.plan_graph
+        → ListsFit batch (value_with (L.labels labels.now) texts.now (answer run.now)) }
+    ensures document { IsResponseDocument
+        (value_with (L.labels labels.now) texts.now (answer run.now)) }
+    ensures statuses { (i : ℕ) → IsTrue (is_status (status_of (answer run.now i))) }
+{
+    run.laws();
+    let _labels = labels;
+    let _texts = texts;
 }
 
 /// What is true of the response to a finished run of a plan, as [`every_labeled`] states it by the ids

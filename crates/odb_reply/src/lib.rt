@@ -2,14 +2,18 @@
 //!
 //! [`response_text`] returns the response of a finished run (OData JSON Format 4.01, section 19.5),
 //! and [`write_responses`] writes it to an output through a buffer. Both refuse a run that answers a
-//! body with a number that is not whole, since only whole numbers are kept exactly. [`laws`] states
-//! what is true of every response. Which requests run, and how each is answered, `odb_sched` decides.
+//! body with a number that is not whole, since a value keeps only whole numbers exactly.
+//! [`response_of`] repeats a body byte for byte that was reported as [`JsonText`], whatever numbers it
+//! has. [`laws`] states what is true of every response. Which requests run, and how each is answered,
+//! `odb_sched` decides.
 //!
 //! [`Responses::read`] reads the response document of a service, and [`match_responses`] checks that
 //! its responses fit the batch of a plan.
 #![tactic(auto)]
 
+mod completed;
 mod fits;
+mod json_text;
 mod labels;
 pub mod laws;
 mod match_fault;
@@ -23,6 +27,7 @@ mod text;
 mod whole;
 
 pub use fits::match_responses;
+pub use json_text::{BodyFault, JsonText};
 pub use labels::{Label, Labels};
 pub use match_fault::{MatchFault, MatchRule};
 pub use reply::{ReplyFault, write_responses};

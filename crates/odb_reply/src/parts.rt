@@ -1,30 +1,49 @@
 //! The text of one response.
 
 ghost use Rattle.std.specs.Prelude.{◌≡◌, ◌<◌, ◌+◌, ◌++◌, codes, true, length, option_map, string_bytes, OnOk};
-ghost use Rattle.serde_json.specs.View.{view};
 ghost use Rattle.odb_doc.specs.canonical.Canonical.{headers_value};
 ghost use Rattle.odb_doc.specs.Texts.{member_part};
 ghost use Rattle.odb_sched.specs.run.Answers.{answer, shown};
 ghost use Rattle.odb_sched.specs.run.State.{size};
 ghost use Rattle.odb_sched.specs.run.Steps.{is_finished};
-ghost use Rattle.odb_reply.specs.NotWhole.{HasWholeBodies};
-ghost use Rattle.odb_reply.specs.Parts as parts;
+ghost use Rattle.odb_reply.specs.BodyTexts as body_texts;
+ghost use Rattle.odb_reply.specs.NotWhole.{HasWholeValue, HasWholeValues};
+ghost use Rattle.odb_reply.specs.Parts.{rest_text};
 ghost use Rattle.odb_reply.specs.Responses as responses;
 
+use crate::json_text::{JsonText, text_at};
 use crate::labels::Labels;
 use odb_doc::text::{push_body, push_group, push_headers, push_open, push_quoted};
 use odb_sched::{Answer, OwnedRun};
-use serde_json::Value;
 use std::alloc::{AllocError, Global};
 use std::fmt::Write;
 
-/// Returns the body of an answer, if it has one.
-pub(crate) fn body_of<'a>(answer: &Answer<'a>) -> Option<&'a Value>
-    ensures { option_map (λ body. view body.now) result ≡ responses.answer_body (shown answer.now) }
+/// Appends the member `body` with this text.
+fn push_body_text(text: &mut String, body: &str) -> Result<(), AllocError>
+    ensures { OnOk result (string_bytes text.new ≡ string_bytes text.old
+        ++ (codes "\"body\":" ++ (body.now ++ codes ","))) }
 {
-    match answer {
-        Answer::Reported(outcome) => outcome.body.as_ref(),
-        Answer::FailedDependency => None,
+    text.push_str("\"body\":")?;
+    text.push_str(body)?;
+    text.push_str(",")
+}
+
+/// Appends the member `body` of an answer, if it has a body: the text that was reported, or else that of
+/// the value.
+fn push_answer_body(
+    alloc: Global,
+    text: &mut String,
+    answer: &Answer<'_>,
+    reported: Option<&str>,
+) -> Result<(), AllocError>
+    requires { HasWholeValue (shown answer.now) (option_map (λ body. body.now) reported) }
+    ensures { OnOk result (string_bytes text.new ≡ string_bytes text.old
+        ++ body_texts.body_part (shown answer.now) (option_map (λ body. body.now) reported.entry)) }
+{
+    match (answer, reported) {
+        (Answer::Reported(_), Some(body)) => push_body_text(text, body),
+        (Answer::Reported(outcome), None) => push_body(alloc, text, outcome.body.as_ref()),
+        (Answer::FailedDependency, _) => Ok(()),
     }
 }
 
@@ -47,7 +66,7 @@ fn push_answer_headers(
 /// Appends the members `id` and `status`, and the end of the response.
 fn push_end(alloc: Global, text: &mut String, id: &str, status: u16) -> Result<(), AllocError>
     ensures { OnOk result (string_bytes text.new ≡ string_bytes text.old
-        ++ parts.end_part id.now status) }
+        ++ body_texts.end_part id.now status) }
 {
     text.push_str("\"id\":")?;
     push_quoted(alloc, text, id)?;
@@ -59,21 +78,24 @@ pub(crate) fn push_response<L: Labels>(
     alloc: Global,
     text: &mut String,
     labels: &L,
+    texts: &[Option<JsonText>],
     run: &OwnedRun,
     i: u32,
 ) -> Result<(), AllocError>
     requires labels { length (L.labels labels.now) ≡ size run.now }
     requires finished { is_finished run.now ≡ true }
     requires request { i < size run.now }
-    requires whole { HasWholeBodies run.now }
-    ensures { OnOk result (string_bytes text.old ++ parts.rest_text (L.labels labels.now) (answer run.now) i
-        ≡ string_bytes text.new ++ parts.rest_text (L.labels labels.now) (answer run.now) (i + 1)) }
+    requires whole { HasWholeValues texts.now run.now }
+    ensures { OnOk result
+        (string_bytes text.old ++ rest_text (L.labels labels.now) texts.now (answer run.now) i
+        ≡ string_bytes text.new
+        ++ rest_text (L.labels labels.now) texts.now (answer run.now) (i + 1)) }
 {
     let label = labels.label(i);
     let answer = run.answer(i);
     push_open(text, i > 0)?;
     push_group(alloc, text, label.group)?;
-    push_body(alloc, text, body_of(&answer))?;
+    push_answer_body(alloc, text, &answer, text_at(texts, i))?;
     push_answer_headers(alloc, text, &answer)?;
     push_end(alloc, text, label.id, answer.status())
 }

@@ -1,6 +1,6 @@
 //! Writes the response of a finished run through a buffer.
 
-ghost use Rattle.std.specs.Prelude.{◌≡◌, ◌≢◌, ◌↔◌, ◌++◌, ℕ, true, false, Some, length, string_bytes, IsErr, IsTrue, OnOk, OnErr};
+ghost use Rattle.std.specs.Prelude.{◌≡◌, ◌≢◌, ◌↔◌, ◌++◌, [], ℕ, true, false, Some, length, string_bytes, IsErr, IsTrue, OnOk, OnErr};
 ghost use Rattle.std.specs.Io.KnownBytes.{Appends};
 ghost use Rattle.serde_json.specs.Read.{read};
 ghost use Rattle.odb_reply.specs.declared.reply.ReplyFault.TheVariants as faults;
@@ -103,16 +103,16 @@ fn buffer_responses<W: Write, L: Labels>(
     requires whole { HasWholeBodies run.now }
     ensures ok { OnOk result (HasWritten (W.contents output.old.writer)
         (W.contents output.new.writer)
-        (string_bytes buffer.old ++ rest_text (L.labels labels.now) (answer run.now) 0)
+        (string_bytes buffer.old ++ rest_text (L.labels labels.now) [] (answer run.now) 0)
         (string_bytes buffer.new)) }
     ensures err { OnErr result (AppendsPrefix (W.contents output.old.writer)
         (W.contents output.new.writer)
-        (string_bytes buffer.old ++ rest_text (L.labels labels.now) (answer run.now) 0)) }
+        (string_bytes buffer.old ++ rest_text (L.labels labels.now) [] (answer run.now) 0)) }
     ensures write { (result ≡ Err ReplyFault.Write) ↔ IsTrue output.new.failed }
     ensures whole { (at : ℕ) → result ≢ Err (faults.NotWhole at) }
 {
     for i in 0..run.len() {
-        push_response(alloc, buffer, labels, run, i)?;
+        push_response(alloc, buffer, labels, &[], run, i)?;
         write_full(output, buffer)?;
     }
     Ok(buffer.push_str("]}")?)

@@ -30,7 +30,7 @@ pub struct Response<'a> {
 /// The responses of a service's response document, in the order of the document.
 #[derive(Debug, Drop)]
 pub struct Responses<'a> {
-    list: Vec<Response<'a>>,
+    pub(crate) list: Vec<Response<'a>>,
 }
 
 /// The rule that each element is a response, which is F70.

@@ -25,3 +25,5 @@ mod rows;
 mod runs;
 #[cfg(test)]
 mod seeds;
+#[cfg(test)]
+mod spans;

@@ -129,7 +129,7 @@ fn pushed(alloc: Global, done: &Done<'_>) -> Result<String, TextFault> {
 /// appended.
 fn has_text(alloc: Global, done: &Done<'_>, wanted: Result<&str, usize>) -> bool {
     is_text(&response_text(alloc, done), wanted)
-        && is_text(&response_of(alloc, done.plan(), done.run()), wanted)
+        && is_text(&response_of(alloc, done.plan(), &[], done.run()), wanted)
         && is_text(&pushed(alloc, done), wanted)
 }
 

@@ -11,6 +11,8 @@ mod live;
 mod picks;
 mod plain;
 mod recordings;
+mod texts;
+mod units;
 
 ghost use Rattle.std.specs.Prelude.{◌≡◌, ◌<◌};
 ghost use Rattle.odb_sched.specs.run.State.{size};

@@ -28,7 +28,8 @@ refused: {"outcomes":[{"id":"1","status":199},{"id":"2","status":200}]}
 accepted: {"outcomes":[{"id":"1","status":200},{"id":"2","status":200}]}"#,
     r#"F63 NotWhole /outcomes/N /events/N
 The body of a recorded outcome or of a reported event has a number that is not whole, as in F50. It
-might not be written as it was recorded. Record the number as a string, or as an integer.
+might not be written as it was recorded. Record the number as a string, or as an integer. A report to a
+live run is not refused by it: the response repeats the text of its body.
 refused: {"outcomes":[{"id":"1","status":200,"body":1.5},{"id":"2","status":200}]}
 accepted: {"outcomes":[{"id":"1","status":200,"body":"1.5"},{"id":"2","status":200}]}"#,
     r#"F64 BadEvents events /events/N

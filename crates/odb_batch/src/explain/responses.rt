@@ -21,7 +21,8 @@ refused: {"responses":[{"id":"1","status":200},{"id":"2","status":200},{"id":"2"
 accepted: {"responses":[{"id":"1","status":200},{"id":"2","status":200}]}"#,
     r#"F73 ResponseMissing /requests/N
 The request has no response. One that was never sent is answered too, with 424 (OData Protocol 4.01,
-section 11.7). Services that stop after a first error and leave out the rest are refused by this.
+section 11.7). A service that stops at its first error may leave out the rest (section 8.2.8.3): with
+--stop a request without a response is read as answered 424, if a response has a status from 400 to 599.
 refused: {"responses":[{"id":"1","status":200}]}
 accepted: {"responses":[{"id":"1","status":200},{"id":"2","status":200}]}"#,
     r#"F74 GroupDiffers /requests/N

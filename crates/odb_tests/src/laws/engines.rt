@@ -17,7 +17,7 @@ use crate::laws::Two;
 use odb_engine::laws::{one_document, one_text, read_again};
 use odb_engine::{Ended, Setup, Task, answer_in_memory, answer_line};
 use odb_io::{Input, Output};
-use odb_sched::{Order, Policy};
+use odb_sched::{Mode, Order, Policy};
 use std::alloc::{AllocError, Global};
 
 /// How a task ended, and what it wrote.
@@ -167,7 +167,10 @@ fn tasks_write_one_text_of_the_same_bytes(rt: HostRuntime) {
 fn fits(alloc: Global, response: Option<Written>) -> bool {
     match &response {
         Some((Ended::Done, text)) => {
-            let found = written(alloc, PAIR.as_bytes(), text, Task::Match);
+            let task = Task::Match {
+                mode: Mode::Continue,
+            };
+            let found = written(alloc, PAIR.as_bytes(), text, task);
             found.is_some_and(|it| it.0 == Ended::Done)
         }
         _ => false,

@@ -13,7 +13,7 @@ const STARTS: &[(StartRefusal, &str)] = &[
         StartRefusal::AlreadyStarted,
         "the request has started before",
     ),
-    (StartRefusal::Stopped, "an error has stopped the run"),
+    (StartRefusal::Stopped, "the run is stopped"),
     (
         StartRefusal::UnitFailed,
         "the unit of the request has failed",
@@ -44,7 +44,7 @@ const RUNS: &[(RunRefusal, &str)] = &[
             at: 13,
             cause: StartRefusal::Stopped,
         },
-        "event 13: an error has stopped the run",
+        "event 13: the run is stopped",
     ),
     (
         RunRefusal::Report {

@@ -51,4 +51,4 @@ returns-in_err-scheduler-clause-least c =
 
 pub returns-clause-plan_graph : goal.returns-clause-plan_graph
 returns-clause-plan_graph c =
-    ap (λ (s : State). s.plan_graph) (c.into_owned.ensures ∙ ap (λ (s : State). without_requests s) c.in_ok-scheduler.ensures.state) ∙ plan_graph-after_all (first_state (plan_records c.args.plan.now) c.args.policy) c.in_ok-resolved.resolved.items
+    ap (λ (s : State). s.plan_graph) (c.into_owned.ensures.state ∙ ap (λ (s : State). without_requests s) c.in_ok-scheduler.ensures.state) ∙ plan_graph-after_all (first_state (plan_records c.args.plan.now) c.args.policy) c.in_ok-resolved.resolved.items

@@ -1,4 +1,5 @@
 use Rattle.std.proofs.Common.{◌⊎◌, IsTrue, subst}
+use Rattle.odb_sched.specs.declared.policy.Mode.TheVariants.{Continue}
 use Rattle.odb_engine.specs.Cascade.{Answers}
 use Rattle.odb_engine.specs.Engines.{Ends}
 use Rattle.odb_engine.specs.Forms.{InForm}
@@ -14,7 +15,7 @@ returns-clause-ends g c =
       bytes,
       gives,
       (
-        subst (λ form. Ends g.W.Write.contents (InForm form (Answers (BySecond left (MatchesIn form)) bytes)) failed c.args.output.now c.answer_task.new.output c.answer_task.result) c.plain.ensures.form ends,
+        subst (λ form. Ends g.W.Write.contents (InForm form (Answers (BySecond left (MatchesIn Continue form)) bytes)) failed c.args.output.now c.answer_task.new.output c.answer_task.result) c.plain.ensures.form ends,
         asked,
       ),
     )

@@ -1,4 +1,4 @@
-use Rattle.std.proofs.Common.{◌≡◌, ◌++◌, false, string_bytes}
+use Rattle.std.proofs.Common.{◌≡◌, ◌++◌, [], false, string_bytes}
 use Rattle.odb_sched.specs.run.Answers.{answer}
 use Rattle.odb_io.specs.Devices.{HasWritten}
 use Rattle.odb_reply.specs.Parts.{rest_text}
@@ -9,5 +9,5 @@ abbrev pub invariant-loop-i : goal.invariant-loop-i
 invariant-loop-i g l =
     record {
       works : l.output.failed ≡ false;
-      written : HasWritten (g.W.Write.contents l.fn.output.writer) (g.W.Write.contents l.output.writer) (string_bytes l.fn.buffer ++ rest_text (g.L.Labels.labels l.labels) (answer l.run) 0) (string_bytes l.buffer ++ rest_text (g.L.Labels.labels l.labels) (answer l.run) l.i);
+      written : HasWritten (g.W.Write.contents l.fn.output.writer) (g.W.Write.contents l.output.writer) (string_bytes l.fn.buffer ++ rest_text (g.L.Labels.labels l.labels) [] (answer l.run) 0) (string_bytes l.buffer ++ rest_text (g.L.Labels.labels l.labels) [] (answer l.run) l.i);
     }

@@ -26,7 +26,7 @@ pub returns-in-Canon : goal.returns-in-Canon
 returns-in-Canon g c = rw c.in-Canon.is (written-of g.W.Write.contents c.args.output.now c.canon_batch.new.output _ _ _ c.canon_batch.result (λ bytes e. e.ended) c.canon_batch.ensures.ends)
 
 pub returns-in-Match : goal.returns-in-Match
-returns-in-Match g c = rw c.in-Match.is (written-of g.W.Write.contents c.args.output.now c.match_batch.new.output _ _ _ c.match_batch.result (λ bytes e. e.0.ended) c.match_batch.ensures.ends)
+returns-in-Match g c = rw c.in-Match.is c.matched_plainly.ensures
 
 pub returns-in-Run : goal.returns-in-Run
 returns-in-Run g c = rw c.in-Run.is (written-of g.W.Write.contents c.args.output.now c.run_batch.new.output _ _ _ c.run_batch.result (λ bytes e. e.0.ended) c.run_batch.ensures.ends)

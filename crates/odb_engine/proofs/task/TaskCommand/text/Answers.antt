@@ -29,7 +29,7 @@ returns-in-Canon-clause-found g c =
 
 pub returns-in_ok-responses-in-Match-clause-found : goal.returns-in_ok-responses-in-Match-clause-found
 returns-in_ok-responses-in-Match-clause-found g c =
-    let P = MatchesValue c.args.setup.form (plan_records c.args.plan.now) in
+    let P = MatchesValue c.in-Match.mode c.args.setup.form (plan_records c.args.plan.now) in
     rw c.in-Match.is (given-found (g.S.Source.given c.args.second.now) places.Responses P (view c.in_ok-responses-in-Match.responses) _ c.matched.result c.in_ok-responses-in-Match.ensures.value c.matched.ensures.found)
 
 pub returns-in_ok-outcomes-in-Replay-clause-found : goal.returns-in_ok-outcomes-in-Replay-clause-found
