@@ -3,8 +3,8 @@
 from typing import Any, Dict
 from urllib.parse import urljoin, urlsplit
 
-from entities import Entities
-from twin import etag_of
+from ._entities import Entities
+from ._twin import etag_of
 
 # What a service may lack, and the reason why a case does not apply then.
 LACKS = {

@@ -3,14 +3,14 @@
 from concurrent.futures import ThreadPoolExecutor
 from typing import Callable, Dict, List, NamedTuple, Optional, Set, Union
 
-from entities import Entities
-from judge import Check, Judge, clear_responses, is_success, responses_of
-from kinds import KINDS, failing_kinds
-from learning import learn
-from left_over import left_over
-from promises import Case
-from service import Answer, Service, Unanswered
-from stage import DONE, FAILS, Stage
+from ._entities import Entities
+from ._judge import Check, Judge, clear_responses, is_success, responses_of
+from ._kinds import KINDS, failing_kinds
+from ._learning import learn
+from ._left_over import left_over
+from ._promises import Case
+from ._service import Answer, Service, Unanswered
+from ._stage import DONE, FAILS, Stage
 
 REFUSED = (*range(400, 500), 501)
 # What a service may answer to one of some batches at the same time.

@@ -9,8 +9,8 @@ import re
 from typing import Any, Callable, Dict, Iterator, List, Mapping, NamedTuple, Optional, Sequence, Tuple
 from urllib.parse import quote, urlsplit
 
-from entities import Entities, Entity
-from service import Answer
+from ._entities import Entities, Entity
+from ._service import Answer
 
 Parts = Dict[str, Any]
 

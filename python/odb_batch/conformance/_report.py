@@ -4,8 +4,8 @@ import json
 import os
 from typing import Any, Dict, List, NamedTuple
 
-from promises import PROMISES, SECTIONS, Case
-from runner import Result
+from ._promises import PROMISES, SECTIONS, Case
+from ._runner import Result
 
 
 class Count(NamedTuple):

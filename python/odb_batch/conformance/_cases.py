@@ -2,13 +2,13 @@
 
 from typing import List
 
-from alone import alone
-from failures import failing_groups, failing_long_groups, one_failure
-from flows import FLOWS, longest
-from names import names
-from promises import Case
-from references import references
-from waits import waits
+from ._alone import alone
+from ._failures import failing_groups, failing_long_groups, one_failure
+from ._flows import FLOWS, longest
+from ._names import names
+from ._promises import Case
+from ._references import references
+from ._waits import waits
 
 
 def all_cases(requests: int) -> List[Case]:

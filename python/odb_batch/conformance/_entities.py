@@ -6,7 +6,7 @@ import uuid
 from typing import Any, Callable, Dict, Iterator, List, NamedTuple, Optional, Sequence, Tuple
 from urllib.parse import quote
 
-from service import GONE, Answer, Service, Unusable
+from ._service import GONE, Answer, Service, Unusable
 
 # How many pages of a set are listed, and how many entities of it. A set with more is not listed.
 MAX_PAGES, MAX_LISTED = 100, 5_000
