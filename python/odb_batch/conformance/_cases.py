@@ -1,6 +1,7 @@
 """All cases: each writes one batch that shows whether a service keeps a promise."""
 
-from typing import List
+import fnmatch
+from typing import List, Sequence
 
 from ._alone import alone
 from ._failures import failing_groups, failing_long_groups, one_failure
@@ -9,6 +10,9 @@ from ._names import names
 from ._promises import Case
 from ._references import references
 from ._waits import waits
+
+# How many requests the longest batch has, if nobody says.
+MAX_REQUESTS = 100
 
 
 def all_cases(requests: int) -> List[Case]:
@@ -24,3 +28,8 @@ def all_cases(requests: int) -> List[Case]:
         *longest(requests),
         *failing_long_groups(requests),
     ]
+
+
+def cases_like(globs: Sequence[str], requests: int) -> List[Case]:
+    """The cases of which the name fits one of some globs, in the order in which they are run."""
+    return [it for it in all_cases(requests) if any(fnmatch.fnmatchcase(it.name, glob) for glob in globs)]

@@ -1,7 +1,6 @@
 """Judges whether a service keeps what OData promises of batches in JSON. See docs/conformance.md."""
 
 import argparse
-import fnmatch
 import json
 import re
 import sys
@@ -9,7 +8,7 @@ from typing import Any, Dict, List, Sequence
 from urllib.parse import urlsplit
 
 from . import _report
-from ._cases import all_cases
+from ._cases import MAX_REQUESTS, cases_like
 from ._entities import Entities
 from ._interruption import Interrupted, Interruption
 from ._promises import Case
@@ -77,7 +76,7 @@ def parser() -> argparse.ArgumentParser:
     found.add_argument("--key", metavar="NAME", type=name_of, help="the key property of its entities")
     found.add_argument("--body", metavar="JSON", type=body_of, help="a body that creates an entity; the key is added")
     found.add_argument("--header", metavar="H: V", type=header_of, action="append", default=[], help="of all requests")
-    found.add_argument("--requests", metavar="N", type=number_of, default=100, help="how many a batch may have; 100")
+    found.add_argument("--requests", metavar="N", type=number_of, default=MAX_REQUESTS, help="how many a batch may have; 100")
     found.add_argument("--timeout", metavar="S", type=seconds_of, default=SECONDS, help="seconds for an answer; 20")
     found.add_argument("--case", metavar="GLOB", action="append", help="runs cases of such names alone, as 'group-*'")
     found.add_argument("--breaks", metavar="FOLDER", default="conformance-breaks", help="where breaks are written")
@@ -126,7 +125,7 @@ def main(words: Sequence[str]) -> int:
     arguments = parser()
     options = arguments.parse_args(words)
     globs = options.case or ["*"]
-    cases = [it for it in all_cases(options.requests) if any(fnmatch.fnmatchcase(it.name, glob) for glob in globs)]
+    cases = cases_like(globs, options.requests)
     if not cases:
         arguments.error(f"no case has a name like {' or '.join(map(repr, globs))}")
     if options.list:
