@@ -33,3 +33,15 @@ def all_cases(requests: int) -> List[Case]:
 def cases_like(globs: Sequence[str], requests: int) -> List[Case]:
     """The cases of which the name fits one of some globs, in the order in which they are run."""
     return [it for it in all_cases(requests) if any(fnmatch.fnmatchcase(it.name, glob) for glob in globs)]
+
+
+def conformance_cases(glob: str = "*") -> List[str]:
+    """Returns the names of the cases that fit a pattern, as ``"group-*"``, in the order in which the tool runs them.
+
+    Raises:
+        ValueError: No case has such a name.
+    """
+    found = [it.name for it in cases_like([glob], MAX_REQUESTS)]
+    if not found:
+        raise ValueError(f"no case has a name like {glob!r}")
+    return found

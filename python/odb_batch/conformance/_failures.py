@@ -155,7 +155,7 @@ def failing_long_groups(requests: int) -> List[Case]:
     """Groups with as many requests as the service takes, which fail at the first, a middle and the last member."""
     size = max(requests - 2, 1)
     found = []
-    for at, place in {0: "first", size // 2: "middle", size - 1: "last"}.items():
+    for at, place in ((0, "first"), (size // 2, "middle"), (size - 1, "last")):
         write = partial(failing_group, kind="missing", at=at, size=size)
         shows = f"a group of {size} requests fails at its {place} member"
         found.append(Case(f"group-many-{place}", "group", shows, write, kind="missing", may_be_refused=True))

@@ -173,6 +173,6 @@ def differences(alone: Sequence[Parts], batch: Parts) -> List[str]:
     return found
 
 
-def shortened(value: Any) -> str:
+def shortened(value: Any, most: int = 80) -> str:
     text = str(value)
-    return text if len(text) <= 80 else text[:77] + "..."
+    return text if len(text) <= most else text[: most - 3] + "..."
