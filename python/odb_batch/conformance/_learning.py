@@ -130,7 +130,7 @@ def learn_features(entities: Entities) -> Dict[str, str]:
         try:
             answer = entities.service.batch(stage.document(), True)
         except Unanswered as error:
-            if error.is_late:
+            if error.is_late or not entities.service.is_reachable():
                 raise
             continue
         note_created(entities, answer)

@@ -157,9 +157,11 @@ def test_what_was_made_is_removed_after_a_signal(number, words, least, interrupt
 
 def test_a_second_signal_ends_the_removal(interruptible):
     with service() as (running, folder), judging(running.url, "--case", "group-many") as process:
-        until(lambda: sum("POST" in it for it in list(running.log)), lambda count: count > 40)
+        counted = lambda word: sum(word in it for it in list(running.log))
+        until(lambda: counted("POST"), lambda count: count > 40)
+        before = counted("DELETE")
         process.send_signal(signal.SIGINT)
-        until(lambda: sum("DELETE" in it for it in list(running.log)), lambda count: count > 12)
+        until(lambda: counted("DELETE"), lambda count: count > before + 5)
         process.send_signal(signal.SIGINT)
         out, error = process.communicate(timeout=SECONDS)
         *left, last = error.splitlines()
