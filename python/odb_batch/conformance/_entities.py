@@ -285,6 +285,12 @@ class Entities:
                 self.made = {}
                 break
 
+    def forget(self) -> List[str]:
+        """Forgets what could not be removed; returns its URLs."""
+        found = [*self.left, *self.made.values()]
+        self.left, self.made = [], {}
+        return found
+
     def _remove(self, url: str) -> bool:
         """Removes an entity; returns whether it is gone."""
         answer = self.service.ask("DELETE", url)

@@ -45,25 +45,30 @@ class Runner:
 
     Attributes:
         requests: How many requests a batch may have; one with more is not sent.
+        has_learned: Whether it is known what the service has.
         kinds: The ways to fail that the service has.
         continues: Whether it applies the preference continue-on-error, as far as is known.
-        late: How many batches had no answer in time.
+        late: How many batches of a run had no answer in time.
     """
 
     def __init__(self, service: Service, entities: Entities, requests: int) -> None:
         self.service, self.entities, self.requests = service, entities, requests
+        self.has_learned = False
         self.kinds: List[str] = []
         self.continues = True
         self.late = 0
 
     def run(self, cases: List[Case], progress: Callable[[int, str], None] = lambda at, name: None) -> List[Result]:
-        """Runs the cases; raises Unusable if the service cannot be judged any more, or Interrupted."""
-        self.service.require_batches(self.entities.set)
+        """Runs the cases; raises Unusable if the service cannot be judged any more, or Interrupted.
+
+        Before the first run it learns what the service has, which holds for all later ones.
+        """
         found = []
+        self.late = 0
         try:
-            learn(self.entities)
-            self.kinds = failing_kinds(self.entities)
-            self.entities.clear()
+            if not self.has_learned:
+                self._learn()
+            self.entities.before = self.entities.listed()
             for at, case in enumerate(cases):
                 progress(at, case.name)
                 found.append(self._run(case))
@@ -72,7 +77,15 @@ class Runner:
         finally:
             self.service.interruption.allowed = 1
             self.entities.clear()
+            self.entities.spare = []
         return found
+
+    def _learn(self) -> None:
+        self.service.require_batches(self.entities.set)
+        learn(self.entities)
+        self.kinds = failing_kinds(self.entities)
+        self.entities.clear()
+        self.has_learned = True
 
     def _run(self, case: Case) -> Result:
         reason = self._lack(case)

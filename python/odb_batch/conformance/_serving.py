@@ -10,6 +10,8 @@ import time
 import wsgiref.simple_server
 from typing import Any, Callable, Iterator
 
+from ._testing import forget
+
 # For how many seconds an application of ASGI may go on with its requests once it is not served any more.
 GRACE = 5.0
 
@@ -29,6 +31,7 @@ def serving(app: Callable[..., Any]) -> Iterator[str]:
         RuntimeError: An application of ASGI does not start.
     """
     with (_by_uvicorn if _is_asgi(app) else _by_wsgiref)(app) as url:
+        forget()
         yield url
 
 

@@ -2,7 +2,7 @@
 
 import unittest
 import warnings
-from typing import Any, Mapping
+from typing import Any, Dict, Mapping
 
 from ._cases import MAX_REQUESTS, all_cases
 from ._entities import Entities
@@ -25,8 +25,9 @@ def judge(
 ) -> None:
     """Judges a service by one case, and removes the entities that it has made for it.
 
-    A service is judged by one case at a time: nothing else may change the entity set meanwhile. Each case sends
-    some 50 plain requests, by which it learns what the service has.
+    A service is judged by one case at a time: nothing else may change the entity set meanwhile. The first case sends
+    some 80 plain requests besides, by which it learns what the service has. Later ones rely on that for the same URL;
+    what :func:`serving` serves is learned anew.
 
     Args:
         url: The root of the service, above its $batch: http or https, without a query.
@@ -50,14 +51,30 @@ def judge(
     cases = [it for it in all_cases(requests) if it.name == case]
     if not cases:
         raise ValueError(f"no case has the name {case!r}")
-    service = Service(url, headers, timeout, Interruption())
-    entities = Entities(service, set, key, dict(body))
+    runner = _runner(Service(url, headers, timeout, Interruption()), set, key, dict(body), requests)
     try:
-        (result,) = Runner(service, entities, requests).run(cases)
+        (result,) = runner.run(cases)
     finally:
-        for left in [*entities.left, *entities.made.values()]:
+        for left in runner.entities.forget():
             warnings.warn(f"not removed: {left}", stacklevel=2)
     if result.reason is not None:
         raise unittest.SkipTest(result.reason)
     if result.breaks:
         raise AssertionError(failure_text(result))
+
+
+# The runners of the services that were judged, by all that was said of each: a later case learns nothing anew.
+_RUNNERS: Dict[str, Runner] = {}
+
+
+def _runner(service: Service, set: str, key: str, body: Dict[str, Any], requests: int) -> Runner:
+    """The runner of a service."""
+    about = repr((service.root, sorted(service.headers.items()), service.timeout, set, key, body, requests))
+    if about not in _RUNNERS:
+        _RUNNERS[about] = Runner(service, Entities(service, set, key, body), requests)
+    return _RUNNERS[about]
+
+
+def forget() -> None:
+    """Forgets what is known of services: their URLs may be those of others from now on."""
+    _RUNNERS.clear()

@@ -100,7 +100,7 @@ def judge(options: argparse.Namespace, cases: List[Case], interruption: Interrup
         results = runner.run(cases, lambda at, name: progress(at, name, len(cases)))
     except (Unusable, Interrupted) as error:
         progress(0, "", 0)
-        for url in [*entities.left, *entities.made.values()]:
+        for url in entities.forget():
             print(f"not removed: {url}", file=sys.stderr)
         print(f"error: {error}", file=sys.stderr)
         interruption.ignore()

@@ -2,6 +2,7 @@
 
 import json
 import os
+import re
 import subprocess
 import sys
 import unittest
@@ -10,8 +11,10 @@ import pytest
 
 from common import SECONDS, rows
 from odb_batch.conformance import Unusable, conformance_cases, judge
+from odb_batch.conformance._testing import forget
 from support.commands import with_package
-from tool import service, tool
+from support.program import ROOT
+from tool import HERE, service, tool
 
 BOOKS = {"set": "Books", "key": "Id", "body": {"Title": "Conformance"}}
 
@@ -27,29 +30,40 @@ batch:
 {"requests": [
 """
 
-# The tests of a service by its users; the cases are one that it keeps, one that it breaks, and one that does not apply.
-BY_PYTEST = """\
-import os
-import pytest
-from odb_batch.conformance import conformance_cases, judge
+# One that the service keeps, one that it breaks, and one that does not apply.
+CASES = ["group-fails-missing-1", "group-fails-missing-2", "reference-option"]
 
-CASES = [*conformance_cases("group-fails-missing-[12]"), *conformance_cases("reference-option")]
-
-@pytest.mark.parametrize("case", CASES)
-def test_batches(case):
-    judge(os.environ["SERVICE"], case, set="Books", key="Id", body={"Title": "Conformance"})
-"""
 BY_UNITTEST = """\
-import os
 import unittest
-from odb_batch.conformance import conformance_cases, judge
+from library import app
+from odb_batch.conformance import judge, serving
 
 class Batches(unittest.TestCase):
     def test_batches(self):
-        for case in [*conformance_cases("group-fails-missing-[12]"), *conformance_cases("reference-option")]:
-            with self.subTest(case):
-                judge(os.environ["SERVICE"], case, set="Books", key="Id", body={"Title": "Conformance"})
+        with serving(app) as root:
+            for case in CASES:
+                with self.subTest(case):
+                    judge(root + "/library/", case, set="Books", key="Id", body={"Title": "Emma"})
 """
+
+
+@pytest.fixture(autouse=True)
+def unknown():
+    """A port may have been that of another service before."""
+    forget()
+
+
+def by_pytest(folder):
+    """Writes the tests of the page; returns the words that run some of them."""
+    with open(os.path.join(ROOT, "docs", "conformance.md"), encoding="utf-8") as page:
+        (text,) = re.findall("```python\n(.*?)```", page.read(), re.DOTALL)
+    (folder / "test_page.py").write_text(text)
+    return ["pytest", "-q", "-p", "no:cacheprovider", "-k", " or ".join(CASES), "test_page.py"]
+
+
+def by_unittest(folder):
+    (folder / "test_page.py").write_text(f"CASES = {CASES}\n{BY_UNITTEST}")
+    return ["unittest", "test_page.py"]
 
 
 def test_cases_have_names_in_the_order_of_the_tool():
@@ -117,19 +131,19 @@ def test_what_cannot_be_removed_is_named():
             judge(running.url, "chain", **BOOKS)
 
 
-@pytest.mark.parametrize("runner, page, wanted", [
-    (["pytest", "-q", "-p", "no:cacheprovider"], BY_PYTEST, "1 failed, 1 passed, 1 skipped"),
-    (["unittest"], BY_UNITTEST, "FAILED (failures=1, skipped=1)"),
-], ids=["pytest", "unittest"])  # fmt: skip
-def test_what_they_make_of_it(runner, page, wanted, tmp_path):
-    (tmp_path / "test_page.py").write_text(page)
+@pytest.mark.parametrize("write, wanted", [
+    (by_pytest, "1 failed, 1 passed, 1 skipped"),
+    (by_unittest, "FAILED (failures=1, skipped=1)"),
+])  # fmt: skip
+def test_the_tests_of_a_service(write, wanted, tmp_path):
+    words = [sys.executable, "-m", *write(tmp_path)]
+    package = with_package()
     with service("half_group") as (running, _):
-        words = [sys.executable, "-m", *runner, "test_page.py"]
-        variables = {**with_package(), "SERVICE": running.url}
+        variables = {**package, "PYTHONPATH": f"{package['PYTHONPATH']}:{HERE}", "LIBRARY_PORT": str(running.port)}
         done = subprocess.run(words, cwd=tmp_path, env=variables, capture_output=True, text=True, timeout=SECONDS)
-    assert wanted in done.stdout + done.stderr
-    assert "group: a group is applied as a whole or not at all (OData JSON 19.4)" in done.stdout + done.stderr
-    assert "_testing.py" not in done.stdout
+    said = done.stdout + done.stderr
+    assert wanted in said
+    assert "group: a group is applied as a whole or not at all (OData JSON 19.4)" in said
 
 
 def test_its_modules_shadow_nobodys(tmp_path):
