@@ -73,11 +73,22 @@ def test_cases_have_names_in_the_order_of_the_tool():
     assert conformance_cases("group-fails-*-[14]")[:2] == ["group-fails-missing-1", "group-fails-missing-4"]
 
 
-def test_names_that_no_case_has():
+@pytest.mark.parametrize("given, line", [
+    ({"case": "chains"}, "no case has the name 'chains'"),
+    ({"url": "localhost:8080"}, "'localhost:8080' is not the root of a service, such as http://localhost:8080/"),
+    ({"requests": 0}, "requests must be a whole number from 1 to 10000, not 0"),
+    ({"timeout": 0}, "timeout must be a number of seconds up to 3600, not 0"),
+    ({"timeout": float("nan")}, "timeout must be a number of seconds up to 3600, not nan"),
+])  # fmt: skip
+def test_wrong_arguments(given, line):
+    with pytest.raises(ValueError) as found:
+        judge(**{"url": "http://127.0.0.1:1/", "case": "chain", **BOOKS, **given})
+    assert str(found.value) == line
+
+
+def test_patterns_that_no_name_fits():
     with pytest.raises(ValueError, match="no case has a name like 'none-\\*'"):
         conformance_cases("none-*")
-    with pytest.raises(ValueError, match="no case has the name 'chains'"):
-        judge("http://127.0.0.1:1/", "chains", **BOOKS)
 
 
 def test_a_case_that_is_kept_leaves_nothing():
