@@ -1,5 +1,6 @@
 """The cases as tests of a service: what judge raises, and what pytest and unittest make of it."""
 
+import io
 import json
 import os
 import re
@@ -9,8 +10,9 @@ import unittest
 
 import pytest
 
+import library
 from common import SECONDS, rows
-from odb_batch.conformance import Unusable, conformance_cases, judge
+from odb_batch.conformance import Unusable, conformance_cases, judge, serving
 from odb_batch.conformance._testing import forget
 from support.commands import with_package
 from support.program import ROOT
@@ -127,6 +129,24 @@ def test_what_a_service_refuses(variant, feature, glob):
             with pytest.raises(unittest.SkipTest) as found:
                 judge(running.url, case, **BOOKS)
             assert str(found.value) == f"the service refuses {feature} with 501 {feature.title()} are not supported"
+
+
+def test_a_refusal_of_some_groups_is_a_break(monkeypatch):
+    """A service that takes groups may not refuse those that depend on something."""
+
+    def app(environ, start_response):
+        text = environ["wsgi.input"].read(int(environ.get("CONTENT_LENGTH") or 0))
+        requests = json.loads(text)["requests"] if environ["PATH_INFO"].endswith("$batch") else []
+        if any("atomicityGroup" in it and "dependsOn" in it for it in requests):
+            start_response("400 Bad Request", [("Content-Type", "application/json")])
+            return [b'{"error": {"code": "Waits", "message": "A group may not wait"}}']
+        return library.app({**environ, "wsgi.input": io.BytesIO(text)}, start_response)
+
+    with service() as (running, _), serving(app) as root:
+        monkeypatch.setenv("LIBRARY_PORT", str(running.port))
+        judge(root + "/library/", "group", **BOOKS)
+        with pytest.raises(AssertionError, match="the batch is answered 400 A group may not wait"):
+            judge(root + "/library/", "group-after", **BOOKS)
 
 
 def test_services_that_cannot_be_judged():
