@@ -6,11 +6,13 @@ import os
 import re
 import subprocess
 import sys
+import textwrap
 import unittest
 
 import pytest
 
 import library
+import odb_batch.conformance
 from common import SECONDS, rows
 from odb_batch.conformance import Unusable, conformance_cases, judge, serving
 from odb_batch.conformance._testing import forget
@@ -59,6 +61,7 @@ def by_pytest(folder):
     """Writes the tests of the page; returns the words that run some of them."""
     with open(os.path.join(ROOT, "docs", "conformance.md"), encoding="utf-8") as page:
         (text,) = re.findall("```python\n(.*?)```", page.read(), re.DOTALL)
+    assert textwrap.indent(text, "    ") in odb_batch.conformance.__doc__
     (folder / "test_page.py").write_text(text)
     return ["pytest", "-q", "-p", "no:cacheprovider", "-k", " or ".join(CASES), "test_page.py"]
 
@@ -179,7 +182,7 @@ def test_the_tests_of_a_service(write, wanted, tmp_path):
 
 def test_its_modules_shadow_nobodys(tmp_path):
     """A folder may have modules of any name, and those of the tool are its own."""
-    package = sys.modules["odb_batch.conformance"].__path__[0]
+    package = odb_batch.conformance.__path__[0]
     for name in os.listdir(package):
         if name.endswith(".py") and not name.startswith("__"):
             (tmp_path / name).write_text("raise SystemExit('shadowed')")
