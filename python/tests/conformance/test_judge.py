@@ -152,6 +152,37 @@ def test_a_refusal_of_some_groups_is_a_break(monkeypatch):
             judge(root + "/library/", "group-after", **BOOKS)
 
 
+def test_a_service_without_query_options(monkeypatch):
+    def app(environ, start_response):
+        return library.app({**environ, "QUERY_STRING": ""}, start_response)
+
+    with service() as (running, _), serving(app) as root:
+        monkeypatch.setenv("LIBRARY_PORT", str(running.port))
+        with pytest.raises(unittest.SkipTest, match="alone, \\$filter is not applied"):
+            judge(root + "/library/", "alone-get-filtered", **BOOKS)
+
+
+def test_what_a_server_says_of_a_failure_is_not_compared(monkeypatch):
+    """A request that fails with 500 has the page of the server alone, and an error object in the batch."""
+
+    def app(environ, start_response):
+        text = environ["wsgi.input"].read(int(environ.get("CONTENT_LENGTH") or 0))
+        if environ["REQUEST_METHOD"] == "PATCH" and text == b"[]":
+            start_response("500 Internal Server Error", [("Content-Type", "text/plain")])
+            return [b"Internal Server Error"]
+        (answer,) = library.app({**environ, "wsgi.input": io.BytesIO(text)}, lambda *of: heads.append(of))
+        status, headers = heads.pop()
+        if b'"asked"' in answer:
+            answer = answer.replace(b'"status":400', b'"status":500')
+        start_response(status, headers)
+        return [answer]
+
+    heads = []
+    with service() as (running, _), serving(app) as root:
+        monkeypatch.setenv("LIBRARY_PORT", str(running.port))
+        judge(root + "/library/", "alone-patch-list", **BOOKS)
+
+
 def test_services_that_cannot_be_judged():
     with pytest.raises(Unusable, match="Connection refused"):
         judge("http://127.0.0.1:1/", "chain", **BOOKS)
