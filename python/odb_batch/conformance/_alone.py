@@ -2,11 +2,11 @@
 
 from typing import Any, Callable, Dict, List, NamedTuple, Tuple
 
-from entities import Entities, Entity
-from kinds import NO_TAG, ask_alone
-from promises import Case
-from stage import Stage, Step
-from twin import Parts, Taking, Twin, etag_of, parts_alone
+from ._entities import Entities, Entity
+from ._kinds import NO_TAG, ask_alone
+from ._promises import Case
+from ._stage import Stage, Step
+from ._twin import Parts, Taking, Twin, etag_of, parts_alone
 
 ODD = "ä \"\\/ € & '%41 <b>"
 MINIMAL, WHOLE = {"Prefer": "return=minimal"}, {"Prefer": "return=representation"}
@@ -61,7 +61,7 @@ BODIES: Dict[str, Callable[[Entities, Entity, Any], Any]] = {
 ROWS = (
     Row("get", "a read", "get", "there"),
     Row("get-missing", "a read of what is missing", "get", "missing"),
-    Row("get-filtered", "a read with a query option", "get", "found", needs=("text",)),
+    Row("get-filtered", "a read with a query option", "get", "found", needs=("text", "filter")),
     Row("get-no-set", "a read of a set that does not exist", "get", "no set"),
     Row("post", "a POST", "post", "new", "whole"),
     Row("post-minimal", "a POST that prefers no body", "post", "new", "whole", MINIMAL),
@@ -117,7 +117,7 @@ def asked(entities: Entities, row: Row) -> Asked:
         # such a request creates the entity in some services
         entities.note(url)
     if row.target == "found":
-        url = f"{entities.set}?$filter={entities.text}%20eq%20{literal(entity.mark)}"
+        url = entities.url_of_marked(entity.mark)
     headers = dict(row.headers)
     if "{etag}" in headers.values():
         answer = entities.service.ask("GET", entity.url)
@@ -126,10 +126,6 @@ def asked(entities: Entities, row: Row) -> Asked:
     scratch = Stage(entities)
     scratch.add("asked", row.method, url, BODIES[row.body](entities, entity, mark), headers=headers)
     return Asked(scratch.steps[0], Entity("", {}) if row.target == "no set" else entity, mark)
-
-
-def literal(mark: Any) -> str:
-    return f"'{mark}'" if isinstance(mark, str) else str(mark)
 
 
 def beside(row: Row) -> Callable[[Stage], None]:

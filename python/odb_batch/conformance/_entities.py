@@ -6,7 +6,7 @@ import uuid
 from typing import Any, Callable, Dict, Iterator, List, NamedTuple, Optional, Sequence, Tuple
 from urllib.parse import quote
 
-from service import GONE, Answer, Service, Unusable
+from ._service import GONE, Answer, Service, Unusable
 
 # How many pages of a set are listed, and how many entities of it. A set with more is not listed.
 MAX_PAGES, MAX_LISTED = 100, 5_000
@@ -54,7 +54,7 @@ KEYS: Tuple[Callable[[], Any], ...] = (
 
 
 def literals(value: Any) -> Iterator[str]:
-    """How a key may be written in a URL."""
+    """How a value may be written in a URL."""
     if isinstance(value, str):
         yield quote("'" + value.replace("'", "''") + "'", safe="'")
     yield quote(str(value), safe="")
@@ -192,6 +192,10 @@ class Entities:
     def url_of(self, key: Any) -> str:
         return f"{self.set}({list(literals(key))[0 if self.are_quoted else -1]})"
 
+    def url_of_marked(self, mark: Any) -> str:
+        """The URL of the entities that have a mark, by a query option."""
+        return f"{self.set}?$filter={self.text}%20eq%20{next(literals(mark))}"
+
     def key_of(self, answer: Answer) -> Any:
         """The key of an entity that was created, by its representation, or by what its Location shows."""
         shown = answer.value
@@ -284,6 +288,12 @@ class Entities:
                 self.left += self.made.values()
                 self.made = {}
                 break
+
+    def forget(self) -> List[str]:
+        """Forgets what could not be removed; returns its URLs."""
+        found = [*self.left, *self.made.values()]
+        self.left, self.made = [], {}
+        return found
 
     def _remove(self, url: str) -> bool:
         """Removes an entity; returns whether it is gone."""

@@ -9,8 +9,8 @@ import re
 from typing import Any, Callable, Dict, Iterator, List, Mapping, NamedTuple, Optional, Sequence, Tuple
 from urllib.parse import quote, urlsplit
 
-from entities import Entities, Entity
-from service import Answer
+from ._entities import Entities, Entity
+from ._service import Answer
 
 Parts = Dict[str, Any]
 
@@ -71,7 +71,7 @@ class Taking:
                 found[shown] = self._plain(self._path(headers[name]) if name == "location" else headers[name])
         if urlsplit(headers.get("location", "")).netloc:
             found[HOST] = urlsplit(headers["location"]).netloc
-        if value is not None:
+        if value is not None and status < 500:
             found["Content-Type"] = media_type(headers)
             if "json" not in found["Content-Type"]:
                 found["the body"] = "not JSON"
@@ -173,6 +173,6 @@ def differences(alone: Sequence[Parts], batch: Parts) -> List[str]:
     return found
 
 
-def shortened(value: Any) -> str:
+def shortened(value: Any, most: int = 80) -> str:
     text = str(value)
-    return text if len(text) <= 80 else text[:77] + "..."
+    return text if len(text) <= most else text[: most - 3] + "..."
