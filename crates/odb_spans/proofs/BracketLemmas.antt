@@ -9,8 +9,10 @@ use Rattle.json.specs.Lex.{Lexeme, token, comma, colon, Class, quote, backslash,
 use Rattle.json.specs.Json as json
 use Rattle.json.specs.Tree.{json_tokens, items_tokens, members_tokens}
 use Rattle.odb_spans.specs.Extents.{opens, weight}
+use Rattle.odb_spans.specs.Cuts.{IsCut}
 use Rattle.odb_spans.specs.Walks.{lexemes_from, tokens_from}
 use Rattle.odb_spans.specs.Parts.{HasItems, HasMembers, HasValue}
+use Rattle.odb_spans.proofs.CutLemmas.{cut-byte}
 use Rattle.odb_spans.proofs.LexLemmas.{string-flat, word-flat}
 use Rattle.odb_spans.proofs.PlaceLemmas.{at-token, never-bad, no-token, is-allowed}
 use Rattle.odb_spans.proofs.PartLemmas.{value-within}
@@ -76,13 +78,13 @@ bracket-byte x =
 
 -- ---- what is first where a value may begin
 
-record Begins (p : Place) (ls : List Lexeme) (t : Token) (ts : List Token) : Type 0 where
+pub record Begins (p : Place) (ls : List Lexeme) (t : Token) (ts : List Token) : Type 0 where
   pub first : Token
   pub rest : List Lexeme
   pub lexed : ls ≡ token first ∷ rest
   pub placed : place_token p first (begins_colon rest) (λ next. punctuate next rest) ≡ t ∷ ts
 
-begins : (p : Place) (ls : List Lexeme) (t : Token) (ts : List Token) → may_begin p ≡ true → is_good t ≡ true → punctuate p ls ≡ t ∷ ts → Begins p ls t ts
+pub begins : (p : Place) (ls : List Lexeme) (t : Token) (ts : List Token) → may_begin p ≡ true → is_good t ≡ true → punctuate p ls ≡ t ∷ ts → Begins p ls t ts
 unfolding punctuate
 begins p (token u ∷ ls) t ts may good e = record { first = u; rest = ls; lexed = refl; placed = sym (at-token p u ls) ∙ e }
 begins fresh [] t ts may good e = no-token t ts e
@@ -165,37 +167,37 @@ pub record IsObjectAt (text : List ℕ) (at : ℕ) (j : json.Json) (ts : List To
   pub is : j ≡ json.object inner
   pub has : HasMembers text (at + 1) inner ts
 
-after-brace : (text : List ℕ) (at : ℕ) (j : json.Json) (ts : List Token) → IsUtf8 text → at < length text → get_or text at 0 ≡ 123 → begin_object ∷ tokens_from fresh text (at + 1) ≡ json_tokens j ++ ts → IsObjectAt text at j ts
-after-brace text at json.null ts utf8 within here e = absurd (true≢false (first-bit is_brace begin_object _ _ e))
-after-brace text at (json.boolean b) ts utf8 within here e = absurd (true≢false (first-bit is_brace begin_object _ _ e))
-after-brace text at (json.number s) ts utf8 within here e = absurd (true≢false (first-bit is_brace begin_object _ _ e))
-after-brace text at (json.string s) ts utf8 within here e = absurd (true≢false (first-bit is_brace begin_object _ _ e))
-after-brace text at (json.array js) ts utf8 within here e = absurd (true≢false (first-bit is_brace begin_object _ _ e))
-after-brace text at (json.object ms) ts utf8 within here e = record {
+after-brace : (text : List ℕ) (at : ℕ) (j : json.Json) (ts : List Token) → IsUtf8 text → at < length text → get_or text at 0 ≡ 123 → IsCut text at → begin_object ∷ tokens_from fresh text (at + 1) ≡ json_tokens j ++ ts → IsObjectAt text at j ts
+after-brace text at json.null ts utf8 within here cut e = absurd (true≢false (first-bit is_brace begin_object _ _ e))
+after-brace text at (json.boolean b) ts utf8 within here cut e = absurd (true≢false (first-bit is_brace begin_object _ _ e))
+after-brace text at (json.number s) ts utf8 within here cut e = absurd (true≢false (first-bit is_brace begin_object _ _ e))
+after-brace text at (json.string s) ts utf8 within here cut e = absurd (true≢false (first-bit is_brace begin_object _ _ e))
+after-brace text at (json.array js) ts utf8 within here cut e = absurd (true≢false (first-bit is_brace begin_object _ _ e))
+after-brace text at (json.object ms) ts utf8 within here cut e = record {
   inner = ms;
   is = refl;
-  has = record { place = fresh; inside = tt; spelled = tail-of begin_object _ begin_object _ e; utf8 = utf8; boundary = IsCharBoundary-after_ascii text at utf8 within (grind (arith, here)) };
+  has = record { place = fresh; inside = tt; spelled = tail-of begin_object _ begin_object _ e; utf8 = utf8; boundary = IsCharBoundary-after_ascii text at utf8 within (grind (arith, here)); cut = cut-byte text at operator within (ap class here) refl cut };
 }
 
 pub object-at : (text : List ℕ) (at : ℕ) (j : json.Json) (ts : List Token) → HasValue text at j ts → get_or text at 0 ≡ 123 → IsObjectAt text at j ts
-object-at text at j ts v here = after-brace text at j ts v.utf8 (value-within text at j ts v) here (opened text at 123 begin_object j ts v here refl refl (λ p b k. refl))
+object-at text at j ts v here = after-brace text at j ts v.utf8 (value-within text at j ts v) here v.cut (opened text at 123 begin_object j ts v here refl refl (λ p b k. refl))
 
 pub record IsArrayAt (text : List ℕ) (at : ℕ) (j : json.Json) (ts : List Token) : Type 0 where
   pub inner : json.Items
   pub is : j ≡ json.array inner
   pub has : HasItems text (at + 1) inner ts
 
-after-bracket : (text : List ℕ) (at : ℕ) (j : json.Json) (ts : List Token) → IsUtf8 text → at < length text → get_or text at 0 ≡ 91 → begin_array ∷ tokens_from fresh text (at + 1) ≡ json_tokens j ++ ts → IsArrayAt text at j ts
-after-bracket text at json.null ts utf8 within here e = absurd (true≢false (first-bit is_bracket begin_array _ _ e))
-after-bracket text at (json.boolean b) ts utf8 within here e = absurd (true≢false (first-bit is_bracket begin_array _ _ e))
-after-bracket text at (json.number s) ts utf8 within here e = absurd (true≢false (first-bit is_bracket begin_array _ _ e))
-after-bracket text at (json.string s) ts utf8 within here e = absurd (true≢false (first-bit is_bracket begin_array _ _ e))
-after-bracket text at (json.object ms) ts utf8 within here e = absurd (true≢false (first-bit is_bracket begin_array _ _ e))
-after-bracket text at (json.array js) ts utf8 within here e = record {
+after-bracket : (text : List ℕ) (at : ℕ) (j : json.Json) (ts : List Token) → IsUtf8 text → at < length text → get_or text at 0 ≡ 91 → IsCut text at → begin_array ∷ tokens_from fresh text (at + 1) ≡ json_tokens j ++ ts → IsArrayAt text at j ts
+after-bracket text at json.null ts utf8 within here cut e = absurd (true≢false (first-bit is_bracket begin_array _ _ e))
+after-bracket text at (json.boolean b) ts utf8 within here cut e = absurd (true≢false (first-bit is_bracket begin_array _ _ e))
+after-bracket text at (json.number s) ts utf8 within here cut e = absurd (true≢false (first-bit is_bracket begin_array _ _ e))
+after-bracket text at (json.string s) ts utf8 within here cut e = absurd (true≢false (first-bit is_bracket begin_array _ _ e))
+after-bracket text at (json.object ms) ts utf8 within here cut e = absurd (true≢false (first-bit is_bracket begin_array _ _ e))
+after-bracket text at (json.array js) ts utf8 within here cut e = record {
   inner = js;
   is = refl;
-  has = record { place = fresh; inside = tt; spelled = tail-of begin_array _ begin_array _ e; utf8 = utf8; boundary = IsCharBoundary-after_ascii text at utf8 within (grind (arith, here)) };
+  has = record { place = fresh; inside = tt; spelled = tail-of begin_array _ begin_array _ e; utf8 = utf8; boundary = IsCharBoundary-after_ascii text at utf8 within (grind (arith, here)); cut = cut-byte text at operator within (ap class here) refl cut };
 }
 
 pub array-at : (text : List ℕ) (at : ℕ) (j : json.Json) (ts : List Token) → HasValue text at j ts → get_or text at 0 ≡ 91 → IsArrayAt text at j ts
-array-at text at j ts v here = after-bracket text at j ts v.utf8 (value-within text at j ts v) here (opened text at 91 begin_array j ts v here refl refl (λ p b k. refl))
+array-at text at j ts v here = after-bracket text at j ts v.utf8 (value-within text at j ts v) here v.cut (opened text at 91 begin_array j ts v here refl refl (λ p b k. refl))

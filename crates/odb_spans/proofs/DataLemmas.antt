@@ -21,12 +21,12 @@ use Rattle.odb_spans.proofs.ReadLemmas.{read-tokens}
 
 -- ---- what was read
 
-record MapsTo {A : Type 0} (f : A → Data) (o : Option A) (d : Data) : Type 0 where
-  value : A
-  some : o ≡ Some value
-  is : d ≡ f value
+pub record MapsTo {A : Type 0} (f : A → Data) (o : Option A) (d : Data) : Type 0 where
+  pub value : A
+  pub some : o ≡ Some value
+  pub is : d ≡ f value
 
-maps-to : {A : Type 0} (f : A → Data) (o : Option A) (d : Data) → option_map f o ≡ Some d → MapsTo f o d
+pub maps-to : {A : Type 0} (f : A → Data) (o : Option A) (d : Data) → option_map f o ≡ Some d → MapsTo f o d
 maps-to f None d e = absurd (cc (e))
 maps-to f (Some a) d e = let same : f a ≡ d = cc (e) in record { value = a; some = refl; is = sym same }
 
@@ -102,18 +102,18 @@ body-data text (json.object ms) d span shallow reads is =
 
 -- ---- the bodies of all requests
 
-record ItemsRead (j : json.Json) (js : json.Items) (ds : Items) : Type 0 where
-  first : Data
-  others : Items
-  reads : of_json j ≡ Some first
-  more : of_items js ≡ Some others
-  is : ds ≡ item first others
+pub record ItemsRead (j : json.Json) (js : json.Items) (ds : Items) : Type 0 where
+  pub first : Data
+  pub others : Items
+  pub reads : of_json j ≡ Some first
+  pub more : of_items js ≡ Some others
+  pub is : ds ≡ item first others
 
 rest-read : (j : json.Json) (js : json.Items) (d : Data) (ds : Items) (o : Option Items) → of_json j ≡ Some d → of_items js ≡ o → option_map (item d) o ≡ Some ds → ItemsRead j js ds
 rest-read j js d ds None reads more e = absurd (cc (e))
 rest-read j js d ds (Some us) reads more e = let same : item d us ≡ ds = cc (e) in record { first = d; others = us; reads = reads; more = more; is = sym same }
 
-item-read : (j : json.Json) (js : json.Items) (ds : Items) (o : Option Data) → of_json j ≡ o → option_and_then (λ d. option_map (item d) (of_items js)) o ≡ Some ds → ItemsRead j js ds
+pub item-read : (j : json.Json) (js : json.Items) (ds : Items) (o : Option Data) → of_json j ≡ o → option_and_then (λ d. option_map (item d) (of_items js)) o ≡ Some ds → ItemsRead j js ds
 item-read j js ds None reads e = absurd (cc (e))
 item-read j js ds (Some d) reads e = rest-read j js d ds (of_items js) reads refl e
 

@@ -6,6 +6,9 @@ mod PlaceLemmas
 mod ExtentLemmas
 mod ScanLemmas
 mod WalkLemmas
+mod CutLemmas
+mod EndLemmas
+mod FrontLemmas
 mod PartLemmas
 mod ReadLemmas
 mod NullLemmas
@@ -13,3 +16,4 @@ mod MemberLemmas
 mod BracketLemmas
 mod LookupLemmas
 mod DataLemmas
+mod WithoutLemmas

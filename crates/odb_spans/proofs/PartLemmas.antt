@@ -13,6 +13,7 @@ use Rattle.json.specs.Tree.{json_tokens, items_tokens, members_tokens}
 use Rattle.odb_spans.specs.Extents.{closes, weight, value_extent}
 use Rattle.odb_spans.specs.Walks.{Faces, tokens_from}
 use Rattle.odb_spans.specs.Parts.{HasEnded, HasValue, IsTextOf}
+use Rattle.odb_spans.proofs.CutLemmas.{cut-value}
 use Rattle.odb_spans.proofs.ExtentLemmas.{stands}
 use Rattle.odb_spans.proofs.LexLemmas.{first_taken, first_left, splits-value}
 use Rattle.odb_spans.proofs.PlaceLemmas.{never-bad, no-token, is-allowed}
@@ -105,6 +106,7 @@ value-part text at end j ts v extent within boundary =
       ended = record {
         follow = found.others ∙ ap (punctuate after_value) (sym cut.after ∙ ap (lex between) (drop-drop (value_extent (drop at text)) at text ∙ ap (λ k. drop k text) (sym extent)));
         boundary = boundary;
+        cut = cut-value text at end extent v.cut;
       };
     }
 

@@ -38,7 +38,7 @@ closes≢opens e = opens≢closes (sym e)
 pub flat≢opens : flat ≡ opens → ⊥
 flat≢opens e = true≢false (ap is_flat e)
 
-opens≢flat : opens ≡ flat → ⊥
+pub opens≢flat : opens ≡ flat → ⊥
 opens≢flat e = true≢false (sym (ap is_flat e))
 
 -- ---- the first lexeme

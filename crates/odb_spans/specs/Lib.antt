@@ -1,6 +1,7 @@
 -- What public clauses cite, and has to be believed.
 pub mod Spans
 -- What private clauses and proofs cite: nothing to believe.
+pub mod Cuts
 pub mod Extents
 pub mod Kinds
 pub mod Parts

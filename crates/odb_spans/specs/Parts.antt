@@ -1,5 +1,5 @@
 -- What a scan finds of the parts of a document: for private clauses, nothing to believe.
-use Rattle.std.specs.Prelude.{◌≡◌, ◌≤◌, ◌<◌, ℕ, List, [], ◌∷◌, ◌++◌, length, true, Bool, Option, Some, None, IsUtf8, bytes_eq, codes}
+use Rattle.std.specs.Prelude.{◌≡◌, ◌≤◌, ◌<◌, ◌+◌, ℕ, suc, drop, ⊤, List, [], ◌∷◌, ◌++◌, length, true, Bool, Option, Some, None, IsUtf8, bytes_eq, codes}
 use Rattle.std.specs.Str.{IsCharBoundary}
 use Rattle.std.specs.List.{All, AllZip}
 use Rattle.json.specs.Token.{Token}
@@ -8,7 +8,9 @@ use Rattle.json.specs.Lex.{Place, fresh, after_value, may_begin, tokens}
 use Rattle.json.specs.Json as json
 use Rattle.json.specs.Find.{get, get_member, is_null, later_or}
 use Rattle.json.specs.Tree.{json_tokens, items_tokens, members_tokens}
-use Rattle.odb_spans.specs.Spans.{IsWithin, bytes_of}
+use Rattle.odb_spans.specs.Spans.{EachSpan, IsWithin, bytes_of}
+use Rattle.odb_spans.specs.Cuts.{IsCut, IsClear}
+use Rattle.odb_spans.specs.Extents.{value_extent}
 use Rattle.odb_spans.specs.Walks.{Faces, IsInside, IsSolidAt, tokens_from}
 use Rattle.odb_spans.specs.declared.member.Member.{Member}
 use Rattle.odb_spans.specs.declared.span.Span.{Span}
@@ -24,6 +26,8 @@ pub record IsMemberAt (text : List ℕ) (at : ℕ) (member : Member) : Type 0 wh
   pub solid : IsSolidAt text member.value
   pub utf8 : IsUtf8 text → IsCharBoundary text at → IsUtf8 (bytes_of text member.name)
   pub boundary : IsUtf8 text → IsCharBoundary text member.value
+  pub cut : IsCut text at → IsCut text member.value
+  pub clear : (k : List ℕ) (t : Token) (ts : List Token) → is_good t ≡ true → Faces text at (Token.key k) (t ∷ ts) → IsCut text at → IsClear text member.value
 
 -- whether the string has this content
 abbrev pub IsNameIn : List ℕ → Span → List ℕ → Bool → Type 0
@@ -36,6 +40,7 @@ pub record HasMembers (text : List ℕ) (at : ℕ) (ms : json.Members) (ts : Lis
   pub spelled : tokens_from place text at ≡ members_tokens ms ++ ts
   pub utf8 : IsUtf8 text
   pub boundary : IsCharBoundary text at
+  pub cut : IsCut text at
 
 -- after an opening bracket or an item, the others are js, and then come ts
 pub record HasItems (text : List ℕ) (at : ℕ) (js : json.Items) (ts : List Token) : Type 0 where
@@ -44,6 +49,7 @@ pub record HasItems (text : List ℕ) (at : ℕ) (js : json.Items) (ts : List To
   pub spelled : tokens_from place text at ≡ items_tokens js ++ ts
   pub utf8 : IsUtf8 text
   pub boundary : IsCharBoundary text at
+  pub cut : IsCut text at
 
 -- the value j begins there, and then come ts
 pub record HasValue (text : List ℕ) (at : ℕ) (j : json.Json) (ts : List Token) : Type 0 where
@@ -53,11 +59,13 @@ pub record HasValue (text : List ℕ) (at : ℕ) (j : json.Json) (ts : List Toke
   pub solid : IsSolidAt text at
   pub utf8 : IsUtf8 text
   pub boundary : IsCharBoundary text at
+  pub cut : IsCut text at
 
 -- a value has ended there, and then come ts
 pub record HasEnded (text : List ℕ) (at : ℕ) (ts : List Token) : Type 0 where
   pub follow : ts ≡ tokens_from after_value text at
   pub boundary : IsCharBoundary text at
+  pub cut : IsCut text at
 
 -- the bytes of the span are the text of j alone
 pub record IsTextOf (text : List ℕ) (span : Span) (j : json.Json) : Type 0 where
@@ -115,13 +123,89 @@ HaveBodyTexts text requests spans = AllZip (HasBodyText text) requests spans
 abbrev pub HaveBodiesIn : List ℕ → List (Option Span) → Option json.Json → Type 0
 HaveBodiesIn text spans o = HaveBodyTexts text (items_in o) spans
 
--- The others of the members ms are still to come; R holds of the last value of this name before them.
-pub record MembersLeft (name text : List ℕ) (at : ℕ) (R : Option json.Json → Type 0) (ms : json.Members) (ts : List Token) : Type 0 where
+-- ---- the place of a value
+
+abbrev pub append_members : json.Members → json.Members → json.Members
+append_members json.no_members others = others
+append_members (json.member k j ms) others = json.member k j (append_members ms others)
+
+abbrev pub append_items : json.Items → json.Items → json.Items
+append_items json.no_items others = others
+append_items (json.item j js) others = json.item j (append_items js others)
+
+abbrev pub count_items : json.Items → ℕ
+count_items json.no_items = 0
+count_items (json.item j js) = suc (count_items js)
+
+-- the value j lies at the span, and then come ts
+pub record LiesAt (text : List ℕ) (span : Span) (j : json.Json) (ts : List Token) : Type 0 where
+  pub some : span.start < span.end
+  pub extent : span.end ≡ span.start + value_extent (drop span.start text)
+  pub has : HasValue text span.start j ts
+  pub clear : IsClear text span.start
+  pub ended : HasEnded text span.end ts
+
+abbrev pub LiesAtSome : List ℕ → Option Span → json.Json → List Token → Type 0
+LiesAtSome text None j ts = ⊤
+LiesAtSome text (Some span) j ts = LiesAt text span j ts
+
+-- The value is that of a member of this name; R holds of it and of what comes after it. Of the members after it the last of this name has the value o.
+pub record IsMemberOf (name : List ℕ) (ms : json.Members) (value : json.Json) (o : Option json.Json) (ts : List Token) (R : json.Json → List Token → Type 0) : Type 0 where
+  pub earlier : json.Members
+  pub key : List ℕ
+  pub later : json.Members
+  pub is : ms ≡ append_members earlier (json.member key value later)
+  pub named : bytes_eq key name ≡ true
+  pub rest : get_member name later ≡ o
+  pub holds : R value (members_tokens later ++ ts)
+
+abbrev pub IsSomeMemberOf : List ℕ → json.Members → Option json.Json → Option json.Json → List Token → (json.Json → List Token → Type 0) → Type 0
+IsSomeMemberOf name ms None o ts R = ⊤
+IsSomeMemberOf name ms (Some value) o ts R = IsMemberOf name ms value o ts R
+
+-- the span is where the body of the request lies
+pub record LiesInRequest (text : List ℕ) (span : Span) (request : json.Json) (ts : List Token) : Type 0 where
+  pub members : json.Members
+  pub object : request ≡ json.object members
+  pub body : json.Json
+  pub member : IsMemberOf (codes "body") members body None ts (LiesAt text span)
+
+abbrev pub LiesInRequestSome : List ℕ → Option Span → json.Json → List Token → Type 0
+LiesInRequestSome text None request ts = ⊤
+LiesInRequestSome text (Some span) request ts = LiesInRequest text span request ts
+
+-- the span is where the body of the request at this position lies
+pub record LiesInItems (text : List ℕ) (at : ℕ) (span : Span) (js : json.Items) (ts : List Token) : Type 0 where
+  pub earlier : json.Items
+  pub request : json.Json
+  pub later : json.Items
+  pub is : js ≡ append_items earlier (json.item request later)
+  pub count : count_items earlier ≡ at
+  pub lies : LiesInRequest text span request (items_tokens later ++ ts)
+
+pub record LiesInArray (text : List ℕ) (at : ℕ) (span : Span) (j : json.Json) (ts : List Token) : Type 0 where
+  pub items : json.Items
+  pub array : j ≡ json.array items
+  pub lies : LiesInItems text at span items ts
+
+abbrev pub LieInItems : List ℕ → List (Option Span) → json.Items → List Token → Type 0
+LieInItems text spans js ts = EachSpan (λ at span. LiesInItems text at span js ts) 0 spans
+
+abbrev pub LieInArray : List ℕ → List (Option Span) → json.Json → List Token → Type 0
+LieInArray text spans j ts = EachSpan (λ at span. LiesInArray text at span j ts) 0 spans
+
+-- ---- what is still to come
+
+-- The others of the members ms are still to come; R holds of the last value of this name before them, and Q of where it lies.
+pub record MembersLeft (name text : List ℕ) (at : ℕ) (R : Option json.Json → Type 0) (Q : json.Json → List Token → Type 0) (ms : json.Members) (ts : List Token) : Type 0 where
+  pub done : json.Members
   pub others : json.Members
   pub found : Option json.Json
   pub has : HasMembers text at others ts
   pub holds : R found
   pub same : get_member name ms ≡ later_or (get_member name others) found
+  pub whole : ms ≡ append_members done others
+  pub place : IsSomeMemberOf name ms found (get_member name others) ts Q
 
 -- The others of the items js are still to come, and the spans are those of the bodies before them.
 pub record ItemsLeft (text : List ℕ) (at : ℕ) (spans : List (Option Span)) (js : json.Items) (ts : List Token) : Type 0 where
@@ -130,36 +214,41 @@ pub record ItemsLeft (text : List ℕ) (at : ℕ) (spans : List (Option Span)) (
   pub has : HasItems text at others ts
   pub holds : HaveBodyTexts text done spans
   pub same : list_of js ≡ done ++ list_of others
+  pub before : json.Items
+  pub whole : js ≡ append_items before others
+  pub count : count_items before ≡ length spans
+  pub lie : LieInItems text spans js ts
 
 -- the value of the last member of this name, and where the object ends
 pub record FindsMember (name text : List ℕ) (start : ℕ) (span : Option Span) (end : ℕ) : Type 0 where
   pub order : start ≤ end
   pub within : end ≤ length text
   pub bounds : IsWithin (length text) span
-  pub finds : (ms : json.Members) (ts : List Token) → HasMembers text start ms ts → IsValueSpan text span (get_member name ms) × HasEnded text end ts
+  pub finds : (ms : json.Members) (ts : List Token) → HasMembers text start ms ts → IsValueSpan text span (get_member name ms) × HasEnded text end ts × IsSomeMemberOf name ms (get_member name ms) None ts (LiesAtSome text span)
 
 -- the body of the request there, and where the request ends
 pub record GivesBody (text : List ℕ) (at : ℕ) (span : Option Span) (end : ℕ) : Type 0 where
   pub order : at < end
   pub within : end ≤ length text
   pub bounds : IsWithin (length text) span
-  pub gives : (j : json.Json) (ts : List Token) → HasValue text at j ts → HasBodyText text j span × HasEnded text end ts
+  pub gives : (j : json.Json) (ts : List Token) → HasValue text at j ts → HasBodyText text j span × HasEnded text end ts × LiesInRequestSome text span j ts
 
 -- the bodies of the requests of an array, and where it ends
 pub record GivesItems (text : List ℕ) (start : ℕ) (spans : List (Option Span)) (end : ℕ) : Type 0 where
   pub order : start ≤ end
   pub within : end ≤ length text
   pub bounds : All (IsWithin (length text)) spans
-  pub gives : (js : json.Items) (ts : List Token) → HasItems text start js ts → HaveBodyTexts text (list_of js) spans × HasEnded text end ts
+  pub gives : (js : json.Items) (ts : List Token) → HasItems text start js ts → HaveBodyTexts text (list_of js) spans × HasEnded text end ts × LieInItems text spans js ts
 
 -- the bodies of the requests in the value there, and where it ends
 pub record GivesBodies (text : List ℕ) (at : ℕ) (spans : List (Option Span)) (end : ℕ) : Type 0 where
   pub order : at ≤ end
   pub within : end ≤ length text
   pub bounds : All (IsWithin (length text)) spans
-  pub gives : (j : json.Json) (ts : List Token) → HasValue text at j ts → HaveBodiesIn text spans (Some j) × HasEnded text end ts
+  pub gives : (j : json.Json) (ts : List Token) → HasValue text at j ts → HaveBodiesIn text spans (Some j) × HasEnded text end ts × LieInArray text spans j ts
 
 -- the bodies of the requests in the last member `requests`
 pub record FindsBodies (text : List ℕ) (start : ℕ) (spans : List (Option Span)) : Type 0 where
   pub bounds : All (IsWithin (length text)) spans
   pub finds : (ms : json.Members) (ts : List Token) → HasMembers text start ms ts → HaveBodiesIn text spans (get_member (codes "requests") ms)
+      × IsSomeMemberOf (codes "requests") ms (get_member (codes "requests") ms) None ts (LieInArray text spans)

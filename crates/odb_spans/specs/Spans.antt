@@ -1,8 +1,10 @@
 -- Where the bodies of a batch lie in its document: what the public clauses cite.
-use Rattle.std.specs.Prelude.{◌≡◌, ◌≤◌, ◌-◌, ℕ, List, length, take, drop, Option, Some, None, ⊤}
+use Rattle.std.specs.Prelude.{◌≡◌, ◌≤◌, ◌-◌, ℕ, suc, List, [], ◌∷◌, ◌++◌, length, take, drop, get_or, set, map, false, Option, Some, None, ⊤, codes}
+use Rattle.json.specs.Word.{is_space}
 use Rattle.serde_json.specs.Data.{Data}
 use Rattle.odb_doc.specs.Documents.{IsJson}
 use Rattle.odb_doc.specs.batch.Bodies.{body_of}
+use Rattle.odb_doc.specs.batch.Shapes.{elements}
 use Rattle.odb_spans.specs.declared.span.Span.{Span}
 
 -- the bytes of the span
@@ -24,3 +26,25 @@ pub record IsSpanOf (document : List ℕ) (span : Span) (d : Data) : Type 0 wher
 abbrev pub HasBodyAt : List ℕ → Data → Option Span → Type 0
 HasBodyAt document request None = body_of request ≡ None
 HasBodyAt document request (Some span) = (body : Data) × (body_of request ≡ Some body) × IsSpanOf document span body
+
+-- the bodies of the requests, in order
+abbrev pub bodies_of : Data → List (Option Data)
+bodies_of d = map body_of (elements d)
+
+-- the document with `null` in the place of the span
+abbrev pub without : List ℕ → Span → List ℕ
+without document span = take span.start document ++ (codes "null" ++ drop span.end document)
+
+-- The span is where the body of the request at this position lies: without it, that request has no body, and the others have theirs. It begins and ends with no blank (RFC 8259, section 2).
+pub record IsPlaceOfBody (document : List ℕ) (d : Data) (at : ℕ) (span : Span) : Type 0 where
+  pub changed : Data
+  pub reads : IsJson (without document span) changed
+  pub bodies : bodies_of changed ≡ set (bodies_of d) at None
+  pub first : is_space (get_or document span.start 0) ≡ false
+  pub last : is_space (get_or document (span.end - 1) 0) ≡ false
+
+-- P holds of each span that there is, with its position, from `at` on
+abbrev pub EachSpan : (ℕ → Span → Type 0) → ℕ → List (Option Span) → Type 0
+EachSpan P at [] = ⊤
+EachSpan P at (None ∷ spans) = EachSpan P (suc at) spans
+EachSpan P at (Some span ∷ spans) = P at span × EachSpan P (suc at) spans

@@ -4,6 +4,7 @@ use Rattle.std.specs.Str.{IsCharBoundary}
 use Rattle.json.specs.Token.{Token}
 use Rattle.json.specs.Align.{is_blank, is_good}
 use Rattle.json.specs.Lex.{Lexeme, token, between, class, lex, Place, fresh, after_value, after_comma, after_key, begins_colon, place_token, punctuate}
+use Rattle.odb_spans.specs.Cuts.{IsCut}
 use Rattle.odb_spans.specs.Extents.{closes, weight}
 use Rattle.odb_spans.specs.declared.walk.Step.{Step}
 use Rattle.odb_spans.specs.declared.walk.Step.TheVariants.{Element, End}
@@ -50,6 +51,8 @@ abbrev pub Steps : List ℕ → ℕ → Step → Type 0
 Steps text from (End end) =
     (from ≤ end) × (end ≤ length text) × (IsUtf8 text → IsCharBoundary text from → IsCharBoundary text end)
     × ((q : Place) (t : Token) (ts : List Token) → IsInside q → is_good t ≡ true → tokens_from q text from ≡ t ∷ ts → StepsOut text end t ts)
+    × (IsCut text from → IsCut text end)
 Steps text from (Element at) =
     (from ≤ at) × (at < length text) × IsSolidAt text at × (IsUtf8 text → IsCharBoundary text from → IsCharBoundary text at)
     × ((q : Place) (t : Token) (ts : List Token) → IsInside q → is_good t ≡ true → tokens_from q text from ≡ t ∷ ts → StepsOn text at t ts)
+    × (IsCut text from → IsCut text at)

@@ -5,7 +5,7 @@ ghost use Rattle.std.specs.List.{All, AllZip};
 ghost use Rattle.serde_json.specs.Data.{Data};
 ghost use Rattle.odb_doc.specs.Documents.{IsJson};
 ghost use Rattle.odb_doc.specs.batch.Shapes.{elements};
-ghost use Rattle.odb_spans.specs.Spans.{HasBodyAt, IsWithin};
+ghost use Rattle.odb_spans.specs.Spans.{EachSpan, HasBodyAt, IsPlaceOfBody, IsWithin};
 ghost use Rattle.odb_spans.specs.Parts.{FindsBodies, GivesBodies, GivesItems};
 
 use crate::body::body_at;
@@ -88,9 +88,10 @@ fn bodies_within(
 /// one (OData JSON Format 4.01, section 19.1, `body`).
 ///
 /// For a document that [`odb_doc::parse`] and [`odb_doc::Batch::read`] accept, the bodies are those of
-/// the requests of the batch, in order: [`odb_doc::parse`] reads the bytes of a span as the body. A body
-/// that is `null` is treated as absent. If a name repeats in an object, its last member counts. Of any
-/// other bytes, too, each span lies within the document.
+/// the requests of the batch, in order: [`odb_doc::parse`] reads the bytes of a span as the body, and
+/// with `null` in their place that request has no body, while the others have theirs. A span has no
+/// blank at either end. A body that is `null` is treated as absent. If a name repeats in an object, its
+/// last member counts. Of any other bytes, too, each span lies within the document.
 ///
 /// Costs O(n) for a document of n bytes.
 ///
@@ -101,6 +102,8 @@ fn bodies_within(
 pub fn bodies_in(alloc: Global, document: &[u8]) -> Result<Vec<Option<Span>>, AllocError>
     ensures bodies { IfOk result (λ found. (d : Data) → IsJson document.now d
         → AllZip (HasBodyAt document.now) (elements d) found.items) }
+    ensures places { IfOk result (λ found. (d : Data) → IsJson document.now d
+        → EachSpan (IsPlaceOfBody document.now d) 0 found.items) }
     ensures bounds { IfOk result (λ found. All (IsWithin (length document.now)) found.items) }
     ensures memory { OnErr result (0 < length document.now) }
 {

@@ -1,6 +1,6 @@
 //! The body of one request.
 
-ghost use Rattle.std.specs.Prelude.{◌≤◌, ◌<◌, ℕ, length, IfOk, codes};
+ghost use Rattle.std.specs.Prelude.{◌≡◌, ◌≤◌, ◌<◌, ℕ, Some, length, IfOk, MatchOption, codes};
 ghost use Rattle.odb_spans.specs.Spans.{IsWithin};
 ghost use Rattle.odb_spans.specs.Parts.{FindsMember, GivesBody, IsGiven, IsNullAt};
 
@@ -50,6 +50,7 @@ fn is_null(document: &[u8], span: Span) -> bool
 fn given(document: &[u8], value: Option<Span>) -> Option<Span>
     ensures given { IsGiven document.now value result }
     ensures bounds { (len : ℕ) → IsWithin len value → IsWithin len result }
+    ensures same { MatchOption result (Unit {0}) (λ span. value ≡ Some span) }
 {
     let span = value?;
     if is_null(document, span) {

@@ -5,6 +5,7 @@ ghost use Rattle.std.specs.Str.{IsCharBoundary};
 ghost use Rattle.json.specs.Token.{Token};
 ghost use Rattle.json.specs.Lex as lexer;
 ghost use Rattle.json.specs.Align.{is_blank, is_good};
+ghost use Rattle.odb_spans.specs.Cuts.{IsClear, IsCut};
 ghost use Rattle.odb_spans.specs.Walks.{Faces, IsInside, IsSolidAt, Steps, lexemes_from, tokens_from};
 
 use crate::byte::Kind;
@@ -26,6 +27,8 @@ pub(crate) fn past_blanks(text: &[u8], at: usize) -> usize
     ensures solid { IsSolidAt text.now result }
     ensures boundary { IsUtf8 text.now → IsCharBoundary text.now at
         → IsCharBoundary text.now result }
+    ensures cut { IsCut text.now at → IsCut text.now result }
+    ensures clear { IsCut text.now at → IsClear text.now at → IsClear text.now result }
 {
     let mut end = at;
     while end < text.len() {
@@ -50,6 +53,10 @@ pub(crate) fn past_separator(text: &[u8], at: usize) -> usize
     ensures solid { IsSolidAt text.now result }
     ensures boundary { IsUtf8 text.now → IsCharBoundary text.now at
         → IsCharBoundary text.now result }
+    ensures cut { IsCut text.now at → IsCut text.now result }
+    ensures clear { (t : Token) (ts : List Token) → is_good t ≡ true
+        → tokens_from lexer.after_key text.now at ≡ t ∷ ts → IsCut text.now at
+        → IsClear text.now result }
 {
     let first = past_blanks(text, at);
     let Some(kind) = Kind::at(text, first) else {

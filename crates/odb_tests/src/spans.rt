@@ -1,5 +1,5 @@
-//! Where the bodies of requests lie in documents that are hard to scan. The clauses of `bodies_in` say
-//! that a span is read as the body, and not that it is no longer than the body.
+//! Where the bodies of requests lie in documents that are hard to scan: the spans that the clauses of
+//! `bodies_in` pin, as text.
 
 use odb_spans::bodies_in;
 use std::alloc::{AllocError, Global};

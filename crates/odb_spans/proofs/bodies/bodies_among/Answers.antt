@@ -22,7 +22,7 @@ returns-in-End c =
       bounds = c.items.invariant.bounds;
       gives = λ js ts has.
           (let e = end-items c.args.document.now c.items.at c.in-End.end c.items.bodies.items js ts (c.items.invariant.remaining js ts has) steps in
-          (e.holds, e.ended));
+          (e.holds, e.ended, e.lie));
     }
 
 pub items-preserved : goal.items-preserved

@@ -3,8 +3,9 @@ use Rattle.json.specs.Token.{Token}
 use Rattle.json.specs.Json as json
 use Rattle.std.proofs.lemmas.List.Elements.{All-nil}
 use Rattle.odb_spans.specs.Spans.{IsWithin}
-use Rattle.odb_spans.specs.Parts.{GivesBodies, GivesItems, HasValue, HaveBodiesIn}
+use Rattle.odb_spans.specs.Parts.{GivesBodies, GivesItems, HasValue, HaveBodiesIn, LieInArray, LiesInArray, LiesInItems}
 use Rattle.odb_spans.proofs.BracketLemmas.{array-at, array-byte}
+use Rattle.odb_spans.proofs.MemberLemmas.{each-map}
 use Rattle.odb_spans.proofs.PartLemmas.{value-part, value-within}
 use Rattle.odb_spans.proofs.bodies.bodies_at.Goals.{then-at-document-via-then-at-document, then-at-document-via-else-at-document+then-document-at-ne91}
 use Rattle.odb_spans.proofs.bodies.bodies_at.Goals as goal
@@ -36,6 +37,7 @@ returns-then-at-document c =
               | then-at-document-via-else-at-document+then-document-at-ne91 w ↦ w.if-document-at-ne91.true
             ])),
         (value-part text c.args.at end.result j ts v end.ensures.extent end.ensures.within (end.ensures.boundary v.utf8)).ended,
+        subst (λ l. LieInArray text l j ts) (sym c.new.ensures.items) tt,
       );
     }
 
@@ -50,7 +52,10 @@ returns c =
       bounds = items.bounds;
       gives = λ j ts v.
           (let array = array-at text at j ts v c.if-document-at-ne91.false in
-          let all = items.gives array.inner ts array.has in
-          (subst (λ i. HaveBodiesIn text found.0.items (Some i)) (sym array.is) all.0, all.1));
+          let all = items.gives array.inner ts array.has in (
+            subst (λ i. HaveBodiesIn text found.0.items (Some i)) (sym array.is) all.0,
+            all.1,
+            each-map (λ n span. LiesInItems text n span array.inner ts) (λ n span. LiesInArray text n span j ts) 0 found.0.items (λ n span lies. record { items = array.inner; array = array.is; lies = lies }) all.2,
+          ));
     })
     c.bodies_among.ensures

@@ -1,14 +1,28 @@
-use Rattle.std.proofs.Common.{codes, subst}
-use Rattle.odb_spans.specs.Parts.{HaveBodiesIn, IsNameIn}
+use Rattle.std.proofs.Common.{[], All, codes, length, subst, sym}
+use Rattle.std.proofs.lemmas.List.Elements.{All-nil}
+use Rattle.odb_spans.specs.Spans.{IsWithin}
+use Rattle.odb_spans.specs.Parts.{HaveBodiesIn, IsNameIn, LieInArray, MembersLeft}
 use Rattle.odb_spans.proofs.PartLemmas.{value-part}
-use Rattle.odb_spans.proofs.MemberLemmas.{end-members, passed-other, passed-same}
+use Rattle.odb_spans.proofs.MemberLemmas.{begin-members, end-members, passed-other, passed-same}
 use Rattle.odb_spans.proofs.bodies.bodies_within.Goals as goal
+
+pub members-init : goal.members-init
+members-init c =
+    let text = c.args.document.now in
+    record {
+      within = c.requires;
+      bounds = subst (All (IsWithin (length text))) (sym c.new-bodies.ensures.items) (All-nil (IsWithin (length text)));
+      remaining = λ ms ts has.
+          subst (λ l. MembersLeft (codes "requests") text c.args.start (HaveBodiesIn text l) (LieInArray text l) ms ts) (sym c.new-bodies.ensures.items)
+          (begin-members (codes "requests") text c.args.start (HaveBodiesIn text []) (LieInArray text []) ms ts has tt);
+    }
 
 pub returns-in-End : goal.returns-in-End
 returns-in-End c = record {
   bounds = c.members.invariant.bounds;
   finds = λ ms ts has.
-      (end-members (codes "requests") c.args.document.now c.members.at c.in-End.field-0 (HaveBodiesIn c.args.document.now c.members.bodies.items) ms ts (c.members.invariant.remaining ms ts has) c.in-End.ensures).holds;
+      (let e = end-members (codes "requests") c.args.document.now c.members.at c.in-End.field-0 (HaveBodiesIn c.args.document.now c.members.bodies.items) (LieInArray c.args.document.now c.members.bodies.items) ms ts (c.members.invariant.remaining ms ts has) c.in-End.ensures in
+      (e.holds, e.place));
 }
 
 pub members-preserved-then-branch : goal.members-preserved-then-branch
@@ -21,8 +35,8 @@ members-preserved-then-branch c =
       within = found.ensures.within;
       bounds = found.ensures.bounds;
       remaining = λ ms ts has.
-          passed-same (codes "requests") text c.members.at c.in-Element.first member ms ts (HaveBodiesIn text c.members.bodies.items) (HaveBodiesIn text found.found.items) found.end
-          (c.members.invariant.remaining ms ts has) c.in-Element.ensures c.member_at-member.ensures named found.ensures.gives;
+          passed-same (codes "requests") text c.members.at c.in-Element.first member ms ts (HaveBodiesIn text c.members.bodies.items) (HaveBodiesIn text found.found.items) (LieInArray text c.members.bodies.items) (LieInArray text found.found.items) found.end
+          (c.members.invariant.remaining ms ts has) c.in-Element.ensures c.member_at-member.ensures named (λ j us v clear. found.ensures.gives j us v);
     }
 
 pub members-preserved : goal.members-preserved
@@ -35,6 +49,6 @@ members-preserved c =
       within = end.ensures.within;
       bounds = c.members.invariant.bounds;
       remaining = λ ms ts has.
-          passed-other (codes "requests") text c.members.at c.in-Element.first member ms ts (HaveBodiesIn text c.members.bodies.items) end.result (c.members.invariant.remaining ms ts has) c.in-Element.ensures c.member_at-member.ensures named
+          passed-other (codes "requests") text c.members.at c.in-Element.first member ms ts (HaveBodiesIn text c.members.bodies.items) (LieInArray text c.members.bodies.items) end.result (c.members.invariant.remaining ms ts has) c.in-Element.ensures c.member_at-member.ensures named
           (λ j us v. (value-part text member.value end.result j us v end.ensures.extent end.ensures.within (end.ensures.boundary v.utf8)).ended);
     }

@@ -1,9 +1,17 @@
-use Rattle.std.proofs.Common.{Some, codes, refl, subst, arith}
-use Rattle.odb_spans.specs.Parts.{IsNameIn, IsValueSpan}
+use Rattle.std.proofs.Common.{Some, None, codes, refl, subst, arith}
+use Rattle.odb_spans.specs.Parts.{IsNameIn, IsValueSpan, LiesAtSome}
 use Rattle.odb_spans.specs.declared.span.Span.{Span}
-use Rattle.odb_spans.proofs.PartLemmas.{value-part}
-use Rattle.odb_spans.proofs.MemberLemmas.{end-members, passed-other, passed-same}
+use Rattle.odb_spans.proofs.PartLemmas.{value-part, value-within}
+use Rattle.odb_spans.proofs.MemberLemmas.{begin-members, end-members, passed-other, passed-same}
 use Rattle.odb_spans.proofs.body.body_among.Goals as goal
+
+pub members-init : goal.members-init
+members-init c = record {
+  order = omega arith;
+  within = c.requires;
+  bounds = tt;
+  remaining = λ ms ts has. begin-members (codes "body") c.args.document.now c.args.start (IsValueSpan c.args.document.now None) (LiesAtSome c.args.document.now None) ms ts has refl;
+}
 
 pub returns-in-End : goal.returns-in-End
 returns-in-End c =
@@ -13,8 +21,8 @@ returns-in-End c =
       within = steps.1;
       bounds = c.members.invariant.bounds;
       finds = λ ms ts has.
-          (let e = end-members (codes "body") c.args.document.now c.members.at c.in-End.end (IsValueSpan c.args.document.now c.members.body) ms ts (c.members.invariant.remaining ms ts has) steps in
-          (e.holds, e.ended));
+          (let e = end-members (codes "body") c.args.document.now c.members.at c.in-End.end (IsValueSpan c.args.document.now c.members.body) (LiesAtSome c.args.document.now c.members.body) ms ts (c.members.invariant.remaining ms ts has) steps in
+          (e.holds, e.ended, e.place));
     }
 
 pub members-preserved-then-branch : goal.members-preserved-then-branch
@@ -31,8 +39,10 @@ members-preserved-then-branch c =
       within = end.ensures.within;
       bounds = (omega (arith, end.ensures.extent), end.ensures.within);
       remaining = λ ms ts has.
-          passed-same (codes "body") text c.members.at c.in-Element.first member ms ts (IsValueSpan text c.members.body) (IsValueSpan text (Some span)) end.result (c.members.invariant.remaining ms ts has) steps is named
-          (λ j us v. (let part = value-part text member.value end.result j us v end.ensures.extent end.ensures.within (end.ensures.boundary v.utf8) in ((j, refl, part.text_of), part.ended)));
+          passed-same (codes "body") text c.members.at c.in-Element.first member ms ts (IsValueSpan text c.members.body) (IsValueSpan text (Some span)) (LiesAtSome text c.members.body) (LiesAtSome text (Some span)) end.result (c.members.invariant.remaining ms ts has) steps is named
+          (λ j us v clear.
+          (let part = value-part text member.value end.result j us v end.ensures.extent end.ensures.within (end.ensures.boundary v.utf8) in
+          ((j, refl, part.text_of), part.ended, record { some = end.ensures.some (value-within text member.value j us v); extent = end.ensures.extent; has = v; clear = clear; ended = part.ended })));
     }
 
 pub members-preserved : goal.members-preserved
@@ -48,6 +58,6 @@ members-preserved c =
       within = end.ensures.within;
       bounds = c.members.invariant.bounds;
       remaining = λ ms ts has.
-          passed-other (codes "body") text c.members.at c.in-Element.first member ms ts (IsValueSpan text c.members.body) end.result (c.members.invariant.remaining ms ts has) steps is named
+          passed-other (codes "body") text c.members.at c.in-Element.first member ms ts (IsValueSpan text c.members.body) (LiesAtSome text c.members.body) end.result (c.members.invariant.remaining ms ts has) steps is named
           (λ j us v. (value-part text member.value end.result j us v end.ensures.extent end.ensures.within (end.ensures.boundary v.utf8)).ended);
     }

@@ -1,8 +1,11 @@
-use Rattle.std.proofs.Common.{◌≡◌, ℕ, List, get_or, None, codes, refl, sym, subst, arith}
+use Rattle.std.proofs.Common.{◌≡◌, ℕ, List, ◌++◌, get_or, Option, Some, None, codes, refl, sym, subst, arith}
 use Rattle.json.specs.Token.{Token}
 use Rattle.json.specs.Json as json
 use Rattle.json.specs.Find.{get_member}
-use Rattle.odb_spans.specs.Parts.{HasBodyText, HasValue}
+use Rattle.json.specs.Tree.{members_tokens}
+use Rattle.std.specs.Prelude.{MatchOption}
+use Rattle.odb_spans.specs.Parts.{HasBodyText, HasValue, IsSomeMemberOf, IsValueSpan, LiesAt, LiesAtSome, LiesInRequestSome}
+use Rattle.odb_spans.specs.declared.span.Span.{Span}
 use Rattle.odb_spans.proofs.BracketLemmas.{object-at, object-byte}
 use Rattle.odb_spans.proofs.PartLemmas.{value-part}
 use Rattle.odb_spans.proofs.body.body_at.Goals as goal
@@ -15,6 +18,28 @@ no-object text at (json.string s) ts v other = refl
 no-object text at (json.array js) ts v other = refl
 no-object text at (json.object ms) ts v other = absurd (other (object-byte text at ms ts v))
 
+lies-in-request : (text : List ℕ) (given found : Option Span) (o : Option json.Json) (ms : json.Members) (j : json.Json) (ts : List Token) → j ≡ json.object ms → MatchOption given (Unit {0}) (λ span. found ≡ Some span)
+    → IsValueSpan text found o → IsSomeMemberOf (codes "body") ms o None ts (LiesAtSome text found) → LiesInRequestSome text given j ts
+lies-in-request text None found o ms j ts object same is lies = tt
+lies-in-request text (Some span) None o ms j ts object same is lies = absurd (cc (same))
+lies-in-request text (Some span) (Some s) None ms j ts object same is lies = absurd (cc (is.1))
+lies-in-request text (Some span) (Some s) (Some body) ms j ts object same is lies =
+    let one : s ≡ span = cc (same) in
+    record {
+      members = ms;
+      object = object;
+      body = body;
+      member = record {
+        earlier = lies.earlier;
+        key = lies.key;
+        later = lies.later;
+        is = lies.is;
+        named = lies.named;
+        rest = lies.rest;
+        holds = subst (λ x. LiesAt text x body (members_tokens lies.later ++ ts)) one lies.holds;
+      };
+    }
+
 pub returns-then-document-at-ne123 : goal.returns-then-document-at-ne123
 returns-then-document-at-ne123 c =
     let text = c.args.document.now in
@@ -26,6 +51,7 @@ returns-then-document-at-ne123 c =
       gives = λ j ts v. (
         no-object text c.args.at j ts v c.if-document-at-ne123.true,
         (value-part text c.args.at end.result j ts v end.ensures.extent end.ensures.within (end.ensures.boundary v.utf8)).ended,
+        tt,
       );
     }
 
@@ -39,6 +65,9 @@ returns c =
       bounds = c.given.ensures.bounds _ found.bounds;
       gives = λ j ts v.
           (let object = object-at text c.args.at j ts v c.if-document-at-ne123.false in
-          let body = found.finds object.inner ts object.has in
-          (subst (λ i. HasBodyText text i c.given.result) (sym object.is) (c.given.ensures.given (get_member (codes "body") object.inner) body.0), body.1));
+          let body = found.finds object.inner ts object.has in (
+            subst (λ i. HasBodyText text i c.given.result) (sym object.is) (c.given.ensures.given (get_member (codes "body") object.inner) body.0),
+            body.1,
+            lies-in-request text c.given.result c.in_ok-body.body (get_member (codes "body") object.inner) object.inner j ts object.is c.given.ensures.same body.0 body.2,
+          ));
     }

@@ -1,5 +1,7 @@
-use Rattle.std.proofs.Common.{◌∙◌, sym, arith}
+use Rattle.std.proofs.Common.{◌∙◌, refl, sym, arith}
 use Rattle.std.proofs.lemmas.Str.{IsCharBoundary-after_ascii}
+use Rattle.json.specs.Lex.{space}
+use Rattle.odb_spans.proofs.CutLemmas.{clear-byte, cut-byte}
 use Rattle.odb_spans.proofs.WalkLemmas.{past-blank}
 use Rattle.odb_spans.proofs.walk.past_blanks.Goals as goal
 
@@ -11,4 +13,6 @@ loop-end-preserved c =
       after = omega (arith, c.loop-end.invariant.after);
       within = omega (arith, c.loop-end-test.true);
       boundary = λ utf8 here. IsCharBoundary-after_ascii c.args.text.now c.loop-end.end utf8 c.loop-end-test.true is.ascii;
+      cut = λ from. cut-byte c.args.text.now c.loop-end.end space c.loop-end-test.true is.is refl (c.loop-end.invariant.cut from);
+      clear = λ from at. clear-byte c.args.text.now c.loop-end.end space c.loop-end-test.true is.is refl (c.loop-end.invariant.cut from);
     }

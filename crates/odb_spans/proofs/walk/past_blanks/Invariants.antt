@@ -1,6 +1,7 @@
 use Rattle.std.proofs.Common.{◌≡◌, ◌≤◌, ◌-◌, length}
 use Rattle.std.specs.Prelude.{IsUtf8}
 use Rattle.std.specs.Str.{IsCharBoundary}
+use Rattle.odb_spans.specs.Cuts.{IsClear, IsCut}
 use Rattle.odb_spans.specs.Walks.{lexemes_from}
 use Rattle.odb_spans.proofs.walk.past_blanks.Given as goal
 
@@ -10,6 +11,8 @@ invariant-loop-end l = record {
   after : l.at ≤ l.end;
   within : l.end ≤ length l.text;
   boundary : IsUtf8 l.text → IsCharBoundary l.text l.at → IsCharBoundary l.text l.end;
+  cut : IsCut l.text l.at → IsCut l.text l.end;
+  clear : IsCut l.text l.at → IsClear l.text l.at → IsClear l.text l.end;
 }
 
 abbrev pub decreases-loop-end : goal.decreases-loop-end

@@ -1,7 +1,8 @@
 use Rattle.std.proofs.Common.{◌∙◌, ℕ, List, ◌+◌, ◌≤◌, length, refl, sym, ap, subst}
 use Rattle.std.proofs.lemmas.Str.{IsCharBoundary-after_ascii}
-use Rattle.json.specs.Lex.{fresh, after_key, punctuate}
+use Rattle.json.specs.Lex.{fresh, after_key, operator, punctuate}
 use Rattle.odb_spans.specs.Walks.{lexemes_from}
+use Rattle.odb_spans.proofs.CutLemmas.{clear-byte, cut-byte}
 use Rattle.odb_spans.proofs.WalkLemmas.{BeginWithToken, begins-token, begins-separator, none-past, face-token, face-separator, no-colon, past-colon, separator-kind}
 use Rattle.odb_spans.proofs.walk.past_separator.Goals as goal
 
@@ -55,3 +56,31 @@ returns-else-is_separator-clause-colon c t ts good e =
     let first = c.past_blanks-first in
     let begins = begins-token text first.result c.in-Some.kind c.in-Some.ensures.0 c.in-Some.ensures.1 (sym c.is_separator.ensures ∙ c.if-is_separator.false) (first.ensures.solid c.in-Some.ensures.0) in
     no-colon text first.result t ts good (lexemes_from text first.result) begins (ap (punctuate after_key) first.ensures.same ∙ e)
+
+pub returns-in_default-clause-clear : goal.returns-in_default-clause-clear
+returns-in_default-clause-clear c t ts good e from =
+    let text = c.args.text.now in
+    let first = c.past_blanks-first in
+    no-colon text first.result t ts good (lexemes_from text first.result) (none-token text first.result c.in_default.ensures) (ap (punctuate after_key) first.ensures.same ∙ e)
+
+pub returns-else-is_separator-clause-clear : goal.returns-else-is_separator-clause-clear
+returns-else-is_separator-clause-clear c t ts good e from =
+    let text = c.args.text.now in
+    let first = c.past_blanks-first in
+    let begins = begins-token text first.result c.in-Some.kind c.in-Some.ensures.0 c.in-Some.ensures.1 (sym c.is_separator.ensures ∙ c.if-is_separator.false) (first.ensures.solid c.in-Some.ensures.0) in
+    no-colon text first.result t ts good (lexemes_from text first.result) begins (ap (punctuate after_key) first.ensures.same ∙ e)
+
+pub returns-then-is_separator-clause-cut : goal.returns-then-is_separator-clause-cut
+returns-then-is_separator-clause-cut c from =
+    let text = c.args.text.now in
+    let first = c.past_blanks-first in
+    let is = separator-kind c.in-Some.kind _ (sym c.is_separator.ensures ∙ c.if-is_separator.true) c.in-Some.ensures.1 in
+    c.past_blanks.ensures.cut (cut-byte text first.result operator c.in-Some.ensures.0 is.is refl (first.ensures.cut from))
+
+pub returns-then-is_separator-clause-clear : goal.returns-then-is_separator-clause-clear
+returns-then-is_separator-clause-clear c t ts good e from =
+    let text = c.args.text.now in
+    let first = c.past_blanks-first in
+    let is = separator-kind c.in-Some.kind _ (sym c.is_separator.ensures ∙ c.if-is_separator.true) c.in-Some.ensures.1 in
+    let cut = first.ensures.cut from in
+    c.past_blanks.ensures.clear (cut-byte text first.result operator c.in-Some.ensures.0 is.is refl cut) (clear-byte text first.result operator c.in-Some.ensures.0 is.is refl cut)
