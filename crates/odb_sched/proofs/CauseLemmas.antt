@@ -1,5 +1,5 @@
 -- The first cause against a start or a report. An event may come if and only if there is none.
-use Rattle.std.proofs.Common.{◌≡◌, ◌↔◌, ◌∙◌, ℕ, ◌<◌, ◌≤◌, ap, sym, refl, arith, true, false, not, length, Option, Some, None, is_none, is_some, unwrap_or, find, IsTrue, inl, inr, ◌⊎◌}
+use Rattle.std.proofs.Common.{◌≡◌, ◌↔◌, ◌∙◌, ℕ, ◌<◌, ◌≤◌, ◌+◌, ap, sym, refl, arith, true, false, not, length, Option, Some, None, is_none, is_some, unwrap_or, find, IsTrue, inl, inr, ◌⊎◌}
 use Rattle.std.proofs.lemmas.Bool.{both_ways, true≢false, true_from_ne_false, false_from_ne_true, and_from, and_parts, cases_lt, cases_order}
 use Rattle.odb_doc.specs.declared.recorded.outcome.Outcome.{Outcome}
 use Rattle.odb_doc.specs.LeastRules.{IsLeast}
@@ -11,12 +11,12 @@ use Rattle.odb_sched.specs.declared.refusal.ReportRefusal.{ReportRefusal}
 use Rattle.odb_sched.specs.declared.refusal.ReportRefusal.TheVariants as report
 use Rattle.odb_doc.specs.Statuses.{is_status}
 use Rattle.odb_sched.specs.run.State.{is_unstarted, is_running, State, size, phase_at}
-use Rattle.odb_sched.specs.run.Steps.{is_stopped, unit_failed, is_satisfied, all_satisfied, running_count, may_start, may_report, start_number, BarsStart, IsStartCause, report_number, BarsReport, IsReportCause}
+use Rattle.odb_sched.specs.run.Steps.{is_stopped, unit_failed, is_satisfied, all_satisfied, running_count, spare_in, places, may_start, may_report, start_number, BarsStart, IsStartCause, report_number, BarsReport, IsReportCause}
 use Rattle.odb_sched.proofs.BelowLemmas.{find-all}
 use Rattle.odb_sched.proofs.StartLemmas.{MayStart, may_start-from, may_start-parts, fewer_run, Unstarted-not_running}
 
 -- two first causes have the same number
-same_number : {R : Type 0} (number : R → ℕ) (Bars : R → Type 0) (cause other : R) → IsLeast number Bars cause → IsLeast number Bars other → number cause ≡ number other
+pub same_number : {R : Type 0} (number : R → ℕ) (Bars : R → Type 0) (cause other : R) → IsLeast number Bars cause → IsLeast number Bars other → number cause ≡ number other
 same_number number Bars cause other x y = at (cases_order (number cause) (number other))
   where
     at : (number cause ≡ number other) ⊎ ((number cause < number other) ⊎ (number other < number cause)) → number cause ≡ number other
@@ -39,10 +39,10 @@ module _ (state : State) (i : ℕ) where
     none_before (start.Waiting need) less bars = true≢false (sym (ap is_some (sym met ∙ bars)))
     none_before start.WidthReached less bars = absurd (omega arith)
 
-    pub first_full : state.policy.width ≤ running_count state → IsStartCause state i start.WidthReached
+    pub first_full : places state ≤ running_count state → IsStartCause state i start.WidthReached
     first_full bars = record { broken = bars; least = none_before }
 
-    pub none_bars : running_count state < state.policy.width → may_start state i ≡ true
+    pub none_bars : running_count state < places state → may_start state i ≡ true
     none_bars room = may_start-from state i (record { fresh = fresh; unstopped = going; sound = sound; satisfied = sym (find-all (is_satisfied state) (needs_of state.plan_graph i)) ∙ ap is_none met; room = room })
 
   same_start : (cause other : StartRefusal) → BarsStart cause state i → BarsStart other state i → start_number cause ≡ start_number other → cause ≡ other
@@ -67,12 +67,12 @@ module _ (state : State) (i : ℕ) where
   none_unmet None none = refl
   none_unmet (Some need) none = absurd (none need refl)
 
-  free : ((cause : StartRefusal) → ¬ BarsStart cause state i) → (running_count state < state.policy.width) ⊎ (state.policy.width ≤ running_count state) → may_start state i ≡ true
+  free : ((cause : StartRefusal) → ¬ BarsStart cause state i) → (running_count state < places state) ⊎ (places state ≤ running_count state) → may_start state i ≡ true
   free none (inr full) = absurd (none start.WidthReached full)
   free none (inl room) = none_bars (true_from_ne_false _ (none start.AlreadyStarted)) (false_from_ne_true _ (none start.Stopped)) (false_from_ne_true _ (none start.UnitFailed)) (none_unmet unmet (λ need. none (start.Waiting need))) room
 
   pub start_bars : IsTrue (may_start state i) ↔ ((cause : StartRefusal) → ¬ BarsStart cause state i)
-  start_bars = ((λ may. unbarred (may_start-parts state i may)), (λ none. free none (cases_lt (running_count state) state.policy.width)))
+  start_bars = ((λ may. unbarred (may_start-parts state i may)), (λ none. free none (cases_lt (running_count state) (places state))))
 
   -- what a cause bars may not come
   pub start_barred : (cause : StartRefusal) → IsStartCause state i cause → may_start state i ≡ false
@@ -83,7 +83,7 @@ module _ (state : State) (i : ℕ) where
   not_held_back each within wide first =
       let fresh : is_unstarted (phase_at state i) ≡ true = true_from_ne_false _ (first.least start.AlreadyStarted (omega arith)) in
       let fewer : running_count state < length state.phases = fewer_run state.phases i (omega arith) (Unstarted-not_running (phase_at state i) fresh) in
-      let full : state.policy.width ≤ running_count state = first.broken in
+      let full : state.policy.width + spare_in state.awaited ≤ running_count state = first.broken in
       absurd (omega arith)
 
 -- ---- reports

@@ -1,6 +1,6 @@
 -- How many numbers below a bound pass, under tests that differ at one number or at none.
-use Rattle.std.proofs.Common.{◌≡◌, ◌≢◌, ℕ, zero, suc, ◌<◌, refl, arith, Bool, true, false, cond, inl, inr}
-use Rattle.std.proofs.lemmas.Bool.{cases_lt}
+use Rattle.std.proofs.Common.{◌≡◌, ◌≢◌, ℕ, zero, suc, ◌<◌, ◌+◌, refl, arith, Bool, true, false, cond, if◌then◌else◌, inl, inr}
+use Rattle.std.proofs.lemmas.Bool.{cases_lt, true≢false}
 use Rattle.odb_check.specs.Firsts.{count_below}
 
 -- tests that agree below a number count alike
@@ -26,3 +26,15 @@ count_less (suc n) k test other within passes fails same = elim (cases_lt k n) [
 pub count_none : (n : ℕ) (test : ℕ → Bool) → ((i : ℕ) → i < n → test i ≡ false) → count_below n test ≡ 0
 count_none zero test none = refl
 count_none (suc n) test none = rw (none n (omega arith)) (count_none n test (λ i below. none i (omega arith)))
+
+-- what passes one of two tests that exclude each other
+pub count_either : (n : ℕ) (test other both : ℕ → Bool) → ((i : ℕ) → i < n → other i ≡ true → test i ≡ false) → ((i : ℕ) → i < n → both i ≡ (if other i then true else test i)) → count_below n both ≡ count_below n test + count_below n other
+count_either zero test other both apart are = refl
+count_either (suc n) test other both apart are =
+    rw (are n (omega arith), count_either n test other both (λ i within. apart i (omega arith)) (λ i within. are i (omega arith))) (at (other n) (test n) (count_below n test) (count_below n other) (apart n (omega arith)))
+  where
+    at : (o t : Bool) (a b : ℕ) → (o ≡ true → t ≡ false) → cond (if o then true else t) (suc (a + b)) (a + b) ≡ cond t (suc a) a + cond o (suc b) b
+    at true true a b only = absurd (true≢false (only refl))
+    at true false a b only = omega arith
+    at false true a b only = omega arith
+    at false false a b only = refl

@@ -11,7 +11,7 @@ use Rattle.odb_sched.specs.declared.counts.Progress.{Progress}
 use Rattle.odb_dense.specs.Lists.{ListsOnce}
 use Rattle.odb_check.specs.Firsts.{any_below}
 use Rattle.odb_sched.specs.run.State.{is_unstarted, is_running, State, size, phase_at}
-use Rattle.odb_sched.specs.run.Steps.{satisfied_in, all_satisfied, unit_failed, is_stopped, running_count, may_start, is_finished}
+use Rattle.odb_sched.specs.run.Steps.{satisfied_in, all_satisfied, unit_failed, is_stopped, running_count, places, may_start, is_finished}
 use Rattle.odb_sched.specs.invariants.Kept.{IsReached, IsCounted}
 use Rattle.odb_sched.specs.invariants.Counts.{is_skipped}
 use Rattle.odb_sched.proofs.BelowLemmas.{any_below-Decides}
@@ -50,6 +50,10 @@ none_pass test xs d = elim (cases_Bool (any_below (length xs) (λ i. test (get_o
 pub running_is : (state : State) (counted : Progress) → IsCounted state counted → count_by (λ runs. runs) counted.counts.running ≡ running_count state
 running_is state counted are = ap (count_by (λ runs. runs)) are.counts.running ∙ count_map is_running state.phases
 
+-- how many may run
+pub places_is : (state : State) (counted : Progress) → IsCounted state counted → state.policy.width + counted.lanes.spare ≡ places state
+places_is state counted are = ap (λ n. state.policy.width + n) are.lanes.spare
+
 -- as many run as may exactly when no fewer do
 pub full_is : (count width : ℕ) → leb width count ≡ not (nat_lt count width)
 full_is count width = elim (cases_lt count width) [
@@ -75,10 +79,10 @@ regroup false stopped failed satisfied room = refl
 
 -- which positions may start
 pub starts_is : (state : State) (counted : Progress) (i : ℕ) → IsReached state → IsCounted state counted → i < size state
-    → (get_or counted.counts.ready i false && not counted.stopped && nat_lt (count_by (λ runs. runs) counted.counts.running) state.policy.width) ≡ may_start state i
+    → (get_or counted.counts.ready i false && not counted.stopped && nat_lt (count_by (λ runs. runs) counted.counts.running) (state.policy.width + counted.lanes.spare)) ≡ may_start state i
 starts_is state counted i reached are within =
-    rw (are.counts.ready.exact i within, skipped_is state counted i reached are within, unmet_is state counted i are within, are.stopped, running_is state counted are)
-    (regroup (is_unstarted (phase_at state i)) (is_stopped state) (unit_failed state (unit_of state.plan_graph i)) (all_satisfied state i) (nat_lt (running_count state) state.policy.width))
+    rw (are.counts.ready.exact i within, skipped_is state counted i reached are within, unmet_is state counted i are within, are.stopped, running_is state counted are, are.lanes.spare)
+    (regroup (is_unstarted (phase_at state i)) (is_stopped state) (unit_failed state (unit_of state.plan_graph i)) (all_satisfied state i) (nat_lt (running_count state) (places state)))
 
 -- which positions run
 pub runs_is : (state : State) (counted : Progress) (i : ℕ) → IsCounted state counted → get_or counted.counts.running i false ≡ is_running (phase_at state i)
@@ -86,9 +90,9 @@ runs_is state counted i are = ap (λ running. get_or running i false) are.counts
 
 -- the positions that may start are listed
 pub ready_listed : (state : State) (counted : Progress) (xs : List ℕ) → IsReached state → IsCounted state counted
-    → ListsOnce (length counted.counts.ready) (λ i. get_or counted.counts.ready i false && not counted.stopped && nat_lt (count_by (λ runs. runs) counted.counts.running) state.policy.width) xs → ListsOnce (size state) (may_start state) xs
+    → ListsOnce (length counted.counts.ready) (λ i. get_or counted.counts.ready i false && not counted.stopped && nat_lt (count_by (λ runs. runs) counted.counts.running) (state.policy.width + counted.lanes.spare)) xs → ListsOnce (size state) (may_start state) xs
 ready_listed state counted xs reached are listed = lists_alike (size state) _ (may_start state) xs (λ i within. starts_is state counted i reached are within)
-    (subst (λ n. ListsOnce n (λ i. get_or counted.counts.ready i false && not counted.stopped && nat_lt (count_by (λ runs. runs) counted.counts.running) state.policy.width) xs) are.counts.ready.entries.ready listed)
+    (subst (λ n. ListsOnce n (λ i. get_or counted.counts.ready i false && not counted.stopped && nat_lt (count_by (λ runs. runs) counted.counts.running) (state.policy.width + counted.lanes.spare)) xs) are.counts.ready.entries.ready listed)
 
 -- the positions that run are listed
 pub running_listed : (state : State) (counted : Progress) (xs : List ℕ) → IsReached state → IsCounted state counted → ListsOnce (length counted.counts.running) (λ i. get_or counted.counts.running i false) xs → ListsOnce (size state) (λ i. is_running (phase_at state i)) xs
@@ -125,4 +129,4 @@ finished_is state counted reached are = same_test _ _
     waits idle (inl stopped) = or_left _ _ stopped
     waits idle (inr unstopped) = or_right _ _ (empty_from counted.counts.ready (λ i inside. false_from_ne_true _ (λ ready.
         let within : i < size state = subst (λ n. i < n) are.counts.ready.entries.ready inside in
-        both_ways _ (idle i within).0 (sym (starts_is state counted i reached are within) ∙ rw (ready, unstopped, eqb-true _ _ (still idle)) (lt-ltb 0 state.policy.width state.policy.wide)))))
+        both_ways _ (idle i within).0 (sym (starts_is state counted i reached are within) ∙ rw (ready, unstopped, eqb-true _ _ (still idle)) (lt-ltb 0 (state.policy.width + counted.lanes.spare) (let wide : 0 < state.policy.width = state.policy.wide in omega arith))))))

@@ -1,5 +1,5 @@
 -- The end of the positions that may start, or that run, as the end of a set.
-use Rattle.std.proofs.Common.{◌≡◌, ℕ, ◌<◌, ◌∙◌, sym, ap, refl, subst, Bool, true, false, ◌&&◌, not, nat_lt, lt-ltb, ltb-true, length, get_or, count_by, inl, inr, Option, Some, None, IsSome, IfSome}
+use Rattle.std.proofs.Common.{◌≡◌, ℕ, ◌<◌, ◌+◌, ◌∙◌, sym, ap, refl, subst, Bool, true, false, ◌&&◌, not, nat_lt, lt-ltb, ltb-true, length, get_or, count_by, inl, inr, Option, Some, None, IsSome, IfSome}
 use Rattle.std.specs.FinSet.{contains, contains-from_list_nat}
 use Rattle.std.proofs.lemmas.List.{length-map}
 use Rattle.std.proofs.lemmas.Bool.{cases_lt, and_parts, and_from, both_ways, false_from_ne_true}
@@ -59,7 +59,7 @@ pub finished_none : (state : State) → IsReached state → IsNone (ready_set st
 finished_none state reached ready running = (finished_idle state reached).1 (λ i within. (none_below (size state) (may_start state) i ready within, none_below (size state) (λ j. is_running (phase_at state j)) i running within))
 
 -- no position may start
-pub none_starts : (state : State) (counted : Progress) → IsReached state → IsCounted state counted → ((i : ℕ) → (get_or counted.counts.ready i false && not counted.stopped && nat_lt (count_by (λ runs. runs) counted.counts.running) state.policy.width) ≡ false) → IsNone (ready_set state)
+pub none_starts : (state : State) (counted : Progress) → IsReached state → IsCounted state counted → ((i : ℕ) → (get_or counted.counts.ready i false && not counted.stopped && nat_lt (count_by (λ runs. runs) counted.counts.running) (state.policy.width + counted.lanes.spare)) ≡ false) → IsNone (ready_set state)
 none_starts state counted reached are none = none_at (size state) (may_start state) (λ i within. sym (starts_is state counted i reached are within) ∙ none i)
 
 -- no position runs
@@ -68,7 +68,7 @@ none_runs state counted are none = none_at (size state) (λ j. is_running (phase
 
 -- the position at the end of the ready ones may start, and is at the end of those that may
 pub starts_at : (state : State) (counted : Progress) (end : End) (found : Option ℕ) → IsReached state → IsCounted state counted → IfSome found (IsEndOf end counted.counts.ready)
-    → (IsSome found → (counted.stopped ≡ false) × (nat_lt (count_by (λ runs. runs) counted.counts.running) state.policy.width ≡ true))
+    → (IsSome found → (counted.stopped ≡ false) × (nat_lt (count_by (λ runs. runs) counted.counts.running) (state.policy.width + counted.lanes.spare) ≡ true))
     → IfSome found (λ i. (i < size state) × (may_start state i ≡ true) × IsAt end (ready_set state) i)
 starts_at state counted end None reached are at allowed = tt
 starts_at state counted end (Some i) reached are at allowed =

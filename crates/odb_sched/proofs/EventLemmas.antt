@@ -104,7 +104,7 @@ few_events state (event ∷ es) i reached run =
     rw (sum_by-cons (λ e. cond (event_position e == i) 1 0) event es) (omega arith)
 
 -- the phase of a request by its earlier phase, its first report since, and whether it has started since
-abbrev phase_since : Phase → Option Outcome → Bool → Phase
+abbrev pub phase_since : Phase → Option Outcome → Bool → Phase
 phase_since Unstarted report started = phase_by report started
 phase_since Running report started = phase_by report true
 phase_since (Reported outcome) report started = Reported outcome

@@ -12,11 +12,13 @@ pub mod CauseLemmas
 pub mod OneFaultLemmas
 pub mod StuckLemmas
 mod StatusLemmas
+pub mod LaneLemmas
 pub mod ReachedLemmas
 pub mod RunLemmas
 pub mod EventLemmas
 pub mod NameLemmas
 pub mod ResultLemmas
+pub mod WholeLemmas
 pub mod ListLemmas
 pub mod CountLemmas
 pub mod PropagateLemmas
@@ -28,6 +30,8 @@ pub mod SatisfyingLemmas
 pub mod UnmetLemmas
 pub mod OuterLemmas
 pub mod OpeningLemmas
+pub mod BeginLemmas
+pub mod MemberLemmas
 pub mod UnitLemmas
 pub mod SucceedLemmas
 pub mod SameLemmas

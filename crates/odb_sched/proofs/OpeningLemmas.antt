@@ -12,11 +12,12 @@ use Rattle.odb_sched.specs.declared.openings.Openings.{Openings}
 use Rattle.odb_sched.specs.declared.phase.Phase.{Phase}
 use Rattle.odb_sched.specs.declared.phase.Phase.TheVariants.{Unstarted, Running}
 use Rattle.odb_sched.specs.run.State.{State, is_unstarted, is_reported, has_succeeded, has_failed}
-use Rattle.odb_sched.specs.run.Steps.{satisfied_in, succeeded_in, failed_in, is_stopped, unit_failed, running_count}
+use Rattle.odb_sched.specs.run.Steps.{satisfied_in, succeeded_in, failed_in, is_stopped, unit_failed, running_count, places}
 use Rattle.odb_sched.specs.run.Units.{outer_needs, outer_satisfied, has_begun_in, may_begin}
 use Rattle.odb_sched.specs.invariants.Counts.{AreCounts, members_in}
 use Rattle.odb_sched.specs.invariants.Dependents.{key_of}
 use Rattle.odb_sched.specs.invariants.Kept.{IsCounted}
+use Rattle.odb_sched.specs.invariants.Lanes.{AreLanes}
 use Rattle.odb_sched.specs.invariants.Openings.{outer_unmet_in, outer_count, outer_need_count, outer_satisfied_by, HaveUnits, AreFree, AreOpenings, is_past, is_passed, IsFirstFree}
 use Rattle.odb_sched.proofs.BelowLemmas.{any_below-Decides, none_passes, first_is}
 use Rattle.odb_sched.proofs.CountedLemmas.{none_unmet, running_is}
@@ -215,10 +216,10 @@ regroup false satisfied true failed stopped room same = refl
 
 -- which units may begin
 pub begins_is : (state : State) (counted : Progress) (u : ℕ) → IsCounted state counted → u < state.plan_graph.unit_count
-    → (get_or counted.openings.free u false && not (is_passed counted.openings counted.counts.failed u) && not counted.stopped && nat_lt (count_by (λ runs. runs) counted.counts.running) state.policy.width) ≡ may_begin state u
+    → (get_or counted.openings.free u false && not (is_passed counted.openings counted.counts.failed u) && not counted.stopped && nat_lt (count_by (λ runs. runs) counted.counts.running) (state.policy.width + counted.lanes.spare)) ≡ may_begin state u
 begins_is state counted u are inside =
-    rw (passed_is state counted u are inside, are.stopped, running_is state counted are)
-    (regroup (get_or counted.openings.free u false) (outer_satisfied state u) (has_begun_in state.plan_graph state.phases u) (unit_failed state u) (is_stopped state) (nat_lt (running_count state) state.policy.width) met)
+    rw (passed_is state counted u are inside, are.stopped, running_is state counted are, are.lanes.spare)
+    (regroup (get_or counted.openings.free u false) (outer_satisfied state u) (has_begun_in state.plan_graph state.phases u) (unit_failed state u) (is_stopped state) (nat_lt (running_count state) (places state)) met)
   where
     unmet : (get_or counted.openings.unmet.items u 0 == 0) ≡ outer_satisfied state u
     unmet = ap (λ n. n == 0) (are.openings.unmet u inside) ∙ none_unmet (satisfied_in state.plan_graph state.phases) (outer_needs state.plan_graph u)
@@ -230,9 +231,9 @@ begins_is state counted u are inside =
 
 -- the first free unit that is not passed over is the first that may begin
 pub first_unit : (state : State) (counted : Progress) (found : Option ℕ) → IsCounted state counted
-    → (found ≡ None → (u : ℕ) → (get_or counted.openings.free u false && not (is_passed counted.openings counted.counts.failed u) && not counted.stopped && nat_lt (count_by (λ runs. runs) counted.counts.running) state.policy.width) ≡ false)
+    → (found ≡ None → (u : ℕ) → (get_or counted.openings.free u false && not (is_passed counted.openings counted.counts.failed u) && not counted.stopped && nat_lt (count_by (λ runs. runs) counted.counts.running) (state.policy.width + counted.lanes.spare)) ≡ false)
     → IfSome found (IsFirstFree counted.openings counted.counts.failed)
-    → (IsSome found → (counted.stopped ≡ false) × (nat_lt (count_by (λ runs. runs) counted.counts.running) state.policy.width ≡ true))
+    → (IsSome found → (counted.stopped ≡ false) × (nat_lt (count_by (λ runs. runs) counted.counts.running) (state.policy.width + counted.lanes.spare) ≡ true))
     → found ≡ first_below state.plan_graph.unit_count (may_begin state)
 first_unit state counted None are none first allowed = sym (none_passes _ _ (λ u inside. sym (begins_is state counted u are inside) ∙ none refl u))
 first_unit state counted (Some u) are none first allowed =
@@ -242,7 +243,7 @@ first_unit state counted (Some u) are none first allowed =
     (sym (begins_is state counted u are inside) ∙ rw (first.free, first.here, going.0, going.1) refl)
     (λ v before. sym (begins_is state counted v are (omega arith)) ∙ at v before (get_or counted.openings.free v false) refl))
   where
-    at : (v : ℕ) → v < u → (b : Bool) → get_or counted.openings.free v false ≡ b → (b && not (is_passed counted.openings counted.counts.failed v) && not counted.stopped && nat_lt (count_by (λ runs. runs) counted.counts.running) state.policy.width) ≡ false
+    at : (v : ℕ) → v < u → (b : Bool) → get_or counted.openings.free v false ≡ b → (b && not (is_passed counted.openings counted.counts.failed v) && not counted.stopped && nat_lt (count_by (λ runs. runs) counted.counts.running) (state.policy.width + counted.lanes.spare)) ≡ false
     at v before true e = rw (first.before v before e) refl
     at v before false e = refl
 
@@ -274,4 +275,5 @@ counted_left state counted new rest each sound kept are = record {
   counts = subst (AreCounts state.plan_graph state.phases) (sym (ap (λ (p : Progress). p.counts) rest)) are.counts;
   openings = openings_left state.plan_graph state.phases counted.openings new.openings (is_passed counted.openings counted.counts.failed) (λ u inside. passed_is state counted u are inside) (ap (λ (p : Progress). p.openings) rest) each sound kept are.openings;
   stopped = ap (λ (p : Progress). p.stopped) rest ∙ are.stopped;
+  lanes = subst (AreLanes state.awaited) (sym (ap (λ (p : Progress). p.lanes) rest)) are.lanes;
 }

@@ -1,8 +1,8 @@
 -- What the members of a unit need of other units: one by one, and how often it has a key.
-use Rattle.std.proofs.Common.{◌≡◌, ◌≢◌, ℕ, zero, suc, ◌<◌, ◌≤◌, ◌+◌, ◌==◌, ◌∙◌, sym, ap, refl, subst, arith, Bool, true, false, not, cond, ◌&&◌, ◌||◌, if◌then◌else◌, nat_lt, lt-ltb, le-ltb, eq-eqb, eqb-true, ne_eqb, List, [], ◌∷◌, length, get_or, inl, inr, All, Contains, count_by, filter, append-nil}
+use Rattle.std.proofs.Common.{◌≡◌, ◌≢◌, ℕ, zero, suc, ◌<◌, ◌≤◌, ◌+◌, ◌==◌, ◌∙◌, sym, ap, refl, subst, arith, Bool, true, false, not, cond, ◌&&◌, ◌||◌, if◌then◌else◌, nat_lt, lt-ltb, le-ltb, eq-eqb, eqb-true, ne_eqb, List, [], ◌∷◌, length, get_or, inl, inr, All, Contains, count_by, filter, append-nil, find, Some, None}
 use Rattle.std.specs.List.{list_all}
 use Rattle.std.proofs.lemmas.Bool.{cases_eq, cases_lt, or_right, true≢false}
-use Rattle.std.proofs.lemmas.List.Folds.{list_all-append}
+use Rattle.std.proofs.lemmas.List.Folds.{list_all-append, find-append}
 use Rattle.std.proofs.lemmas.List.Sums.{sum_by-cons, sum_by-append}
 use Rattle.std.proofs.lemmas.List.Elements.{All-nil, All-append, All-filter, Contains-get_or}
 use Rattle.odb_check.specs.declared.need.Need.{Need}
@@ -218,3 +218,36 @@ pub unit_entries : (plan : PlanGraph) (phases : List Phase) (rows : List (List �
     → count_by (is_entry plan w u) row ≡ outer_satisfied_by plan phases w u
 unit_entries plan phases rows row w u laws are within done read =
     rw done (row_entries plan rows row (length plan.units + w) w u are (omega (arith, are.each)) (λ j need inside has same. of_unit plan w j need laws inside has same) read)
+
+-- the first that does not pass, of those that are kept
+pub find_kept : {X : Type 0} (test kept : X → Bool) (xs : List X) → find (λ x. not (test x)) (filter kept xs) ≡ find (λ x. not (not (kept x) || test x)) xs
+find_kept test kept [] = refl
+find_kept test kept (x ∷ xs) = at (kept x) (test x) refl (find_kept test kept xs)
+  where
+    at : (b t : Bool) → test x ≡ t → find (λ y. not (test y)) (filter kept xs) ≡ find (λ y. not (not (kept y) || test y)) xs
+        → find (λ y. not (test y)) (if b then x ∷ filter kept xs else filter kept xs) ≡ cond (not (not b || t)) (Some x) (find (λ y. not (not (kept y) || test y)) xs)
+    at true true e rest = rw e rest
+    at true false e rest = rw e refl
+    at false t e rest = rest
+
+-- what is found in the first lists is found in all
+pub found_below : {X : Type 0} (test : X → Bool) (n m : ℕ) (lists : ℕ → List X) (x : X) → n ≤ m → find test (joined_below n lists) ≡ Some x → find test (joined_below m lists) ≡ Some x
+found_below test n zero lists x least found = subst (λ k. find test (joined_below k lists) ≡ Some x) (let same : n ≡ 0 = omega arith in same) found
+found_below test n (suc m) lists x least found = elim (cases_lt m n) [
+  | inl last ↦ subst (λ k. find test (joined_below k lists) ≡ Some x) (let same : n ≡ suc m = omega arith in same) found
+  | inr before ↦ find-append test (joined_below m lists) (lists m) ∙ rw (found_below test n m lists x before found) refl
+]
+
+-- nothing is found in one list more
+pub none_more : {X : Type 0} (test : X → Bool) (n : ℕ) (lists : ℕ → List X) → find test (joined_below n lists) ≡ None → find test (lists n) ≡ None → find test (joined_below (n + 1) lists) ≡ None
+none_more test n lists before here = subst (λ k. find test (joined_below k lists) ≡ None) (let same : suc n ≡ n + 1 = omega arith in same) (find-append test (joined_below n lists) (lists n) ∙ rw (before, here) refl)
+
+-- what is found in the list after those is found in all
+pub some_more : {X : Type 0} (test : X → Bool) (n m : ℕ) (lists : ℕ → List X) (x : X) → find test (joined_below n lists) ≡ None → find test (lists n) ≡ Some x → n < m → find test (joined_below m lists) ≡ Some x
+some_more test n m lists x before here more = found_below test (suc n) m lists x (omega arith) (find-append test (joined_below n lists) (lists n) ∙ rw (before, here) refl)
+
+-- the first need of a member on another unit that does not pass
+pub outer_found : (plan : PlanGraph) (u i : ℕ) (test : Need → Bool) (xs : List Need) → unit_of plan i ≡ u → xs ≡ needs_of plan i
+    → find (λ need. not (test need)) (outer_needs_at plan u i) ≡ find (λ need. not (not (is_outer plan u need) || test need)) xs
+outer_found plan u i test xs here same =
+    ap (find (λ need. not (test need))) (sym (outer_more plan u i here)) ∙ find_kept test (is_outer plan u) (needs_of plan i) ∙ ap (find (λ need. not (not (is_outer plan u need) || test need))) (sym same)

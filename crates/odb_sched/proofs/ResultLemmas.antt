@@ -1,6 +1,6 @@
 -- The answer to a request, and why all orders of events give one result.
 use Rattle.std.proofs.Common.{◌≡◌, ℕ, ◌<◌, ◌∙◌, sym, refl, subst, arith, List, [], Option, Bool, true, false, not, ◌&&◌, inl, inr, Some, None, Contains, if◌then◌else◌}
-use Rattle.std.proofs.lemmas.Bool.{both_ways, and_parts, and_from, or_cases, false_from_ne_true, not-true, not_from_false}
+use Rattle.std.proofs.lemmas.Bool.{both_ways, cases_eq, and_parts, and_from, or_cases, false_from_ne_true, not-true, not_from_false}
 use Rattle.serde_json.specs.Data.{Data}
 use Rattle.odb_doc.specs.declared.recorded.outcome.Outcome.{Outcome}
 use Rattle.odb_doc.specs.Headers.{Header}
@@ -17,7 +17,6 @@ use Rattle.odb_sched.specs.run.Steps.{is_stopped, is_satisfied, unit_succeeded, 
 use Rattle.odb_sched.specs.run.Answers.{answer_of, answer, is_answered_2xx}
 use Rattle.odb_sched.specs.run.Laws.{statuses_of, AgreesInStatus, HasResultByStatuses, Agrees, HasOneResult, AgreesWithTable, IsAllOrNone, RestsOnSuccesses}
 use Rattle.odb_sched.specs.invariants.Kept.{IsReached}
-use Rattle.odb_sched.proofs.BelowLemmas.{list_all-each}
 use Rattle.odb_sched.proofs.FailingLemmas.{Fails-from_fails, fails-from_Fails, Fails-as}
 use Rattle.odb_sched.proofs.PhaseLemmas.{Reported-from, Failed-from, has_succeeded-from}
 use Rattle.odb_sched.proofs.SatisfiedLemmas.{member_succeeded, succeeded_in-from}
@@ -51,11 +50,21 @@ all_or_none state i j within inside same e = answered-from state j inside (rw (�
 begun : (phase : Phase) → has_succeeded phase ≡ true → is_unstarted phase ≡ false
 begun phase e = rw (Reported-from phase e).1 refl
 
--- the needs of a member of a unit that has succeeded were satisfied
+-- what a member of a unit that has succeeded needs of its own unit has succeeded
+own_satisfied : (state : State) (i : ℕ) (need : Need) → IsReached state → i < size state → unit_succeeded state (unit_of state.plan_graph i) ≡ true → Contains (needs_of state.plan_graph i) need → unit_needed state.plan_graph need ≡ unit_of state.plan_graph i → is_satisfied state need ≡ true
+own_satisfied state i (One r) reached within whole has inner =
+    let earlier : r < i = reached.laws.earlier i (One r) within has in
+    member_succeeded state.plan_graph state.phases (unit_of state.plan_graph i) r whole (omega arith) inner
+own_satisfied state i (Group u) reached within whole has inner =
+    let earlier : u < unit_of state.plan_graph i = reached.laws.earlier i (Group u) within has in
+    absurd (omega (arith, earlier, inner))
+
+-- the needs of a member of a unit that has succeeded are satisfied
 satisfied_of : (state : State) (i : ℕ) (need : Need) → IsReached state → i < size state → unit_succeeded state (unit_of state.plan_graph i) ≡ true → Contains (needs_of state.plan_graph i) need → is_satisfied state need ≡ true
-satisfied_of state i need reached within whole has =
-    list_all-each (is_satisfied state) (needs_of state.plan_graph i) need
-    (reached.needs i within (begun (phase_at state i) (member_succeeded state.plan_graph state.phases (unit_of state.plan_graph i) i whole within refl))) has
+satisfied_of state i need reached within whole has = elim (cases_eq (unit_needed state.plan_graph need) (unit_of state.plan_graph i)) [
+  | inl inner ↦ own_satisfied state i need reached within whole has inner
+  | inr other ↦ reached.needs i need within (begun (phase_at state i) (member_succeeded state.plan_graph state.phases (unit_of state.plan_graph i) i whole within refl)) has other
+]
 
 -- the unit that a member of a succeeded unit needs has succeeded
 unit_satisfied : (state : State) (i : ℕ) (need : Need) → IsReached state → i < size state → unit_succeeded state (unit_of state.plan_graph i) ≡ true → Contains (needs_of state.plan_graph i) need → unit_succeeded state (unit_needed state.plan_graph need) ≡ true

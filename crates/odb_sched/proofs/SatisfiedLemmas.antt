@@ -1,15 +1,14 @@
 -- What is satisfied, and what that means for the requests.
 use Rattle.std.proofs.Common.{◌≡◌, ℕ, ◌<◌, ◌∙◌, sym, ap, Bool, true, false, not, ◌||◌, eqb, eq-eqb, List, length, get_or, set, inl, inr}
-use Rattle.std.specs.List.{list_all}
 use Rattle.std.proofs.lemmas.Bool.{cases_eq, both_ways, or_left, or_right, ne_eqb, not_from_false, true≢false}
 use Rattle.odb_check.specs.declared.need.Need.{Need}
 use Rattle.odb_check.specs.declared.need.Need.TheVariants.{One, Group}
-use Rattle.odb_check.specs.PlanGraph.{PlanGraph, unit_of, needs_of}
+use Rattle.odb_check.specs.PlanGraph.{PlanGraph, unit_of}
 use Rattle.odb_sched.specs.declared.phase.Phase.{Phase}
 use Rattle.odb_sched.specs.declared.phase.Phase.TheVariants.{Unstarted}
 use Rattle.odb_sched.specs.run.State.{has_succeeded}
 use Rattle.odb_sched.specs.run.Steps.{succeeded_in, satisfied_in}
-use Rattle.odb_sched.proofs.BelowLemmas.{all_below-Decides, list_all-each, list_all-from}
+use Rattle.odb_sched.proofs.BelowLemmas.{all_below-Decides}
 use Rattle.odb_sched.proofs.PhaseLemmas.{get_or-set_cases}
 
 not_member_or : (a b : Bool) → a ≡ true → (not a || b) ≡ true → b ≡ true
@@ -38,7 +37,3 @@ has_succeeded-set phases i j phase fresh done = elim (get_or-set_cases phases i 
 pub satisfied_in-set : (plan : PlanGraph) (phases : List Phase) (i : ℕ) (phase : Phase) (need : Need) → has_succeeded (get_or phases i Unstarted) ≡ false → satisfied_in plan phases need ≡ true → satisfied_in plan (set phases i phase) need ≡ true
 satisfied_in-set plan phases i phase (One r) fresh satisfied = has_succeeded-set phases i r phase fresh satisfied
 satisfied_in-set plan phases i phase (Group u) fresh satisfied = succeeded_in-from plan (set phases i phase) u (λ j within here. has_succeeded-set phases i j phase fresh (member_succeeded plan phases u j satisfied within here))
-
--- a need that was satisfied stays satisfied
-pub all_satisfied-set : (plan : PlanGraph) (phases : List Phase) (i j : ℕ) (phase : Phase) → has_succeeded (get_or phases i Unstarted) ≡ false → list_all (satisfied_in plan phases) (needs_of plan j) ≡ true → list_all (satisfied_in plan (set phases i phase)) (needs_of plan j) ≡ true
-all_satisfied-set plan phases i j phase fresh satisfied = list_all-from (satisfied_in plan (set phases i phase)) (needs_of plan j) (λ need has. satisfied_in-set plan phases i phase need fresh (list_all-each (satisfied_in plan phases) (needs_of plan j) need satisfied has))

@@ -1,24 +1,21 @@
 -- A started request moves from the ready ones to the running ones, and nothing else that is counted changes.
-use Rattle.std.proofs.Common.{◌≡◌, ◌<◌, ◌||◌, ◌∙◌, ℕ, Bool, List, sym, ap, subst, true, false, set, get_or, refl, length, get_or-set_other}
+use Rattle.std.proofs.Common.{◌≡◌, ◌<◌, ◌∙◌, ℕ, Bool, List, sym, ap, subst, true, false, set, get_or, refl, length, get_or-set_other}
 use Rattle.std.proofs.lemmas.Bool.{and_left}
 use Rattle.odb_check.specs.PlanGraph.{PlanGraph}
-use Rattle.odb_sched.specs.declared.policy.Policy.{Policy}
-use Rattle.odb_sched.specs.declared.counts.Progress.{Progress}
+use Rattle.odb_sched.specs.declared.policy.Mode.{Mode}
 use Rattle.odb_sched.specs.declared.counts.Counts.{Counts}
 use Rattle.odb_sched.specs.declared.phase.Phase.{Phase}
 use Rattle.odb_sched.specs.declared.phase.Phase.TheVariants.{Unstarted, Running}
 use Rattle.odb_sched.specs.run.State.{is_unstarted, is_running, has_succeeded, has_failed}
 use Rattle.odb_sched.specs.run.Steps.{stopped_in}
 use Rattle.odb_sched.specs.invariants.Counts.{AreCounts, HasReady, is_skipped}
-use Rattle.odb_sched.specs.invariants.Kept.{IsCounted, state_of}
-use Rattle.odb_sched.specs.invariants.Openings.{AreOpenings}
 use Rattle.odb_sched.proofs.KeptLemmas.{written_at, written_back}
 use Rattle.odb_sched.proofs.PhaseLemmas.{Unstarted-from}
 use Rattle.odb_sched.proofs.SameLemmas.{as_before, unmet_same, pending_same, propagated_same, running_same}
 use Rattle.odb_sched.proofs.ReadyLemmas.{as_long, ready_without}
 use Rattle.odb_sched.proofs.StopLemmas.{stopped_by_start}
 
-counts_started : (plan : PlanGraph) (phases : List Phase) (t : Counts) (i : ℕ) (ready running : List Bool) → i < length plan.units → is_unstarted (get_or phases i Unstarted) ≡ true → AreCounts plan phases t
+pub counts_started : (plan : PlanGraph) (phases : List Phase) (t : Counts) (i : ℕ) (ready running : List Bool) → i < length plan.units → is_unstarted (get_or phases i Unstarted) ≡ true → AreCounts plan phases t
     → ready ≡ set t.ready i false → running ≡ set t.running i true → AreCounts plan (set phases i Running) (record t { ready = ready; running = running })
 counts_started plan phases t i ready running within fresh counts is_ready is_running_set =
     let written = set phases i Running in
@@ -37,16 +34,8 @@ counts_started plan phases t i ready running within fresh counts is_ready is_run
       running = is_running_set ∙ ap (λ running. set running i true) before.running ∙ running_same written i Unstarted true runs;
     }
 
--- the counts of a run with this request started
-pub counted_started : (plan : PlanGraph) (policy : Policy) (closed : Bool) (phases written : List Phase) (counted new : Progress) (i : ℕ) (ready running : List Bool) → i < length plan.units → is_unstarted (get_or phases i Unstarted) ≡ true
-    → IsCounted (state_of plan policy closed phases) counted → ready ≡ set counted.counts.ready i false → running ≡ set counted.counts.running i true → written ≡ set phases i Running
-    → new.counts ≡ record counted.counts { ready = ready; running = running } → new.stopped ≡ counted.stopped → AreOpenings plan written new.openings → IsCounted (state_of plan policy closed written) new
-counted_started plan policy closed phases written counted new i ready running within fresh are is_ready is_running_set write counts stopped openings =
-    let phased : i < length phases = rw are.counts.ready.entries.phased within in
-    let runs : is_running (get_or written i Unstarted) ≡ true = ap is_running (written_at phases written i Running phased write) in
-    let back = written_back phases written i Unstarted Running write (Unstarted-from _ fresh) in
-    record {
-      counts = subst (λ ps. AreCounts plan ps new.counts) (sym write) (subst (λ t. AreCounts plan (set phases i Running) t) (sym counts) (counts_started plan phases counted.counts i ready running within fresh are.counts is_ready is_running_set));
-      openings = openings;
-      stopped = stopped ∙ are.stopped ∙ ap (λ b. closed || b) (ap (stopped_in policy.mode) (sym back) ∙ stopped_by_start policy.mode written i runs);
-    }
+-- no start stops a run
+pub stopped_as_before : (mode : Mode) (phases : List Phase) (i : ℕ) → i < length phases → is_unstarted (get_or phases i Unstarted) ≡ true → stopped_in mode (set phases i Running) ≡ stopped_in mode phases
+stopped_as_before mode phases i within fresh =
+    let runs : is_running (get_or (set phases i Running) i Unstarted) ≡ true = ap is_running (written_at phases (set phases i Running) i Running within refl) in
+    sym (stopped_by_start mode (set phases i Running) i runs) ∙ ap (stopped_in mode) (written_back phases (set phases i Running) i Unstarted Running refl (Unstarted-from _ fresh))

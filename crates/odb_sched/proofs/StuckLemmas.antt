@@ -9,14 +9,14 @@ use Rattle.odb_sched.specs.declared.phase.Phase.TheVariants.{Unstarted}
 use Rattle.odb_check.specs.Firsts.{any_below, all_below}
 use Rattle.odb_sched.specs.run.State.{is_running, is_reported, has_succeeded, has_failed, State, size, phase_at}
 use Rattle.odb_sched.specs.run.Failing.{own, propagated, unit_needed}
-use Rattle.odb_sched.specs.run.Steps.{is_stopped, is_satisfied, unit_failed, may_start, running_count, is_finished}
+use Rattle.odb_sched.specs.run.Steps.{is_stopped, is_satisfied, unit_failed, may_start, running_count, places, is_finished}
 use Rattle.odb_sched.specs.run.Laws.{IsNeverStuck}
 use Rattle.odb_sched.specs.invariants.Kept.{IsReached}
 use Rattle.odb_sched.proofs.BelowLemmas.{any_below-Decides, all_below-Decides, IsFirstFalse, first_false, list_all-from}
 use Rattle.odb_sched.proofs.FailingLemmas.{Fails-from_fails, fails-from_Fails}
 use Rattle.odb_sched.proofs.PhaseLemmas.{is_unstarted-from, is_unstarted-reported, has_succeeded-from}
 use Rattle.odb_sched.proofs.SatisfiedLemmas.{succeeded_in-from}
-use Rattle.odb_sched.proofs.StartLemmas.{may_start-from, may_start-parts}
+use Rattle.odb_sched.proofs.StartLemmas.{may_start-from, may_start-parts, some_places}
 use Rattle.odb_dense.proofs.CountLemmas.{count_none}
 
 -- the request is reported or of a failed unit
@@ -61,7 +61,7 @@ none_counted state each none = count_none is_running state.phases (λ k d within
 -- none runs and the run is not finished, so the first request that is not over may start
 first_may_start : (state : State) → IsReached state → any_below (size state) (λ i. is_running (phase_at state i)) ≡ false → is_stopped state ≡ false → (i : ℕ) → IsFirstFalse (size state) (is_over state) i → may_start state i ≡ true
 first_may_start state reached none unstopped i first =
-    let wide : 0 < state.policy.width = state.policy.wide in
+    let wide : 0 < places state = some_places state in
     let within : i < size state = first.below in
     let open_parts = or_parts (is_reported (phase_at state i)) (unit_failed state (unit_of state.plan_graph i)) first.fails in
     let idle : is_running (phase_at state i) ≡ false = false_from_ne_true _ (λ runs. both_ways _ none ((any_below-Decides (size state) (λ j. is_running (phase_at state j))).1 (i, within, runs))) in

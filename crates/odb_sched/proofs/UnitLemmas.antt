@@ -7,7 +7,7 @@ use Rattle.odb_check.specs.Firsts.{any_below}
 use Rattle.odb_check.specs.PlanGraph.{IsPlan, unit_of, needs_of}
 use Rattle.odb_sched.specs.run.State.{State, is_running, is_reported, size, phase_at}
 use Rattle.odb_sched.specs.run.Failing.{unit_needed}
-use Rattle.odb_sched.specs.run.Steps.{is_satisfied, unit_failed, running_count}
+use Rattle.odb_sched.specs.run.Steps.{is_satisfied, unit_failed, running_count, places}
 use Rattle.odb_sched.specs.run.Units.{outer_satisfied, has_begun, IsOver, FirstNeedsNothing, HasNextUnit, UnitsGoOn}
 use Rattle.odb_sched.specs.invariants.Kept.{IsReached}
 use Rattle.odb_sched.proofs.BelowLemmas.{any_below-Decides, all_below-Decides, first_false, list_all-from}
@@ -15,7 +15,7 @@ use Rattle.odb_sched.proofs.FailingLemmas.{earlier_unit}
 use Rattle.odb_sched.proofs.OuterLemmas.{outer-from, outer-each}
 use Rattle.odb_sched.proofs.PhaseLemmas.{is_unstarted-from}
 use Rattle.odb_sched.proofs.SatisfiedLemmas.{succeeded_in-from}
-use Rattle.odb_sched.proofs.StartLemmas.{may_start-from}
+use Rattle.odb_sched.proofs.StartLemmas.{may_start-from, some_places}
 use Rattle.odb_sched.proofs.StuckLemmas.{is_over, none_counted, over_succeeded, sound_needed, unfinished_parts}
 
 -- what is needed of a unit that is over and has not failed is satisfied
@@ -99,7 +99,7 @@ has_next_unit state reached unfinished idle settled =
     let u : ℕ = unit_of state.plan_graph i in
     let inside : u < state.plan_graph.unit_count = reached.laws.counted i first.below in
     let count : running_count state ≡ 0 = none_counted state reached.each none in
-    let wide : 0 < state.policy.width = state.policy.wide in
+    let wide : 0 < places state = some_places state in
     let fresh : has_begun state u ≡ false = false_from_ne_true _ (λ begun. elim (settled u inside begun) [
       | inl over ↦ both_ways _ left.0 (over i first.below refl)
       | inr failed ↦ both_ways _ left.1 failed

@@ -2,6 +2,7 @@
 pub mod Dependents
 pub mod Graphs
 pub mod Counts
+pub mod Lanes
 pub mod Openings
 pub mod Propagation
 pub mod Kept

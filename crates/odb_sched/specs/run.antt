@@ -7,6 +7,7 @@ pub mod States
 pub mod Units
 pub mod Answers
 pub mod Laws
+pub mod Whole
 pub mod Choosing
 pub mod Resolving
 pub mod Refusals

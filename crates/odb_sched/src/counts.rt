@@ -1,6 +1,6 @@
 //! The state of a run: the phase of each request, and the counts kept with it.
 
-ghost use Rattle.std.specs.Prelude.{◌≡◌, ◌<◌, ◌&&◌, ◌||◌, ◌==◌, ℕ, true, false, not, nat_lt, length, find, replicate, slice_index_or, slice_set, count_by, IfOk, IfSome, IsSome, None, All};
+ghost use Rattle.std.specs.Prelude.{◌≡◌, ◌<◌, ◌+◌, ◌&&◌, ◌||◌, ◌==◌, ℕ, true, false, not, nat_lt, length, find, replicate, slice_index_or, slice_set, count_by, IfOk, IfSome, IsSome, None, All};
 ghost use Rattle.odb_check.specs.PlanGraph as plan_graphs;
 ghost use Rattle.odb_dense.specs.Lists.{ListsOnce};
 ghost use Rattle.odb_sched.specs.declared.phase.Phase.TheVariants.{Unstarted};
@@ -12,6 +12,7 @@ ghost use Rattle.odb_sched.specs.invariants.Kept.{first_of};
 ghost use Rattle.odb_sched.specs.run.Steps.{satisfied_in};
 
 use crate::graph::Graph;
+use crate::lanes::Lanes;
 use crate::openings::Openings;
 use crate::order::End;
 use crate::phase::Phase;
@@ -108,12 +109,13 @@ fn all_unstarted(alloc: Global, count: u32) -> Result<Vec<Phase>, AllocError>
 }
 
 /// How far a run has come: the phases of its requests, what is counted beside them and of the units,
-/// and whether it is stopped.
+/// which units were sent as one, and whether it is stopped.
 #[derive(Drop)]
 pub(crate) struct Progress {
     pub(crate) phases: Vec<Phase>,
     pub(crate) counts: Counts,
     pub(crate) openings: Openings,
+    pub(crate) lanes: Lanes,
     pub(crate) stopped: bool,
     /// Whether the caller has stopped it.
     pub(crate) closed: bool,
@@ -128,12 +130,16 @@ impl Progress {
             ≡ replicate (length graph.now.plan_graph.units) Unstarted) }
         ensures counts { IfOk result (λ progress. (policy : Policy)
             → IsCounted (first_of graph.now.plan_graph policy) progress) }
+        ensures awaited { IfOk result (λ progress. progress.lanes.awaited.items
+            ≡ replicate graph.now.plan_graph.unit_count 0) }
         ensures going { IfOk result (λ progress. progress.closed ≡ false) }
     {
+        graph.laws();
         Ok(Progress {
             phases: all_unstarted(alloc, graph.len())?,
             counts: Counts::new(alloc, graph)?,
             openings: Openings::new(alloc, graph)?,
+            lanes: Lanes::new(alloc, graph.unit_count())?,
             stopped: false,
             closed: false,
         })
@@ -149,7 +155,7 @@ impl Progress {
     }
 
     /// Returns whether a dependency is satisfied.
-    fn is_satisfied(&self, graph: &Graph, need: Need) -> bool
+    pub(crate) fn is_satisfied(&self, graph: &Graph, need: Need) -> bool
         requires counts { counted.AreCounts graph.now.plan_graph self.now.phases.items self.now.counts }
         requires known { IsNeed graph.now.plan_graph need }
         ensures { result ≡ satisfied_in graph.now.plan_graph self.now.phases.items need }
@@ -185,18 +191,21 @@ impl Progress {
         self.closed = true;
     }
 
-    /// Returns whether as many requests are running as the width allows.
+    /// Returns whether as many requests are running as the width allows, where a unit that was sent as one
+    /// counts as one.
     pub(crate) fn is_full(&self, policy: Policy) -> bool
-        ensures { result ≡ not (nat_lt (count_by (λ runs. runs) self.now.counts.running) policy.width) }
+        ensures { result ≡ not (nat_lt (count_by (λ runs. runs) self.now.counts.running)
+            (policy.width + self.now.lanes.spare)) }
     {
-        self.counts.running.len() >= policy.width as usize
+        self.counts.running.len() as u64 >= policy.width as u64 + self.lanes.spare as u64
     }
 
     /// Returns whether nothing may start now: the run is stopped, or as many requests are running
     /// as the width allows.
     fn is_closed(&self, policy: Policy) -> bool
         ensures { result ≡ (self.now.stopped
-            || not (nat_lt (count_by (λ runs. runs) self.now.counts.running) policy.width)) }
+            || not (nat_lt (count_by (λ runs. runs) self.now.counts.running)
+            (policy.width + self.now.lanes.spare))) }
     {
         self.stopped || self.is_full(policy)
     }
@@ -213,7 +222,8 @@ impl Progress {
     pub(crate) fn ready(&self, policy: Policy) -> &[u32]
         ensures { ListsOnce (length self.now.counts.ready)
             (λ i. slice_index_or self.now.counts.ready i false && not self.now.stopped
-            && nat_lt (count_by (λ runs. runs) self.now.counts.running) policy.width) result.now }
+            && nat_lt (count_by (λ runs. runs) self.now.counts.running)
+            (policy.width + self.now.lanes.spare)) result.now }
     {
         if self.is_closed(policy) {
             return &[];
@@ -226,10 +236,12 @@ impl Progress {
         ensures same { self.new ≡ self.old }
         ensures none { result ≡ None → (i : ℕ)
             → (slice_index_or self.old.counts.ready i false && not self.old.stopped
-            && nat_lt (count_by (λ runs. runs) self.old.counts.running) policy.width) ≡ false }
+            && nat_lt (count_by (λ runs. runs) self.old.counts.running)
+            (policy.width + self.old.lanes.spare)) ≡ false }
         ensures some { IfSome result (IsEndOf end self.old.counts.ready) }
         ensures allowed { IsSome result → (self.old.stopped ≡ false)
-            × (nat_lt (count_by (λ runs. runs) self.old.counts.running) policy.width ≡ true) }
+            × (nat_lt (count_by (λ runs. runs) self.old.counts.running)
+            (policy.width + self.old.lanes.spare) ≡ true) }
     {
         if self.is_closed(policy) {
             return None;
@@ -254,10 +266,12 @@ impl Progress {
             → slice_index_or self.new.openings.free u false ≡ true }
         ensures none { result ≡ None → (u : ℕ) → (slice_index_or self.old.openings.free u false
             && not (is_passed self.old.openings self.old.counts.failed u) && not self.old.stopped
-            && nat_lt (count_by (λ runs. runs) self.old.counts.running) policy.width) ≡ false }
+            && nat_lt (count_by (λ runs. runs) self.old.counts.running)
+            (policy.width + self.old.lanes.spare)) ≡ false }
         ensures some { IfSome result (IsFirstFree self.old.openings self.old.counts.failed) }
         ensures allowed { IsSome result → (self.old.stopped ≡ false)
-            × (nat_lt (count_by (λ runs. runs) self.old.counts.running) policy.width ≡ true) }
+            × (nat_lt (count_by (λ runs. runs) self.old.counts.running)
+            (policy.width + self.old.lanes.spare) ≡ true) }
     {
         if self.is_closed(policy) {
             return None;

@@ -1,9 +1,10 @@
 //! The numbers of a plan, and which requests depend on which.
 
-ghost use Rattle.std.specs.Prelude.{◌≡◌, ◌<◌, ◌≤◌, ◌+◌, ◌++◌, ◌↔◌, [], All, length, slice_index_or, IfOk, OnOk, IsTrue};
+ghost use Rattle.std.specs.Prelude.{◌≡◌, ℕ, ◌<◌, ◌≤◌, ◌+◌, ◌++◌, ◌↔◌, [], All, length, slice_index_or, IfOk, OnOk, IsTrue};
 ghost use Rattle.odb_check.specs.Plans.{plan_graph};
 ghost use Rattle.odb_check.specs.PlanGraph as plan_graphs;
 ghost use Rattle.odb_check.specs.PlanGraph.{IsNeed, IsSpan};
+ghost use Rattle.odb_sched.specs.run.State.{members_in};
 ghost use Rattle.odb_sched.specs.invariants.Dependents.{AreDependents};
 ghost use Rattle.odb_sched.specs.invariants.Dependents as needed;
 ghost use Rattle.odb_sched.specs.invariants.Graphs.{AreAlike, AreSpans, need_pairs, all_pairs};
@@ -131,6 +132,8 @@ impl Graph {
     pub fn laws(&self)
         ensures order { plan_graphs.IsPlan self.now.plan_graph }
         ensures dependents { AreDependents self.now.plan_graph self.now.dependents }
+        ensures members { (u : ℕ) → u < self.now.plan_graph.unit_count
+            → 0 < members_in self.now.plan_graph u }
     {
         let _ = &self.units;
     }

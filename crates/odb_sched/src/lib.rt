@@ -13,6 +13,7 @@ mod counts;
 mod done;
 mod event;
 mod graph;
+mod lanes;
 pub mod laws;
 mod openings;
 mod order;
@@ -23,6 +24,7 @@ mod refusal;
 mod report;
 mod results;
 mod scheduler;
+mod starts;
 mod states;
 
 pub use answer::Answer;

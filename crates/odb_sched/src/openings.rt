@@ -31,7 +31,7 @@ pub(crate) struct Openings {
 }
 
 /// Returns the unit that a need is about.
-fn unit_needed(graph: &Graph, need: Need) -> u32
+pub(crate) fn unit_needed(graph: &Graph, need: Need) -> u32
     requires { IsNeed graph.now.plan_graph need }
     ensures { result ≡ failing.unit_needed graph.now.plan_graph need }
 {

@@ -163,10 +163,7 @@ impl OwnedRun {
         if let Some(cause) = self.start_refusal(i) {
             return Err(cause);
         }
-        self.progress.counts.ready.remove(i);
-        self.progress.counts.running.insert(i);
-        self.progress.openings.begin(self.graph.unit_of(i));
-        self.progress.put(i, Phase::Running);
+        self.progress.begin(&self.graph, i);
         Ok(())
     }
 
@@ -218,7 +215,7 @@ impl OwnedRun {
         ensures listed { ListsOnce (state.size self.now)
             (λ i. state.is_running (state.phase_at self.now i)) result.now }
         ensures within { All (λ i. i < state.size self.now) result.now }
-        ensures width { length result.now ≤ self.now.policy.width }
+        ensures width { length result.now ≤ steps.places self.now }
     {
         self.progress.counts.running.as_slice()
     }

@@ -218,16 +218,20 @@ impl Progress {
         requires request { i < length graph.now.plan_graph.units }
         requires running { state.is_running (slice_index_or self.old.phases.items i Unstarted) ≡ true }
         requires counts { IsCounted (state_of graph.now.plan_graph policy self.old.closed
-            self.old.phases.items) self.old }
+            self.old.phases.items self.old.lanes.awaited.items) self.old }
+        requires units { length self.old.lanes.awaited.items ≡ graph.now.plan_graph.unit_count }
         ensures phases { self.new.phases.items ≡ slice_set self.old.phases.items i (Reported outcome) }
         ensures counts { IsCounted (state_of graph.now.plan_graph policy self.new.closed
-            self.new.phases.items) self.new }
+            self.new.phases.items self.new.lanes.awaited.items) self.new }
+        ensures awaited { self.new.lanes.awaited.items ≡ state.awaited_after self.old.lanes.awaited.items
+            (plan_graphs.unit_of graph.now.plan_graph i) }
         ensures closed { self.new.closed ≡ self.old.closed }
     {
         self.put(i, Phase::Reported(outcome));
         take_report(graph, &self.phases, i, &mut self.counts);
         self.openings
             .take_report(graph, &self.phases, i, &self.counts);
+        self.lanes.take_report(graph.unit_of(i));
         self.stopped = is_stopped(self.stopped, policy, &self.phases[i as usize]);
     }
 }

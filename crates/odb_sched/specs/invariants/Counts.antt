@@ -9,6 +9,7 @@ use Rattle.odb_sched.specs.declared.phase.Phase.{Phase}
 use Rattle.odb_sched.specs.declared.phase.Phase.TheVariants.{Unstarted}
 use Rattle.odb_sched.specs.declared.counts.Counts.{Counts}
 use Rattle.odb_sched.specs.run.State.{is_unstarted, is_running, has_succeeded}
+pub use Rattle.odb_sched.specs.run.State.{members_in}
 use Rattle.odb_sched.specs.run.Steps.{succeeded_in, satisfied_in, failed_in}
 use Rattle.odb_sched.specs.invariants.Dependents.{need_count}
 
@@ -70,10 +71,6 @@ pub record AreCounts (plan : PlanGraph) (phases : List Phase) (t : Counts) : Typ
 -- how many needs a request has
 abbrev pub needs_in : PlanGraph → ℕ → ℕ
 needs_in plan i = length (needs_of plan i)
-
--- how many members a unit has
-abbrev pub members_in : PlanGraph → ℕ → ℕ
-members_in plan u = count_below (length plan.units) (λ i. unit_of plan i == u)
 
 -- of each request, how many needs it has
 abbrev pub need_counts : PlanGraph → List ℕ

@@ -1,6 +1,6 @@
 -- Which event may come (OData JSON Format 4.01, section 19.4; OData Protocol 4.01, sections 8.2.8.3 and 11.7), and why another may not: S1 to S5 and P1, P2.
-use Rattle.std.specs.Prelude.{ℕ, ◌==◌, ◌&&◌, ◌||◌, Bool, true, false, not, nat_lt, List, length, slice_index_or, count_by, ◌≡◌, ◌≤◌, Some, find}
-use Rattle.std.specs.List.{list_any, list_all}
+use Rattle.std.specs.Prelude.{ℕ, ◌==◌, ◌+◌, ◌-◌, ◌&&◌, ◌||◌, Bool, true, false, not, nat_lt, List, length, slice_index_or, count_by, ◌≡◌, ◌≤◌, Some, find}
+use Rattle.std.specs.List.{list_any, list_all, sum_by}
 use Rattle.odb_doc.specs.declared.recorded.outcome.Outcome.{Outcome}
 use Rattle.odb_check.specs.declared.need.Need.{Need}
 use Rattle.odb_check.specs.declared.need.Need.TheVariants.{One, Group}
@@ -63,9 +63,17 @@ is_stopped state = state.closed || stopped_in state.policy.mode state.phases
 abbrev pub running_count : State → ℕ
 running_count state = count_by is_running state.phases
 
+-- of so many awaited reports by unit, how many are beside another of their unit
+abbrev pub spare_in : List ℕ → ℕ
+spare_in awaited = sum_by (λ n. n - 1) awaited
+
+-- how many requests may run at once: as many as the width, where a unit that was sent as one counts as one
+abbrev pub places : State → ℕ
+places state = state.policy.width + spare_in state.awaited
+
 -- the start of a request may come
 abbrev pub may_start : State → ℕ → Bool
-may_start state i = is_unstarted (phase_at state i) && not (is_stopped state) && not (unit_failed state (unit_of state.plan_graph i)) && all_satisfied state i && nat_lt (running_count state) state.policy.width
+may_start state i = is_unstarted (phase_at state i) && not (is_stopped state) && not (unit_failed state (unit_of state.plan_graph i)) && all_satisfied state i && nat_lt (running_count state) (places state)
 
 -- the report of a request may come
 abbrev pub may_report : State → ℕ → Outcome → Bool
@@ -93,7 +101,7 @@ BarsStart start.AlreadyStarted state i = is_unstarted (phase_at state i) ≡ fal
 BarsStart start.Stopped state i = is_stopped state ≡ true
 BarsStart start.UnitFailed state i = unit_failed state (unit_of state.plan_graph i) ≡ true
 BarsStart (start.Waiting need) state i = find (λ other. not (is_satisfied state other)) (needs_of state.plan_graph i) ≡ Some need
-BarsStart start.WidthReached state i = state.policy.width ≤ running_count state
+BarsStart start.WidthReached state i = places state ≤ running_count state
 
 -- the first cause against a start: it applies, and none with a smaller number does
 abbrev pub IsStartCause : State → ℕ → StartRefusal → Type 0

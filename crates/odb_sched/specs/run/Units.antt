@@ -1,5 +1,5 @@
 -- Which unit may begin, for a caller that performs a group as a whole (OData JSON Format 4.01, sections 19.1 and 19.4).
-use Rattle.std.specs.Prelude.{ℕ, ◌≡◌, ◌<◌, ◌⊎◌, ◌==◌, ◌&&◌, Bool, true, false, not, nat_lt, List, [], length, slice_index_or, if◌then◌else◌}
+use Rattle.std.specs.Prelude.{ℕ, ◌≡◌, ◌<◌, ◌≤◌, ◌⊎◌, ◌==◌, ◌&&◌, Bool, true, false, not, nat_lt, List, [], length, slice_index_or, if◌then◌else◌, Some, find}
 use Rattle.std.specs.List.{filter, list_all}
 use Rattle.odb_check.specs.declared.need.Need.{Need}
 use Rattle.odb_check.specs.Firsts.{any_below, joined_below}
@@ -8,7 +8,10 @@ use Rattle.odb_sched.specs.declared.phase.Phase.{Phase}
 use Rattle.odb_sched.specs.declared.phase.Phase.TheVariants.{Unstarted}
 use Rattle.odb_sched.specs.run.State.{State, is_unstarted, is_running, is_reported, size, phase_at}
 use Rattle.odb_sched.specs.run.Failing.{unit_needed}
-use Rattle.odb_sched.specs.run.Steps.{is_finished, is_satisfied, is_stopped, unit_failed, running_count, may_start}
+use Rattle.odb_sched.specs.run.Steps.{is_finished, is_satisfied, is_stopped, unit_failed, running_count, places, may_start, start_number}
+use Rattle.odb_doc.specs.LeastRules.{IsLeast}
+use Rattle.odb_sched.specs.declared.refusal.StartRefusal.{StartRefusal}
+use Rattle.odb_sched.specs.declared.refusal.StartRefusal.TheVariants as start
 
 -- what is needed belongs to another unit
 abbrev pub is_outer : PlanGraph → ℕ → Need → Bool
@@ -34,7 +37,20 @@ has_begun state u = has_begun_in state.plan_graph state.phases u
 
 -- the unit may begin: none of its members has started, and what they need of other units has succeeded
 abbrev pub may_begin : State → ℕ → Bool
-may_begin state u = not (has_begun state u) && not (is_stopped state) && not (unit_failed state u) && outer_satisfied state u && nat_lt (running_count state) state.policy.width
+may_begin state u = not (has_begun state u) && not (is_stopped state) && not (unit_failed state u) && outer_satisfied state u && nat_lt (running_count state) (places state)
+
+-- when each cause bars that the unit is sent as one. A need that it waits for is the first of its needs on other units that is
+-- not satisfied.
+abbrev pub BarsUnit : StartRefusal → State → ℕ → Type 0
+BarsUnit start.AlreadyStarted state u = has_begun state u ≡ true
+BarsUnit start.Stopped state u = is_stopped state ≡ true
+BarsUnit start.UnitFailed state u = unit_failed state u ≡ true
+BarsUnit (start.Waiting need) state u = find (λ other. not (is_satisfied state other)) (outer_needs state.plan_graph u) ≡ Some need
+BarsUnit start.WidthReached state u = places state ≤ running_count state
+
+-- the first cause against it
+abbrev pub IsUnitCause : State → ℕ → StartRefusal → Type 0
+IsUnitCause state u cause = IsLeast start_number (λ other. BarsUnit other state u) cause
 
 -- each member of the unit has reported
 abbrev pub IsOver : State → ℕ → Type 0
@@ -49,7 +65,7 @@ FirstNeedsNothing state = (u : ℕ) → u < state.plan_graph.unit_count → unit
 -- runs or may start, unless the run is stopped or the width is used up.
 abbrev pub UnitsGoOn : State → Type 0
 UnitsGoOn state = (i : ℕ) → i < size state → is_reported (phase_at state i) ≡ false → unit_failed state (unit_of state.plan_graph i) ≡ false
-    → outer_satisfied state (unit_of state.plan_graph i) ≡ true → is_stopped state ≡ false → running_count state < state.policy.width
+    → outer_satisfied state (unit_of state.plan_graph i) ≡ true → is_stopped state ≡ false → running_count state < places state
     → (j : ℕ) × (j < size state) × (unit_of state.plan_graph j ≡ unit_of state.plan_graph i) × ((is_running (phase_at state j) ≡ true) ⊎ (may_start state j ≡ true))
 
 -- A run that is not finished, in which nothing runs and each unit that has begun is over or has failed, has a unit that may

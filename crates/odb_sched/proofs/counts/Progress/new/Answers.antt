@@ -1,5 +1,6 @@
-use Rattle.std.proofs.Common.{◌∙◌, ap, sym, length, replicate}
+use Rattle.std.proofs.Common.{◌∙◌, ap, sym, subst, length, replicate}
 use Rattle.odb_sched.specs.declared.phase.Phase.TheVariants.{Unstarted}
+use Rattle.odb_sched.specs.invariants.Lanes.{AreLanes}
 use Rattle.odb_sched.proofs.StopLemmas.{stopped_first}
 use Rattle.odb_sched.proofs.counts.Progress.new.Goals as goal
 
@@ -10,5 +11,6 @@ pub returns-clause-counts : goal.returns-clause-counts
 returns-clause-counts c = λ policy. record {
   counts = c.in_ok-new.ensures;
   openings = c.in_ok-new-2.ensures;
+  lanes = subst (λ n. AreLanes (replicate n 0) c.in_ok-new-3.field-0) c.unit_count.ensures c.in_ok-new-3.ensures;
   stopped = sym (stopped_first policy.mode (length c.args.graph.now.plan_graph.units));
 }

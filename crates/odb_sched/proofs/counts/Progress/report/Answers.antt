@@ -41,4 +41,5 @@ returns-clause-counts c =
           ∙ ap (λ phase. (c.args.self.now.closed || stopped_in c.args.policy.mode (set c.put.new.self.phases.items c.args.i Running)) || (stops c.args.policy.mode && has_erred phase)) (get_or_read c.put.new.self.phases.items c.args.i c.index.result.now within c.index.ensures Unstarted)
           ∙ stopped_still c.args.self.now.closed c.args.policy.mode c.put.new.self.phases.items c.args.i within
           ∙ ap (λ b. b || stopped_in c.args.policy.mode c.put.new.self.phases.items) (sym (ap (λ (t : Progress). t.closed) c.put.ensures.rest));
+      lanes = c.take_report-3.ensures.lanes;
     }

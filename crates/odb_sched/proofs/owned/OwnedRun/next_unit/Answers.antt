@@ -17,7 +17,7 @@ next_unit-requires-clause-failed c = c.self.invariant.counts.counts.units.each �
 pub invariant_of-self : goal.invariant_of-self
 invariant_of-self c =
     let s = c.self.inside in
-    let same : kept_state (record { graph = s.graph; policy = s.policy; progress = c.next_unit.new.self }) ≡ kept_state s = ap (λ (p : Progress). state_of s.graph.plan_graph s.policy p.closed p.phases.items) c.next_unit.ensures.rest in
+    let same : kept_state (record { graph = s.graph; policy = s.policy; progress = c.next_unit.new.self }) ≡ kept_state s = ap (λ (p : Progress). state_of s.graph.plan_graph s.policy p.closed p.phases.items p.lanes.awaited.items) c.next_unit.ensures.rest in
     record {
       reached = subst IsReached (sym same) c.self.invariant.reached;
       counts = subst (λ state. IsCounted state c.next_unit.new.self) (sym same)

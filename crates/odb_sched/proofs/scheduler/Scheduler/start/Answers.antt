@@ -2,7 +2,7 @@
 use Rattle.std.proofs.Common.{◌≡◌, ◌↔◌, ◌∙◌, ap, subst, sym, IsOk, IsTrue}
 use Rattle.std.proofs.lemmas.Result.{on_ok_weaker, on_err_weaker, IfErr-weaker}
 use Rattle.odb_check.specs.Plans.{plan_records}
-use Rattle.odb_sched.specs.run.Steps.{may_start}
+use Rattle.odb_sched.specs.run.Steps.{spare_in, may_start}
 use Rattle.odb_sched.specs.run.Laws.{HaveSucceeded}
 use Rattle.odb_sched.specs.run.State.{State, plan_graph, with_requests}
 use Rattle.odb_sched.proofs.OwnedLemmas.{either_way, ok_so, start_cause_with}
@@ -12,6 +12,7 @@ pub invariant_of-self : goal.invariant_of-self
 invariant_of-self c = record {
   of_plan = either_way c.start.result c.start.ensures.ok c.start.ensures.err (λ is. ap (λ (s : State). s.plan_graph) is ∙ c.self.invariant.of_plan) (λ is. ap (λ (s : State). s.plan_graph) is ∙ c.self.invariant.of_plan);
   going = either_way c.start.result c.start.ensures.ok c.start.ensures.err (λ is. ap (λ (s : State). s.closed) is ∙ c.self.invariant.going) (λ is. ap (λ (s : State). s.closed) is ∙ c.self.invariant.going);
+  one_by_one = either_way c.start.result c.start.ensures.ok c.start.ensures.err (λ is. ap (λ (s : State). spare_in s.awaited) is ∙ c.self.invariant.one_by_one) (λ is. ap (λ (s : State). spare_in s.awaited) is ∙ c.self.invariant.one_by_one);
 }
 
 pub returns-clause-ok : goal.returns-clause-ok
