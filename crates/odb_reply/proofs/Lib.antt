@@ -15,6 +15,7 @@ pub mod FitLemmas
 pub mod AnsweredLemmas
 pub mod OneFaultLemmas
 mod DoneLemmas
+mod PassLemmas
 mod JsonTextLemmas
 mod StringLemmas
 mod LexLemmas

@@ -12,4 +12,5 @@ pub mod MatchFaults
 pub mod LeastMatchFault
 -- What serves invariants and private clauses: no public clause cites it.
 pub mod Parts
+pub mod Passes
 pub mod Places

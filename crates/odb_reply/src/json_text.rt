@@ -1,12 +1,14 @@
 //! The body of an answer as JSON text.
 
-ghost use Rattle.std.specs.Prelude.{◌≡◌, ◌↔◌, Err, Some, option_map, string_bytes, IfOk, IfSome, IsTrue};
+ghost use Rattle.std.specs.Prelude.{◌≡◌, ◌≢◌, ◌≤◌, length, Err, Some, option_map, string_bytes, IfOk, IfSome, OnOk, IsUtf8};
+ghost use Rattle.odb_doc.specs.Documents.{most_bytes};
 ghost use Rattle.odb_reply.specs.declared.json_text.BodyFault.TheVariants as faults;
-ghost use Rattle.odb_reply.specs.BodyTexts.{IsBody, IsNoBody, NestsWithin, text_at};
-ghost use Rattle.odb_reply.specs.Parts.{HasNull};
+ghost use Rattle.odb_reply.specs.BodyTexts.{IsBody, IsNoBody, text_at};
+ghost use Rattle.odb_reply.specs.Parts.{IsNoValue, IsValue};
 
+use crate::pass::{is_null_token, is_one_value};
 use json::{Reader, Scratch};
-use odb_doc::{DocFault, parse};
+use odb_doc::MAX_DOCUMENT_BYTES;
 use std::alloc::{AllocError, Global};
 use std::marker::Model;
 use thiserror::Error;
@@ -50,36 +52,36 @@ impl From<AllocError> for BodyFault {
     }
 }
 
-/// Returns whether these bytes are the JSON null.
-fn is_null(alloc: Global, bytes: &[u8]) -> Result<bool, BodyFault>
-    ensures value { IfOk result (HasNull bytes.now) }
+/// Returns the text in these bytes.
+fn text_in(bytes: &[u8]) -> Result<&str, BodyFault>
+    ensures text { IfOk result (λ text. text.now ≡ bytes.now) }
+    ensures small { OnOk result ((length bytes.now ≤ most_bytes) × IsUtf8 bytes.now) }
     ensures refused { result ≡ Err faults.Refused → IsNoBody bytes.now }
+    ensures memory { result ≢ Err faults.OutOfMemory }
 {
-    match parse(alloc, bytes) {
-        Ok(value) => Ok(value.is_null()),
-        Err(DocFault::OutOfMemory) => Err(BodyFault::OutOfMemory),
+    if bytes.len() > MAX_DOCUMENT_BYTES {
+        return Err(BodyFault::Refused);
+    }
+    match simdutf8::compat::from_utf8(bytes) {
+        Ok(text) => Ok(text),
         Err(_) => Err(BodyFault::Refused),
     }
 }
 
-/// Returns whether the text nests at most 124 deep, also in a member that a later one of its name replaces.
-fn is_shallow(alloc: Global, text: &str) -> Result<bool, AllocError>
-    ensures { IfOk result (λ is. IsTrue is ↔ NestsWithin 124 text.now) }
+/// Returns whether the text is the JSON null. Refuses it unless it is JSON that nests at most 124 deep, also
+/// in a member that a later one of its name replaces.
+fn is_null(alloc: Global, text: &str) -> Result<bool, BodyFault>
+    ensures value { IfOk result (IsValue text.now) }
+    ensures refused { result ≡ Err faults.Refused → IsNoValue text.now }
 {
     let mut scratch = Scratch::new(alloc);
     let mut reader = Reader::new(text, &mut scratch)?;
-    Ok(reader.skip_value(MOST_DEPTH).is_ok() && reader.next().is_none())
-}
-
-/// Returns the text in these bytes.
-fn text_in(alloc: Global, bytes: &[u8]) -> Result<String, BodyFault>
-    ensures text { IfOk result (λ text. string_bytes text ≡ bytes.now) }
-    ensures shallow { IfOk result (λ _. NestsWithin 124 bytes.now) }
-    ensures refused { result ≡ Err faults.Refused → IsNoBody bytes.now }
-{
-    match str::from_utf8(bytes) {
-        Ok(text) if is_shallow(alloc, text)? => Ok(String::from_str(alloc, text)?),
-        _ => Err(BodyFault::Refused),
+    let first = reader.next().ok_or(BodyFault::Refused)?;
+    let null = is_null_token(&first);
+    if is_one_value(first, &mut reader, MOST_DEPTH) {
+        Ok(null)
+    } else {
+        Err(BodyFault::Refused)
     }
 }
 
@@ -87,7 +89,8 @@ impl JsonText {
     /// Returns these bytes as the text of a body, or `None` if they are the JSON null, which is treated as
     /// no body.
     ///
-    /// The reader checks the bytes, and keeps nothing of their value; then they are copied.
+    /// The reader checks the bytes in one pass, which makes no value of them; then they are copied. Takes O(n) for
+    /// n bytes.
     ///
     /// # Errors
     ///
@@ -97,10 +100,12 @@ impl JsonText {
         ensures body { IfOk result (IsBody bytes.now) }
         ensures refused { result ≡ Err faults.Refused → IsNoBody bytes.now }
     {
-        if is_null(alloc, bytes)? {
+        let text = text_in(bytes)?;
+        let is_null = is_null(alloc, text)?;
+        if is_null {
             return Ok(None);
         }
-        let text = text_in(alloc, bytes)?;
+        let text = String::from_str(alloc, text)?;
         Ok(Some(JsonText { text }))
     }
 

@@ -18,6 +18,7 @@ mod labels;
 pub mod laws;
 mod match_fault;
 mod parts;
+mod pass;
 mod places;
 mod reply;
 mod response_fault;
