@@ -13,12 +13,12 @@ _PLAIN = "!$%&'()*+,/:;=@"
 
 
 def joined(base: str, url: str) -> str:
-    """Returns a URL that is relative to a base, which ends with /, or is empty.
+    """Returns a URL that is relative to a base, which may be empty.
 
     Raises:
         Refusal: It cannot be read as a URL: 400 ``BadUrl``.
     """
-    if base and _IS_RELATIVE(url):
+    if base.endswith("/") and _IS_RELATIVE(url):
         return base + url
     try:
         return urljoin(base, url)
