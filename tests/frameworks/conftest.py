@@ -25,7 +25,9 @@ SMALL = ("flask_sqlite", "flask_sqlalchemy", "django_app", "fastapi_app")
 
 @pytest.fixture(scope="session")
 def serve(library):
-    """Serves an application; `command` takes the place of how it is served, and variables are those of its environment."""
+    """Serves an application; `command` takes the place of how it is served, and variables are those of its
+    environment.
+    """
     folder, started, number = folder_for_databases(), [], itertools.count()
 
     def start(name, command=None, **variables):

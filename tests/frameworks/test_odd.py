@@ -25,7 +25,9 @@ def test_what_a_request_inherits(echoing):
         "Idempotency-Key": "of the batch", "Traceparent": "00-1", "Prefer": "continue-on-error, return=minimal",
     }  # fmt: skip
     headers = {"Accept": "text/plain", "Host": "evil", "Prefer": "maxpagesize=5"}
-    found = echoing.batch({"url": "echo?x=1", "headers": headers}, {"method": "post", "url": "echo", "body": {"a": 1}}, headers=outer)
+    found = echoing.batch(
+        {"url": "echo?x=1", "headers": headers}, {"method": "post", "url": "echo", "body": {"a": 1}}, headers=outer
+    )
     first, second = ({name.lower(): it for name, it in found[id]["body"]["headers"].items()} for id in ("r0", "r1"))
     for seen in (first, second):
         assert (seen["authorization"], seen["cookie"], seen["traceparent"]) == ("Bearer 1", "session=2", "00-1")

@@ -1,4 +1,6 @@
-"""The small services of examples/frameworks over HTTP: requests of a batch, references, conditions, groups and refusals."""
+"""The small services of examples/frameworks over HTTP: requests of a batch, references, conditions, groups and
+refusals.
+"""
 
 import json
 import secrets
@@ -55,7 +57,14 @@ def test_a_group_sees_what_it_has_done(server):
     found = server.batch(
         book(name, "g"),
         {"url": "$r0", **group, "dependsOn": ["r0"]},
-        {"method": "patch", "url": "$r0", **group, "dependsOn": ["r0", "r1"], "headers": {"If-Match": "$r1"}, "body": {"Title": "New"}},
+        {
+            "method": "patch",
+            "url": "$r0",
+            **group,
+            "dependsOn": ["r0", "r1"],
+            "headers": {"If-Match": "$r1"},
+            "body": {"Title": "New"},
+        },
         {"url": f"Books('{name}')", **group, "dependsOn": ["r2"]},
     )
     assert [it["status"] for it in found.values()] == [201, 200, 204, 200]
@@ -83,7 +92,14 @@ def test_what_is_not_a_batch(server, method, body, headers, status):
 
 
 def test_urls_that_lead_out(server):
-    urls = ["/other", "../admin", "/odata/%2e%2e/admin", "//evil/odata/Books", "http://evil/odata/Books", "/ODATA/Books"]
+    urls = [
+        "/other",
+        "../admin",
+        "/odata/%2e%2e/admin",
+        "//evil/odata/Books",
+        "http://evil/odata/Books",
+        "/ODATA/Books",
+    ]
     assert server.statuses(*({"url": url} for url in urls)) == [404] * len(urls)
 
 

@@ -1,4 +1,6 @@
-"""Applications that real servers serve: each is a process with a listening socket of its own, which is asked over HTTP."""
+"""Applications that real servers serve: each is a process with a listening socket of its own, which is asked over
+HTTP.
+"""
 
 import http.client
 import importlib.util
@@ -21,7 +23,9 @@ CONTINUE = {**JSON, "Prefer": "continue-on-error"}
 
 
 def folder_for_databases():
-    """A folder in memory, if there is one: a commit waits for no disk. What a process has written is there after SIGKILL."""
+    """A folder in memory, if there is one: a commit waits for no disk. What a process has written is there after
+    SIGKILL.
+    """
     return tempfile.mkdtemp(dir="/dev/shm" if os.access("/dev/shm", os.W_OK) else None)
 
 
@@ -32,7 +36,18 @@ def skip_without(*modules):
 
 
 def with_gunicorn(app, workers=1, threads=8):
-    return ["gunicorn", "--bind", "fd://{fd}", "--workers", str(workers), "--threads", str(threads), "--log-level", "warning", app]
+    return [
+        "gunicorn",
+        "--bind",
+        "fd://{fd}",
+        "--workers",
+        str(workers),
+        "--threads",
+        str(threads),
+        "--log-level",
+        "warning",
+        app,
+    ]
 
 
 def with_uvicorn(app):
@@ -53,9 +68,9 @@ class Server:
         with socket.create_server(("127.0.0.1", 0)) as listening, open(log, "ab") as out:
             self.port, number = listening.getsockname()[1], listening.fileno()
             words = [sys.executable, "-m", *(word.format(fd=number) for word in command)]
-            self.process = subprocess.Popen(
-                words, cwd=folder, stdout=out, stderr=out, env={**with_package(), **variables}, pass_fds=[number], start_new_session=True
-            )  # fmt: skip
+            variables = {**with_package(), **variables}
+            more = {"cwd": folder, "stdout": out, "stderr": out, "env": variables, "pass_fds": [number]}
+            self.process = subprocess.Popen(words, start_new_session=True, **more)
         self.log, self.url = log, f"http://127.0.0.1:{self.port}/odata/"
 
     def stop(self, number=signal.SIGTERM):
@@ -68,7 +83,9 @@ class Server:
                 self.process.wait()
 
     def ask(self, method, path, body=None, headers=JSON):
-        """Sends a request over a connection of its own; returns the status, the headers by lower-case names and the body."""
+        """Sends a request over a connection of its own; returns the status, the headers by lower-case names and the
+        body.
+        """
         connection = http.client.HTTPConnection("127.0.0.1", self.port, timeout=SECONDS)
         try:
             connection.request(method, path, body, headers)
@@ -92,5 +109,7 @@ def conformance(server, folder, *options):
     """Judges an application by the conformance tool; returns its exit status and what it printed."""
     body = ["--set", "Books", "--key", "Id", "--body", '{"Title": "Emma"}', "--breaks", os.path.join(folder, "breaks")]
     words = [sys.executable, os.path.join(ROOT, "conformance"), server.url, *body, *options]
-    done = subprocess.run(words, stdout=subprocess.PIPE, stderr=subprocess.STDOUT, text=True, env=with_package(), timeout=300)
+    done = subprocess.run(
+        words, stdout=subprocess.PIPE, stderr=subprocess.STDOUT, text=True, env=with_package(), timeout=300
+    )
     return done.returncode, done.stdout

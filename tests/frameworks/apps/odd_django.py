@@ -7,10 +7,10 @@ from contextlib import contextmanager
 import django
 from django.conf import settings
 
+DATABASE = {"ENGINE": "django.db.backends.sqlite3", "NAME": os.environ["BOOKS"], "OPTIONS": {"timeout": 10}}
 settings.configure(
-    SECRET_KEY="a test", ALLOWED_HOSTS=["*"], ROOT_URLCONF=__name__,
-    DATABASES={"default": {"ENGINE": "django.db.backends.sqlite3", "NAME": os.environ["BOOKS"], "OPTIONS": {"timeout": 10}}},
-)  # fmt: skip
+    SECRET_KEY="a test", ALLOWED_HOSTS=["*"], ROOT_URLCONF=__name__, DATABASES={"default": DATABASE}, USE_TZ=True
+)
 django.setup()
 
 from django.core.wsgi import get_wsgi_application
@@ -60,7 +60,9 @@ def hooked(request):
 
 @csrf_exempt
 def echo(request):
-    return JsonResponse({"headers": dict(request.headers), "url": request.build_absolute_uri(), "body": request.body.decode()})
+    return JsonResponse(
+        {"headers": dict(request.headers), "url": request.build_absolute_uri(), "body": request.body.decode()}
+    )
 
 
 urlpatterns = [path(f"odata/{it.__name__}", it) for it in (notes, forgiving, hooked, echo)]
@@ -86,5 +88,6 @@ def application(environ, start_response):
 
 TRANSACTIONS = {"atomic": lambda name: transaction.atomic(), "open": open_connection, "group": group, "odata": group}
 BY_NAME = {
-    name: BatchMiddleware(get_wsgi_application(), f"/{name}/$batch", transaction=it, root="/") for name, it in TRANSACTIONS.items()
+    name: BatchMiddleware(get_wsgi_application(), f"/{name}/$batch", transaction=it, root="/")
+    for name, it in TRANSACTIONS.items()
 }

@@ -1,4 +1,6 @@
-"""Answers of every kind in FastAPI, with a dependency that commits after the answer, and middleware of Starlette's own."""
+"""Answers of every kind in FastAPI, with a dependency that commits after the answer, and middleware of Starlette's
+own.
+"""
 
 import asyncio
 import os

@@ -12,7 +12,13 @@ app = Flask(__name__)
 
 @app.route("/odata/echo", methods=["GET", "POST"])
 def echo():
-    return {"headers": dict(request.headers), "url": request.url, "raw": request.environ["RAW_URI"], "from": request.remote_addr, "body": request.get_data(as_text=True)}
+    return {
+        "headers": dict(request.headers),
+        "url": request.url,
+        "raw": request.environ["RAW_URI"],
+        "from": request.remote_addr,
+        "body": request.get_data(as_text=True),
+    }
 
 
 @app.get("/odata/binary")
