@@ -91,7 +91,11 @@ class Work:
         ids = self._run.next_unit()
         if ids is None:
             return None
-        self._run.start(ids[0])
+        try:
+            self._run.start(ids[0])
+        except Refused:
+            # Between the two calls another thread has reported an error, by which the run is stopped.
+            return None
         return Unit(ids, self._groups[ids[0]])
 
     def stop(self) -> None:

@@ -11,7 +11,7 @@ from contextvars import ContextVar
 
 import pytest
 
-from odb_batch import Answer, Fault, PreparedRequest, Refusal, perform, perform_async
+from odb_batch import Answer, Fault, PreparedRequest, Refusal, Run, perform, perform_async
 
 GROUP = {
     "requests": [
@@ -190,6 +190,19 @@ class TestTransactions:
 
         found = shown(perform(batch, send, mode="stop", width=2, transaction=ledger.transaction))
         assert found == {"a": 424, "b": 424, "y": 404} and ledger.rolled_back == ["g"]
+
+    def test_the_run_stops_while_a_unit_begins(self, monkeypatch):
+        """An error that is reported after a unit was found and before it has started: nothing more starts."""
+        next_unit = Run.next_unit
+
+        def late(run):
+            found = next_unit(run)
+            if found == ("b",):
+                run.stop()
+            return found
+
+        monkeypatch.setattr(Run, "next_unit", late)
+        assert shown(perform(gets("a", "b", "c"), answering({}), mode="stop", width=2)) == {"a": 200, "b": 424, "c": 424}
 
     def test_groups_without_transactions_are_refused_before_anything_is_sent(self, driver):
         with pytest.raises(Refusal) as refused:
