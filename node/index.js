@@ -5,9 +5,10 @@
 const { version: number } = require('./odb_batch.node')
 const { canon, check, match, output, plan, replay, run } = require('./commands.js')
 const { Fault, Refused } = require('./faults.js')
+const { requests } = require('./requests.js')
 const { Run } = require('./run.js')
 
 /** The version of the library, MAJOR.MINOR.PATCH. */
 const version = [number / 10000, number / 100, number].map((it) => Math.floor(it) % 100).join('.')
 
-module.exports = { Fault, Refused, Run, canon, check, match, output, plan, replay, run, version }
+module.exports = { Fault, Refused, Run, canon, check, match, output, plan, replay, requests, run, version }

@@ -22,6 +22,8 @@ F04 NoRequests batch
 >>> output("check", batch)
 Output(accepted=True, text=b'{"groups":0,"requests":2}\\n')
 
+:func:`requests` has what is to be sent of each request, for who performs the batch or hands it on.
+
 A :class:`Run` is a live run, for who performs the requests: it says which of them may start now, takes what
 each is answered, and has the response in the end. :func:`perform` and :func:`perform_async` do all of that by a
 function that sends one request.
@@ -56,6 +58,7 @@ from ._library import VERSION as __version__
 from ._messages import Answer, PreparedRequest, Refusal
 from ._perform import perform
 from ._perform_async import perform_async
+from ._requests import Request, requests
 from ._runs import RequestState, Run
 
 __all__ = [
@@ -77,6 +80,7 @@ __all__ = [
     "Refused",
     "Replay",
     "Report",
+    "Request",
     "RequestState",
     "Run",
     "Start",
@@ -89,5 +93,6 @@ __all__ = [
     "perform_async",
     "plan",
     "replay",
+    "requests",
     "run",
 ]

@@ -5,7 +5,7 @@ from typing import Dict, Iterable, Iterator
 from ._answers import place_of, tag_of
 from ._bodies import to_wire
 from ._messages import Answer, PreparedRequest, Refusal
-from ._stand_in import Request
+from ._requests import Request
 from ._urls import Service, entity_url, joined
 
 # Where $ and an id stand for an ETag.

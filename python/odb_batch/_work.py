@@ -10,8 +10,8 @@ from ._documents import Document, bytes_of
 from ._faults import Fault, Refused
 from ._messages import Answer, GroupFailed, PreparedRequest, Refusal
 from ._preparation import Preparation
+from ._requests import requests
 from ._runs import Run
-from ._stand_in import requests
 from ._urls import Service
 
 
