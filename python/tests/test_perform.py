@@ -276,7 +276,7 @@ class TestFailures:
         assert sorted(sent) == ["a", "y"] and ledger.rolled_back == ["g"]
 
     @pytest.mark.parametrize("option", [
-        {"width": 0}, {"width": 10_001}, {"mode": "half"}, {"base": "http://h/odata"}, {"base": "http://h/?x=/"}, {"root": "x"},
+        {"width": 0}, {"width": 10_001}, {"mode": "half"}, {"base": "http://h/odata"}, {"base": "http://h/?x=/"}, {"roots": ["x"]},
     ])  # fmt: skip
     def test_wrong_options(self, driver, option):
         with pytest.raises(ValueError):
@@ -532,7 +532,10 @@ class TestReferences:
         ]
         send = lambda it: (201, {"Location": "http://169.254.169.254/odata/O(1)"})
         assert shown(driver({"requests": batch}, send, base="http://h/odata/")) == {"o": 201, "l": 404}
-        assert shown(driver({"requests": batch}, send, base="http://h/odata/", root="")) == {"o": 201, "l": 201}
+        roots = ["http://h/odata/", "http://169.254.169.254/odata/"]
+        for more in (roots, (), roots[1:]):
+            found = shown(driver({"requests": batch}, send, base="http://h/odata/", roots=more))
+            assert found == ({"o": 201, "l": 201} if roots[0] in more or not more else {"o": 404, "l": 424})
 
 
 class TestBodies:
