@@ -189,7 +189,13 @@ class TestBatches:
     ])  # fmt: skip
     def test_urls_as_a_proxy_in_front_has_them(self, service, headers):
         """A proxy that ends TLS, or has another host: its clients and the application write such URLs."""
-        urls = ["https://host/odata/a", "http://public/odata/a", "https://public/odata/a", "https://public/x", "https://evil/odata/a"]
+        urls = [
+            "https://host/odata/a",
+            "http://public/odata/a",
+            "https://public/odata/a",
+            "https://public/x",
+            "https://evil/odata/a",
+        ]
         found = batch(service, *({"url": url} for url in urls), headers={**CONTINUE, **headers})
         assert [it["status"] for it in found.values()] == [200, 200, 200, 404, 404]
         assert {it["body"]["path"] for it in list(found.values())[:3]} == {"/odata/a"}

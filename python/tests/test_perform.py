@@ -202,7 +202,11 @@ class TestTransactions:
             return found
 
         monkeypatch.setattr(Run, "next_unit", late)
-        assert shown(perform(gets("a", "b", "c"), answering({}), mode="stop", width=2)) == {"a": 200, "b": 424, "c": 424}
+        assert shown(perform(gets("a", "b", "c"), answering({}), mode="stop", width=2)) == {
+            "a": 200,
+            "b": 424,
+            "c": 424,
+        }
 
     def test_groups_without_transactions_are_refused_before_anything_is_sent(self, driver):
         with pytest.raises(Refusal) as refused:
@@ -327,6 +331,17 @@ class TestThreads:
         perform(gets(*"abcdef"), send, width=2)
         assert seen == [1] * 6
 
+    def test_a_place_that_is_free_is_taken(self):
+        """The third request begins while the first one is still out."""
+        third = threading.Event()
+
+        def send(request):
+            if request.id == "c":
+                third.set()
+            return (200 if request.id != "a" or third.wait(5) else 504,)
+
+        assert shown(perform(gets(*"abc"), send, width=2)) == dict.fromkeys("abc", 200)
+
     @pytest.mark.parametrize("width", [1, 2, 3])
     def test_keeps_to_the_width(self, width):
         lock, now, most = threading.Lock(), [0], [0]
@@ -403,6 +418,23 @@ class TestTasks:
 
         found = shown(asyncio.run(perform_async(gets("a", "b"), send)))
         assert found == {"a": 500, "b": 500}
+
+    def test_a_place_that_is_free_is_taken(self):
+        """The third request begins while the first one is still out."""
+
+        async def main():
+            third = asyncio.Event()
+
+            async def send(request):
+                if request.id == "c":
+                    third.set()
+                elif request.id == "a":
+                    await asyncio.wait_for(third.wait(), 5)
+                return (200,)
+
+            return await perform_async(gets(*"abc"), send, width=2)
+
+        assert shown(asyncio.run(main())) == dict.fromkeys("abc", 200)
 
     def test_each_unit_has_a_copy_of_the_context(self):
         variable, seen = ContextVar("variable", default=0), []
