@@ -50,7 +50,7 @@ _PARAMETERS: Dict[str, List[Any]] = {
     "odb_match_with": [*_BYTES, *_BYTES, *_NUMBER * 2, *_SEEDED],
     "odb_run_as": [*_BYTES, *_BYTES, *_NUMBER * 3, *_SEEDED],
     "odb_replay_as": [*_BYTES, *_BYTES, *_NUMBER * 5, *_SEEDED],
-    "odb_requests": [*_BYTES, *_TEXT, _SIZE, ctypes.c_size_t, _SIZE, ctypes.c_uint64],
+    "odb_requests": [*_BYTES, *_TEXT, ctypes.c_void_p, ctypes.c_size_t, _SIZE, ctypes.c_uint64],
     "odb_run_open": [*_BYTES, *_BYTES, *_NUMBER * 2, *_RUN, *_SEEDED],
     "odb_run_ready": [*_RUN, *_POSITIONS],
     "odb_run_running": [*_RUN, *_POSITIONS],

@@ -37,5 +37,6 @@ pub fn requests_in(alloc: Global, batch: &[u8], seed: Seed) -> Result<Requests, 
         ..Setup::plain()
     };
     let plan = plan_of(alloc, &read, setup)?;
-    Ok(requests_of(alloc, batch, &plan.value)?)
+    let found = requests_of(alloc, batch, &plan.value)?;
+    Ok(found)
 }
