@@ -382,9 +382,10 @@ class TestTasks:
         assert ended == ["slow"]
 
     def test_a_cancellation_rolls_back(self):
-        ended = []
+        ended, sent = [], []
 
         async def send(request):
+            sent.append(request.id)
             await asyncio.sleep(5 if request.id == "b" else 0)
             return (200,)
 
@@ -399,7 +400,8 @@ class TestTasks:
 
         async def main():
             task = asyncio.ensure_future(perform_async(GROUP, send, transaction=transaction))
-            await asyncio.sleep(0.05)
+            while "b" not in sent:
+                await asyncio.sleep(0.001)
             task.cancel()
             with pytest.raises(asyncio.CancelledError):
                 await task
