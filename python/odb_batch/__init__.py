@@ -25,7 +25,8 @@ Output(accepted=True, text=b'{"groups":0,"requests":2}\\n')
 :func:`requests` has what is to be sent of each request, for who performs the batch or hands it on.
 
 A :class:`Run` is a live run, for who performs the requests: it says which of them may start now, takes what
-each is answered, and has the response in the end.
+each is answered, and has the response in the end. :func:`perform` and :func:`perform_async` do all of that by a
+function that sends one request.
 
 A document is bytes, a text or a mapping that ``json`` can write, with mappings of any kind in it. A document
 that is refused raises :class:`Fault`, which and :class:`Refused` have the base :class:`OdbError`. All functions
@@ -54,10 +55,14 @@ from ._commands import (
 from ._documents import Document, Events, Report, Start
 from ._faults import Fault, OdbError, Refused
 from ._library import VERSION as __version__
+from ._messages import Answer, PreparedRequest, Refusal
+from ._perform import perform
+from ._perform_async import perform_async
 from ._requests import Request, requests
 from ._runs import RequestState, Run
 
 __all__ = [
+    "Answer",
     "Command",
     "Counts",
     "Document",
@@ -70,6 +75,8 @@ __all__ = [
     "Output",
     "Plan",
     "PlannedRequest",
+    "PreparedRequest",
+    "Refusal",
     "Refused",
     "Replay",
     "Report",
@@ -82,6 +89,8 @@ __all__ = [
     "check",
     "match",
     "output",
+    "perform",
+    "perform_async",
     "plan",
     "replay",
     "requests",

@@ -1,0 +1,79 @@
+"""URLs of requests: joined to the base of the service, in ASCII, and not outside of it."""
+
+import re
+from typing import Optional, Sequence
+from urllib.parse import quote, unquote, urljoin, urlsplit, urlunsplit
+
+from ._messages import Refusal
+
+# A path that is appended to its base as it is, since urljoin takes its time.
+_IS_RELATIVE = re.compile(r"[^/:?#.\\]+(/[^/:?#.\\]+)*(\?[^#]*)?").fullmatch
+# What stays as it is in a URL, apart from letters, digits, - . _ and ~.
+_PLAIN = "!$%&'()*+,/:;=@"
+
+
+def joined(base: str, url: str) -> str:
+    """Returns a URL that is relative to a base, which may be empty.
+
+    Raises:
+        Refusal: It cannot be read as a URL: 400 ``BadUrl``.
+    """
+    if base.endswith("/") and _IS_RELATIVE(url):
+        return base + url
+    try:
+        return urljoin(base, url)
+    except ValueError:
+        raise Refusal(400, "BadUrl", "The URL cannot be read") from None
+
+
+def entity_url(url: str) -> str:
+    """Returns the URL of a resource without query, fragment and a slash at its end: more segments may be appended."""
+    parts = urlsplit(url)
+    return urlunsplit((*parts[:2], parts.path.rstrip("/"), "", ""))
+
+
+class Service:
+    """Where the requests of a batch may lead.
+
+    Args:
+        base: The URL that their URLs are relative to. It ends with /, or is empty: then URLs stay as they are.
+        roots: What the URL of each request has to begin with: one of these URLs, each of which ends with /. None if it
+            is the base, and no URLs if it may be anything.
+
+    Raises:
+        ValueError: A URL does not end with /.
+    """
+
+    def __init__(self, base: str, roots: Optional[Sequence[str]] = None) -> None:
+        for url in (base, *(roots or ())):
+            if url and (not url.endswith("/") or urlsplit(url).query or urlsplit(url).fragment):
+                raise ValueError(f"a base or a root must be a URL that ends with /, not {url!r}")
+        self.base = base
+        self._roots = tuple(filter(None, (base,) if roots is None else roots))
+        parts = map(urlsplit, self._roots)
+        # The scheme, the host and the decoded path of each.
+        self._places = [(it.scheme, it.netloc.lower(), unquote(it.path)) for it in parts]
+
+    def target(self, url: str) -> str:
+        """Returns an absolute URL in ASCII, without its fragment.
+
+        Raises:
+            Refusal: It cannot be read: 400 ``BadUrl``. It leads out of the service: 404 ``NotFound``. So does one with
+                a segment ``..``, or with a character that cannot be printed, however it is encoded.
+        """
+        try:
+            parts = urlsplit(url)
+        except ValueError:
+            raise Refusal(400, "BadUrl", "The URL cannot be read") from None
+        if self._places and not self._has(parts.scheme, parts.netloc.lower(), unquote(parts.path)):
+            raise Refusal(404, "NotFound", f"The URL leads out of {self._roots[0]}")
+        path, query = quote(parts.path, _PLAIN + "~"), quote(parts.query, _PLAIN + "~?")
+        return urlunsplit((parts.scheme, parts.netloc, path, query, ""))
+
+    def _has(self, scheme: str, netloc: str, path: str) -> bool:
+        """Whether a URL is below a root, by its parts and its decoded path."""
+        # Servers take \ for / and drop what follows a ; in a segment, so these count here, too.
+        segments = [segment.partition(";")[0] for segment in path.replace("\\", "/").split("/")]
+        if ".." in segments or not path.isprintable():
+            return False
+        return any(place[:2] == (scheme, netloc) and path.startswith(place[2]) for place in self._places)

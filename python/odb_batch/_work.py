@@ -1,0 +1,170 @@
+"""A batch on its way: which unit begins, and what is reported. It has no threads, and does not send."""
+
+from types import TracebackType
+from typing import Callable, Dict, Optional, Tuple, Type
+
+from ._answers import FAILED, LOG, answer_to, shown
+from ._bodies import as_text, to_json
+from ._commands import Mode
+from ._documents import Document, bytes_of
+from ._faults import Fault, Refused
+from ._messages import Answer, GroupFailed, PreparedRequest, Refusal
+from ._preparation import Preparation
+from ._requests import requests
+from ._runs import Run
+from ._urls import Service
+
+
+class Unit:
+    """An atomicity group, or a request without one, that has begun.
+
+    Attributes:
+        ids: Its requests in order: each comes after those of the group that it needs.
+        group: The name of the group, or None.
+        open: The request that has started and is not reported yet, or None.
+    """
+
+    __slots__ = ("ids", "group", "open")
+
+    def __init__(self, ids: Tuple[str, ...], group: Optional[str]) -> None:
+        self.ids, self.group = ids, group
+        self.open: Optional[str] = ids[0]
+
+    def __str__(self) -> str:
+        return self.ids[0] if self.group is None else f"the group {self.group}"
+
+
+class Work:
+    """A batch on its way from its document to its response.
+
+    A unit that :meth:`begin` returns needs nothing more from outside of it. So a transaction that begins now does not
+    wait for what waits for it.
+
+    One thread calls ``begin`` and ``response``. The other methods may be called by any, for different units.
+
+    Args:
+        batch: The batch.
+        mode, width: Those of its run.
+        limit: How many requests it may have.
+        has_transactions: Whether groups can be kept.
+        service: Where its requests may lead.
+        stop: Is called before a unit begins. Once it returns true, nothing more starts.
+
+    Raises:
+        Fault: The batch is refused.
+        Refusal: It has too many requests, or groups that cannot be kept.
+    """
+
+    def __init__(
+        self,
+        batch: Document,
+        *,
+        mode: Mode,
+        width: int,
+        limit: int,
+        has_transactions: bool,
+        service: Service,
+        stop: Optional[Callable[[], bool]],
+    ) -> None:
+        document = bytes_of(batch)
+        given = requests(document)
+        if len(given) > limit:
+            raise Refusal(413, "TooManyRequests", f"A batch may have {limit} requests")
+        if not has_transactions and any(request.group is not None for request in given):
+            raise Refusal(501, "NoGroups", "Atomicity groups are not supported here")
+        self._groups = {request.id: request.group for request in given}
+        self._preparation, self._stop = Preparation(given, service), stop
+        self._run = Run(document, mode=mode, width=width)
+
+    def __enter__(self) -> "Work":
+        return self
+
+    def __exit__(
+        self, kind: Optional[Type[BaseException]], error: Optional[BaseException], trace: Optional[TracebackType]
+    ) -> None:
+        self._run.close()
+
+    def begin(self) -> Optional[Unit]:
+        """Starts the first request of the first unit that may begin; None if no unit may begin now."""
+        if self._stop is not None and self._stop():
+            self.stop()
+        while (ids := self._run.next_unit()) is not None:
+            try:
+                self._run.start(ids[0])
+            except Refused:
+                continue  # meanwhile another thread has reported an error that stops the run
+            return Unit(ids, self._groups[ids[0]])
+        return None
+
+    def stop(self) -> None:
+        """Lets nothing more start."""
+        self._run.stop()
+
+    def prepared(self, unit: Unit) -> PreparedRequest:
+        """Returns the open request of a unit, as it is sent; raises Refusal if it cannot be."""
+        return self._preparation.prepared(str(unit.open))
+
+    # The requests of a group
+
+    def proceed(self, unit: Unit, id: str) -> None:
+        """Starts a request of a group, if it is not the first; raises Refused if the run is stopped."""
+        if unit.open != id:
+            self._run.start(id)
+            unit.open = id
+
+    def take(self, unit: Unit, answer: Answer) -> None:
+        """Reports the open request of a group. If it is the last one and has succeeded, this does nothing: it is
+        reported after the commit. Raises GroupFailed if it has not succeeded."""
+        if answer.is_success and unit.open == unit.ids[-1]:
+            return
+        self.finish(unit, answer)
+        if not answer.is_success:
+            raise GroupFailed(unit.group)
+
+    # The end of a unit
+
+    def failure(self, unit: Unit, error: Exception) -> Optional[Answer]:
+        """Returns what the open request of a unit is answered, since its transaction has ended by an exception; None if
+        none is open: the group has failed before."""
+        if unit.open is not None:
+            return answer_to(error, str(unit))
+        if not isinstance(error, (GroupFailed, Refused)):
+            LOG.error("%s could not be rolled back", unit, exc_info=error)
+        return None
+
+    def finish(self, unit: Unit, answer: Optional[Answer]) -> None:
+        """Reports the open request of a unit, if there is one; without an answer it has failed."""
+        if unit.open is not None:
+            id, unit.open = unit.open, None
+            self._report(id, answer or FAILED)
+
+    def _report(self, id: str, answer: Answer) -> None:
+        try:
+            text = to_json(answer, answer.headers)
+        except Exception as error:
+            LOG.error("the body of the answer to %s cannot be written", id, exc_info=error)
+            answer, text = FAILED, to_json(FAILED, {})
+        self._preparation.keep(id, answer)
+        headers = shown(answer)
+        try:
+            self._run.report(id, answer.status, headers or None, text)
+        except Fault:
+            self._report_unread(id, answer, headers, text)
+
+    def _report_unread(self, id: str, answer: Answer, headers: Dict[str, str], text: bytes) -> None:
+        """Reports an answer that the run cannot read: a body that is not JSON as a string, headers in ASCII alone."""
+        LOG.warning("the answer to %s has a body that is not JSON, or a header that is not Unicode", id)
+        wire = bytes(answer.body) if isinstance(answer.body, (bytes, bytearray, memoryview)) else text
+        kept = {name: value for name, value in headers.items() if name.isascii() and value.isascii()}
+        self._run.report(id, answer.status, kept or None, as_text(wire, {}) if wire else b"")
+
+    def response(self) -> bytes:
+        """Returns the response document of the finished run.
+
+        Raises:
+            RuntimeError: The answer to a request could not be reported. It is not a Fault, which would be one of the
+            batch.
+        """
+        if not self._run.finished:
+            raise RuntimeError("a request was started, and its answer could not be reported")
+        return self._run.response()
