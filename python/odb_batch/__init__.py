@@ -23,7 +23,8 @@ F04 NoRequests batch
 Output(accepted=True, text=b'{"groups":0,"requests":2}\\n')
 
 A :class:`Run` is a live run, for who performs the requests: it says which of them may start now, takes what
-each is answered, and has the response in the end.
+each is answered, and has the response in the end. :func:`perform` and :func:`perform_async` do all of that by a function
+that sends one request.
 
 A document is bytes, a text or a mapping that ``json`` can write, with mappings of any kind in it. A document
 that is refused raises :class:`Fault`, which and :class:`Refused` have the base :class:`OdbError`. All functions
@@ -52,9 +53,13 @@ from ._commands import (
 from ._documents import Document, Events, Report, Start
 from ._faults import Fault, OdbError, Refused
 from ._library import VERSION as __version__
+from ._messages import Answer, PreparedRequest, Refusal
+from ._perform import perform
+from ._perform_async import perform_async
 from ._runs import RequestState, Run
 
 __all__ = [
+    "Answer",
     "Command",
     "Counts",
     "Document",
@@ -67,6 +72,8 @@ __all__ = [
     "Output",
     "Plan",
     "PlannedRequest",
+    "PreparedRequest",
+    "Refusal",
     "Refused",
     "Replay",
     "Report",
@@ -78,6 +85,8 @@ __all__ = [
     "check",
     "match",
     "output",
+    "perform",
+    "perform_async",
     "plan",
     "replay",
     "run",

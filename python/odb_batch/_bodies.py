@@ -1,0 +1,69 @@
+"""Bodies between the wire and a batch (OData JSON Format 4.01, sections 19.1 and 19.5).
+
+A body of JSON is in a batch as it is, one of text as a string, and any other in base64url.
+"""
+
+import base64
+import binascii
+import json
+from typing import Mapping
+
+from ._documents import body_of
+from ._messages import Answer, Refusal, charset, media_type
+
+
+def _is_json(kind: str) -> bool:
+    return kind in ("", "application/json") or kind.endswith("+json")
+
+
+def to_wire(text: bytes, headers: Mapping[str, str]) -> bytes:
+    """Returns the bytes on the wire of a body, by its text in the batch and its headers, in lower case.
+
+    JSON stays byte for byte as it is, so that no number loses a digit.
+
+    Raises:
+        Refusal: The character set of a text is unknown, or has not all of its characters: 400 ``BadCharset``.
+    """
+    kind = media_type(headers)
+    if _is_json(kind):
+        return text
+    value: str = json.loads(text)
+    if not kind.startswith("text/"):
+        digits = value.rstrip("=")
+        return base64.urlsafe_b64decode(digits + "=" * (-len(digits) % 4))
+    try:
+        return value.encode(charset(headers))
+    except (LookupError, ValueError):
+        raise Refusal(400, "BadCharset", f"The body cannot be written in {charset(headers)}", "content-type") from None
+
+
+def to_json(answer: Answer, headers: Mapping[str, str]) -> bytes:
+    """Returns the text in the response of a body, by the headers of its answer, in lower case; empty if it has none.
+
+    Bytes that claim to be JSON are not looked at: the report of the run reads them.
+
+    Raises:
+        ValueError: The body is a value with a NaN or an infinity.
+        TypeError: The body is a value that ``json`` cannot write.
+    """
+    body = answer.body
+    if not isinstance(body, (bytes, bytearray, memoryview)):
+        return body_of(body)
+    wire, kind = bytes(body), media_type(headers)
+    if not wire:
+        return b""
+    if _is_json(kind):
+        return wire[3:] if wire.startswith(b"\xef\xbb\xbf") else wire
+    if kind.startswith("text/"):
+        return as_text(wire, headers)
+    return b'"%s"' % base64.urlsafe_b64encode(wire).rstrip(b"=")
+
+
+def as_text(wire: bytes, headers: Mapping[str, str]) -> bytes:
+    """Returns bytes as a string of JSON, whatever they are: where they are not of their character set, each byte is a
+    character."""
+    try:
+        text = wire.decode(charset(headers))
+    except (LookupError, UnicodeDecodeError, binascii.Error):
+        text = wire.decode("latin-1")
+    return json.dumps(text).encode()

@@ -1,0 +1,212 @@
+"""What the HTTP request that carries a batch means: the same for WSGI and ASGI."""
+
+import json
+import re
+import threading
+from typing import Dict, Iterable, List, Mapping, NamedTuple, Optional, Tuple
+from urllib.parse import quote
+
+from ._commands import Mode
+from ._faults import Fault
+from ._messages import Answer, PreparedRequest, Refusal, media_type
+
+# What a batch has for itself: its requests do not inherit it.
+_NOT_INHERITED = frozenset(
+    {
+        "accept", "accept-encoding", "connection", "digest", "expect", "idempotency-key", "keep-alive", "prefer", "range",
+        "signature", "signature-input", "te", "trailer", "transfer-encoding", "upgrade",
+    }
+)  # fmt: skip
+_NOT_INHERITED_PREFIXES = ("content-", "if-", "repeatability-")
+# What a request of a batch may say for itself. Another header could be one by which a proxy says who the client is.
+_ALLOWED = frozenset(
+    {
+        "accept", "accept-charset", "accept-language", "content-language", "content-type", "idempotency-key", "if-match",
+        "if-modified-since", "if-none-match", "if-unmodified-since", "isolation", "odata-isolation", "odata-maxversion",
+        "odata-version", "prefer", "repeatability-first-sent", "repeatability-request-id",
+    }
+)  # fmt: skip
+# What clients send with each request; in a batch it has no meaning, and is dropped.
+_IGNORED = frozenset(
+    {"accept-encoding", "cache-control", "connection", "content-length", "date", "host", "pragma", "user-agent"}
+)
+_PREFERENCES = re.compile(r'(?:[^,"]|"[^"]*"?)+')
+# The preferences that are for the batch alone.
+_OF_BATCH = frozenset({"callback", "continue-on-error", "respond-async", "wait"})
+_IS_HOST = re.compile(r"[A-Za-z0-9._~-]*|\[[0-9A-Fa-f:.]+\]").fullmatch
+
+
+class Preference(NamedTuple):
+    """A preference of RFC 7240: its name without ``odata.``, its value, both in lower case, and its text."""
+
+    name: str
+    value: str
+    text: str
+
+
+def preferences(headers: Mapping[str, str]) -> List[Preference]:
+    """Returns the preferences of a request in order."""
+    found = []
+    for part in _PREFERENCES.findall(headers.get("prefer", "")):
+        name, _, value = part.partition(";")[0].partition("=")
+        name = name.strip().lower()
+        name = name[6:] if name.startswith("odata.") else name
+        found.append(Preference(name, value.strip().strip('"').lower(), part.strip()))
+    return found
+
+
+def folder_of(path: str) -> str:
+    """Returns the path that the URLs of a batch are relative to, by the path where batches are sent."""
+    return path[: path.rindex("/") + 1]
+
+
+class Outer:
+    """The HTTP request that carries a batch.
+
+    Args:
+        method: Its method in upper case.
+        scheme, host: Of its URL; the host with the port, if that is not the usual one.
+        folder: The decoded path that URLs in the batch are relative to. It ends with /.
+        root: The decoded path that each URL has to begin with. It ends with /.
+        headers: Its headers by their names in lower case.
+        allowed: The names in lower case of further headers that requests may have.
+
+    Attributes:
+        mode: How the batch is performed: ``"stop"``, unless the client prefers to continue on error (OData Protocol 4.01,
+            section 8.2.8.3).
+        base, root: The folder and the root as URLs.
+
+    Raises:
+        Refusal: The method is not POST (405), the body is not in JSON (415), or the host is not one (400).
+    """
+
+    def __init__(
+        self,
+        method: str,
+        scheme: str,
+        host: str,
+        folder: str,
+        root: str,
+        headers: Mapping[str, str],
+        allowed: Iterable[str] = (),
+    ) -> None:
+        if method != "POST":
+            raise Refusal(405, "NotAllowed", f"{method} does not apply to a batch", allow="POST")
+        if media_type(headers) != "application/json":
+            raise Refusal(415, "BadMediaType", "A batch is in application/json", accept="application/json")
+        if not _is_authority(host):
+            raise Refusal(400, "BadHost", "The host is not a name with a port")
+        origin = f"{scheme}://{host}"
+        self.base, self.root = origin + quote(folder, "/$()'*,;=@:!&+~"), origin + quote(root, "/$()'*,;=@:!&+~")
+        self._allowed = _ALLOWED.union(allowed)
+        wanted = preferences(headers)
+        continues = next((it.value for it in wanted if it.name == "continue-on-error"), None)
+        self.mode: Mode = "continue" if continues in ("", "true") else "stop"
+        self._prefer = [it.text for it in wanted if it.name not in _OF_BATCH]
+        self._inherited = {name: value for name, value in headers.items() if _is_inherited(name)}
+        if self._prefer:
+            self._inherited["prefer"] = ", ".join(self._prefer)
+
+    def headers_of(self, request: PreparedRequest) -> Dict[str, str]:
+        """Returns the headers of a request of the batch, with those that it inherits.
+
+        Raises:
+            Refusal: It has a header that it may not have (400 ``HeaderNotAllowed``), or one with a character that may not
+                be in a header (400 ``BadHeader``).
+        """
+        headers = dict(self._inherited)
+        for name, value in request.headers.items():
+            if name in _IGNORED:
+                continue
+            if name not in self._allowed:
+                raise Refusal(400, "HeaderNotAllowed", f"A request of a batch may not have the header {name}", name)
+            if not _is_field_value(value):
+                raise Refusal(400, "BadHeader", f"The header {name} has a character that it may not have", name)
+            headers[name] = ", ".join([value, *self._prefer]) if name == "prefer" else value
+        return headers
+
+
+def _is_inherited(name: str) -> bool:
+    return name not in _NOT_INHERITED and not name.startswith(_NOT_INHERITED_PREFIXES)
+
+
+def _is_authority(host: str) -> bool:
+    name, _, port = host.rpartition(":") if re.search(r":[0-9]*$", host) and not host.endswith("]") else (host, "", "")
+    return _IS_HOST(name) is not None
+
+
+def _is_field_value(value: str) -> bool:
+    """Whether a header may have a value: Latin-1 without control characters but a tab (RFC 9110, section 5.5)."""
+    return all(character == "\t" or " " <= character <= "~" or "\xa0" <= character <= "\xff" for character in value)
+
+
+class Room:
+    """How many bytes the bodies of the answers to a batch may still have together. Threads may share it."""
+
+    def __init__(self, size: int) -> None:
+        self._left, self._lock = size, threading.Lock()
+
+    @property
+    def left(self) -> int:
+        return self._left
+
+    def fit(self, method: str, answer: Answer) -> Answer:
+        """Returns an answer, whose body is bytes, with as much of that as there is room for: all or nothing.
+
+        A request that is not a GET is performed by now, so it keeps its status, and loses its body.
+
+        Raises:
+            Refusal: The body of the answer to a GET is too long: 507 ``TooLong``.
+        """
+        with self._lock:
+            is_fitting = len(answer.body) <= self._left
+            self._left -= len(answer.body) if is_fitting else 0
+        if is_fitting:
+            return answer
+        if method == "GET":
+            raise Refusal(507, "TooLong", "The answers to the batch are too long together")
+        return answer._replace(body=b"")
+
+
+def too_long(size: int) -> Refusal:
+    """Returns the refusal of a batch that has more bytes than this."""
+    return Refusal(413, "TooLong", f"A batch may have {size} bytes")
+
+
+def refused(error: Exception) -> Answer:
+    """Returns the answer to a batch that is refused as a whole: that of a Refusal; 400 with code, name and place of a Fault."""
+    if isinstance(error, Refusal):
+        return error.answer
+    if not isinstance(error, Fault):
+        raise error
+    message = f"{error.name}: {' '.join(error.explanation.split())}"
+    return Refusal(400, error.code, message, error.place).answer
+
+
+def performed(response: bytes, mode: Mode) -> Answer:
+    """Returns the answer to a batch that was performed (OData Protocol 4.01, section 11.7.7)."""
+    headers = {"content-type": "application/json", "odata-version": "4.01"}
+    if mode == "continue":
+        headers["preference-applied"] = "continue-on-error"
+    return Answer(200, headers, response)
+
+
+def message_of(answer: Answer) -> Tuple[Dict[str, str], bytes]:
+    """Returns the headers and the body of an answer as they go over the wire."""
+    body = answer.body if isinstance(answer.body, bytes) else json.dumps(answer.body).encode()
+    version = {"odata-version": "4.01"}
+    return {**version, **answer.headers, "content-length": str(len(body))}, body
+
+
+def names_of(allowed: Iterable[str]) -> "frozenset[str]":
+    """Returns names of headers in lower case."""
+    return frozenset(name.lower() for name in allowed)
+
+
+def root_of(root: Optional[str], path: str) -> str:
+    """Returns the path that each URL has to begin with; raises ValueError if it, or the path of batches, cannot be one."""
+    if not path.startswith("/"):
+        raise ValueError(f"the path must begin with /, not {path!r}")
+    if root is not None and not (root.startswith("/") and root.endswith("/")):
+        raise ValueError(f"the root must begin and end with /, not {root!r}")
+    return folder_of(path) if root is None else root

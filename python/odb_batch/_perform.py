@@ -1,0 +1,154 @@
+"""Performs batches by a function that sends one request, in threads."""
+
+from concurrent.futures import Executor, Future, ThreadPoolExecutor, wait
+from contextvars import copy_context
+from queue import SimpleQueue
+from typing import Any, Callable, ContextManager, Optional, Set
+
+from ._commands import Mode
+from ._documents import Document
+from ._messages import Answer, Answered, PreparedRequest
+from ._urls import Service
+from ._work import Unit, Work, answer_of, checked
+
+#: Sends a request, and returns what it is answered.
+Send = Callable[[PreparedRequest], Answered]
+#: Opens the transaction of a group, by its name. It is committed at the end of the block, and rolled back on any exception.
+Transaction = Callable[[str], ContextManager[Any]]
+
+
+def perform(
+    batch: Document,
+    send: Send,
+    *,
+    mode: Mode = "continue",
+    width: int = 1,
+    transaction: Optional[Transaction] = None,
+    base: str = "",
+    root: Optional[str] = None,
+    limit: int = 10_000,
+    stop: Optional[Callable[[], bool]] = None,
+    pool: Optional[Executor] = None,
+) -> bytes:
+    """Performs a batch, and returns the response document, as JSON without a newline.
+
+    Each request goes to ``send`` once it may start: what it needs has succeeded, and references in its URL and in
+    ``If-Match`` are replaced (OData JSON Format 4.01, section 19.2).
+
+    >>> from odb_batch import Answer, perform
+    >>> batch = {"requests": [{"id": "a", "method": "post", "url": "Books", "body": {"Title": "Emma"}},
+    ...                       {"id": "b", "method": "get", "url": "$a/Pages", "dependsOn": ["a"]}]}
+    >>> def send(request):
+    ...     print(request.method, request.url)
+    ...     return Answer(201, {"Location": "/odata/Books(7)"})
+    >>> perform(batch, send, base="https://host/odata/")
+    POST https://host/odata/Books
+    GET https://host/odata/Books(7)/Pages
+    b'{"responses":[{"headers":{"location":"/odata/Books(7)"},"id":"a","status":201},{"headers":{"location":"/odata/Books(7)"},"id":"b","status":201}]}'
+
+    An exception of ``send`` is an answer, too: 504 for a TimeoutError, 502 for a ConnectionError, that of a
+    :class:`Refusal`, and 500 for any other, which is logged. A thread cannot be stopped, so ``send`` has to end by itself
+    if no answer comes.
+
+    The requests of a group are sent one after another inside of its transaction. It begins once the group needs nothing
+    more from outside, is committed before the last request is reported, and is rolled back by an exception if one of them
+    fails. If it cannot begin, the first request is answered by its exception, as above; if it cannot be committed, the last.
+
+    Args:
+        batch: The batch.
+        send: Sends a request. With a width above 1 it is called in several threads at once.
+        mode: ``"continue"``, or ``"stop"`` to start nothing more after a status from 400 to 599.
+        width: How many units are performed at once, from 1 to 10,000; a unit is a group, or a request without one. With 1
+            everything happens in the thread of the caller. With more each unit has a thread, and a copy of the context
+            (``contextvars``) of the caller.
+        transaction: Opens the transaction of a group. Without it a batch with groups is refused.
+        base: The URL that URLs are relative to, which ends with /. Requests that lead out of it are answered 404 and not sent.
+            If it is empty, URLs are passed as they are.
+        root: Where requests may lead, if not to the base alone: a URL that ends with /, or ``""`` for anywhere. Then whoever
+            sends a batch reaches whatever this process reaches.
+        limit: How many requests the batch may have.
+        stop: Is called before a unit begins, as ``event.is_set``. Once it returns true, nothing more starts, and what has
+            not started is answered 424: for deadlines, and for a process that ends.
+        pool: Where units are performed, if the width is above 1; else threads are made for this batch.
+
+    Raises:
+        Fault: The batch is refused; nothing was sent.
+        Refusal: The batch has too many requests (413), or groups, and there is no transaction (501); nothing was sent.
+        ValueError: An option has a value that it may not have.
+        MemoryError: An allocation failed.
+    """
+    with Work(
+        batch,
+        mode=mode,
+        width=width,
+        limit=limit,
+        has_transactions=transaction is not None,
+        service=Service(base, root),
+        stop=stop,
+    ) as work:
+        if width == 1:
+            while (unit := work.begin()) is not None:
+                _perform_unit(work, unit, send, transaction)
+        elif pool is not None:
+            _perform_in(pool, work, width, send, transaction)
+        else:
+            with ThreadPoolExecutor(width, "batch") as own:
+                _perform_in(own, work, width, send, transaction)
+        return work.response()
+
+
+def _perform_in(pool: Executor, work: Work, width: int, send: Send, transaction: Optional[Transaction]) -> None:
+    """Performs all units, each in a thread of the pool. If that is interrupted, nothing more starts, open groups are rolled
+    back before their next request, and what is out is waited for."""
+    ended: "SimpleQueue[Future[None]]" = SimpleQueue()
+    out: "Set[Future[None]]" = set()
+    try:
+        while True:
+            while len(out) < width and (unit := work.begin()) is not None:
+                run: Callable[..., None] = copy_context().run
+                future = pool.submit(run, _perform_unit, work, unit, send, transaction)
+                out.add(future)
+                future.add_done_callback(ended.put)
+            if not out:
+                return
+            future = ended.get()
+            out.discard(future)
+            future.result()
+    finally:
+        if out:
+            work.stop()
+            for future in out:
+                future.cancel()
+            wait(out)
+
+
+def _perform_unit(work: Work, unit: Unit, send: Send, transaction: Optional[Transaction]) -> None:
+    """Performs a unit. What needs a group does not start before its commit, since its last request is reported after it."""
+    answer: Optional[Answer] = None
+    try:
+        if unit.group is None or transaction is None:
+            answer = _sent(work, unit, send)
+        else:
+            with transaction(unit.group):
+                # Assigned at the very end: where a manager swallows an exception, there is no answer.
+                answer = _perform_members(work, unit, send)
+    except Exception as error:
+        answer = work.failure(unit, error)
+    work.finish(unit, answer)
+
+
+def _perform_members(work: Work, unit: Unit, send: Send) -> Answer:
+    """Performs the requests of a group, and returns what the last one is answered, which is not reported yet."""
+    for id in unit.ids:
+        work.proceed(unit, id)
+        answer = _sent(work, unit, send)
+        work.take(unit, answer)
+    return answer
+
+
+def _sent(work: Work, unit: Unit, send: Send) -> Answer:
+    id = str(unit.open)
+    try:
+        return checked(send(work.prepared(id)))
+    except Exception as error:
+        return answer_of(error, id)
