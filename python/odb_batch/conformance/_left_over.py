@@ -2,10 +2,10 @@
 
 from typing import Any, Dict, Iterator, List, Set
 
-from entities import Entities, Listing
-from judge import Check
-from promises import Case
-from stage import Stage
+from ._entities import Entities, Listing
+from ._judge import Check
+from ._promises import Case
+from ._stage import Stage
 
 
 def marks_of(entities: Entities, stages: List[Stage]) -> Dict[Any, str]:

@@ -3,12 +3,12 @@
 from collections import Counter
 from typing import Any, Dict, Iterator, List, NamedTuple, Optional
 
-from entities import Listing
-from odb_batch import Document, Fault, match
-from promises import Case
-from service import Answer
-from stage import ABSENT, DONE, FAILS, OPEN, SKIPPED, UNDONE, Stage, Step
-from twin import Taking, Twin, differences, parts_in_batch
+from .. import Fault, match
+from ._entities import Listing
+from ._promises import Case
+from ._service import Answer
+from ._stage import ABSENT, DONE, FAILS, OPEN, SKIPPED, UNDONE, Stage, Step
+from ._twin import Taking, Twin, differences, parts_in_batch
 
 # Which promise a fault of a match breaks.
 FAULTS = {"F71": "once", "F72": "once", "F73": "once", "F74": "named", "F75": "failed"}
@@ -60,15 +60,9 @@ class Judge:
 
     def _by_match(self) -> Iterator[Check]:
         """What `match` says. A batch that ends with an error may leave out the responses to what was not performed."""
-        assert self.responses is not None
-        document: Document = self.answer.text
-        if self.stops and any(status >= 400 for status in self.statuses.values()):
-            answered = [it.get("id") for it in self.responses]
-            left_out = [response_of(it) for it in self.stage.steps if it.id not in answered]
-            document = {"responses": [*self.responses, *left_out]}
         asked = ["once", *(["named"] if "groups" in self.stage.features() else [])]
         try:
-            match(self.stage.document(), document)
+            match(self.stage.document(), self.answer.text, mode="stop" if self.stops else "continue")
         except Fault as fault:
             promise = FAULTS.get(fault.code, "answered")
             text = " ".join(fault.explanation.split())
@@ -218,9 +212,3 @@ def clear_responses(responses: List[Dict[str, Any]]) -> Dict[str, Dict[str, Any]
     ids = Counter(it["id"] for it in responses if isinstance(it.get("id"), str))
     clear = (it for it in responses if isinstance(it.get("id"), str) and isinstance(it.get("status"), int))
     return {it["id"]: it for it in clear if ids[it["id"]] == 1}
-
-
-def response_of(step: Step) -> Dict[str, Any]:
-    """The response 424 of a request."""
-    found: Dict[str, Any] = {"id": step.id, "status": 424}
-    return {**found, "atomicityGroup": step.group} if step.group else found

@@ -6,7 +6,7 @@ import uuid
 from typing import Any, Callable, Dict, Iterator, List, NamedTuple, Optional, Sequence, Tuple
 from urllib.parse import quote
 
-from service import GONE, Answer, Service, Unusable
+from ._service import GONE, Answer, Service, Unusable
 
 # How many pages of a set are listed, and how many entities of it. A set with more is not listed.
 MAX_PAGES, MAX_LISTED = 100, 5_000
@@ -284,6 +284,12 @@ class Entities:
                 self.left += self.made.values()
                 self.made = {}
                 break
+
+    def forget(self) -> List[str]:
+        """Forgets what could not be removed; returns its URLs."""
+        found = [*self.left, *self.made.values()]
+        self.left, self.made = [], {}
+        return found
 
     def _remove(self, url: str) -> bool:
         """Removes an entity; returns whether it is gone."""

@@ -2,11 +2,11 @@
 
 from typing import Any, Callable, Dict, List, NamedTuple, Tuple
 
-from entities import Entities, Entity
-from kinds import NO_TAG, ask_alone
-from promises import Case
-from stage import Stage, Step
-from twin import Parts, Taking, Twin, etag_of, parts_alone
+from ._entities import Entities, Entity
+from ._kinds import NO_TAG, ask_alone
+from ._promises import Case
+from ._stage import Stage, Step
+from ._twin import Parts, Taking, Twin, etag_of, parts_alone
 
 ODD = "ä \"\\/ € & '%41 <b>"
 MINIMAL, WHOLE = {"Prefer": "return=minimal"}, {"Prefer": "return=representation"}

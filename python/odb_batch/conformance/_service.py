@@ -8,9 +8,11 @@ import time
 from typing import Any, Mapping, NamedTuple, Optional
 from urllib.parse import unquote, urljoin, urlsplit
 
-from interruption import Interrupted, Interruption
+from ._interruption import Interrupted, Interruption
 
 MAX_ANSWER = 67_108_864
+# For how many seconds an answer is waited for, if nobody says.
+SECONDS = 20.0
 # For how many seconds at most a read waits before it looks for an interruption.
 SLICE = 0.25
 JSON = {"Content-Type": "application/json"}

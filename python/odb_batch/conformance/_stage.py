@@ -4,8 +4,8 @@ import itertools
 import json
 from typing import Any, Dict, List, NamedTuple, Optional, Sequence, Set
 
-from entities import Effect, Entities, Entity
-from twin import Twin
+from ._entities import Effect, Entities, Entity
+from ._twin import Twin
 
 # What is expected of a request: success; an error of its own; 424 for a dependency that failed; no success, in a
 # group that fails; or anything, since the batch may have ended before it.

@@ -1,5 +1,5 @@
 """What docs/conformance.md shows is what the tool prints. `PYTHONPATH=tests:examples/service/tests:python python3
-conformance/tests/test_page.py --write` puts it into the page, over the library that ODB_BATCH_LIBRARY names.
+python/tests/conformance/test_page.py --write` puts it into the page, over the library that ODB_BATCH_LIBRARY names.
 """
 
 import os
@@ -11,7 +11,7 @@ import pytest
 
 from support.commands import with_package
 from support.program import ROOT
-from tool import TOOL, service
+from tool import service
 
 PAGE = os.path.join(ROOT, "docs", "conformance.md")
 BLOCK = re.compile("```console\n(.*?)```", re.DOTALL)
@@ -23,7 +23,6 @@ def printed(commands, defect):
     """The commands, each with what it prints; the address of the page is that of the service."""
     lines = []
     with service(defect) as (running, folder):
-        os.symlink(TOOL, os.path.join(folder, "conformance"))
         for command in commands:
             words = command.replace("http://localhost:8080/library/", running.url)
             done = subprocess.run(

@@ -14,6 +14,7 @@ import time
 import pytest
 
 from common import SECONDS, rows, until
+from odb_batch.conformance._tool import PROGRAM
 from support.commands import with_package
 from tool import ABOUT, TOOL, service, tool
 
@@ -128,7 +129,7 @@ def interruptible():
 @contextlib.contextmanager
 def judging(url, *words):
     """The tool as a process, while it judges a service."""
-    words = [sys.executable, TOOL, url, *ABOUT, *words]
+    words = [*TOOL, url, *ABOUT, *words]
     pipes = {"stdout": subprocess.PIPE, "stderr": subprocess.PIPE, "text": True, "env": with_package()}
     with subprocess.Popen(words, **pipes) as process:
         try:
@@ -156,9 +157,11 @@ def test_what_was_made_is_removed_after_a_signal(number, words, least, interrupt
 
 def test_a_second_signal_ends_the_removal(interruptible):
     with service() as (running, folder), judging(running.url, "--case", "group-many") as process:
-        until(lambda: sum("POST" in it for it in list(running.log)), lambda count: count > 40)
+        counted = lambda word: sum(word in it for it in list(running.log))
+        until(lambda: counted("POST"), lambda count: count > 40)
+        before = counted("DELETE")
         process.send_signal(signal.SIGINT)
-        until(lambda: sum("DELETE" in it for it in list(running.log)), lambda count: count > 12)
+        until(lambda: counted("DELETE"), lambda count: count > before + 5)
         process.send_signal(signal.SIGINT)
         out, error = process.communicate(timeout=SECONDS)
         *left, last = error.splitlines()
@@ -171,9 +174,8 @@ def test_a_second_signal_ends_the_removal(interruptible):
 def test_a_signal_raises_nothing_where_it_comes():
     # in a lock, an exception would leave the lock to nobody
     program = (
-        "import os, signal, sys, threading\n"
-        "sys.path.insert(0, sys.argv[1])\n"
-        "from interruption import Interrupted, Interruption\n"
+        "import os, signal, threading\n"
+        "from odb_batch.conformance._interruption import Interrupted, Interruption\n"
         "found, turn = Interruption(), threading.Condition()\n"
         "found.catch()\n"
         "with turn:\n"
@@ -184,7 +186,8 @@ def test_a_signal_raises_nothing_where_it_comes():
         "except Interrupted as error:\n"
         "    print(found.count, error)\n"
     )
-    done = subprocess.run([sys.executable, "-c", program, TOOL], capture_output=True, text=True, timeout=SECONDS)
+    words = [sys.executable, "-c", program]
+    done = subprocess.run(words, env=with_package(), capture_output=True, text=True, timeout=SECONDS)
     assert (done.stdout, done.stderr) == ("1 interrupted\n", "")
 
 
@@ -203,7 +206,7 @@ def test_a_signal_raises_nothing_where_it_comes():
 def test_wrong_arguments(words, line):
     done = tool(*words)
     assert (done.status, done.out) == (2, "")
-    assert done.error.splitlines()[-1] == f"conformance: error: {line}"
+    assert done.error.splitlines()[-1] == f"{PROGRAM}: error: {line}"
 
 
 def test_the_cases_are_listed():

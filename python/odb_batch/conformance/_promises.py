@@ -2,7 +2,7 @@
 
 from typing import Callable, NamedTuple, Optional, Sequence
 
-from stage import Stage
+from ._stage import Stage
 
 
 class Promise(NamedTuple):

@@ -1,11 +1,12 @@
 """Cases in which a request fails."""
 
+from functools import partial
 from typing import Callable, List, Tuple
 
-from flows import chain, group
-from kinds import KINDS, fail
-from promises import Case
-from stage import Stage
+from ._flows import chain, group
+from ._kinds import KINDS, fail
+from ._promises import Case
+from ._stage import Stage
 
 
 def among_others(stage: Stage, kind: str) -> None:
@@ -131,14 +132,12 @@ def one_failure(kind: str) -> List[Case]:
     """The cases with one failing request in different places."""
     found = []
     for at, place in ((0, "first"), (2, "third"), (4, "last")):
-        write = lambda stage, at=at: failing_chain(stage, kind, at)
+        write = partial(failing_chain, kind=kind, at=at)
         found.append(Case(f"chain-fails-{place}", "failed", f"of five in a row the {place} fails", write, kind=kind))
     for name, promise, shows, function, stops in FAILING:
-        write = lambda stage, function=function: function(stage, kind)
-        found.append(Case(name, promise, shows, write, stops, kind))
-    beside = lambda stage: at_once(stage, kind)
+        found.append(Case(name, promise, shows, partial(function, kind=kind), stops, kind))
     shows = "four batches at the same time, with a group that fails"
-    return [*found, Case("failing-at-once", "group", shows, beside, kind=kind, at_once=4)]
+    return [*found, Case("failing-at-once", "group", shows, partial(at_once, kind=kind), kind=kind, at_once=4)]
 
 
 def failing_groups() -> List[Case]:
@@ -146,7 +145,7 @@ def failing_groups() -> List[Case]:
     found = []
     for kind, described in KINDS.items():
         for at, place in enumerate(("first", "second", "third", "fourth")):
-            write = lambda stage, kind=kind, at=at: failing_group(stage, kind, at)
+            write = partial(failing_group, kind=kind, at=at)
             shows = f"a group fails at its {place} member, by {described.text}"
             found.append(Case(f"group-fails-{kind}-{at + 1}", "group", shows, write, kind=kind))
     return found
@@ -156,8 +155,8 @@ def failing_long_groups(requests: int) -> List[Case]:
     """Groups with as many requests as the service takes, which fail at the first, a middle and the last member."""
     size = max(requests - 2, 1)
     found = []
-    for at, place in {0: "first", size // 2: "middle", size - 1: "last"}.items():
-        write = lambda stage, at=at: failing_group(stage, "missing", at, size)
+    for at, place in ((0, "first"), (size // 2, "middle"), (size - 1, "last")):
+        write = partial(failing_group, kind="missing", at=at, size=size)
         shows = f"a group of {size} requests fails at its {place} member"
         found.append(Case(f"group-many-{place}", "group", shows, write, kind="missing", may_be_refused=True))
     return found

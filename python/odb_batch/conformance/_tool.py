@@ -1,21 +1,21 @@
 """Judges whether a service keeps what OData promises of batches in JSON. See docs/conformance.md."""
 
-from interruption import Interrupted, Interruption
-
-# From here on no module is interrupted while it is read.
-INTERRUPTION = Interruption()
-INTERRUPTION.catch()
-
 import argparse
-import fnmatch
 import json
-import os
 import re
 import sys
-from typing import Any, Dict, List
+from typing import Any, Dict, List, Sequence
 from urllib.parse import urlsplit
 
-PACKAGE = os.path.join(os.path.dirname(os.path.abspath(__file__)), "..", "python")
+from . import _report
+from ._cases import MAX_REQUESTS, cases_like
+from ._entities import Entities
+from ._interruption import Interrupted, Interruption
+from ._promises import Case
+from ._runner import Runner
+from ._service import SECONDS, Service, Unusable
+
+PROGRAM = "python3 -m odb_batch conformance"
 # Exit statuses; wrong arguments end with 2.
 BROKEN, UNUSABLE = 1, 3
 
@@ -70,14 +70,14 @@ def name_of(text: str) -> str:
 
 
 def parser() -> argparse.ArgumentParser:
-    found = argparse.ArgumentParser(prog="conformance", description=__doc__)
+    found = argparse.ArgumentParser(prog=PROGRAM, description=__doc__)
     found.add_argument("url", metavar="URL", type=url_of, nargs="?", help="the root of the service, above its $batch")
     found.add_argument("--set", metavar="NAME", type=name_of, help="an entity set in which entities may be made")
     found.add_argument("--key", metavar="NAME", type=name_of, help="the key property of its entities")
     found.add_argument("--body", metavar="JSON", type=body_of, help="a body that creates an entity; the key is added")
     found.add_argument("--header", metavar="H: V", type=header_of, action="append", default=[], help="of all requests")
-    found.add_argument("--requests", metavar="N", type=number_of, default=100, help="how many a batch may have; 100")
-    found.add_argument("--timeout", metavar="S", type=seconds_of, default=20.0, help="seconds for an answer; 20")
+    found.add_argument("--requests", metavar="N", type=number_of, default=MAX_REQUESTS, help="how many a batch may have; 100")
+    found.add_argument("--timeout", metavar="S", type=seconds_of, default=SECONDS, help="seconds for an answer; 20")
     found.add_argument("--case", metavar="GLOB", action="append", help="runs cases of such names alone, as 'group-*'")
     found.add_argument("--breaks", metavar="FOLDER", default="conformance-breaks", help="where breaks are written")
     found.add_argument("--json", action="store_true", help="prints one document of JSON in place of the table")
@@ -91,62 +91,46 @@ def progress(at: int, name: str, count: int) -> None:
         print(f"\r\033[K{at + 1}/{count} {name}" if name else "\r\033[K", end="", file=sys.stderr, flush=True)
 
 
-def judge(options: argparse.Namespace, cases: List[Any]) -> int:
+def judge(options: argparse.Namespace, cases: List[Case], interruption: Interruption) -> int:
     """Runs the cases and prints what they show; returns the exit status."""
-    import report
-    from entities import Entities
-    from runner import Runner
-    from service import Service, Unusable
-
-    service = Service(options.url, dict(options.header), options.timeout, INTERRUPTION)
+    service = Service(options.url, dict(options.header), options.timeout, interruption)
     entities = Entities(service, options.set, options.key, options.body)
     runner = Runner(service, entities, options.requests)
     try:
         results = runner.run(cases, lambda at, name: progress(at, name, len(cases)))
     except (Unusable, Interrupted) as error:
         progress(0, "", 0)
-        for url in [*entities.left, *entities.made.values()]:
+        for url in entities.forget():
             print(f"not removed: {url}", file=sys.stderr)
         print(f"error: {error}", file=sys.stderr)
-        INTERRUPTION.ignore()
+        interruption.ignore()
         return UNUSABLE
     progress(0, "", 0)
     if options.json:
-        print(report.json_text(report.document(service.root, results, entities.left)))
+        print(_report.json_text(_report.document(service.root, results, entities.left)))
     else:
-        print(report.table(results), *report.lines_of(results, entities.left, options.breaks), sep="\n")
+        print(_report.table(results), *_report.lines_of(results, entities.left, options.breaks), sep="\n")
     try:
-        report.write_breaks(results, options.breaks)
+        _report.write_breaks(results, options.breaks)
     except OSError as error:
         print(f"error: {error.filename}: {error.strerror}", file=sys.stderr)
         return UNUSABLE
     return BROKEN if any(it.breaks for it in results) else 0
 
 
-def main() -> int:
+def main(words: Sequence[str]) -> int:
+    """Does what the words of a command line ask; returns the exit status."""
+    interruption = Interruption()
+    interruption.catch()
     arguments = parser()
-    options = arguments.parse_args()
-    try:
-        import odb_batch  # noqa: F401
-    except ModuleNotFoundError:
-        sys.path.append(PACKAGE)
-    try:
-        import report
-        from cases import all_cases
-    except ImportError as error:
-        print(f"error: {error}", file=sys.stderr)
-        return UNUSABLE
-    wanted = options.case or ["*"]
-    cases = [it for it in all_cases(options.requests) if any(fnmatch.fnmatchcase(it.name, glob) for glob in wanted)]
+    options = arguments.parse_args(words)
+    globs = options.case or ["*"]
+    cases = cases_like(globs, options.requests)
     if not cases:
-        arguments.error(f"no case has a name like {' or '.join(map(repr, wanted))}")
+        arguments.error(f"no case has a name like {' or '.join(map(repr, globs))}")
     if options.list:
-        print(report.listed(cases))
+        print(_report.listed(cases))
         return 0
     if None in (options.url, options.set, options.key, options.body):
         arguments.error("needed are URL, --set, --key and --body, or --list")
-    return judge(options, cases)
-
-
-if __name__ == "__main__":
-    sys.exit(main())
+    return judge(options, cases, interruption)

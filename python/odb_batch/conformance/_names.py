@@ -3,8 +3,8 @@
 from typing import Callable, List, Sequence
 from urllib.parse import urljoin, urlsplit
 
-from promises import Case
-from stage import Stage, Subject
+from ._promises import Case
+from ._stage import Stage, Subject
 
 CASE = ("A", "a", "Ab", "aB")
 SIGNS = ("A-1", "A.1", "A_1", "A~1", "-", "~", "._~-")

@@ -2,9 +2,9 @@
 
 from typing import Any, Callable, Dict, List, NamedTuple
 
-from entities import Effect, Entities
-from service import Answer
-from stage import Stage, Subject
+from ._entities import Effect, Entities
+from ._service import Answer
+from ._stage import Stage, Subject
 
 NO_TAG = '"conformance-no-such-tag"'
 

@@ -1,18 +1,17 @@
 """Runs cases against a service: the batch of each, its judgement, and the removal of what it made."""
 
 from concurrent.futures import ThreadPoolExecutor
-from typing import Callable, Dict, List, NamedTuple, Optional, Set, Union
+from typing import Callable, List, NamedTuple, Optional, Union
 
-from entities import Entities
-from judge import Check, Judge, clear_responses, is_success, responses_of
-from kinds import KINDS, failing_kinds
-from learning import learn
-from left_over import left_over
-from promises import Case
-from service import Answer, Service, Unanswered
-from stage import DONE, FAILS, Stage
+from ._entities import Entities
+from ._judge import Check, Judge, clear_responses, is_success, responses_of
+from ._kinds import KINDS, failing_kinds
+from ._learning import learn, note_created, refusal
+from ._left_over import left_over
+from ._promises import Case
+from ._service import Answer, Service, Unanswered
+from ._stage import DONE, FAILS, Stage
 
-REFUSED = (*range(400, 500), 501)
 # What a service may answer to one of some batches at the same time.
 BUSY = (429, 503)
 # After how many batches without an answer in time the run ends.
@@ -46,29 +45,30 @@ class Runner:
 
     Attributes:
         requests: How many requests a batch may have; one with more is not sent.
-        refused: What the service refuses, with the reason.
-        known: What a batch may have, as it has been answered.
+        has_learned: Whether it is known what the service has.
         kinds: The ways to fail that the service has.
         continues: Whether it applies the preference continue-on-error, as far as is known.
-        late: How many batches had no answer in time.
+        late: How many batches of a run had no answer in time.
     """
 
     def __init__(self, service: Service, entities: Entities, requests: int) -> None:
         self.service, self.entities, self.requests = service, entities, requests
-        self.refused: Dict[str, str] = {}
-        self.known: Set[str] = set()
+        self.has_learned = False
         self.kinds: List[str] = []
         self.continues = True
         self.late = 0
 
-    def run(self, cases: List[Case], progress: Callable[[int, str], None]) -> List[Result]:
-        """Runs the cases; raises Unusable if the service cannot be judged any more, or Interrupted."""
-        self.service.require_batches(self.entities.set)
+    def run(self, cases: List[Case], progress: Callable[[int, str], None] = lambda at, name: None) -> List[Result]:
+        """Runs the cases; raises Unusable if the service cannot be judged any more, or Interrupted.
+
+        Before the first run it learns what the service has, which holds for all later ones.
+        """
         found = []
+        self.late = 0
         try:
-            learn(self.entities)
-            self.kinds = failing_kinds(self.entities)
-            self.entities.clear()
+            if not self.has_learned:
+                self._learn()
+            self.entities.before = self.entities.listed()
             for at, case in enumerate(cases):
                 progress(at, case.name)
                 found.append(self._run(case))
@@ -77,7 +77,15 @@ class Runner:
         finally:
             self.service.interruption.allowed = 1
             self.entities.clear()
+            self.entities.spare = []
         return found
+
+    def _learn(self) -> None:
+        self.service.require_batches(self.entities.set)
+        learn(self.entities)
+        self.kinds = failing_kinds(self.entities)
+        self.entities.clear()
+        self.has_learned = True
 
     def _run(self, case: Case) -> Result:
         reason = self._lack(case)
@@ -88,11 +96,11 @@ class Runner:
             case.write(stage)
         if len(stages[0].steps) > self.requests:
             return Result(case, [], f"its batch has more than {self.requests} requests")
-        refused = sorted(stages[0].features() & self.refused.keys())
+        refused = sorted(stages[0].features() & self.entities.lacks.keys())
         if refused:
-            return Result(case, [], self.refused[refused[0]])
+            return Result(case, [], self.entities.lacks[refused[0]])
         answers = self._send(case, stages)
-        reason = next((it for it in map(lambda *of: self._reason(case, *of), stages, answers) if it), None)
+        reason = next(filter(None, (self._reason(case, it) for it in answers)), None)
         if reason is not None:
             return Result(case, [], reason)
         return self._judge(case, stages, answers)
@@ -115,7 +123,7 @@ class Runner:
                 answers = list(pool.map(lambda it: self._answer(it, case), documents))
         for answer in answers:
             if isinstance(answer, Answer):
-                self._note_created(answer)
+                note_created(self.entities, answer)
         late = [it for it in answers if isinstance(it, Unanswered) and it.is_late]
         self.late += len(late)
         lost = next((it for it in answers if isinstance(it, Unanswered)), None)
@@ -128,13 +136,6 @@ class Runner:
             return self.service.batch(document, not case.stops)
         except Unanswered as error:
             return error
-
-    def _note_created(self, answer: Answer) -> None:
-        """Notes what a batch has created, to remove it."""
-        for response in responses_of(answer) or []:
-            headers = response.get("headers")
-            if response.get("status") in (201, 204) and isinstance(headers, dict):
-                self.entities.note({str(name).lower(): str(it) for name, it in headers.items()}.get("location", ""))
 
     # Judging
 
@@ -164,27 +165,14 @@ class Runner:
                 self.entities.settle(listing)
         return result
 
-    def _reason(self, case: Case, stage: Stage, answer: Union[Answer, Unanswered]) -> Optional[str]:
-        """Why a case does not apply: the service refuses the batch, or what no batch before had."""
+    def _reason(self, case: Case, answer: Union[Answer, Unanswered]) -> Optional[str]:
+        """Why a case does not apply: the service refuses the batch, which it may for its size, or beside others."""
         if isinstance(answer, Unanswered):
             return None
         if case.at_once > 1 and answer.status in BUSY:
             return f"the service refuses batches at the same time with {answer}"
-        unknown = sorted(stage.features() - self.known)
-        responses = responses_of(answer)
-        status = str(answer) if responses is None else "501 of its requests"
-        if responses is None:
-            is_refused = answer.status in REFUSED
-        else:
-            is_refused = bool(responses) and all(it.get("status") == 501 for it in responses)
-        if not is_refused:
-            self.known |= stage.features()
-        elif unknown:
-            self.refused[unknown[-1]] = f"the service refuses {unknown[-1]} with {status}"
-            return self.refused[unknown[-1]]
-        elif case.may_be_refused:
-            return f"the service refuses the batch with {status}"
-        return None
+        status = refusal(answer) if case.may_be_refused else None
+        return status and f"the service refuses the batch with {status}"
 
     def _applies_preference(self, stage: Stage, answer: Answer) -> bool:
         """Whether the service continues on errors. One that does not may leave it at that: it is a preference."""

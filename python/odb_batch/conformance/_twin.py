@@ -9,8 +9,8 @@ import re
 from typing import Any, Callable, Dict, Iterator, List, Mapping, NamedTuple, Optional, Sequence, Tuple
 from urllib.parse import quote, urlsplit
 
-from entities import Entities, Entity
-from service import Answer
+from ._entities import Entities, Entity
+from ._service import Answer
 
 Parts = Dict[str, Any]
 
@@ -173,6 +173,6 @@ def differences(alone: Sequence[Parts], batch: Parts) -> List[str]:
     return found
 
 
-def shortened(value: Any) -> str:
+def shortened(value: Any, most: int = 80) -> str:
     text = str(value)
-    return text if len(text) <= 80 else text[:77] + "..."
+    return text if len(text) <= most else text[: most - 3] + "..."

@@ -11,7 +11,8 @@ from common import SECONDS, Process
 from support.commands import with_package
 from support.program import ROOT
 
-TOOL = os.path.join(ROOT, "conformance")
+HERE = os.path.join(ROOT, "python", "tests", "conformance")
+TOOL = (sys.executable, "-m", "odb_batch", "conformance")
 ABOUT = ("--set", "Books", "--key", "Id", "--body", '{"Title": "Conformance"}')
 
 
@@ -20,7 +21,7 @@ class Defective(Process):
 
     def __init__(self, name, database):
         if name is not None:
-            self.program = (os.path.join(TOOL, "tests", "defects"), name)
+            self.program = (os.path.join(HERE, "defects"), name)
         super().__init__(database)
 
     @property
@@ -39,7 +40,7 @@ class Done(NamedTuple):
 def tool(*words, **options):
     """Runs the tool."""
     done = subprocess.run(
-        [sys.executable, TOOL, *words],
+        [*TOOL, *words],
         stdin=subprocess.DEVNULL, stdout=subprocess.PIPE, stderr=subprocess.PIPE, text=True, timeout=15 * SECONDS,
         env=with_package(), **options,
     )  # fmt: skip

@@ -2,8 +2,8 @@
 
 from typing import Callable, Dict, List, Sequence
 
-from promises import Case
-from stage import ABSENT, Shown, Stage, Subject
+from ._promises import Case
+from ._stage import ABSENT, Shown, Stage, Subject
 
 FOUR = ("a", "b", "c", "d")
 # Ids that are easily taken for each other.

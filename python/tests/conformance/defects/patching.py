@@ -4,7 +4,7 @@ import json
 import os
 import sys
 
-ROOT = os.path.abspath(os.path.join(os.path.dirname(os.path.abspath(__file__)), *[".."] * 3))
+ROOT = os.path.abspath(os.path.join(os.path.dirname(os.path.abspath(__file__)), *[".."] * 4))
 SERVICE = os.path.join(ROOT, "examples", "service")
 sys.path.insert(0, SERVICE)
 

@@ -4,8 +4,13 @@ import json
 import os
 from typing import Any, Dict, List, NamedTuple
 
-from promises import PROMISES, SECTIONS, Case
-from runner import Result
+from ._promises import PROMISES, SECTIONS, Case
+from ._runner import Result
+from ._twin import shortened
+
+
+# How many characters of a batch or a response a test shows.
+MAX_SHOWN = 10_000
 
 
 class Count(NamedTuple):
@@ -67,6 +72,12 @@ def rules_text(result: Result) -> str:
         if rules:
             lines += [f"{promise.name}: {promise.text} (OData {promise.section})", *rules]
     return "\n".join(lines) + "\n"
+
+
+def failure_text(result: Result) -> str:
+    """What a test says of a case that is broken: the rules, the batch and the response."""
+    batch, response = (shortened(it.decode(errors="replace"), MAX_SHOWN) for it in (result.batch, result.response))
+    return f"{rules_text(result)}\nbatch:\n{batch}\nresponse:\n{response}"
 
 
 def write_breaks(results: List[Result], folder: str) -> None:

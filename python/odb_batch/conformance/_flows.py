@@ -1,9 +1,10 @@
 """Cases in which nothing fails: chains, fans, groups, and many requests."""
 
+from functools import partial
 from typing import Callable, List, Optional
 
-from promises import Case
-from stage import Stage
+from ._promises import Case
+from ._stage import Stage
 
 
 def one_read(stage: Stage) -> None:
@@ -143,7 +144,7 @@ FLOWS = (
 def longest(requests: int) -> List[Case]:
     """The cases with as many requests as the service takes."""
     shows = f"as many requests as the service takes: {requests}"
-    whole = lambda stage: group(stage, size=requests)
+    whole = partial(group, size=requests)
     return [
         Case("many", "once", shows, many(requests), may_be_refused=True),
         Case("group-many", "group", f"a group of {requests} writes", whole, may_be_refused=True),

@@ -6,8 +6,8 @@ its way, and both show it each time. Each batch has the shape three times.
 
 from typing import Callable, List, NamedTuple
 
-from promises import Case
-from stage import Stage, Subject
+from ._promises import Case
+from ._stage import Stage, Subject
 
 # How many writes come before the first of two requests, and how often a batch has them.
 LENGTH, TIMES = 6, 3

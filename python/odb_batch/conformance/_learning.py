@@ -1,10 +1,13 @@
-"""Finds out by plain requests, and one batch, what the service has; a case that needs more does not apply."""
+"""Finds out by plain requests, and some batches, what the service has; a case that needs more does not apply."""
 
-from typing import Any, Dict
+from typing import Any, Callable, Dict, Optional
 from urllib.parse import urljoin, urlsplit
 
-from entities import Entities
-from twin import etag_of
+from ._entities import Entities
+from ._judge import responses_of
+from ._service import Answer, Unanswered
+from ._stage import Stage
+from ._twin import etag_of
 
 # What a service may lack, and the reason why a case does not apply then.
 LACKS = {
@@ -19,6 +22,8 @@ LACKS = {
     "absolute": "the service takes no absolute URLs in a batch",
     "rooted": "the service takes no URLs in a batch that begin with /",
 }
+# What a service may answer to a batch that it refuses.
+REFUSED = (*range(400, 500), 501)
 # How many properties of the body are tried.
 MAX_TRIED = 8
 
@@ -39,6 +44,8 @@ def learn(entities: Entities) -> None:
         **learn_urls(entities),
     }
     entities.lacks = {name: reason for name, reason in LACKS.items() if not has[name]}
+    entities.lacks.update(learn_features(entities))
+    entities.appeared()
     entities.clear()
 
 
@@ -91,3 +98,59 @@ def learn_urls(entities: Entities) -> Dict[str, bool]:
         first = responses[0] if isinstance(responses, list) and responses else None
         found[name] = isinstance(first, dict) and first.get("status") == 200
     return found
+
+
+def needing(stage: Stage) -> None:
+    stage.read("1")
+    stage.read("2", needs=["1"])
+
+
+def grouped(stage: Stage) -> None:
+    stage.write("1", group="g")
+
+
+def referring(stage: Stage) -> None:
+    stage.act("2", "read", stage.create("1"), "$1", needs=["1"])
+
+
+# What writes the smallest batch that has a feature.
+FEATURES: Dict[str, Callable[[Stage], None]] = {
+    "dependencies": needing,
+    "groups": grouped,
+    "references": referring,
+}
+
+
+def learn_features(entities: Entities) -> Dict[str, str]:
+    """What a batch may have and the service refuses, with the reason."""
+    found = {}
+    for name, write in FEATURES.items():
+        stage = Stage(entities)
+        write(stage)
+        try:
+            answer = entities.service.batch(stage.document(), True)
+        except Unanswered as error:
+            if error.is_late or not entities.service.is_reachable():
+                raise
+            continue
+        note_created(entities, answer)
+        status = refusal(answer)
+        if status is not None:
+            found[name] = f"the service refuses {name} with {status}"
+    return found
+
+
+def refusal(answer: Answer) -> Optional[str]:
+    """How a service refuses a batch, or all of its requests; None if it does not."""
+    responses = responses_of(answer)
+    if responses is None:
+        return str(answer) if answer.status in REFUSED else None
+    return "501 of its requests" if responses and all(it.get("status") == 501 for it in responses) else None
+
+
+def note_created(entities: Entities, answer: Answer) -> None:
+    """Notes what a batch has created, to remove it."""
+    for response in responses_of(answer) or []:
+        headers = response.get("headers")
+        if response.get("status") in (201, 204) and isinstance(headers, dict):
+            entities.note({str(name).lower(): str(it) for name, it in headers.items()}.get("location", ""))
