@@ -78,8 +78,10 @@ def perform(database: sqlite3.Connection, request: Request) -> Answer:
 
 def _target(path: str) -> Target:
     named = re.fullmatch(rf"{ROOT}(\$?\w+)(?:\((?:Id=)?(.*)\))?", path, re.DOTALL)
-    if named is None or named[1] not in {"$metadata", *SETS}:
+    if named is None:
         raise Refusal(404, "NotFound", f"The service has nothing at {path[:80]!r}")
+    if named[1] not in {"$metadata", *SETS}:
+        raise Refusal(404, "NotFound", f"The service has no {named[1][:80]}")
     return Target(named[1], None if named[2] is None else _literal(named[2]))
 
 

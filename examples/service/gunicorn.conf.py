@@ -41,6 +41,8 @@ graceful_timeout = 60
 # A worker whose threads all work still reports in time, so a batch may take longer than this.
 timeout = 30
 limit_request_line, limit_request_fields, limit_request_field_size = 8190, 100, 8190
+# A line for each answer, on standard output; the service logs each request that it performs, also those of batches.
+accesslog = "-"
 
 
 def post_worker_init(worker: Any) -> None:

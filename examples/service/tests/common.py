@@ -33,16 +33,18 @@ class Process:
         database: The file of its database.
         width: How many requests of a batch it performs at once.
         patience: For how many seconds it waits for a client.
-        app: The application, in place of that of the service; folder has its module.
+        workers: How many processes answer.
     """
 
+    # Where the module of the application is.
     folder = SERVICE
 
-    def __init__(self, database, width=1, patience=20, app="app:make_app"):
+    def __init__(self, database, width=1, patience=20, workers=2):
         if importlib.util.find_spec("gunicorn") is None:
             pytest.skip("gunicorn is not installed")
         words = [sys.executable, "-m", "gunicorn", "--config", os.path.join(SERVICE, "gunicorn.conf.py")]
-        words += ["--bind", "127.0.0.1:0", "--pythonpath", self.folder, f"{app}({database!r}, {width})"]
+        words += ["--bind", "127.0.0.1:0", "--workers", str(workers), "--pythonpath", self.folder]
+        words.append(self.app(database, width))
         self.process = subprocess.Popen(
             words, stdout=subprocess.PIPE, stderr=subprocess.STDOUT, text=True, start_new_session=True,
             env={**with_package(), "PATIENCE": str(patience)},
@@ -51,12 +53,16 @@ class Process:
         self.reader = threading.Thread(target=self._read, daemon=True)
         self.reader.start()
         # A worker that gets a signal before it answers would not end by it.
-        until(lambda: sum(" answers" in line for line in list(self.log)) if self.reader.is_alive() else 2, lambda it: it >= 2)
+        until(lambda: sum(" answers" in line for line in list(self.log)), lambda it: it == workers or not self.reader.is_alive())
         port = next(filter(None, (re.search(r"Listening at: http://127\.0\.0\.1:(\d+) ", line) for line in self.log)), None)
         if port is None:
             self.kill()
             raise AssertionError("\n".join(self.log))
         self.port = int(port[1])
+
+    def app(self, database, width):
+        """The application, as gunicorn is given it."""
+        return f"app:make_app({database!r}, {width})"
 
     def _read(self):
         for line in self.process.stdout:

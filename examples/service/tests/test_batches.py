@@ -210,7 +210,7 @@ class TestSizes(ServiceTest):
         status, value = self.client.ask("POST", BATCH_URL, document)
         assert (status, match(document, value)) == (200, {"a": 200})
 
-    @pytest.mark.parametrize("price", [b"9.990", b"12345678901234567890123", b"-0.00", b"1E+400"])
+    @pytest.mark.parametrize("price", [b"9.990", b"12345678901234567890123", b"-0.00", b"1E+30"])
     def test_keeps_the_digits_of_a_number(self, price):
         """In the body of a request, in its answer, and in the database."""
         id = price.decode()

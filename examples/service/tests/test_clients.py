@@ -2,6 +2,7 @@
 
 import json
 import os
+import re
 import socket
 import time
 
@@ -74,8 +75,8 @@ class TestRefusals(ClientTest):
     def test_logs_a_line_for_each_request_it_performs(self):
         self.exchange("GET /library/logged%1b[2J%c3%bf HTTP/1.1\r\nHost: here\r\n\r\n".encode("latin-1"))
         self.client.ask("GET", "/library/logged")
-        lines = until(lambda: [line for line in self.service.log if "/logged" in line], lambda it: len(it) == 2)
-        assert [line.split()[-1] for line in lines] == ["404", "404"]
+        wanted = re.compile(r"GET '/library/logged.*' '' 404$")
+        assert len(until(lambda: list(filter(wanted.search, self.service.log)), lambda it: len(it) == 2)) == 2
         assert all(line.isprintable() for line in self.service.log)
 
 
