@@ -4,7 +4,6 @@ A body of JSON is in a batch as it is, one of text as a string, and any other in
 """
 
 import base64
-import binascii
 import json
 from typing import Mapping
 
@@ -64,6 +63,6 @@ def as_text(wire: bytes, headers: Mapping[str, str]) -> bytes:
     character."""
     try:
         text = wire.decode(charset(headers))
-    except (LookupError, UnicodeDecodeError, binascii.Error):
+    except (LookupError, ValueError):
         text = wire.decode("latin-1")
-    return json.dumps(text).encode()
+    return json.dumps(text, ensure_ascii=False).encode("utf-8", "surrogatepass")

@@ -13,8 +13,9 @@ from ._messages import Answer, PreparedRequest, Refusal, media_type
 # What a batch has for itself: its requests do not inherit it.
 _NOT_INHERITED = frozenset(
     {
-        "accept", "accept-encoding", "connection", "digest", "expect", "idempotency-key", "keep-alive", "prefer", "range",
-        "signature", "signature-input", "te", "trailer", "transfer-encoding", "upgrade",
+        "accept", "accept-encoding", "connection", "digest", "expect", "http2-settings", "idempotency-key", "keep-alive",
+        "prefer", "proxy-connection", "range", "signature", "signature-input", "te", "trailer", "transfer-encoding",
+        "upgrade", "x-http-method", "x-http-method-override", "x-method-override",
     }
 )  # fmt: skip
 _NOT_INHERITED_PREFIXES = ("content-", "if-", "repeatability-")

@@ -86,7 +86,8 @@ class GroupFailed(Exception):
 
 
 def header_dict(pairs: Iterable[Tuple[str, str]]) -> Dict[str, str]:
-    """Returns headers by their names in lower case; several of one name are joined by commas (RFC 9110, section 5.2).
+    """Returns headers by their names in lower case; several of one name are joined by commas (RFC 9110, section 5.2), but
+    cookies by semicolons (RFC 9113, section 8.2.3).
 
     Raises:
         TypeError: A name or a value is not a string.
@@ -96,7 +97,8 @@ def header_dict(pairs: Iterable[Tuple[str, str]]) -> Dict[str, str]:
         if not isinstance(name, str) or not isinstance(value, str):
             raise TypeError(f"a header has a name and a value, which are strings, not {name!r} and {value!r}")
         name = name.lower()
-        found[name] = f"{found[name]}, {value}" if name in found else value
+        separator = "; " if name == "cookie" else ", "
+        found[name] = f"{found[name]}{separator}{value}" if name in found else value
     return found
 
 

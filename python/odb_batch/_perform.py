@@ -5,11 +5,12 @@ from contextvars import copy_context
 from queue import SimpleQueue
 from typing import Any, Callable, ContextManager, Optional, Set
 
+from ._answers import answer_to, checked
 from ._commands import Mode
 from ._documents import Document
 from ._messages import Answer, Answered, PreparedRequest
 from ._urls import Service
-from ._work import Unit, Work, answer_of, checked
+from ._work import Unit, Work
 
 #: Sends a request, and returns what it is answered.
 Send = Callable[[PreparedRequest], Answered]
@@ -147,8 +148,7 @@ def _perform_members(work: Work, unit: Unit, send: Send) -> Answer:
 
 
 def _sent(work: Work, unit: Unit, send: Send) -> Answer:
-    id = str(unit.open)
     try:
-        return checked(send(work.prepared(id)))
+        return checked(send(work.prepared(unit)))
     except Exception as error:
-        return answer_of(error, id)
+        return answer_to(error, f"the request {unit.open}")

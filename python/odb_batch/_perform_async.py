@@ -4,11 +4,12 @@ import asyncio
 import contextlib
 from typing import Any, AsyncContextManager, AsyncIterator, Awaitable, Callable, ContextManager, NamedTuple, Optional, Set, Union
 
+from ._answers import answer_to, checked
 from ._commands import Mode
 from ._documents import Document
 from ._messages import Answer, Answered, PreparedRequest
 from ._urls import Service
-from ._work import Unit, Work, answer_of, checked
+from ._work import Unit, Work
 
 #: Sends a request, and returns what it is answered.
 SendAsync = Callable[[PreparedRequest], Awaitable[Answered]]
@@ -164,16 +165,15 @@ class _Tasks:
         return answer
 
     async def _sent(self, unit: Unit) -> Answer:
-        id = str(unit.open)
         try:
-            return checked(await asyncio.wait_for(self._how.send(self._work.prepared(id)), self._how.timeout))
+            return checked(await asyncio.wait_for(self._how.send(self._work.prepared(unit)), self._how.timeout))
         except asyncio.CancelledError as error:
-            # Not this task is cancelled, but something that it waited for: an answer like any other exception.
             if self.is_cancelled or _is_cancelling():
                 raise
-            return answer_of(error, id)
+            # Not this task is cancelled, but something that it waited for: an answer like any other exception.
+            return answer_to(error, f"the request {unit.open}")
         except Exception as error:
-            return answer_of(error, id)
+            return answer_to(error, f"the request {unit.open}")
 
 
 def _is_cancelling() -> bool:

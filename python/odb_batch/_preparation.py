@@ -1,0 +1,87 @@
+"""What is sent of a request: its URL and its headers without references, and its body as bytes on the wire."""
+
+from typing import Dict, Iterable, Iterator
+
+from ._answers import place_of, tag_of
+from ._bodies import to_wire
+from ._messages import Answer, PreparedRequest, Refusal
+from ._stand_in import Request
+from ._urls import Service, entity_url, joined
+
+# Where $ and an id stand for an ETag.
+_CONDITIONS = ("if-match", "if-none-match")
+
+
+class Preparation:
+    """Prepares the requests of a batch, by what others have been answered.
+
+    Threads may share it: what a request refers to was answered before it starts.
+
+    Args:
+        requests: The requests of the batch.
+        service: Where they may lead.
+    """
+
+    def __init__(self, requests: Iterable[Request], service: Service) -> None:
+        self._requests = {request.id: request for request in requests}
+        self._service = service
+        self._urls: Dict[str, str] = {}
+        # Of the others no answer is kept.
+        self._referred = {id for request in self._requests.values() for id in self._references(request)}
+        self._answers: Dict[str, Answer] = {}
+
+    def _references(self, request: Request) -> Iterator[str]:
+        if request.reference is not None:
+            yield request.reference
+        for name in _CONDITIONS:
+            value = request.headers.get(name, "")
+            if value.startswith("$") and value[1:] in self._requests:
+                yield value[1:]
+
+    def keep(self, id: str, answer: Answer) -> None:
+        """Keeps what a request was answered, if others refer to it."""
+        if id in self._referred:
+            self._answers[id] = answer
+
+    def prepared(self, id: str) -> PreparedRequest:
+        """Returns a request as it is sent.
+
+        Raises:
+            Refusal: It cannot be sent: its URL leads out of the service (404), it or the body cannot be read (400), or a
+                reference stands for nothing (424; 400 if an ETag is not known since its request is not in dependsOn).
+        """
+        given = self._requests[id]
+        url = self._urls[id] = self._service.target(self._url_of(given))
+        headers = dict(given.headers)
+        for name in _CONDITIONS:
+            value = headers.get(name, "")
+            if value.startswith("$") and value[1:] in self._requests:
+                headers[name] = self._tag_of(value[1:])
+        body = b""
+        if given.body is not None:
+            headers.setdefault("content-type", "application/json")
+            body = to_wire(given.body, headers)
+        return PreparedRequest(id, given.method, url, headers, body, given.group)
+
+    def _url_of(self, given: Request) -> str:
+        if given.reference is None:
+            return joined(self._service.base, given.url)
+        return self._place_of(given.reference) + given.rest
+
+    def _place_of(self, id: str) -> str:
+        """The URL of what a request has created or returned; without another one that is its own URL."""
+        place, context = place_of(self._answers[id])
+        if place is None and self._requests[id].method == "POST":
+            raise Refusal(424, "NoLocation", f"{id} was answered without the URL of what it has created", id)
+        url = self._urls[id]
+        if place is None:
+            return entity_url(url)
+        return entity_url(joined(url if context is None else joined(url, context), place))
+
+    def _tag_of(self, id: str) -> str:
+        if id not in self._answers:
+            raise Refusal(400, "NoETag", f"{id} is not answered yet; it has to be in dependsOn", id)
+        tag = tag_of(self._answers[id])
+        if tag is None:
+            raise Refusal(424, "NoETag", f"{id} was answered without an ETag", id)
+        return tag
