@@ -4,6 +4,7 @@ import itertools
 import logging
 import queue
 import sqlite3
+import threading
 from contextlib import closing, contextmanager
 from contextvars import ContextVar
 from typing import Iterator, Optional
@@ -42,7 +43,7 @@ class Store:
     """
 
     def __init__(self, path: str, patience: float = 20.0) -> None:
-        self._path, self._patience = path, patience
+        self._path, self._patience, self._turn = path, patience, threading.Lock()
         self._idle: "queue.SimpleQueue[sqlite3.Connection]" = queue.SimpleQueue()
         self._group: ContextVar[Optional[sqlite3.Connection]] = ContextVar("group", default=None)
         # It is closed again, since a process that is forked from this one may not use it.
@@ -83,20 +84,29 @@ class Store:
 
     @contextmanager
     def _transaction(self, name: str) -> Iterator[sqlite3.Connection]:
-        """Waits until nobody else writes, and begins a transaction."""
-        with self._connection() as database:
-            try:
-                database.execute("BEGIN IMMEDIATE")
-            except sqlite3.OperationalError as error:
-                raise Refusal(503, "Busy", f"{error}; try again", retry_after="1") from None
-            try:
-                yield database
-                # While nobody else can commit, so these lines have the order of the commits.
-                LOG.info("commit %s", name)
-                database.execute("COMMIT")
-            finally:
-                if database.in_transaction:
-                    database.execute("ROLLBACK")
+        """Waits until nobody else writes, and begins a transaction.
+
+        A thread waits for the others of its process by a lock, so that they take turns, and by SQLite for other processes.
+        """
+        busy = Refusal(503, "Busy", "The database was busy for too long; try again", retry_after="1")
+        if not self._turn.acquire(timeout=self._patience):
+            raise busy
+        try:
+            with self._connection() as database:
+                try:
+                    database.execute("BEGIN IMMEDIATE")
+                except sqlite3.OperationalError:
+                    raise busy from None
+                try:
+                    yield database
+                    # While nobody else can commit, so these lines have the order of the commits.
+                    LOG.info("commit %s", name)
+                    database.execute("COMMIT")
+                finally:
+                    if database.in_transaction:
+                        database.execute("ROLLBACK")
+        finally:
+            self._turn.release()
 
     @contextmanager
     def _connection(self) -> Iterator[sqlite3.Connection]:

@@ -100,6 +100,7 @@ class TestConnections(ClientTest):
         document = json.dumps({"requests": [request(f"r{k}", "get", "Books('long')") for k in range(150)]})
         with self.connect() as connection:
             connection.sendall(post(document.encode()))
+            assert connection.recv(1) == b"H"
             time.sleep(3)
             try:
                 assert len(everything(connection)) < 100_000 * 150

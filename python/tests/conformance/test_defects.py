@@ -94,7 +94,7 @@ DEFECTS = (
     # references
     Defect("no_references", "reference-read reference-deleted reference-groups", "reference"),
     Defect("first_reference", "reference-each-* reference-numbers", "reference alone", False),
-    Defect("last_reference", "reference-each-* reference-numbers", "reference alone", False),
+    Defect("last_reference", "reference-each-* reference-numbers", "reference", False),
     Defect("references_in_any_case", "reference-case", "reference"),
     Defect("references_by_prefix", "reference-numbers", "reference"),
     Defect("references_by_word", "reference-numbers reference-signs", "reference"),

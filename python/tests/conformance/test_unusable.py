@@ -98,7 +98,7 @@ def test_sets_and_keys_that_are_not_there(name, key, body, line, removed):
     with service() as (running, _):
         words = ("--set", name, "--key", key, "--body", body)
         assert_unusable(tool(running.url, *words), line.replace("{}", running.url))
-        assert len([it for it in running.log if "DELETE" in it and " 204" in it]) == removed
+        assert len([it for it in running.log if "DELETE" in it and 'HTTP/1.1" 204' in it]) == removed
 
 
 def test_a_service_that_ends_leaves_something():
