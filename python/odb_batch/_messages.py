@@ -96,7 +96,8 @@ def header_dict(pairs: Iterable[Tuple[str, str]]) -> Dict[str, str]:
     for name, value in pairs:
         if not isinstance(name, str) or not isinstance(value, str):
             raise TypeError(f"a header has a name and a value, which are strings, not {name!r} and {value!r}")
-        name = name.lower()
+        # As the library folds names: in ASCII alone.
+        name = name.lower() if name.isascii() else name
         separator = "; " if name == "cookie" else ", "
         found[name] = f"{found[name]}{separator}{value}" if name in found else value
     return found
