@@ -149,7 +149,7 @@ def _create(database: sqlite3.Connection, target: Target, request: Request) -> A
 
 def _change(database: sqlite3.Connection, target: Target, request: Request) -> Answer:
     version = _next_version(database)
-    row = {**_given(target.name, request), "Version": version}
+    row: Dict[str, object] = {**_given(target.name, request), "Version": version}
     changes = ", ".join(f"{name} = ?" for name in row)
     database.execute(f"UPDATE {target.name} SET {changes} WHERE Id = ?", (*row.values(), target.key))
     # A PUT has no ETag here: the entity is not stored just as it was sent (RFC 9110, section 9.3.4).

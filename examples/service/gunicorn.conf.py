@@ -29,6 +29,7 @@ class Worker(ThreadWorker):  # type: ignore[misc]
         return handled
 
 
+bind = "127.0.0.1:8080"
 chdir = os.path.dirname(os.path.abspath(__file__))
 wsgi_app = f"app:make_app({os.path.abspath(os.environ.get('LIBRARY', 'library.sqlite'))!r})"
 # The database is made before the workers are.
