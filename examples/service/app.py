@@ -56,38 +56,40 @@ class Library:
             try:
                 answer = perform(database, request)
             except Refusal as refusal:
-                _log(request, refusal.answer)
-                raise  # so that a transaction is rolled back
-            _log(request, answer)
+                _log(environ, request, refusal.answer)
+                raise  # so that the transaction is rolled back
+            _log(environ, request, answer)
             return answer
 
 
-def _log(request: Request, answer: Answer) -> None:
-    options = "&".join("=".join(it) for it in request.options.items())
-    LOG.info("%s %.200r %.200r %d", request.method, request.path, options, answer.status)
+def _log(environ: Dict[str, Any], request: Request, answer: Answer) -> None:
+    LOG.info("%s %.200r %.200r %d", request.method, request.path, environ.get("QUERY_STRING", ""), answer.status)
 
 
 def _request(environ: Dict[str, Any]) -> Request:
-    method = environ["REQUEST_METHOD"].replace("HEAD", "GET")
+    method = "GET" if environ["REQUEST_METHOD"] == "HEAD" else environ["REQUEST_METHOD"]
     path = environ.get("SCRIPT_NAME", "") + environ.get("PATH_INFO", "")
     headers = {name[5:].replace("_", "-").lower(): it for name, it in environ.items() if name.startswith("HTTP_")}
+    options = dict(parse_qsl(environ.get("QUERY_STRING", ""), keep_blank_values=True))
     try:
+        # WSGI has the bytes of a path as characters.
         path = path.encode("latin-1").decode()
     except UnicodeDecodeError:
         raise Refusal(400, "BadUrl", "The URL is not UTF-8") from None
-    options = dict(parse_qsl(environ.get("QUERY_STRING", ""), keep_blank_values=True))
     return Request(method, path, options, headers, _value(_body(environ), environ.get("CONTENT_TYPE", "")))
 
 
 def _body(environ: Dict[str, Any]) -> bytes:
-    length = environ.get("CONTENT_LENGTH") or (str(MAX_BODY) if environ.get("wsgi.input_terminated") else "0")
-    if not length.isdecimal() or int(length) > MAX_BODY:
+    """The body: as long as its head says, or up to its end if the server knows that."""
+    given = environ.get("CONTENT_LENGTH", "")
+    length = int(given) if given.isdecimal() else MAX_BODY if environ.get("wsgi.input_terminated") else 0
+    if length > MAX_BODY:
         raise Refusal(413, "TooLong", f"A body may have {MAX_BODY} bytes")
     try:
-        data: bytes = environ["wsgi.input"].read(int(length))
+        data: bytes = environ["wsgi.input"].read(length)
     except socket.timeout:
         raise Refusal(408, "TooSlow", "The body did not come in time") from None
-    if environ.get("CONTENT_LENGTH") and len(data) < int(length):
+    if given and len(data) < length:
         raise Refusal(400, "CutBody", f"The body has {len(data)} bytes of {length}")
     return data
 

@@ -67,6 +67,57 @@ class TestGroups(ServiceTest):
             assert set(found.values()) == {201}
 
 
+# The group may begin only after x, though its first member needs nothing.
+HELD = (new_book("x", "x1"), new_book("a", "a1", "g"), new_book("b", "b1", "g", needs=["x"]))
+# The same, and x is a group that fails.
+FAILING = (
+    new_book("x", "x1", "h"),
+    new_book("y", "dune", "h"),
+    new_book("a", "a1", "g"),
+    new_book("b", "b1", "g", needs=["h"]),
+)
+# Two groups that begin at any time and get into each other's way, and a read after one of them.
+RIVALS = (
+    new_book("a", "a1", "g"),
+    new_book("b", "b1", "g"),
+    new_book("c", "c1", "h"),
+    new_book("d", "a1", "h"),
+    request("e", "get", "Books('b1')", needs=["g"]),
+)
+
+
+class TestOrders(ServiceTest):
+    """No group holds the one writer while it waits for what waits for the writer."""
+
+    @pytest.fixture(autouse=True)
+    def clear(self, connect_client):
+        yield
+        for id in ("a1", "b1", "c1", "x1"):
+            self.client.ask("DELETE", f"/library/Books('{id}')")
+
+    def perform(self, batch, headers):
+        statuses = tuple(self.client.statuses(*batch, headers=headers).values())
+        return statuses, [id for id, *_ in rows(self.database) if id not in ("dune", "emma")]
+
+    @pytest.mark.parametrize("headers", [CONTINUE, JSON], ids=["continue", "stop"])
+    @pytest.mark.parametrize("batch, wanted", [
+        (HELD, ((201, 201, 201), ["a1", "b1", "x1"])),
+        (FAILING, ((424, 409, 424, 424), [])),
+    ], ids=["held", "failing"])  # fmt: skip
+    def test_a_group_begins_once_it_needs_nothing_outside(self, batch, wanted, headers):
+        assert self.perform(batch, headers) == wanted
+
+    @pytest.mark.parametrize("time", range(5))
+    def test_groups_take_turns(self, time):
+        found = self.perform(RIVALS, CONTINUE)
+        g_first, h_first = ((201, 201, 424, 409, 200), ["a1", "b1"]), ((409, 424, 201, 201, 424), ["a1", "c1"])
+        assert found in ([g_first, h_first] if self.options else [g_first])
+
+
+class TestOrdersInThreads(TestOrders):
+    options = {"width": 8}
+
+
 class TestReferences(ServiceTest):
     def test_a_reference_is_the_location_of_what_was_created(self):
         found = self.client.batch(
