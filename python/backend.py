@@ -26,6 +26,13 @@ def _setting(key):
         return re.search(rf'(?m)^{key} = "(.*)"$', file.read())[1]
 
 
+def _extras():
+    """The extras, each with the distribution that it needs."""
+    with open(os.path.join(HERE, "pyproject.toml"), encoding="utf-8") as file:
+        table = file.read().partition("[project.optional-dependencies]\n")[2].partition("\n[")[0]
+    return re.findall(r'(?m)^(\w+) = \["(.*)"\]$', table)
+
+
 def _files():
     """The files of the package, by their paths in a wheel."""
     places = (os.path.join(folder, name) for folder, _, names in os.walk(PACKAGE) for name in names)
@@ -52,6 +59,8 @@ def _metadata():
         f"Requires-Python: {_setting('requires-python')}",
         "Description-Content-Type: text/markdown",
     ]
+    for extra, needed in _extras():
+        lines += [f"Provides-Extra: {extra}", f'Requires-Dist: {needed}; extra == "{extra}"']
     return "\n".join(lines) + "\n\n" + page
 
 

@@ -29,8 +29,8 @@ from odb_batch.django import group
 from odb_batch.wsgi import BatchMiddleware
 
 
-# SQLite refuses a transaction that has read and then writes, if another one has written meanwhile. So each takes the lock
-# first. Django 5.1 has an option for that: "transaction_mode": "IMMEDIATE".
+# SQLite refuses a transaction that has read and then writes, if another one has written meanwhile. So each takes the
+# lock first. Django 5.1 has an option for that: "transaction_mode": "IMMEDIATE".
 DatabaseWrapper._start_transaction_under_autocommit = lambda self: self.cursor().execute("BEGIN IMMEDIATE")
 
 

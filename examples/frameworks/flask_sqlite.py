@@ -21,7 +21,7 @@ with closing(sqlite3.connect(PATH)) as db:
 
 @contextmanager
 def transaction(group=None):
-    """The transaction of a group, or of a request that is in none: committed at its end, rolled back by an exception."""
+    """The transaction of a group, or of a request in none: committed at its end, rolled back by an exception."""
     if group is None and CURRENT.get() is not None:
         yield CURRENT.get()  # the one of the group
         return

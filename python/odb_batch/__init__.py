@@ -23,8 +23,8 @@ F04 NoRequests batch
 Output(accepted=True, text=b'{"groups":0,"requests":2}\\n')
 
 A :class:`Run` is a live run, for who performs the requests: it says which of them may start now, takes what
-each is answered, and has the response in the end. :func:`perform` and :func:`perform_async` do all of that by a function
-that sends one request.
+each is answered, and has the response in the end. :func:`perform` and :func:`perform_async` do all of that by a
+function that sends one request.
 
 A document is bytes, a text or a mapping that ``json`` can write, with mappings of any kind in it. A document
 that is refused raises :class:`Fault`, which and :class:`Refused` have the base :class:`OdbError`. All functions

@@ -13,8 +13,8 @@ from ._messages import Answer, PreparedRequest, Refusal, media_type
 # What a batch has for itself: its requests do not inherit it.
 _NOT_INHERITED = frozenset(
     {
-        "accept", "accept-encoding", "connection", "digest", "expect", "http2-settings", "idempotency-key", "keep-alive",
-        "prefer", "proxy-connection", "range", "signature", "signature-input", "te", "trailer", "transfer-encoding",
+        "accept", "accept-encoding", "connection", "digest", "expect", "http2-settings", "idempotency-key",
+        "keep-alive", "prefer", "proxy-connection", "range", "signature", "signature-input", "te", "trailer", "transfer-encoding",
         "upgrade", "x-http-method", "x-http-method-override", "x-method-override",
     }
 )  # fmt: skip
@@ -22,7 +22,8 @@ _NOT_INHERITED_PREFIXES = ("content-", "if-", "repeatability-")
 # What a request of a batch may say for itself. Another header could be one by which a proxy says who the client is.
 _ALLOWED = frozenset(
     {
-        "accept", "accept-charset", "accept-language", "content-language", "content-type", "idempotency-key", "if-match",
+        "accept", "accept-charset", "accept-language", "content-language", "content-type", "idempotency-key",
+        "if-match",
         "if-modified-since", "if-none-match", "if-unmodified-since", "isolation", "odata-isolation", "odata-maxversion",
         "odata-version", "prefer", "repeatability-first-sent", "repeatability-request-id",
     }
@@ -73,8 +74,8 @@ class Outer:
         allowed: The names in lower case of further headers that requests may have.
 
     Attributes:
-        mode: How the batch is performed: ``"stop"``, unless the client prefers to continue on error (OData Protocol 4.01,
-            section 8.2.8.3).
+        mode: How the batch is performed: ``"stop"``, unless the client prefers to continue on error (OData Protocol
+            4.01, section 8.2.8.3).
         base, root: The folder and the root as URLs.
 
     Raises:
@@ -112,8 +113,8 @@ class Outer:
         """Returns the headers of a request of the batch, with those that it inherits.
 
         Raises:
-            Refusal: It has a header that it may not have (400 ``HeaderNotAllowed``), or one with a character that may not
-                be in a header (400 ``BadHeader``).
+            Refusal: It has a header that it may not have (400 ``HeaderNotAllowed``), or one with a character that may
+                not be in a header (400 ``BadHeader``).
         """
         headers = dict(self._inherited)
         for name, value in request.headers.items():
@@ -175,7 +176,7 @@ def too_long(size: int) -> Refusal:
 
 
 def refused(error: Exception) -> Answer:
-    """Returns the answer to a batch that is refused as a whole: that of a Refusal; 400 with code, name and place of a Fault."""
+    """Returns the answer to a batch that is refused as a whole: that of a Refusal, or 400 with what a Fault says."""
     if isinstance(error, Refusal):
         return error.answer
     if not isinstance(error, Fault):
@@ -205,7 +206,7 @@ def names_of(allowed: Iterable[str]) -> "frozenset[str]":
 
 
 def root_of(root: Optional[str], path: str) -> str:
-    """Returns the path that each URL has to begin with; raises ValueError if it, or the path of batches, cannot be one."""
+    """Returns the path that each URL has to begin with; raises ValueError if it or the path of batches is not one."""
     if not path.startswith("/"):
         raise ValueError(f"the path must begin with /, not {path!r}")
     if root is not None and not (root.startswith("/") and root.endswith("/")):

@@ -86,8 +86,8 @@ class GroupFailed(Exception):
 
 
 def header_dict(pairs: Iterable[Tuple[str, str]]) -> Dict[str, str]:
-    """Returns headers by their names in lower case; several of one name are joined by commas (RFC 9110, section 5.2), but
-    cookies by semicolons (RFC 9113, section 8.2.3).
+    """Returns headers by their names in lower case; several of one name are joined by commas (RFC 9110, section 5.2),
+    but cookies by semicolons (RFC 9113, section 8.2.3).
 
     Raises:
         TypeError: A name or a value is not a string.

@@ -14,7 +14,8 @@ from ._work import Unit, Work
 
 #: Sends a request, and returns what it is answered.
 Send = Callable[[PreparedRequest], Answered]
-#: Opens the transaction of a group, by its name. It is committed at the end of the block, and rolled back on any exception.
+#: Opens the transaction of a group, by its name: it is committed at the end of the block, and rolled back on any
+#: exception.
 Transaction = Callable[[str], ContextManager[Any]]
 
 
@@ -41,35 +42,36 @@ def perform(
     ...                       {"id": "b", "method": "get", "url": "$a/Pages", "dependsOn": ["a"]}]}
     >>> def send(request):
     ...     print(request.method, request.url)
-    ...     return Answer(201, {"Location": "/odata/Books(7)"})
+    ...     return Answer(201, {"Location": "/odata/Books(7)"} if request.method == "POST" else {})
     >>> perform(batch, send, base="https://host/odata/")
     POST https://host/odata/Books
     GET https://host/odata/Books(7)/Pages
-    b'{"responses":[{"headers":{"location":"/odata/Books(7)"},"id":"a","status":201},{"headers":{"location":"/odata/Books(7)"},"id":"b","status":201}]}'
+    b'{"responses":[{"headers":{"location":"/odata/Books(7)"},"id":"a","status":201},{"id":"b","status":201}]}'
 
     An exception of ``send`` is an answer, too: 504 for a TimeoutError, 502 for a ConnectionError, that of a
-    :class:`Refusal`, and 500 for any other, which is logged. A thread cannot be stopped, so ``send`` has to end by itself
-    if no answer comes.
+    :class:`Refusal`, and 500 for any other, which is logged. A thread cannot be stopped, so ``send`` has to end by
+    itself if no answer comes.
 
     The requests of a group are sent one after another inside of its transaction. It begins once the group needs nothing
-    more from outside, is committed before the last request is reported, and is rolled back by an exception if one of them
-    fails. If it cannot begin, the first request is answered by its exception, as above; if it cannot be committed, the last.
+    more from outside, is committed before the last request is reported, and is rolled back by an exception if one of
+    them fails. If it cannot begin, the first request is answered by its exception, as above; if it cannot be committed,
+    the last.
 
     Args:
         batch: The batch.
         send: Sends a request. With a width above 1 it is called in several threads at once.
         mode: ``"continue"``, or ``"stop"`` to start nothing more after a status from 400 to 599.
-        width: How many units are performed at once, from 1 to 10,000; a unit is a group, or a request without one. With 1
-            everything happens in the thread of the caller. With more each unit has a thread, and a copy of the context
-            (``contextvars``) of the caller.
+        width: How many units are performed at once, from 1 to 10,000; a unit is a group, or a request without one. With
+            1 everything happens in the thread of the caller. With more each unit has a thread, and a copy of the
+            context (``contextvars``) of the caller.
         transaction: Opens the transaction of a group. Without it a batch with groups is refused.
-        base: The URL that URLs are relative to, which ends with /. Requests that lead out of it are answered 404 and not sent.
-            If it is empty, URLs are passed as they are.
-        root: Where requests may lead, if not to the base alone: a URL that ends with /, or ``""`` for anywhere. Then whoever
-            sends a batch reaches whatever this process reaches.
+        base: The URL that URLs are relative to, which ends with /. Requests that lead out of it are answered 404 and
+            not sent. If it is empty, URLs are passed as they are.
+        root: Where requests may lead, if not to the base alone: a URL that ends with /, or ``""`` for anywhere. Then
+            whoever sends a batch reaches whatever this process reaches.
         limit: How many requests the batch may have.
-        stop: Is called before a unit begins, as ``event.is_set``. Once it returns true, nothing more starts, and what has
-            not started is answered 424: for deadlines, and for a process that ends.
+        stop: Is called before a unit begins, as ``event.is_set``. Once it returns true, nothing more starts, and what
+            has not started is answered 424: for deadlines, and for a process that ends.
         pool: Where units are performed, if the width is above 1; else threads are made for this batch.
 
     Raises:
@@ -99,8 +101,8 @@ def perform(
 
 
 def _perform_in(pool: Executor, work: Work, width: int, send: Send, transaction: Optional[Transaction]) -> None:
-    """Performs all units, each in a thread of the pool. If that is interrupted, nothing more starts, open groups are rolled
-    back before their next request, and what is out is waited for."""
+    """Performs all units, each in a thread of the pool. If that is interrupted, nothing more starts, open groups are
+    rolled back before their next request, and what is out is waited for."""
     ended: "SimpleQueue[Future[None]]" = SimpleQueue()
     out: "Set[Future[None]]" = set()
     try:
@@ -124,7 +126,7 @@ def _perform_in(pool: Executor, work: Work, width: int, send: Send, transaction:
 
 
 def _perform_unit(work: Work, unit: Unit, send: Send, transaction: Optional[Transaction]) -> None:
-    """Performs a unit. What needs a group does not start before its commit, since its last request is reported after it."""
+    """Performs a unit. The last request of a group is reported after its commit, so what needs the group starts then."""
     answer: Optional[Answer] = None
     try:
         if unit.group is None or transaction is None:

@@ -2,7 +2,18 @@
 
 import asyncio
 import contextlib
-from typing import Any, AsyncContextManager, AsyncIterator, Awaitable, Callable, ContextManager, NamedTuple, Optional, Set, Union
+from typing import (
+    Any,
+    AsyncContextManager,
+    AsyncIterator,
+    Awaitable,
+    Callable,
+    ContextManager,
+    NamedTuple,
+    Optional,
+    Set,
+    Union,
+)
 
 from ._answers import answer_to, checked
 from ._commands import Mode
@@ -54,10 +65,11 @@ async def perform_async(
         width: How many units are performed at once, from 1 to 10,000.
         transaction: Opens the transaction of a group: a context manager, asynchronous or not. Without it a batch with
             groups is refused.
-        timeout: For how many seconds a request may take, or None. Then it is cancelled, and once that is done, answered 504.
-        gate: Bounds how many units of all batches are performed at once. Where requests are answered by a pool of threads, it
-            has fewer places than the pool: then a group that holds a lock gets a thread for its next request, however many
-            others wait for that lock.
+        timeout: For how many seconds a request may take, or None. Then it is cancelled, and once that is done, answered
+            504.
+        gate: Bounds how many units of all batches are performed at once. Where requests are answered by a pool of
+            threads, it has fewer places than the pool: then a group that holds a lock gets a thread for its next
+            request, however many others wait for that lock.
 
     Raises:
         Fault: The batch is refused; nothing was sent.

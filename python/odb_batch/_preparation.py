@@ -47,8 +47,8 @@ class Preparation:
         """Returns a request as it is sent.
 
         Raises:
-            Refusal: It cannot be sent: its URL leads out of the service (404), it or the body cannot be read (400), or a
-                reference stands for nothing (424; 400 if an ETag is not known since its request is not in dependsOn).
+            Refusal: It cannot be sent: its URL leads out of the service (404), it or the body cannot be read (400), or
+                a reference stands for nothing (424; 400 if the request with the ETag is not in dependsOn).
         """
         given = self._requests[id]
         url = self._urls[id] = self._service.target(self._url_of(given))

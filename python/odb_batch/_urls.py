@@ -57,8 +57,8 @@ class Service:
         """Returns an absolute URL in ASCII, without its fragment.
 
         Raises:
-            Refusal: It cannot be read: 400 ``BadUrl``. It leads out of the service: 404 ``NotFound``. So does one with a
-                segment ``..``, or with a character that cannot be printed, however it is encoded.
+            Refusal: It cannot be read: 400 ``BadUrl``. It leads out of the service: 404 ``NotFound``. So does one with
+                a segment ``..``, or with a character that cannot be printed, however it is encoded.
         """
         try:
             parts = urlsplit(url)

@@ -37,8 +37,8 @@ class Unit:
 class Work:
     """A batch on its way from its document to its response.
 
-    A unit that :meth:`begin` returns needs nothing more from outside of it. So a transaction that begins now does not wait
-    for what waits for it.
+    A unit that :meth:`begin` returns needs nothing more from outside of it. So a transaction that begins now does not
+    wait for what waits for it.
 
     One thread calls ``begin`` and ``response``. The other methods may be called by any, for different units.
 
@@ -88,13 +88,15 @@ class Work:
         """Starts the first request of the first unit that may begin; None if no unit may begin now."""
         if self._stop is not None and self._stop():
             self.stop()
-        while (ids := self._run.next_unit()) is not None:
-            try:
-                self._run.start(ids[0])
-            except Refused:
-                continue  # meanwhile another thread has reported an error that stops the run
-            return Unit(ids, self._groups[ids[0]])
-        return None
+        ids = self._run.next_unit()
+        if ids is None:
+            return None
+        try:
+            self._run.start(ids[0])
+        except Refused:
+            # Between the two calls another thread has reported an error, by which the run is stopped.
+            return None
+        return Unit(ids, self._groups[ids[0]])
 
     def stop(self) -> None:
         """Lets nothing more start."""
@@ -113,8 +115,8 @@ class Work:
             unit.open = id
 
     def take(self, unit: Unit, answer: Answer) -> None:
-        """Reports the open request of a group. If it is the last one and has succeeded, this does nothing: it is reported
-        after the commit. Raises GroupFailed if it has not succeeded."""
+        """Reports the open request of a group. If it is the last one and has succeeded, this does nothing: it is
+        reported after the commit. Raises GroupFailed if it has not succeeded."""
         if answer.is_success and unit.open == unit.ids[-1]:
             return
         self.finish(unit, answer)
@@ -152,7 +154,7 @@ class Work:
             self._report_unread(id, answer, headers, text)
 
     def _report_unread(self, id: str, answer: Answer, headers: Dict[str, str], text: bytes) -> None:
-        """Reports an answer that the run cannot read: a body that is not JSON as a string, and headers in ASCII alone."""
+        """Reports an answer that the run cannot read: a body that is not JSON as a string, headers in ASCII alone."""
         LOG.warning("the answer to %s has a body that is not JSON, or a header that is not Unicode", id)
         wire = bytes(answer.body) if isinstance(answer.body, (bytes, bytearray, memoryview)) else text
         kept = {name: value for name, value in headers.items() if name.isascii() and value.isascii()}
@@ -162,7 +164,8 @@ class Work:
         """Returns the response document of the finished run.
 
         Raises:
-            RuntimeError: The answer to a request could not be reported. It is not a Fault, which would be one of the batch.
+            RuntimeError: The answer to a request could not be reported. It is not a Fault, which would be one of the
+            batch.
         """
         if not self._run.finished:
             raise RuntimeError("a request was started, and its answer could not be reported")

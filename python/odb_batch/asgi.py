@@ -33,12 +33,13 @@ class BatchMiddleware:
     Args:
         app: The application.
         path: The path of batches. The URLs of their requests are relative to its folder.
-        transaction: Opens the transaction of a group, by its name: a context manager, which commits at the end of its block,
-            and rolls back on any exception. It must not block the loop, in which the requests of the group are dispatched,
-            so it is best an asynchronous one. Without it a batch with groups is answered 501.
+        transaction: Opens the transaction of a group, by its name: a context manager, which commits at the end of its
+            block, and rolls back on any exception. It must not block the loop, in which the requests of the group are
+            dispatched, so it is best an asynchronous one. Without it a batch with groups is answered 501.
         width: How many units of a batch are performed at once.
-        at_once: How many units of all batches are performed at once in a loop. Have it below the number of threads in which
-            the application answers (40 in Starlette), so that a group that holds a lock never waits for one of them.
+        at_once: How many units of all batches are performed at once in a loop. Have it below the number of threads in
+            which the application answers (40 in Starlette), so that a group that holds a lock never waits for one of
+            them.
         timeout: For how many seconds a request may take, or None; then it is cancelled and answered 504. One that is
             answered in a thread cannot be cancelled: the answer comes when it ends.
         limit: How many requests a batch may have.

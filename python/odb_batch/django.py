@@ -2,8 +2,8 @@
 
     application = BatchMiddleware(get_wsgi_application(), "/odata/$batch", transaction=group)
 
-``atomic()`` alone is wrong twice: each request of a group would close its connection, and a view that catches an error of
-the database would have everything rolled back without an exception.
+``atomic()`` alone is wrong twice: each request of a group would close its connection, and a view that catches an error
+of the database would have everything rolled back without an exception.
 """
 
 import logging
@@ -26,8 +26,8 @@ def _keep_open() -> None:
 def group(name: str, using: Optional[str] = None) -> Iterator[None]:
     """Opens the transaction of a group, for ``transaction`` of :class:`odb_batch.wsgi.BatchMiddleware`.
 
-    It is committed at the end of the block, and rolled back on any exception. It holds for one thread, so it is for WSGI
-    alone. For another database than the default one pass ``functools.partial(group, using="other")``.
+    It is committed at the end of the block, and rolled back on any exception. It holds for one thread, so it is for
+    WSGI alone. For another database than the default one pass ``functools.partial(group, using="other")``.
 
     A hook of ``on_commit`` that raises an exception does not undo the group: it is logged.
 

@@ -2,8 +2,8 @@
 
     app.wsgi_app = BatchMiddleware(app.wsgi_app, "/odata/$batch", transaction=group)
 
-Each request of a batch is dispatched to the application in this process, never over HTTP: a server whose workers all wait
-for requests to itself would never answer.
+Each request of a batch is dispatched to the application in this process, never over HTTP: a server whose workers all
+wait for requests to itself would never answer.
 """
 
 import io
@@ -24,7 +24,15 @@ _App = Callable[..., Iterable[bytes]]
 
 # What a server says of the outer request by names of its own, which an application could read in place of the rest.
 _OF_OUTER = frozenset(
-    {"CONTENT_LENGTH", "CONTENT_TYPE", "RAW_URI", "REQUEST_URI", "gunicorn.socket", "wsgi.input", "wsgi.input_terminated"}
+    {
+        "CONTENT_LENGTH",
+        "CONTENT_TYPE",
+        "RAW_URI",
+        "REQUEST_URI",
+        "gunicorn.socket",
+        "wsgi.input",
+        "wsgi.input_terminated",
+    }
 )
 
 
@@ -48,11 +56,11 @@ class BatchMiddleware:
     Args:
         app: The application.
         path: The path of batches, as the application sees it. The URLs of their requests are relative to its folder.
-        transaction: Opens the transaction of a group, by its name: a context manager, which commits at the end of its block,
-            and rolls back on any exception. All requests of the group are dispatched in its thread. Without it a batch with
-            groups is answered 501.
-        width: How many units of all batches are performed at once, by threads of this object. With 1 each batch is performed
-            in the thread of its own request.
+        transaction: Opens the transaction of a group, by its name: a context manager, which commits at the end of its
+            block, and rolls back on any exception. All requests of the group are dispatched in its thread. Without it a
+            batch with groups is answered 501.
+        width: How many units of all batches are performed at once, by threads of this object. With 1 each batch is
+            performed in the thread of its own request.
         limit: How many requests a batch may have.
         max_size: How many bytes a batch may have, and the bodies of its answers together.
         allowed: Names of headers that requests may have, beside those of OData.
@@ -159,7 +167,9 @@ class _Inner:
         begun: List[Tuple[str, Iterable[Tuple[str, str]]]] = []
         body = bytearray()
 
-        def start_response(status: str, headers: Iterable[Tuple[str, str]], exc_info: Any = None) -> Callable[[bytes], None]:
+        def start_response(
+            status: str, headers: Iterable[Tuple[str, str]], exc_info: Any = None
+        ) -> Callable[[bytes], None]:
             begun[:] = [(status, headers)]
             return body.extend
 

@@ -1,4 +1,6 @@
-"""`$batch` in front of small applications of WSGI and ASGI: what comes in, what the requests inherit, and what is answered."""
+"""`$batch` in front of small applications of WSGI and ASGI: what comes in, what the requests inherit, and what is
+answered.
+"""
 
 import asyncio
 import base64
@@ -52,7 +54,9 @@ class OverWsgi:
         body = environ["wsgi.input"].read(int(environ.get("CONTENT_LENGTH") or 0))
         path = path.encode("latin-1").decode()
         status, kind, data = echoed(environ["REQUEST_METHOD"], path, environ["QUERY_STRING"], headers, body)
-        start_response(f"{status} As it is", [("Content-Type", kind), ("Set-Cookie", "a=b"), ("Vary", "A"), ("Vary", "B")])
+        start_response(
+            f"{status} As it is", [("Content-Type", kind), ("Set-Cookie", "a=b"), ("Vary", "A"), ("Vary", "B")]
+        )
         return [data]
 
     def ask(self, method, path, headers, body=b"", prefix="", more=None):
@@ -156,7 +160,13 @@ class TestBatches:
     @pytest.mark.parametrize("prefix", ["", "/app", "/grün"])
     def test_urls_are_relative_to_the_folder(self, service, prefix):
         given = prefix.encode().decode("latin-1") if isinstance(service, OverWsgi) else prefix
-        found = batch(service, {"url": "Books('ü a')?$top=1"}, {"url": f"{prefix}/odata/Books"}, {"url": f"http://host{prefix}/odata/A"}, prefix=given)
+        found = batch(
+            service,
+            {"url": "Books('ü a')?$top=1"},
+            {"url": f"{prefix}/odata/Books"},
+            {"url": f"http://host{prefix}/odata/A"},
+            prefix=given,
+        )
         paths = [it["body"]["path"] for it in found.values()]
         assert paths == [f"{prefix}/odata/{it}" for it in ("Books('ü a')", "Books", "A")]
         assert found["r0"]["body"]["query"] == "$top=1"
@@ -188,7 +198,9 @@ class TestBatches:
     def test_the_mode(self, over, prefer, is_continued):
         service = over("/odata/$batch", width=1)
         body = b'{"requests":[{"id":"a","method":"get","url":"missing"},{"id":"b","method":"get","url":"price"}]}'
-        status, headers, text = service.ask("POST", "/odata/$batch", {**JSON, **({"Prefer": prefer} if prefer else {})}, body)
+        status, headers, text = service.ask(
+            "POST", "/odata/$batch", {**JSON, **({"Prefer": prefer} if prefer else {})}, body
+        )
         assert [it["status"] for it in json.loads(text)["responses"]] == [404, 200 if is_continued else 424]
         assert ("preference-applied" in headers) == is_continued
 
@@ -204,16 +216,25 @@ class TestRefused:
         found, more, text = over("/odata/$batch", max_size=400).ask(method, "/odata/$batch", headers, body)
         assert (found, json.loads(text)["error"]["code"]) == (status, code)
         assert more["content-type"] == "application/json" and more["odata-version"] == "4.01"
-        assert (more.get("allow"), more.get("accept")) == ("POST" if status == 405 else None, "application/json" if status == 415 else None)
+        assert (more.get("allow"), more.get("accept")) == (
+            "POST" if status == 405 else None,
+            "application/json" if status == 415 else None,
+        )
 
     def test_says_where(self, service):
-        _, _, text = service.ask("POST", "/odata/$batch", JSON, b'{"requests":[{"id":"1","method":"post","url":"/odata/$batch"}]}')
+        _, _, text = service.ask(
+            "POST", "/odata/$batch", JSON, b'{"requests":[{"id":"1","method":"post","url":"/odata/$batch"}]}'
+        )
         error = json.loads(text)["error"]
-        assert (error["code"], error["target"]) == ("F22", "/requests/0") and error["message"].startswith("NestedBatch: ")
+        assert (error["code"], error["target"]) == ("F22", "/requests/0") and error["message"].startswith(
+            "NestedBatch: "
+        )
 
     def test_too_many_requests(self, over):
         requests = [{"id": str(k), "method": "get", "url": "price"} for k in range(4)]
-        status, _, text = over("/odata/$batch", limit=3).ask("POST", "/odata/$batch", JSON, json.dumps({"requests": requests}).encode())
+        status, _, text = over("/odata/$batch", limit=3).ask(
+            "POST", "/odata/$batch", JSON, json.dumps({"requests": requests}).encode()
+        )
         assert (status, json.loads(text)["error"]["code"]) == (413, "TooManyRequests")
 
     def test_groups_without_transactions(self, service):
@@ -236,9 +257,22 @@ class TestHeaders:
     }  # fmt: skip
 
     def test_are_inherited(self, service):
-        found = batch(service, {"url": "a", "headers": {"Accept": "text/plain", "Host": "evil", "Prefer": "maxpagesize=5"}}, {"url": "b"}, headers=self.outer)
+        found = batch(
+            service,
+            {"url": "a", "headers": {"Accept": "text/plain", "Host": "evil", "Prefer": "maxpagesize=5"}},
+            {"url": "b"},
+            headers=self.outer,
+        )
         first, second = (found[id]["body"]["headers"] for id in ("r0", "r1"))
-        same = {"authorization": "Bearer 1", "cookie": "session=2", "x-forwarded-for": "9.9.9.9", "traceparent": "00-1", "accept-language": "de", "odata-maxversion": "4.0", "host": "host"}
+        same = {
+            "authorization": "Bearer 1",
+            "cookie": "session=2",
+            "x-forwarded-for": "9.9.9.9",
+            "traceparent": "00-1",
+            "accept-language": "de",
+            "odata-maxversion": "4.0",
+            "host": "host",
+        }
         second.pop("content-type", None)
         first.pop("content-type", None)
         assert second == {**same, "prefer": "return=minimal"}
@@ -256,7 +290,10 @@ class TestHeaders:
 
     def test_that_are_allowed(self, over):
         service = over("/odata/$batch", allowed=["X-Dry-Run"])
-        assert batch(service, {"url": "a", "headers": {"x-dry-run": "true"}})["r0"]["body"]["headers"]["x-dry-run"] == "true"
+        assert (
+            batch(service, {"url": "a", "headers": {"x-dry-run": "true"}})["r0"]["body"]["headers"]["x-dry-run"]
+            == "true"
+        )
 
     def test_of_an_answer(self, service):
         headers = batch(service, {"url": "price"})["r0"]["headers"]
@@ -266,14 +303,24 @@ class TestHeaders:
 class TestBodies:
     def test_in_both_directions(self, service):
         body = {"method": "post", "url": "a", "headers": {"Content-Type": "image/png"}, "body": "_-8"}
-        found = batch(service, {"url": "text"}, {"url": "binary"}, {"url": "price"}, {"url": "gone"}, body, {"method": "put", "url": "b", "body": {"a": [1]}})
+        found = batch(
+            service,
+            {"url": "text"},
+            {"url": "binary"},
+            {"url": "price"},
+            {"url": "gone"},
+            body,
+            {"method": "put", "url": "b", "body": {"a": [1]}},
+        )
         assert found["r0"]["body"] == "Grüße" and "body" not in found["r3"]
         assert found["r1"]["body"] == base64.urlsafe_b64encode(bytes(range(256))).rstrip(b"=").decode()
         assert found["r4"]["body"]["body"] == "\xff\xef" and json.loads(found["r5"]["body"]["body"]) == {"a": [1]}
         assert found["r5"]["body"]["headers"]["content-type"] == "application/json"
 
     def test_numbers_keep_their_text(self, service):
-        _, _, text = service.ask("POST", "/odata/$batch", JSON, b'{"requests":[{"id":"a","method":"get","url":"price"}]}')
+        _, _, text = service.ask(
+            "POST", "/odata/$batch", JSON, b'{"requests":[{"id":"a","method":"get","url":"price"}]}'
+        )
         assert b'"body":{"Price": 9.990}' in text
 
     def test_answers_that_are_too_long_together(self, over):
@@ -314,7 +361,11 @@ class TestWsgi:
         service = OverWideWsgi("/odata/$batch")
         batch(service, {"url": "a%2Fb?x=%20"})
         environ = service.seen[0]
-        assert (environ["RAW_URI"], environ["REQUEST_URI"], environ["PATH_INFO"]) == ("/odata/a%2Fb?x=%20", "/odata/a%2Fb?x=%20", "/odata/a/b")
+        assert (environ["RAW_URI"], environ["REQUEST_URI"], environ["PATH_INFO"]) == (
+            "/odata/a%2Fb?x=%20",
+            "/odata/a%2Fb?x=%20",
+            "/odata/a/b",
+        )
         assert "gunicorn.socket" not in environ and environ["wsgi.multithread"] is True
 
     @pytest.mark.parametrize("more, status", [
@@ -341,7 +392,9 @@ class TestWsgi:
         service.middleware.app = app
         assert batch(service, {"url": "a"})["r0"]["body"] == "first second" and closed == [True]
 
-    @pytest.mark.parametrize("app", [lambda environ, start_response: [b"nothing begun"], lambda environ, start_response: None])
+    @pytest.mark.parametrize(
+        "app", [lambda environ, start_response: [b"nothing begun"], lambda environ, start_response: None]
+    )
     def test_an_application_that_answers_nothing(self, app):
         service = OverWsgi("/odata/$batch")
         service.middleware.app = app
@@ -349,7 +402,12 @@ class TestWsgi:
 
     def test_a_host_that_is_missing(self):
         service = OverWsgi("/odata/$batch")
-        status, _, text = service.ask("POST", "/odata/$batch", {**JSON, "Host": ""}, b'{"requests":[{"id":"a","method":"get","url":"http://host/odata/price"}]}')
+        status, _, text = service.ask(
+            "POST",
+            "/odata/$batch",
+            {**JSON, "Host": ""},
+            b'{"requests":[{"id":"a","method":"get","url":"http://host/odata/price"}]}',
+        )
         assert json.loads(text)["responses"][0]["status"] == 200
 
 
@@ -366,7 +424,9 @@ class TestAsgi:
             scope = service.seen[0]
             front = "/app" if kind.in_front else ""
             assert (scope["raw_path"], scope["query_string"]) == ((front + "/odata/a%2Fb").encode(), b"x=%20")
-            assert scope["path"] == front + "/odata/a/b" and "extensions" not in scope and scope["state"] == {"shared": []}
+            assert (
+                scope["path"] == front + "/odata/a/b" and "extensions" not in scope and scope["state"] == {"shared": []}
+            )
 
     def test_a_request_is_over_when_the_application_returns(self):
         """What comes after the answer may be the commit of a dependency."""
@@ -427,7 +487,12 @@ class TestAsgi:
             async def send(message):
                 sent.append(message)
 
-            scope = {"type": "http", "method": "POST", "path": "/$batch", "headers": [(b"content-type", b"application/json")]}
+            scope = {
+                "type": "http",
+                "method": "POST",
+                "path": "/$batch",
+                "headers": [(b"content-type", b"application/json")],
+            }
             await asgi.BatchMiddleware(None)(scope, receive, send)
             return sent[0]["status"]
 

@@ -1,4 +1,6 @@
-"""Batches that are performed by a function: each trap of transactions, references, bodies and failures, in threads and in tasks."""
+"""Batches that are performed by a function: each trap of transactions, references, bodies and failures, in threads and
+in tasks.
+"""
 
 import asyncio
 import contextlib
@@ -9,7 +11,7 @@ from contextvars import ContextVar
 
 import pytest
 
-from odb_batch import Answer, Fault, PreparedRequest, Refusal, perform, perform_async
+from odb_batch import Answer, Fault, PreparedRequest, Refusal, Run, perform, perform_async
 
 GROUP = {
     "requests": [
@@ -188,6 +190,19 @@ class TestTransactions:
 
         found = shown(perform(batch, send, mode="stop", width=2, transaction=ledger.transaction))
         assert found == {"a": 424, "b": 424, "y": 404} and ledger.rolled_back == ["g"]
+
+    def test_the_run_stops_while_a_unit_begins(self, monkeypatch):
+        """An error that is reported after a unit was found and before it has started: nothing more starts."""
+        next_unit = Run.next_unit
+
+        def late(run):
+            found = next_unit(run)
+            if found == ("b",):
+                run.stop()
+            return found
+
+        monkeypatch.setattr(Run, "next_unit", late)
+        assert shown(perform(gets("a", "b", "c"), answering({}), mode="stop", width=2)) == {"a": 200, "b": 424, "c": 424}
 
     def test_groups_without_transactions_are_refused_before_anything_is_sent(self, driver):
         with pytest.raises(Refusal) as refused:
@@ -511,7 +526,10 @@ class TestReferences:
         assert found["a"] == (200 if wanted else 400 if "[" in url else 404)
 
     def test_a_location_outside_is_not_followed(self, driver):
-        batch = [{"id": "o", "method": "post", "url": "O"}, {"id": "l", "method": "get", "url": "$o", "dependsOn": ["o"]}]
+        batch = [
+            {"id": "o", "method": "post", "url": "O"},
+            {"id": "l", "method": "get", "url": "$o", "dependsOn": ["o"]},
+        ]
         send = lambda it: (201, {"Location": "http://169.254.169.254/odata/O(1)"})
         assert shown(driver({"requests": batch}, send, base="http://h/odata/")) == {"o": 201, "l": 404}
         assert shown(driver({"requests": batch}, send, base="http://h/odata/", root="")) == {"o": 201, "l": 201}
@@ -521,12 +539,16 @@ class TestBodies:
     def test_numbers_and_bytes_are_not_touched(self, driver):
         batch = """{"requests":[
             {"id":"a","method":"post","url":"A","body":{"p":9.990,"n":12345678901234567890123.25,"e":1E3}},
-            {"id":"t","method":"post","url":"A","headers":{"Content-Type":"text/plain; charset=latin-1"},"body":"Gr\\u00fc\\u00dfe"},
+            {"id":"t","method":"post","url":"A",
+             "headers":{"Content-Type":"text/plain; charset=latin-1"},"body":"Gr\\u00fc\\u00dfe"},
             {"id":"b","method":"put","url":"A","headers":{"Content-Type":"image/png"},"body":"_-8"},
-            {"id":"c","method":"post","url":"A","headers":{"Content-Type":"text/plain; charset=ascii"},"body":"\\u00fc"},
+            {"id":"c","method":"post","url":"A",
+             "headers":{"Content-Type":"text/plain; charset=ascii"},"body":"\\u00fc"},
             {"id":"d","method":"post","url":"A","headers":{"Content-Type":"text/plain; charset=nobody"},"body":"a"}]}"""
         answers = {
-            "a": Answer(201, {"Content-Type": "application/json"}, b'{"Price": 19.990, "big": 12345678901234567890123}'),
+            "a": Answer(
+                201, {"Content-Type": "application/json"}, b'{"Price": 19.990, "big": 12345678901234567890123}'
+            ),
             "t": Answer(200, {"Content-Type": "text/html; charset=iso-8859-1"}, "é".encode("latin-1")),
             "b": Answer(200, {"Content-Type": "image/png"}, bytes([255, 239])),
         }
@@ -558,7 +580,14 @@ class TestBodies:
         assert found.get("body") == wanted
 
     def test_headers_of_a_connection_are_not_shown(self, driver):
-        headers = {"Set-Cookie": "a=b", "Content-Length": "1", "Date": "now", "ETag": '"1"', "Connection": "close", "X-Y": "z"}
+        headers = {
+            "Set-Cookie": "a=b",
+            "Content-Length": "1",
+            "Date": "now",
+            "ETag": '"1"',
+            "Connection": "close",
+            "X-Y": "z",
+        }
         [found] = json.loads(driver(gets("a"), lambda it: (200, headers)))["responses"]
         assert found["headers"] == {"etag": '"1"', "x-y": "z"}
 
@@ -566,7 +595,9 @@ class TestBodies:
         sent = []
         batch = {"requests": [{"id": "a", "method": "Patch", "url": "A", "headers": {"X-Y": "z"}, "body": {"b": 1}}]}
         driver(batch, lambda it: sent.append(it) or (200,))
-        assert sent == [PreparedRequest("a", "PATCH", "A", {"x-y": "z", "content-type": "application/json"}, b'{"b":1}', None)]
+        assert sent == [
+            PreparedRequest("a", "PATCH", "A", {"x-y": "z", "content-type": "application/json"}, b'{"b":1}', None)
+        ]
 
 
 @pytest.mark.slow

@@ -1,8 +1,11 @@
 """The package for Python: its examples, its types, and a copy that pip installs; its own tests are in python/tests."""
 
 import doctest
+import importlib
+import re
 import shutil
 import sys
+import zipfile
 
 import pytest
 
@@ -11,10 +14,21 @@ from support.embedding import IN_PYTHON, block
 from support.program import ROOT, SHARED
 
 
-@pytest.mark.parametrize("name", ["odb_batch", "odb_batch._runs"])
+@pytest.mark.parametrize("name", ["", "._messages", "._perform", "._perform_async", "._runs", ".wsgi"])
 def test_its_examples(name, package):
-    found = doctest.testmod(sys.modules[name])
-    assert found.failed == 0
+    found = doctest.testmod(importlib.import_module(f"odb_batch{name}"))
+    assert found.failed == 0 < found.attempted
+
+
+def test_its_extras_name_frameworks_alone(tmp_path, monkeypatch):
+    monkeypatch.syspath_prepend(f"{ROOT}/python")
+    (wheel,) = [tmp_path / importlib.import_module("backend").build_wheel(str(tmp_path))]
+    with zipfile.ZipFile(wheel) as package:
+        (metadata,) = [package.read(it).decode() for it in package.namelist() if it.endswith("/METADATA")]
+    head = metadata.partition("\n\n")[0]
+    needed = re.findall("(?m)^Requires-Dist: (.*)$", head)
+    assert needed == ['Django>=3.2; extra == "django"', 'fastapi; extra == "fastapi"', 'Flask; extra == "flask"']
+    assert re.findall("(?m)^Provides-Extra: (.*)$", head) == ["django", "fastapi", "flask"]
 
 
 @pytest.mark.needs("mypy")

@@ -1,33 +1,24 @@
 """What the tests share: the service under gunicorn as processes of its own, its log, and a client."""
 
 import http.client
-import importlib.util
 import json
 import os
-import re
 import signal
 import sqlite3
-import subprocess
-import sys
-import threading
 import time
 from contextlib import ExitStack, suppress
 
 import pytest
 
-from support.commands import with_package
 from support.program import ROOT
-
-SECONDS = 20
+from support.servers import CONTINUE, JSON, SECONDS, Server, skip_without
 
 SERVICE = os.path.join(ROOT, "examples", "service")
-JSON = {"Content-Type": "application/json"}
-CONTINUE = {**JSON, "Prefer": "continue-on-error"}
 BATCH_URL = "/library/$batch"
 
 
-class Process:
-    """The service on a free port of the loopback, with its log as a list of lines.
+class Process(Server):
+    """The service on a free port of the loopback.
 
     Args:
         database: The file of its database.
@@ -40,37 +31,35 @@ class Process:
     folder = SERVICE
 
     def __init__(self, database, width=1, patience=20, workers=2):
-        if importlib.util.find_spec("gunicorn") is None:
-            pytest.skip("gunicorn is not installed")
-        words = [sys.executable, "-m", "gunicorn", "--config", os.path.join(SERVICE, "gunicorn.conf.py")]
-        words += ["--bind", "127.0.0.1:0", "--workers", str(workers), "--pythonpath", self.folder]
-        words.append(self.app(database, width))
-        self.process = subprocess.Popen(
-            words, stdout=subprocess.PIPE, stderr=subprocess.STDOUT, text=True, start_new_session=True,
-            env={**with_package(), "PATIENCE": str(patience)},
-        )  # fmt: skip
-        self.log = []
-        self.reader = threading.Thread(target=self._read, daemon=True)
-        self.reader.start()
+        skip_without("gunicorn")
+        words = ["gunicorn", "--config", os.path.join(SERVICE, "gunicorn.conf.py"), "--bind", "fd://{fd}"]
+        words += ["--workers", str(workers), "--pythonpath", self.folder, self.app(database, width)]
+        log = database + ".log"
+        self.begin = os.path.getsize(log) if os.path.exists(log) else 0
+        super().__init__(words, SERVICE, log, PATIENCE=str(patience))
         # A worker that gets a signal before it answers would not end by it.
-        until(lambda: sum(" answers" in line for line in list(self.log)), lambda it: it == workers or not self.reader.is_alive())
-        port = next(filter(None, (re.search(r"Listening at: http://127\.0\.0\.1:(\d+) ", line) for line in self.log)), None)
-        if port is None:
-            self.kill()
-            raise AssertionError("\n".join(self.log))
-        self.port = int(port[1])
+        until(self.count_of_workers, lambda count: count == workers or self.process.poll() is not None)
+        assert self.process.poll() is None, self.lines
 
     def app(self, database, width):
         """The application, as gunicorn is given it."""
         return f"app:make_app({database!r}, {width})"
 
-    def _read(self):
-        for line in self.process.stdout:
-            self.log.append(line.rstrip("\n"))
+    def count_of_workers(self):
+        return sum(line.endswith(" answers") for line in self.lines)
+
+    @property
+    def lines(self):
+        """The lines of its log, which those before it have begun."""
+        with open(self.log, "rb") as file:
+            file.seek(self.begin)
+            return file.read().decode().splitlines()
 
     def kill(self):
         """Ends all its processes at once."""
-        self._end()
+        with suppress(ProcessLookupError):
+            os.killpg(self.process.pid, signal.SIGKILL)
+        self.process.wait()
 
     def stop(self, number=signal.SIGTERM):
         """Ends it as a user does; returns its exit status."""
@@ -78,14 +67,7 @@ class Process:
         try:
             return self.process.wait(SECONDS)
         finally:
-            self._end()
-
-    def _end(self):
-        with suppress(ProcessLookupError):
-            os.killpg(self.process.pid, signal.SIGKILL)
-        self.process.wait()
-        self.reader.join(SECONDS)
-        self.process.stdout.close()
+            self.kill()
 
     def __enter__(self):
         return self

@@ -76,8 +76,8 @@ class TestRefusals(ClientTest):
         self.exchange("GET /library/logged%1b[2J%c3%bf HTTP/1.1\r\nHost: here\r\n\r\n".encode("latin-1"))
         self.client.ask("GET", "/library/logged")
         wanted = re.compile(r"GET '/library/logged.*' '' 404$")
-        assert len(until(lambda: list(filter(wanted.search, self.service.log)), lambda it: len(it) == 2)) == 2
-        assert all(line.isprintable() for line in self.service.log)
+        assert len(until(lambda: list(filter(wanted.search, self.service.lines)), lambda it: len(it) == 2)) == 2
+        assert all(line.isprintable() for line in self.service.lines)
 
 
 class TestConnections(ClientTest):

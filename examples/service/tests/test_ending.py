@@ -42,7 +42,7 @@ class TestEnding:
         assert found == {f"r{k}": 201 for k in range(COUNT)}
         assert len(rows(self.database)) == 2 + COUNT
         assert status == 0
-        assert [line for line in self.service.log if "Traceback" in line] == []
+        assert [line for line in self.service.lines if "Traceback" in line] == []
 
     def test_connections_without_a_whole_request_hold_it_up_for_a_while(self):
         idle = self.connect(head(method="HEAD", path="/library/Books"))

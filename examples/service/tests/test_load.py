@@ -124,7 +124,7 @@ class TestLoad(ServiceTest):
             found = {k: value for part in pool.map(self.ask, shares) for k, value in part.items()}
         assert self.service.stop() == 0
         course = Course(self.batches)
-        assert course.follow(self.service.log) == []
+        assert course.follow(self.service.lines) == []
         for name in ("Books", "Loans"):
             assert self.kept(name) == [tuple(it.values()) for it in course.library.listed(name)]
         succeeded = 0

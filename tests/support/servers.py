@@ -1,0 +1,114 @@
+"""Applications that real servers serve: each is a process with a listening socket of its own, which is asked over
+HTTP.
+"""
+
+import http.client
+import importlib.util
+import json
+import os
+import signal
+import socket
+import subprocess
+import sys
+import tempfile
+
+import pytest
+
+from .commands import with_package
+
+SECONDS = 20
+JSON = {"Content-Type": "application/json"}
+CONTINUE = {**JSON, "Prefer": "continue-on-error"}
+
+
+def folder_for_databases():
+    """A folder in memory, if there is one: a commit waits for no disk. What a process has written is there after
+    SIGKILL.
+    """
+    return tempfile.mkdtemp(dir="/dev/shm" if os.access("/dev/shm", os.W_OK) else None)
+
+
+def skip_without(*modules):
+    for name in modules:
+        if importlib.util.find_spec(name) is None:
+            pytest.skip(f"{name} is not installed")
+
+
+def with_gunicorn(app, workers=1, threads=8):
+    return [
+        "gunicorn",
+        "--bind",
+        "fd://{fd}",
+        "--workers",
+        str(workers),
+        "--threads",
+        str(threads),
+        "--log-level",
+        "warning",
+        app,
+    ]
+
+
+def with_uvicorn(app):
+    return ["uvicorn", "--fd", "{fd}", "--log-level", "warning", app]
+
+
+class Server:
+    """An application as a process.
+
+    Args:
+        command: The module of Python that serves it, and its arguments; {fd} stands for the socket.
+        folder: Where the module of the application is.
+        log: The path of the file to which it writes.
+        variables: Those of its environment.
+    """
+
+    def __init__(self, command, folder, log, **variables):
+        with socket.create_server(("127.0.0.1", 0)) as listening, open(log, "ab") as out:
+            self.port, number = listening.getsockname()[1], listening.fileno()
+            words = [sys.executable, "-m", *(word.format(fd=number) for word in command)]
+            variables = {**with_package(), **variables}
+            more = {"cwd": folder, "stdout": out, "stderr": out, "env": variables, "pass_fds": [number]}
+            self.process = subprocess.Popen(words, start_new_session=True, **more)
+        self.log, self.url = log, f"http://127.0.0.1:{self.port}/odata/"
+
+    def stop(self, number=signal.SIGTERM):
+        if self.process.poll() is None:
+            os.killpg(self.process.pid, number)
+            try:
+                self.process.wait(SECONDS)
+            except subprocess.TimeoutExpired:
+                os.killpg(self.process.pid, signal.SIGKILL)
+                self.process.wait()
+
+    def ask(self, method, path, body=None, headers=JSON):
+        """Sends a request over a connection of its own; returns the status, the headers by lower-case names and the
+        body.
+        """
+        connection = http.client.HTTPConnection("127.0.0.1", self.port, timeout=SECONDS)
+        try:
+            connection.request(method, path, body, headers)
+            answer = connection.getresponse()
+            return answer.status, {name.lower(): it for name, it in answer.getheaders()}, answer.read()
+        finally:
+            connection.close()
+
+    def batch(self, *given, headers=CONTINUE):
+        """Sends a batch; returns its responses by their ids, r0, r1 and so on."""
+        requests = [{"id": f"r{k}", "method": "get", **it} for k, it in enumerate(given)]
+        status, _, text = self.ask("POST", "/odata/$batch", json.dumps({"requests": requests}), headers)
+        assert status == 200, text
+        return {it["id"]: it for it in json.loads(text)["responses"]}
+
+    def statuses(self, *given, headers=CONTINUE):
+        return [it["status"] for it in self.batch(*given, headers=headers).values()]
+
+
+def conformance(server, folder, *options):
+    """Judges an application by the conformance tool; returns its exit status and what it printed."""
+    body = ["--set", "Books", "--key", "Id", "--body", '{"Title": "Emma"}', "--breaks", os.path.join(folder, "breaks")]
+    words = [sys.executable, "-m", "odb_batch", "conformance", server.url, *body, *options]
+    done = subprocess.run(
+        words, stdout=subprocess.PIPE, stderr=subprocess.STDOUT, text=True, env=with_package(), timeout=300
+    )
+    return done.returncode, done.stdout
