@@ -10,7 +10,7 @@ a test of its own, by pytest::
     @pytest.fixture(scope="module")
     def url():
         with serving(app) as root:
-            yield root + "/odata/"
+            yield root + "/library/"
 
     @pytest.mark.parametrize("case", conformance_cases())
     def test_batches(url, case):

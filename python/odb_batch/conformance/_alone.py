@@ -61,7 +61,7 @@ BODIES: Dict[str, Callable[[Entities, Entity, Any], Any]] = {
 ROWS = (
     Row("get", "a read", "get", "there"),
     Row("get-missing", "a read of what is missing", "get", "missing"),
-    Row("get-filtered", "a read with a query option", "get", "found", needs=("text",)),
+    Row("get-filtered", "a read with a query option", "get", "found", needs=("text", "filter")),
     Row("get-no-set", "a read of a set that does not exist", "get", "no set"),
     Row("post", "a POST", "post", "new", "whole"),
     Row("post-minimal", "a POST that prefers no body", "post", "new", "whole", MINIMAL),
@@ -117,7 +117,7 @@ def asked(entities: Entities, row: Row) -> Asked:
         # such a request creates the entity in some services
         entities.note(url)
     if row.target == "found":
-        url = f"{entities.set}?$filter={entities.text}%20eq%20{literal(entity.mark)}"
+        url = entities.url_of_marked(entity.mark)
     headers = dict(row.headers)
     if "{etag}" in headers.values():
         answer = entities.service.ask("GET", entity.url)
@@ -126,10 +126,6 @@ def asked(entities: Entities, row: Row) -> Asked:
     scratch = Stage(entities)
     scratch.add("asked", row.method, url, BODIES[row.body](entities, entity, mark), headers=headers)
     return Asked(scratch.steps[0], Entity("", {}) if row.target == "no set" else entity, mark)
-
-
-def literal(mark: Any) -> str:
-    return f"'{mark}'" if isinstance(mark, str) else str(mark)
 
 
 def beside(row: Row) -> Callable[[Stage], None]:

@@ -11,8 +11,8 @@ from ._promises import Case
 from ._references import references
 from ._waits import waits
 
-# How many requests the longest batch has, if nobody says.
-MAX_REQUESTS = 100
+# How many requests the longest batch may have, and how many it has if nobody says.
+MOST_REQUESTS, REQUESTS = 10_000, 100
 
 
 def all_cases(requests: int) -> List[Case]:
@@ -41,7 +41,7 @@ def conformance_cases(glob: str = "*") -> List[str]:
     Raises:
         ValueError: No case has such a name.
     """
-    found = [it.name for it in cases_like([glob], MAX_REQUESTS)]
+    found = [it.name for it in cases_like([glob], REQUESTS)]
     if not found:
         raise ValueError(f"no case has a name like {glob!r}")
     return found

@@ -54,7 +54,7 @@ KEYS: Tuple[Callable[[], Any], ...] = (
 
 
 def literals(value: Any) -> Iterator[str]:
-    """How a key may be written in a URL."""
+    """How a value may be written in a URL."""
     if isinstance(value, str):
         yield quote("'" + value.replace("'", "''") + "'", safe="'")
     yield quote(str(value), safe="")
@@ -191,6 +191,10 @@ class Entities:
 
     def url_of(self, key: Any) -> str:
         return f"{self.set}({list(literals(key))[0 if self.are_quoted else -1]})"
+
+    def url_of_marked(self, mark: Any) -> str:
+        """The URL of the entities that have a mark, by a query option."""
+        return f"{self.set}?$filter={self.text}%20eq%20{next(literals(mark))}"
 
     def key_of(self, answer: Answer) -> Any:
         """The key of an entity that was created, by its representation, or by what its Location shows."""

@@ -3,7 +3,7 @@
 from typing import Any, Callable, Dict, Optional
 from urllib.parse import urljoin, urlsplit
 
-from ._entities import Entities
+from ._entities import Entities, Entity
 from ._judge import responses_of
 from ._service import Answer, Unanswered
 from ._stage import Stage
@@ -18,6 +18,7 @@ LACKS = {
     "put": "alone, PUT does not change an entity",
     "etags": "the service has no ETags",
     "property": "alone, a property cannot be read by a URL of its own",
+    "filter": "alone, $filter is not applied",
     "options": "alone, $select is not applied",
     "absolute": "the service takes no absolute URLs in a batch",
     "rooted": "the service takes no URLs in a batch that begin with /",
@@ -83,8 +84,16 @@ def learn_reads(entities: Entities) -> Dict[str, bool]:
     return {
         "etags": etag_of(whole.headers, whole.value) is not None,
         "property": isinstance(part, dict) and part.get("value") == entity.mark,
+        "filter": text is not None and is_filtered(entities, entity),
         "options": some.is_success and isinstance(some.value, dict) and bool(text) and text not in some.value,
     }
+
+
+def is_filtered(entities: Entities, entity: Entity) -> bool:
+    """Whether a query option finds an entity, and no other, by its mark."""
+    value = entities.service.ask("GET", entities.url_of_marked(entity.mark)).value
+    found = value.get("value") if isinstance(value, dict) else None
+    return isinstance(found, list) and [it.get(entities.key) for it in found if isinstance(it, dict)] == [entity.key]
 
 
 def learn_urls(entities: Entities) -> Dict[str, bool]:

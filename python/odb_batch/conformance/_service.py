@@ -11,12 +11,26 @@ from urllib.parse import unquote, urljoin, urlsplit
 from ._interruption import Interrupted, Interruption
 
 MAX_ANSWER = 67_108_864
-# For how many seconds an answer is waited for, if nobody says.
-SECONDS = 20.0
+# For how many seconds an answer may be waited for, and for how many it is if nobody says.
+MOST_SECONDS, SECONDS = 3600, 20.0
 # For how many seconds at most a read waits before it looks for an interruption.
 SLICE = 0.25
 JSON = {"Content-Type": "application/json"}
 GONE = (404, 410)
+
+
+# What is said of another URL.
+NO_ROOT = "{!r} is not the root of a service, such as http://localhost:8080/"
+
+
+def is_root(url: str) -> bool:
+    """Whether a URL may be the root of a service: http or https, with a host, and without a query."""
+    try:
+        parts = urlsplit(url)
+        is_good = parts.scheme in ("http", "https") and parts.hostname and parts.port != 0 and url.isprintable()
+    except ValueError:
+        return False
+    return bool(is_good) and not (parts.query or parts.fragment or " " in url)
 
 
 class Unusable(Exception):

@@ -4,12 +4,12 @@ import unittest
 import warnings
 from typing import Any, Dict, Mapping
 
-from ._cases import MAX_REQUESTS, all_cases
+from ._cases import MOST_REQUESTS, REQUESTS, all_cases
 from ._entities import Entities
 from ._interruption import Interruption
 from ._report import failure_text
 from ._runner import Runner
-from ._service import SECONDS, Service
+from ._service import MOST_SECONDS, NO_ROOT, SECONDS, Service, is_root
 
 
 def judge(
@@ -20,13 +20,13 @@ def judge(
     key: str,
     body: Mapping[str, Any],
     headers: Mapping[str, str] = {},
-    requests: int = MAX_REQUESTS,
+    requests: int = REQUESTS,
     timeout: float = SECONDS,
 ) -> None:
     """Judges a service by one case, and removes the entities that it has made for it.
 
     A service is judged by one case at a time: nothing else may change the entity set meanwhile. The first case sends
-    some 80 plain requests besides, by which it learns what the service has. Later ones rely on that for the same URL;
+    some 50 requests besides, by which it learns what the service has. Later ones rely on that for the same URL;
     what :func:`serving` serves is learned anew.
 
     Args:
@@ -37,7 +37,7 @@ def judge(
         body: A body that creates an entity; the key is added.
         headers: What every request has besides, such as Authorization.
         requests: How many requests a batch may have, from 1 to 10,000.
-        timeout: For how many seconds an answer is waited for, more than 0.
+        timeout: For how many seconds an answer is waited for, more than 0 and up to 3600.
 
     Raises:
         AssertionError: The service breaks a promise. The message has each broken promise with its section of the
@@ -45,9 +45,15 @@ def judge(
         unittest.SkipTest: The case asks for what the service need not have, and has not; the message says what. By it
             unittest and pytest skip the test.
         Unusable: The service cannot be reached or judged, as one without $batch.
-        ValueError: No case has this name.
+        ValueError: No case has this name, or another argument has a value that it may not have.
     """
     __tracebackhide__ = True
+    if not is_root(url):
+        raise ValueError(NO_ROOT.format(url))
+    if not 1 <= requests <= MOST_REQUESTS:
+        raise ValueError(f"requests must be a whole number from 1 to {MOST_REQUESTS}, not {requests!r}")
+    if not 0 < timeout <= MOST_SECONDS:
+        raise ValueError(f"timeout must be a number of seconds up to {MOST_SECONDS}, not {timeout!r}")
     cases = [it for it in all_cases(requests) if it.name == case]
     if not cases:
         raise ValueError(f"no case has the name {case!r}")

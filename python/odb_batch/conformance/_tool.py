@@ -5,15 +5,14 @@ import json
 import re
 import sys
 from typing import Any, Dict, List, Sequence
-from urllib.parse import urlsplit
 
 from . import _report
-from ._cases import MAX_REQUESTS, cases_like
+from ._cases import MOST_REQUESTS, REQUESTS, cases_like
 from ._entities import Entities
 from ._interruption import Interrupted, Interruption
 from ._promises import Case
 from ._runner import Runner
-from ._service import SECONDS, Service, Unusable
+from ._service import MOST_SECONDS, NO_ROOT, SECONDS, Service, Unusable, is_root
 
 PROGRAM = "python3 -m odb_batch conformance"
 # Exit statuses; wrong arguments end with 2.
@@ -22,13 +21,8 @@ BROKEN, UNUSABLE = 1, 3
 
 def url_of(text: str) -> str:
     """The root URL of a service."""
-    try:
-        parts = urlsplit(text)
-        is_good = parts.scheme in ("http", "https") and parts.hostname and parts.port != 0 and text.isprintable()
-    except ValueError:
-        is_good = False
-    if not is_good or parts.query or parts.fragment or " " in text:
-        raise argparse.ArgumentTypeError(f"{text!r} is not the root of a service, such as http://localhost:8080/")
+    if not is_root(text):
+        raise argparse.ArgumentTypeError(NO_ROOT.format(text))
     return text
 
 
@@ -52,14 +46,14 @@ def header_of(text: str) -> List[str]:
 
 
 def seconds_of(text: str) -> float:
-    if not re.fullmatch(r"[0-9]{1,4}(\.[0-9]+)?", text) or not 0 < float(text) <= 3600:
-        raise argparse.ArgumentTypeError(f"{text!r} is not a number of seconds up to 3600")
+    if not re.fullmatch(r"[0-9]{1,4}(\.[0-9]+)?", text) or not 0 < float(text) <= MOST_SECONDS:
+        raise argparse.ArgumentTypeError(f"{text!r} is not a number of seconds up to {MOST_SECONDS}")
     return float(text)
 
 
 def number_of(text: str) -> int:
-    if not re.fullmatch(r"[0-9]{1,5}", text) or not 1 <= int(text) <= 10_000:
-        raise argparse.ArgumentTypeError(f"{text!r} is not a whole number from 1 to 10000")
+    if not re.fullmatch(r"[0-9]{1,5}", text) or not 1 <= int(text) <= MOST_REQUESTS:
+        raise argparse.ArgumentTypeError(f"{text!r} is not a whole number from 1 to {MOST_REQUESTS}")
     return int(text)
 
 
@@ -76,7 +70,7 @@ def parser() -> argparse.ArgumentParser:
     found.add_argument("--key", metavar="NAME", type=name_of, help="the key property of its entities")
     found.add_argument("--body", metavar="JSON", type=body_of, help="a body that creates an entity; the key is added")
     found.add_argument("--header", metavar="H: V", type=header_of, action="append", default=[], help="of all requests")
-    found.add_argument("--requests", metavar="N", type=number_of, default=MAX_REQUESTS, help="how many a batch may have; 100")
+    found.add_argument("--requests", metavar="N", type=number_of, default=REQUESTS, help="how many a batch may have; 100")
     found.add_argument("--timeout", metavar="S", type=seconds_of, default=SECONDS, help="seconds for an answer; 20")
     found.add_argument("--case", metavar="GLOB", action="append", help="runs cases of such names alone, as 'group-*'")
     found.add_argument("--breaks", metavar="FOLDER", default="conformance-breaks", help="where breaks are written")
@@ -91,7 +85,7 @@ def progress(at: int, name: str, count: int) -> None:
         print(f"\r\033[K{at + 1}/{count} {name}" if name else "\r\033[K", end="", file=sys.stderr, flush=True)
 
 
-def judge(options: argparse.Namespace, cases: List[Case], interruption: Interruption) -> int:
+def run(options: argparse.Namespace, cases: List[Case], interruption: Interruption) -> int:
     """Runs the cases and prints what they show; returns the exit status."""
     service = Service(options.url, dict(options.header), options.timeout, interruption)
     entities = Entities(service, options.set, options.key, options.body)
@@ -133,4 +127,4 @@ def main(words: Sequence[str]) -> int:
         return 0
     if None in (options.url, options.set, options.key, options.body):
         arguments.error("needed are URL, --set, --key and --body, or --list")
-    return judge(options, cases, interruption)
+    return run(options, cases, interruption)

@@ -71,7 +71,7 @@ class Taking:
                 found[shown] = self._plain(self._path(headers[name]) if name == "location" else headers[name])
         if urlsplit(headers.get("location", "")).netloc:
             found[HOST] = urlsplit(headers["location"]).netloc
-        if value is not None:
+        if value is not None and status < 500:
             found["Content-Type"] = media_type(headers)
             if "json" not in found["Content-Type"]:
                 found["the body"] = "not JSON"

@@ -1,16 +1,20 @@
 """The cases as tests of a service: what judge raises, and what pytest and unittest make of it."""
 
+import io
 import json
 import os
 import re
 import subprocess
 import sys
+import textwrap
 import unittest
 
 import pytest
 
+import library
+import odb_batch.conformance
 from common import SECONDS, rows
-from odb_batch.conformance import Unusable, conformance_cases, judge
+from odb_batch.conformance import Unusable, conformance_cases, judge, serving
 from odb_batch.conformance._testing import forget
 from support.commands import with_package
 from support.program import ROOT
@@ -57,6 +61,7 @@ def by_pytest(folder):
     """Writes the tests of the page; returns the words that run some of them."""
     with open(os.path.join(ROOT, "docs", "conformance.md"), encoding="utf-8") as page:
         (text,) = re.findall("```python\n(.*?)```", page.read(), re.DOTALL)
+    assert textwrap.indent(text, "    ") in odb_batch.conformance.__doc__
     (folder / "test_page.py").write_text(text)
     return ["pytest", "-q", "-p", "no:cacheprovider", "-k", " or ".join(CASES), "test_page.py"]
 
@@ -73,11 +78,22 @@ def test_cases_have_names_in_the_order_of_the_tool():
     assert conformance_cases("group-fails-*-[14]")[:2] == ["group-fails-missing-1", "group-fails-missing-4"]
 
 
-def test_names_that_no_case_has():
+@pytest.mark.parametrize("given, line", [
+    ({"case": "chains"}, "no case has the name 'chains'"),
+    ({"url": "localhost:8080"}, "'localhost:8080' is not the root of a service, such as http://localhost:8080/"),
+    ({"requests": 0}, "requests must be a whole number from 1 to 10000, not 0"),
+    ({"timeout": 0}, "timeout must be a number of seconds up to 3600, not 0"),
+    ({"timeout": float("nan")}, "timeout must be a number of seconds up to 3600, not nan"),
+])  # fmt: skip
+def test_wrong_arguments(given, line):
+    with pytest.raises(ValueError) as found:
+        judge(**{"url": "http://127.0.0.1:1/", "case": "chain", **BOOKS, **given})
+    assert str(found.value) == line
+
+
+def test_patterns_that_no_name_fits():
     with pytest.raises(ValueError, match="no case has a name like 'none-\\*'"):
         conformance_cases("none-*")
-    with pytest.raises(ValueError, match="no case has the name 'chains'"):
-        judge("http://127.0.0.1:1/", "chains", **BOOKS)
 
 
 def test_a_case_that_is_kept_leaves_nothing():
@@ -118,6 +134,55 @@ def test_what_a_service_refuses(variant, feature, glob):
             assert str(found.value) == f"the service refuses {feature} with 501 {feature.title()} are not supported"
 
 
+def test_a_refusal_of_some_groups_is_a_break(monkeypatch):
+    """A service that takes groups may not refuse those that depend on something."""
+
+    def app(environ, start_response):
+        text = environ["wsgi.input"].read(int(environ.get("CONTENT_LENGTH") or 0))
+        requests = json.loads(text)["requests"] if environ["PATH_INFO"].endswith("$batch") else []
+        if any("atomicityGroup" in it and "dependsOn" in it for it in requests):
+            start_response("400 Bad Request", [("Content-Type", "application/json")])
+            return [b'{"error": {"code": "Waits", "message": "A group may not wait"}}']
+        return library.app({**environ, "wsgi.input": io.BytesIO(text)}, start_response)
+
+    with service() as (running, _), serving(app) as root:
+        monkeypatch.setenv("LIBRARY_PORT", str(running.port))
+        judge(root + "/library/", "group", **BOOKS)
+        with pytest.raises(AssertionError, match="the batch is answered 400 A group may not wait"):
+            judge(root + "/library/", "group-after", **BOOKS)
+
+
+def test_a_service_without_query_options(monkeypatch):
+    def app(environ, start_response):
+        return library.app({**environ, "QUERY_STRING": ""}, start_response)
+
+    with service() as (running, _), serving(app) as root:
+        monkeypatch.setenv("LIBRARY_PORT", str(running.port))
+        with pytest.raises(unittest.SkipTest, match="alone, \\$filter is not applied"):
+            judge(root + "/library/", "alone-get-filtered", **BOOKS)
+
+
+def test_what_a_server_says_of_a_failure_is_not_compared(monkeypatch):
+    """A request that fails with 500 has the page of the server alone, and an error object in the batch."""
+
+    def app(environ, start_response):
+        text = environ["wsgi.input"].read(int(environ.get("CONTENT_LENGTH") or 0))
+        if environ["REQUEST_METHOD"] == "PATCH" and text == b"[]":
+            start_response("500 Internal Server Error", [("Content-Type", "text/plain")])
+            return [b"Internal Server Error"]
+        (answer,) = library.app({**environ, "wsgi.input": io.BytesIO(text)}, lambda *of: heads.append(of))
+        status, headers = heads.pop()
+        if b'"asked"' in answer:
+            answer = answer.replace(b'"status":400', b'"status":500')
+        start_response(status, headers)
+        return [answer]
+
+    heads = []
+    with service() as (running, _), serving(app) as root:
+        monkeypatch.setenv("LIBRARY_PORT", str(running.port))
+        judge(root + "/library/", "alone-patch-list", **BOOKS)
+
+
 def test_services_that_cannot_be_judged():
     with pytest.raises(Unusable, match="Connection refused"):
         judge("http://127.0.0.1:1/", "chain", **BOOKS)
@@ -148,7 +213,7 @@ def test_the_tests_of_a_service(write, wanted, tmp_path):
 
 def test_its_modules_shadow_nobodys(tmp_path):
     """A folder may have modules of any name, and those of the tool are its own."""
-    package = sys.modules["odb_batch.conformance"].__path__[0]
+    package = odb_batch.conformance.__path__[0]
     for name in os.listdir(package):
         if name.endswith(".py") and not name.startswith("__"):
             (tmp_path / name).write_text("raise SystemExit('shadowed')")
