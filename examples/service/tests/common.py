@@ -37,6 +37,7 @@ class Process(Server):
         log = database + ".log"
         self.begin = os.path.getsize(log) if os.path.exists(log) else 0
         super().__init__(words, SERVICE, log, PATIENCE=str(patience))
+        self.url = f"http://127.0.0.1:{self.port}/library/"
         # A worker that gets a signal before it answers would not end by it.
         until(self.count_of_workers, lambda count: count == workers or self.process.poll() is not None)
         assert self.process.poll() is None, self.lines

@@ -34,10 +34,6 @@ class Defective(Process):
             return super().app(database, width)
         return f"planted:make_app({self.name!r}, {database!r}, {width})"
 
-    @property
-    def url(self):
-        return f"http://127.0.0.1:{self.port}/library/"
-
 
 class Done(NamedTuple):
     """What the tool has printed, and its exit status."""
