@@ -88,15 +88,13 @@ class Work:
         """Starts the first request of the first unit that may begin; None if no unit may begin now."""
         if self._stop is not None and self._stop():
             self.stop()
-        ids = self._run.next_unit()
-        if ids is None:
-            return None
-        try:
-            self._run.start(ids[0])
-        except Refused:
-            # Between the two calls another thread has reported an error, by which the run is stopped.
-            return None
-        return Unit(ids, self._groups[ids[0]])
+        while (ids := self._run.next_unit()) is not None:
+            try:
+                self._run.start(ids[0])
+            except Refused:
+                continue  # meanwhile another thread has reported an error that stops the run
+            return Unit(ids, self._groups[ids[0]])
+        return None
 
     def stop(self) -> None:
         """Lets nothing more start."""

@@ -455,7 +455,7 @@ class TestAsgi:
         assert batch(self.over(app), {"url": "a"})["r0"]["status"] == 200
 
     @pytest.mark.parametrize("is_complete, status", [(True, 503), (False, 500)])
-    def test_an_exception_after_the_answer_or_in_it(self, is_complete, status):
+    def test_an_exception_after_the_answer_or_in_it(self, is_complete, status, caplog):
         """Starlette raises again what it has answered; an answer that is cut is none."""
 
         async def app(scope, receive, send):
@@ -464,6 +464,7 @@ class TestAsgi:
             raise RuntimeError("as planned")
 
         assert batch(self.over(app), {"url": "a"})["r0"]["status"] == status
+        assert ("as planned" in caplog.text) == (not is_complete)
 
     def test_an_application_that_answers_half(self):
         async def app(scope, receive, send):
