@@ -14,6 +14,8 @@ from ._stage import DONE, FAILS, Stage
 
 # What a service may answer to one of some batches at the same time.
 BUSY = (429, 503)
+# How often a case is run once more that shows no stop at an error.
+MORE_RUNS = 2
 # After how many batches without an answer in time the run ends.
 MAX_LATE = 3
 
@@ -71,7 +73,7 @@ class Runner:
             self.entities.before = self.entities.listed()
             for at, case in enumerate(cases):
                 progress(at, case.name)
-                found.append(self._run(case))
+                found.append(self._run_to_be_sure(case))
                 self.entities.clear(self.entities.spare)
             self.entities.appeared()
         finally:
@@ -86,6 +88,17 @@ class Runner:
         self.kinds = failing_kinds(self.entities)
         self.entities.clear()
         self.has_learned = True
+
+    def _run_to_be_sure(self, case: Case) -> Result:
+        """Runs a case. An error may come so late that all after it is over by then; a service that stops shows that it does
+        in one of some runs."""
+        result = self._run(case)
+        for _ in range(MORE_RUNS):
+            if all(it.promise != "stop" for it in result.breaks):
+                break
+            self.entities.clear(self.entities.spare)
+            result = self._run(case)
+        return result
 
     def _run(self, case: Case) -> Result:
         reason = self._lack(case)

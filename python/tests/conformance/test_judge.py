@@ -1,5 +1,6 @@
 """The cases as tests of a service: what judge raises, and what pytest and unittest make of it."""
 
+import contextlib
 import io
 import json
 import os
@@ -160,6 +161,26 @@ def test_a_service_without_query_options(monkeypatch):
         monkeypatch.setenv("LIBRARY_PORT", str(running.port))
         with pytest.raises(unittest.SkipTest, match="alone, \\$filter is not applied"):
             judge(root + "/library/", "alone-get-filtered", **BOOKS)
+
+
+@pytest.mark.parametrize("late, is_kept", [(2, True), (3, False)])
+def test_an_error_may_come_late(late, is_kept, monkeypatch):
+    """A service that goes on after some errors, as if they came last, and stops after the next."""
+
+    def app(environ, start_response):
+        if environ["PATH_INFO"].endswith("$batch") and "HTTP_PREFER" not in environ:
+            batches.append(environ["PATH_INFO"])
+            if len(batches) <= late:
+                environ = {**environ, "HTTP_PREFER": "continue-on-error"}
+        return library.app(environ, start_response)
+
+    batches = []
+    with service() as (running, _), serving(app) as root:
+        monkeypatch.setenv("LIBRARY_PORT", str(running.port))
+        broken = "c29, the last of many requests in a row, is performed after an error"
+        with contextlib.nullcontext() if is_kept else pytest.raises(AssertionError, match=broken):
+            judge(root + "/library/", "stop-after-failure", **BOOKS)
+    assert len(batches) == 3
 
 
 def test_what_a_server_says_of_a_failure_is_not_compared(monkeypatch):
