@@ -265,19 +265,24 @@ def mixed_answers():
     Execution.respond = responding
 
 
-def one_at_a_time():
-    """A batch beside another is refused."""
-    respond, lock = Execution.respond, threading.Lock()
+def refuse_beside(refusal):
+    """Has a batch beside another refused."""
+    respond, turn = Execution.respond, threading.Lock()
 
     def responding(self):
-        if not lock.acquire(blocking=False):
-            raise Refusal(500, "Busy", "The state of a batch is in use")
+        if not turn.acquire(blocking=False):
+            raise refusal
         try:
             return respond(self)
         finally:
-            lock.release()
+            turn.release()
 
     Execution.respond = responding
+
+
+def one_at_a_time():
+    """A batch beside another is refused, as by a service that fails."""
+    refuse_beside(Refusal(500, "Busy", "The state of a batch is in use"))
 
 
 def with_mode(mode):

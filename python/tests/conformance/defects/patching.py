@@ -18,7 +18,7 @@ class Execution:
 
     def __init__(self, document, send, options):
         self.document, self.send, self.options = document, send, options
-        listed = json.loads(document)["requests"] if not isinstance(document, dict) else document["requests"]
+        listed = json.loads(document)["requests"]
         self.requests = {it["id"]: {**it, "method": it["method"].lower()} for it in listed}
 
     def respond(self):

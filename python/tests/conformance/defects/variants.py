@@ -4,7 +4,6 @@ import itertools
 import os
 import secrets
 import signal
-import threading
 import time
 
 import app
@@ -12,6 +11,7 @@ import entities
 import odb_batch._endpoint
 from odb_batch import Answer, Refusal
 from of_groups import half_group
+from of_responses import refuse_beside
 from patching import Execution, change_responses
 
 
@@ -82,17 +82,7 @@ def stalls():
 
 def one_batch_at_a_time():
     """A batch beside another is refused with 503."""
-    respond, turn = Execution.respond, threading.Lock()
-
-    def responding(self):
-        if not turn.acquire(blocking=False):
-            raise Refusal(503, "Busy", "A batch is being performed; try again")
-        try:
-            return respond(self)
-        finally:
-            turn.release()
-
-    Execution.respond = responding
+    refuse_beside(Refusal(503, "Busy", "A batch is being performed; try again"))
 
 
 def hidden_keys():
