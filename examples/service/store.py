@@ -84,10 +84,8 @@ class Store:
 
     @contextmanager
     def _transaction(self, name: str) -> Iterator[sqlite3.Connection]:
-        """Waits until nobody else writes, and begins a transaction.
-
-        A thread waits for the others of its process by a lock, so that they take turns, and by SQLite for other processes.
-        """
+        """Waits until nobody else writes, and begins a transaction. Threads of this process take turns by a lock, and SQLite
+        sees to other processes."""
         busy = Refusal(503, "Busy", "The database was busy for too long; try again", retry_after="1")
         if not self._turn.acquire(timeout=self._patience):
             raise busy

@@ -39,9 +39,8 @@ def test_the_pages_have_the_same_commands():
 
 def answers(words, until, ask, **variables):
     """The statuses of what a service answers to the batch that a command sends; it has to end with 0."""
-    with subprocess.Popen(
-        words, cwd=ROOT, stdout=subprocess.DEVNULL, stderr=subprocess.PIPE, text=True, env={**with_package(), **variables}
-    ) as service:
+    pipes = {"stdout": subprocess.DEVNULL, "stderr": subprocess.PIPE, "text": True}
+    with subprocess.Popen(words, cwd=ROOT, env={**with_package(), **variables}, **pipes) as service:
         try:
             assert any(until in line for line in service.stderr)
             done = subprocess.run(

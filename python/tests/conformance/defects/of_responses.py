@@ -165,7 +165,11 @@ def not_found_is_400():
 
 def no_error_objects():
     """Errors in a batch have a text as their body."""
-    change_answers(lambda given, it: it if it.status < 400 else Answer(it.status, {}, json.loads(it.body)["error"]["message"]))
+
+    def change(given, answer):
+        return Answer(answer.status, {}, json.loads(answer.body)["error"]["message"]) if answer.status >= 400 else answer
+
+    change_answers(change)
 
 
 def body_as_text():
