@@ -35,6 +35,9 @@ _IGNORED = frozenset(
 _PREFERENCES = re.compile(r'(?:[^,"]|"[^"]*"?)+')
 # The preferences that are for the batch alone.
 _OF_BATCH = frozenset({"callback", "continue-on-error", "respond-async", "wait"})
+_FORWARDED = re.compile(r'host="?([^";,\s]+)', re.IGNORECASE)
+# What stays as it is in a path.
+_PLAIN = "/$()'*,;=@:!&+~"
 _IS_HOST = re.compile(r"[A-Za-z0-9._~-]*|\[[0-9A-Fa-f:.]+\]").fullmatch
 
 
@@ -76,7 +79,9 @@ class Outer:
     Attributes:
         mode: How the batch is performed: ``"stop"``, unless the client prefers to continue on error (OData Protocol
             4.01, section 8.2.8.3).
-        base, root: The folder and the root as URLs.
+        base: The folder as a URL.
+        roots: The root as URLs: a client and the application may write them with the scheme and the host that a proxy
+            in front has. Whatever they are, a request is dispatched here, by its path.
 
     Raises:
         Refusal: The method is not POST (405), the body is not in JSON (415), or the host is not one (400).
@@ -98,8 +103,9 @@ class Outer:
             raise Refusal(415, "BadMediaType", "A batch is in application/json", accept="application/json")
         if not _is_authority(host):
             raise Refusal(400, "BadHost", "The host is not a name with a port")
-        origin = f"{scheme}://{host}"
-        self.base, self.root = origin + quote(folder, "/$()'*,;=@:!&+~"), origin + quote(root, "/$()'*,;=@:!&+~")
+        self.base = f"{scheme}://{host}{quote(folder, _PLAIN)}"
+        hosts = dict.fromkeys((host, *_forwarded_hosts(headers)))
+        self.roots = [f"{it}://{name}{quote(root, _PLAIN)}" for name in hosts for it in ("http", "https")]
         self._allowed = _ALLOWED.union(allowed)
         wanted = preferences(headers)
         continues = next((it.value for it in wanted if it.name == "continue-on-error"), None)
@@ -126,6 +132,12 @@ class Outer:
                 raise Refusal(400, "BadHeader", f"The header {name} has a character that it may not have", name)
             headers[name] = ", ".join([value, *self._prefer]) if name == "prefer" else value
         return headers
+
+
+def _forwarded_hosts(headers: Mapping[str, str]) -> List[str]:
+    """The hosts that a client has asked, by what proxies say."""
+    named = headers.get("x-forwarded-host", "").split(",") + _FORWARDED.findall(headers.get("forwarded", ""))
+    return [host for host in map(str.strip, named) if host and _is_authority(host)]
 
 
 def _is_inherited(name: str) -> bool:

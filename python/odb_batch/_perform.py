@@ -3,7 +3,7 @@
 from concurrent.futures import Executor, Future, ThreadPoolExecutor, wait
 from contextvars import copy_context
 from queue import SimpleQueue
-from typing import Any, Callable, ContextManager, Optional, Set
+from typing import Any, Callable, ContextManager, Optional, Sequence, Set
 
 from ._answers import answer_to, checked
 from ._commands import Mode
@@ -27,7 +27,7 @@ def perform(
     width: int = 1,
     transaction: Optional[Transaction] = None,
     base: str = "",
-    root: Optional[str] = None,
+    roots: Optional[Sequence[str]] = None,
     limit: int = 10_000,
     stop: Optional[Callable[[], bool]] = None,
     pool: Optional[Executor] = None,
@@ -67,8 +67,8 @@ def perform(
         transaction: Opens the transaction of a group. Without it a batch with groups is refused.
         base: The URL that URLs are relative to, which ends with /. Requests that lead out of it are answered 404 and
             not sent. If it is empty, URLs are passed as they are.
-        root: Where requests may lead, if not to the base alone: a URL that ends with /, or ``""`` for anywhere. Then
-            whoever sends a batch reaches whatever this process reaches.
+        roots: Where requests may lead, if not to the base alone: below these URLs, each of which ends with /. If there
+            are none, they may lead anywhere, so whoever sends a batch reaches whatever this process reaches.
         limit: How many requests the batch may have.
         stop: Is called before a unit begins, as ``event.is_set``. Once it returns true, nothing more starts, and what
             has not started is answered 424: for deadlines, and for a process that ends.
@@ -86,7 +86,7 @@ def perform(
         width=width,
         limit=limit,
         has_transactions=transaction is not None,
-        service=Service(base, root),
+        service=Service(base, roots),
         stop=stop,
     ) as work:
         if width == 1:

@@ -11,6 +11,7 @@ from typing import (
     ContextManager,
     NamedTuple,
     Optional,
+    Sequence,
     Set,
     Union,
 )
@@ -36,7 +37,7 @@ async def perform_async(
     width: int = 8,
     transaction: Optional[TransactionAsync] = None,
     base: str = "",
-    root: Optional[str] = None,
+    roots: Optional[Sequence[str]] = None,
     limit: int = 10_000,
     stop: Optional[Callable[[], bool]] = None,
     timeout: Optional[float] = None,
@@ -60,7 +61,7 @@ async def perform_async(
     If this is cancelled, nothing more starts, what is out is cancelled, and open transactions are rolled back.
 
     Args:
-        batch, mode, base, root, limit, stop: As of :func:`odb_batch.perform`.
+        batch, mode, base, roots, limit, stop: As of :func:`odb_batch.perform`.
         send: Sends a request, and returns what it is answered.
         width: How many units are performed at once, from 1 to 10,000.
         transaction: Opens the transaction of a group: a context manager, asynchronous or not. Without it a batch with
@@ -83,7 +84,7 @@ async def perform_async(
         width=width,
         limit=limit,
         has_transactions=transaction is not None,
-        service=Service(base, root),
+        service=Service(base, roots),
         stop=stop,
     ) as work:
         await _Tasks(work, width, _How(send, transaction, timeout, gate)).end()

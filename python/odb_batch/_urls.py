@@ -1,7 +1,7 @@
 """URLs of requests: joined to the base of the service, in ASCII, and not outside of it."""
 
 import re
-from typing import Optional
+from typing import Optional, Sequence
 from urllib.parse import quote, unquote, urljoin, urlsplit, urlunsplit
 
 from ._messages import Refusal
@@ -37,21 +37,22 @@ class Service:
 
     Args:
         base: The URL that their URLs are relative to. It ends with /, or is empty: then URLs stay as they are.
-        root: What the URL of each request has to begin with, as a URL that ends with /; empty if it may be any.
+        roots: What the URL of each request has to begin with: one of these URLs, each of which ends with /. None if it
+            is the base, and no URLs if it may be anything.
 
     Raises:
         ValueError: A URL does not end with /.
     """
 
-    def __init__(self, base: str, root: Optional[str] = None) -> None:
-        for name, url in (("base", base), ("root", root or "")):
+    def __init__(self, base: str, roots: Optional[Sequence[str]] = None) -> None:
+        for url in (base, *(roots or ())):
             if url and (not url.endswith("/") or urlsplit(url).query or urlsplit(url).fragment):
-                raise ValueError(f"the {name} must be a URL that ends with /, not {url!r}")
+                raise ValueError(f"a base or a root must be a URL that ends with /, not {url!r}")
         self.base = base
-        self.root = base if root is None else root
-        parts = urlsplit(self.root)
-        self._origin = parts.scheme, parts.netloc.lower()
-        self._folder = unquote(parts.path) or "/"
+        self._roots = tuple(filter(None, (base,) if roots is None else roots))
+        parts = map(urlsplit, self._roots)
+        # The scheme, the host and the decoded path of each.
+        self._places = [(it.scheme, it.netloc.lower(), unquote(it.path)) for it in parts]
 
     def target(self, url: str) -> str:
         """Returns an absolute URL in ASCII, without its fragment.
@@ -64,14 +65,15 @@ class Service:
             parts = urlsplit(url)
         except ValueError:
             raise Refusal(400, "BadUrl", "The URL cannot be read") from None
-        if self.root and not self._has(parts.scheme, parts.netloc, unquote(parts.path)):
-            raise Refusal(404, "NotFound", f"The URL leads out of {self.root}")
+        if self._places and not self._has(parts.scheme, parts.netloc.lower(), unquote(parts.path)):
+            raise Refusal(404, "NotFound", f"The URL leads out of {self._roots[0]}")
         path, query = quote(parts.path, _PLAIN + "~"), quote(parts.query, _PLAIN + "~?")
         return urlunsplit((parts.scheme, parts.netloc, path, query, ""))
 
     def _has(self, scheme: str, netloc: str, path: str) -> bool:
-        """Whether a URL is below the root, by its parts and its decoded path."""
+        """Whether a URL is below a root, by its parts and its decoded path."""
         # Servers take \ for / and drop what follows a ; in a segment, so these count here, too.
         segments = [segment.partition(";")[0] for segment in path.replace("\\", "/").split("/")]
-        is_below = path.startswith(self._folder) and ".." not in segments and path.isprintable()
-        return (scheme, netloc.lower()) == self._origin and is_below
+        if ".." in segments or not path.isprintable():
+            return False
+        return any(place[:2] == (scheme, netloc) and path.startswith(place[2]) for place in self._places)

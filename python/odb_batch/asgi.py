@@ -103,7 +103,7 @@ class BatchMiddleware:
             width=self.width,
             transaction=self.transaction,
             base=outer.base,
-            root=outer.root,
+            roots=outer.roots,
             limit=self.limit,
             stop=self.stop,
             timeout=self.timeout,

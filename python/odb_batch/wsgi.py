@@ -113,7 +113,7 @@ class BatchMiddleware:
             width=self.width,
             transaction=self.transaction,
             base=outer.base,
-            root=outer.root,
+            roots=outer.roots,
             limit=self.limit,
             stop=self.stop,
             pool=self.pool,

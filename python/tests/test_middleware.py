@@ -173,7 +173,7 @@ class TestBatches:
 
     @pytest.mark.parametrize("url", [
         "/other", "../admin", "/odata/../admin", "/odata/%2e%2e/admin", "//evil/odata/Books", "http://evil/odata/Books",
-        "https://host/odata/Books", "/ODATA/Books", "/odata", "\\\\evil", "..\\admin", "a%0d%0ab",
+        "ftp://host/odata/Books", "/ODATA/Books", "/odata", "\\\\evil", "..\\admin", "a%0d%0ab",
     ])  # fmt: skip
     def test_urls_that_lead_out(self, service, url):
         assert batch(service, {"url": url})["r0"]["status"] == (200 if url == "\\\\evil" else 404)
@@ -183,6 +183,22 @@ class TestBatches:
         service = over("/odata/$batch", root="/")
         found = batch(service, {"url": "/other"}, {"url": "../admin"}, {"url": "//evil/"}, {"url": "a/%2e%2e/b"})
         assert [it["status"] for it in found.values()] == [200, 200, 404, 404]
+
+    @pytest.mark.parametrize("headers", [
+        {"X-Forwarded-Host": "public"}, {"X-Forwarded-Host": "a, public"}, {"Forwarded": 'for=1.2.3.4;proto=https;host="public"'},
+    ])  # fmt: skip
+    def test_urls_as_a_proxy_in_front_has_them(self, service, headers):
+        """A proxy that ends TLS, or has another host: its clients and the application write such URLs."""
+        urls = [
+            "https://host/odata/a",
+            "http://public/odata/a",
+            "https://public/odata/a",
+            "https://public/x",
+            "https://evil/odata/a",
+        ]
+        found = batch(service, *({"url": url} for url in urls), headers={**CONTINUE, **headers})
+        assert [it["status"] for it in found.values()] == [200, 200, 200, 404, 404]
+        assert {it["body"]["path"] for it in list(found.values())[:3]} == {"/odata/a"}
 
     def test_a_batch_in_a_batch(self, over):
         service = over("/odata/batches", root="/")

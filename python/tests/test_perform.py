@@ -202,7 +202,11 @@ class TestTransactions:
             return found
 
         monkeypatch.setattr(Run, "next_unit", late)
-        assert shown(perform(gets("a", "b", "c"), answering({}), mode="stop", width=2)) == {"a": 200, "b": 424, "c": 424}
+        assert shown(perform(gets("a", "b", "c"), answering({}), mode="stop", width=2)) == {
+            "a": 200,
+            "b": 424,
+            "c": 424,
+        }
 
     def test_groups_without_transactions_are_refused_before_anything_is_sent(self, driver):
         with pytest.raises(Refusal) as refused:
@@ -276,7 +280,7 @@ class TestFailures:
         assert sorted(sent) == ["a", "y"] and ledger.rolled_back == ["g"]
 
     @pytest.mark.parametrize("option", [
-        {"width": 0}, {"width": 10_001}, {"mode": "half"}, {"base": "http://h/odata"}, {"base": "http://h/?x=/"}, {"root": "x"},
+        {"width": 0}, {"width": 10_001}, {"mode": "half"}, {"base": "http://h/odata"}, {"base": "http://h/?x=/"}, {"roots": ["x"]},
     ])  # fmt: skip
     def test_wrong_options(self, driver, option):
         with pytest.raises(ValueError):
@@ -326,6 +330,17 @@ class TestThreads:
 
         perform(gets(*"abcdef"), send, width=2)
         assert seen == [1] * 6
+
+    def test_a_place_that_is_free_is_taken(self):
+        """The third request begins while the first one is still out."""
+        third = threading.Event()
+
+        def send(request):
+            if request.id == "c":
+                third.set()
+            return (200 if request.id != "a" or third.wait(5) else 504,)
+
+        assert shown(perform(gets(*"abc"), send, width=2)) == dict.fromkeys("abc", 200)
 
     @pytest.mark.parametrize("width", [1, 2, 3])
     def test_keeps_to_the_width(self, width):
@@ -403,6 +418,23 @@ class TestTasks:
 
         found = shown(asyncio.run(perform_async(gets("a", "b"), send)))
         assert found == {"a": 500, "b": 500}
+
+    def test_a_place_that_is_free_is_taken(self):
+        """The third request begins while the first one is still out."""
+
+        async def main():
+            third = asyncio.Event()
+
+            async def send(request):
+                if request.id == "c":
+                    third.set()
+                elif request.id == "a":
+                    await asyncio.wait_for(third.wait(), 5)
+                return (200,)
+
+            return await perform_async(gets(*"abc"), send, width=2)
+
+        assert shown(asyncio.run(main())) == dict.fromkeys("abc", 200)
 
     def test_each_unit_has_a_copy_of_the_context(self):
         variable, seen = ContextVar("variable", default=0), []
@@ -532,7 +564,10 @@ class TestReferences:
         ]
         send = lambda it: (201, {"Location": "http://169.254.169.254/odata/O(1)"})
         assert shown(driver({"requests": batch}, send, base="http://h/odata/")) == {"o": 201, "l": 404}
-        assert shown(driver({"requests": batch}, send, base="http://h/odata/", root="")) == {"o": 201, "l": 201}
+        roots = ["http://h/odata/", "http://169.254.169.254/odata/"]
+        for more in (roots, (), roots[1:]):
+            found = shown(driver({"requests": batch}, send, base="http://h/odata/", roots=more))
+            assert found == ({"o": 201, "l": 201} if roots[0] in more or not more else {"o": 404, "l": 424})
 
 
 class TestBodies:
