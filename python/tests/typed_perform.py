@@ -1,0 +1,62 @@
+"""Calls of what performs batches, for mypy --strict, as those of typed.py."""
+
+from contextlib import asynccontextmanager, contextmanager, nullcontext
+from typing import Any, AsyncIterator, Callable, Dict, Iterable, Iterator, List, Tuple
+
+from odb_batch import Answer, PreparedRequest, Refusal, asgi, perform, perform_async, wsgi
+
+
+def send(request: PreparedRequest) -> Tuple[int, Dict[str, str], bytes]:
+    if request.group is not None:
+        raise Refusal(503, "Busy", "try again", retry_after="1")
+    return 200, request.headers, request.body
+
+
+def answer(request: PreparedRequest) -> Answer:
+    return Answer(200, body={"of": request.url}) if request.method == "GET" else Answer(204)
+
+
+def status(request: PreparedRequest) -> Tuple[int]:
+    return (200,)
+
+
+async def send_async(request: PreparedRequest) -> Answer:
+    return answer(request)
+
+
+@contextmanager
+def group(name: str) -> Iterator[None]:
+    yield
+
+
+@asynccontextmanager
+async def group_async(name: str) -> AsyncIterator[None]:
+    yield
+
+
+def application(environ: Dict[str, Any], start_response: Callable[..., Any]) -> Iterable[bytes]:
+    return [b""]
+
+
+async def asynchronous(scope: Any, receive: Any, send: Any) -> None:
+    return None
+
+
+def check_perform() -> List[bytes]:
+    one: bytes = perform("", send, mode="stop", width=2, transaction=group, base="https://h/", roots=["https://h/"])
+    perform({}, send_async)  # type: ignore[arg-type]
+    perform({}, send, mode="half")  # type: ignore[arg-type]
+    perform({}, send, transaction=group_async)  # type: ignore[arg-type]
+    return [one, perform(b"", answer, stop=lambda: False), perform(b"", status, transaction=lambda name: nullcontext())]
+
+
+async def check_perform_async() -> bytes:
+    await perform_async({}, send)  # type: ignore[arg-type]
+    await perform_async({}, send_async, transaction=group, timeout=5)
+    return await perform_async({}, send_async, transaction=group_async, width=4)
+
+
+answering: Callable[..., Iterable[bytes]] = wsgi.BatchMiddleware(application, "/$batch", transaction=group, width=4)
+asgi.BatchMiddleware(asynchronous, "/$batch", transaction=group_async, allowed=["x-dry-run"])
+asgi.BatchMiddleware(asynchronous, "/$batch", transaction=send)  # type: ignore[arg-type]
+wsgi.BatchMiddleware(application, "/$batch", transaction=group_async)  # type: ignore[arg-type]
