@@ -10,7 +10,7 @@ import pytest
 from common import SECONDS, Process, new_book, rows, until
 from exchanges import everything, head, post
 
-COUNT = 1000
+COUNT = 400
 
 
 class TestEnding:
