@@ -77,7 +77,7 @@ DEFECTS = (
     Defect("skipped_as_400", "chain-fails-*", "failed"),
     Defect("performed_all_the_same", "chain-fails-*", "untouched"),
     Defect("no_stop", "stop-*", "stop"),
-    Defect("stops_by_itself", "failure-among-others failing-fan-out", "continue"),
+    Defect("stops_by_itself", "failure-among-others failing-fan-out group-fails-body-*", "continue"),
     # groups
     Defect("half_group", "group group-fails-body-*", "group"),
     Defect("half_of_long_groups", "group-many-*", "group"),
@@ -94,7 +94,7 @@ DEFECTS = (
     # references
     Defect("no_references", "reference-read reference-deleted reference-groups", "reference"),
     Defect("first_reference", "reference-each-* reference-numbers", "reference alone", False),
-    Defect("last_reference", "reference-each-* reference-numbers", "reference alone", False),
+    Defect("last_reference", "reference-each-* reference-numbers", "reference", False),
     Defect("references_in_any_case", "reference-case", "reference"),
     Defect("references_by_prefix", "reference-numbers", "reference"),
     Defect("references_by_word", "reference-numbers reference-signs", "reference"),

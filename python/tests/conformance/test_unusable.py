@@ -98,7 +98,7 @@ def test_sets_and_keys_that_are_not_there(name, key, body, line, removed):
     with service() as (running, _):
         words = ("--set", name, "--key", key, "--body", body)
         assert_unusable(tool(running.url, *words), line.replace("{}", running.url))
-        assert len([it for it in running.log if "DELETE" in it and " 204" in it]) == removed
+        assert len([it for it in running.lines if "DELETE" in it and 'HTTP/1.1" 204' in it]) == removed
 
 
 def test_a_service_that_ends_leaves_something():
@@ -148,7 +148,7 @@ def judging(url, *words):
 ])  # fmt: skip
 def test_what_was_made_is_removed_after_a_signal(number, words, least, interruptible):
     with service() as (running, folder), judging(running.url) as process:
-        until(lambda: sum(words in it for it in list(running.log)), lambda count: count > least)
+        until(lambda: sum(words in it for it in running.lines), lambda count: count > least)
         process.send_signal(number)
         assert process.communicate(timeout=SECONDS) == ("", "error: interrupted\n")
         assert process.returncode == 3
@@ -157,7 +157,7 @@ def test_what_was_made_is_removed_after_a_signal(number, words, least, interrupt
 
 def test_a_second_signal_ends_the_removal(interruptible):
     with service() as (running, folder), judging(running.url, "--case", "group-many") as process:
-        counted = lambda word: sum(word in it for it in list(running.log))
+        counted = lambda word: sum(word in it for it in running.lines)
         until(lambda: counted("POST"), lambda count: count > 40)
         before = counted("DELETE")
         process.send_signal(signal.SIGINT)

@@ -17,16 +17,22 @@ ABOUT = ("--set", "Books", "--key", "Id", "--body", '{"Title": "Conformance"}')
 
 
 class Defective(Process):
-    """The service with a defect or as a variant; without a name as it is."""
+    """The service with a defect or as a variant; without a name as it is.
+
+    One with a defect has one process that answers, since some defects are in what batches share, and performs several
+    requests at once, so that those in the order show.
+    """
+
+    folder = os.path.join(HERE, "defects")
 
     def __init__(self, name, database):
-        if name is not None:
-            self.program = (os.path.join(HERE, "defects"), name)
-        super().__init__(database)
+        self.name = name
+        super().__init__(database, **({} if name is None else {"workers": 1, "width": 8}))
 
-    @property
-    def url(self):
-        return f"http://127.0.0.1:{self.port}/library/"
+    def app(self, database, width):
+        if self.name is None:
+            return super().app(database, width)
+        return f"planted:make_app({self.name!r}, {database!r}, {width})"
 
 
 class Done(NamedTuple):

@@ -4,36 +4,50 @@ import json
 from contextlib import contextmanager
 
 import store
-from odata import Answer
-from patching import Execution, change_responses, is_success, request_of
+from odb_batch import Answer
+from patching import Execution, change_responses, is_success
 
 
 def half_group():
     """A group that fails is committed up to its failure."""
-    begin = store.Store.transaction
+    begin = store.Store.group
 
     @contextmanager
-    def transaction(self):
-        with begin(self) as work:
-            yield work
-            if self._writer.in_transaction:
-                work.commit()
+    def group(self, name):
+        failure = None
+        with begin(self, name):
+            try:
+                yield
+            except Exception as error:
+                failure = error
+        if failure is not None:
+            raise failure
 
-    store.Store.transaction = transaction
+    store.Store.group = group
 
 
 def half_of_long_groups():
     """A group of more than sixteen requests is committed in parts."""
-    perform = store.Transaction.perform
+    begin, session = store.Store.group, store.Store.session
+    counts = {}
 
-    def performing(self, request):
-        self.count = getattr(self, "count", 0) + 1
-        if self.count % 16 == 0:
-            self._database.execute("COMMIT")
-            self._database.execute("BEGIN IMMEDIATE")
-        return perform(self, request)
+    @contextmanager
+    def group(self, name):
+        with begin(self, name):
+            counts[self._group.get()] = 0
+            yield
 
-    store.Transaction.perform = performing
+    @contextmanager
+    def counting(self, is_writing):
+        with session(self, is_writing) as database:
+            if self._group.get() is not None:
+                counts[database] += 1
+                if counts[database] % 16 == 0:
+                    database.execute("COMMIT")
+                    database.execute("BEGIN IMMEDIATE")
+            yield database
+
+    store.Store.group, store.Store.session = group, counting
 
 
 def shown_success():
@@ -49,11 +63,12 @@ def failures_ignored(is_ignored):
     """Has a group go on, and be committed, though a member fails."""
     answer, respond = Execution.answer, Execution.respond
 
-    def answering(self, id, perform):
-        found = answer(self, id, perform)
-        if found.is_success or len(self.units[id].ids) == 1 or not is_ignored(self, id):
+    def answering(self, request):
+        found = answer(self, request)
+        members = self.members(request.group) if request.group else []
+        if found.is_success or len(members) < 2 or not is_ignored(request, members):
             return found
-        self.hidden = {**getattr(self, "hidden", {}), id: found.status}
+        self.hidden = {**getattr(self, "hidden", {}), request.id: found.status}
         return Answer(204)
 
     def responding(self):
@@ -67,54 +82,55 @@ def failures_ignored(is_ignored):
 
 def failed_reads_ignored():
     """A read that fails does not fail its group."""
-    failures_ignored(lambda execution, id: execution.requests[id]["method"] == "get")
+    failures_ignored(lambda request, members: request.method == "GET")
 
 
 def failed_puts_ignored():
     """A PUT that fails does not fail its group."""
-    failures_ignored(lambda execution, id: execution.requests[id]["method"] == "put")
+    failures_ignored(lambda request, members: request.method == "PUT")
 
 
 def last_failure_ignored():
     """A group is committed before its last member is performed."""
-    failures_ignored(lambda execution, id: execution.units[id].ids[-1] == id)
+    failures_ignored(lambda request, members: request.id == members[-1])
 
 
 def stays(method):
     """Has what members of a failed group did by a method stay, as if its undoing were forgotten."""
-    perform = Execution.perform_in_transaction
+    answer, respond = Execution.answer, Execution.respond
 
-    def performing(self, unit):
-        succeeded = perform(self, unit)
-        if not succeeded and len(unit.ids) > 1:
-            done = [self.requests[id] for id in unit.ids if is_success({"status": self.statuses.get(id, 0)})]
-            for given in done:
-                if given["method"] == method and not given["url"].startswith("$"):
-                    self.store.write(request_of(given))
-        return succeeded
+    def answering(self, request):
+        found = answer(self, request)
+        self.done = {**getattr(self, "done", {}), request.id: (request, found.status)}
+        return found
 
-    def reporting(self, id, answer, report=Execution.report):
-        self.statuses = {**getattr(self, "statuses", {}), id: answer.status}
-        return report(self, id, answer)
+    def responding(self):
+        document = respond(self)
+        statuses = {it["id"]: it["status"] for it in json.loads(document)["responses"]}
+        for id, (request, status) in getattr(self, "done", {}).items():
+            is_undone = is_success(status) and not is_success(statuses[id])
+            if is_undone and request.method == method and not self.requests[id]["url"].startswith("$"):
+                self.send(request)
+        return document
 
-    Execution.perform_in_transaction, Execution.report = performing, reporting
+    Execution.answer, Execution.respond = answering, responding
 
 
 def posts_stay():
     """What a failed group created stays."""
-    stays("post")
+    stays("POST")
 
 
 def patches_stay():
     """What a failed group changed by PATCH stays."""
-    stays("patch")
+    stays("PATCH")
 
 
 def puts_stay():
     """What a failed group changed by PUT stays."""
-    stays("put")
+    stays("PUT")
 
 
 def deletes_stay():
     """What a failed group deleted stays so."""
-    stays("delete")
+    stays("DELETE")

@@ -10,37 +10,37 @@ def no_waiting():
     change_needs(lambda request: True)
     answer = Execution.answer
 
-    def slow_answer(self, id, perform):
-        if self.requests[id]["method"] != "get":
+    def slow_answer(self, request):
+        if request.method != "GET":
             time.sleep(0.02)
-        return answer(self, id, perform)
+        return answer(self, request)
 
     Execution.answer = slow_answer
 
 
 def reads_do_not_wait():
     """Reads do not wait for what they depend on."""
-    change_needs(lambda request: request["method"] == "get")
+    change_needs(lambda request: request["method"].lower() == "get")
 
 
 def deletes_do_not_wait():
     """Deletes do not wait for what they depend on."""
-    change_needs(lambda request: request["method"] == "delete")
+    change_needs(lambda request: request["method"].lower() == "delete")
 
 
 def patches_do_not_wait():
     """PATCHes do not wait for what they depend on."""
-    change_needs(lambda request: request["method"] == "patch")
+    change_needs(lambda request: request["method"].lower() == "patch")
 
 
 def puts_do_not_wait():
     """PUTs do not wait for what they depend on."""
-    change_needs(lambda request: request["method"] == "put")
+    change_needs(lambda request: request["method"].lower() == "put")
 
 
 def posts_do_not_wait():
     """POSTs do not wait for what they depend on."""
-    change_needs(lambda request: request["method"] == "post")
+    change_needs(lambda request: request["method"].lower() == "post")
 
 
 def waits_for_the_first():

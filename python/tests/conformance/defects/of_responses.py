@@ -4,22 +4,20 @@ import itertools
 import json
 import threading
 
-import web
-from odata import Answer, Refusal
-from odb_batch import Run
-from patching import Execution, batches, change_answers, change_requests, change_responses, request_of
+from odb_batch import Answer, Refusal
+from patching import Execution, change_answers, change_requests, change_responses, request_of
 
 
 def hangs_up():
     """One batch in seven is not answered: its connection ends."""
-    answer, numbers = web.Connection.answer_batch, itertools.count(1)
+    respond, numbers = Execution.respond, itertools.count(1)
 
-    def hanging_up(self, *rest):
+    def hanging_up(self):
         if next(numbers) % 7 == 0:
             raise ConnectionResetError("hung up")
-        return answer(self, *rest)
+        return respond(self)
 
-    web.Connection.answer_batch = hanging_up
+    Execution.respond = hanging_up
 
 
 def missing():
@@ -102,29 +100,18 @@ def performed_all_the_same():
     respond = Execution.respond
 
     def performing(self):
+        self.started = set()
         found = respond(self)
         for id, given in self.requests.items():
             if id not in self.started and "atomicityGroup" not in given and not given["url"].startswith("$"):
-                self.store.write(request_of(given))
+                self.send(request_of(self, given))
         return found
 
-    count_started()
-    Execution.respond = performing
+    def answering(self, request, answer=Execution.answer):
+        self.started.add(request.id)
+        return answer(self, request)
 
-
-def count_started():
-    """Has an execution know which requests were started."""
-    prepare, answer = Execution.__init__, Execution.answer
-
-    def preparing(self, *rest):
-        self.started = set()
-        prepare(self, *rest)
-
-    def answering(self, id, perform):
-        self.started.add(id)
-        return answer(self, id, perform)
-
-    Execution.__init__, Execution.answer = preparing, answering
+    Execution.respond, Execution.answer = performing, answering
 
 
 def without(answer, header):
@@ -134,12 +121,12 @@ def without(answer, header):
 
 def no_location():
     """What is created has no Location in a batch."""
-    change_answers(lambda given, it: without(it, "Location"))
+    change_answers(lambda given, it: without(it, "location"))
 
 
 def no_etags_in_batches():
     """Responses of a batch have no ETag."""
-    change_answers(lambda given, it: without(it, "ETag"))
+    change_answers(lambda given, it: without(it, "etag"))
 
 
 def old_etags():
@@ -147,7 +134,7 @@ def old_etags():
 
     def change(given, answer):
         is_patch = given["method"] == "patch" and answer.is_success
-        return answer._replace(headers={**answer.headers, "ETag": '"1"'}) if is_patch else answer
+        return answer._replace(headers={**answer.headers, "etag": '"1"'}) if is_patch else answer
 
     change_answers(change)
 
@@ -163,7 +150,7 @@ def no_preconditions():
 
 def no_body_of_a_post():
     """A POST of a batch returns no body."""
-    change_answers(lambda given, it: it._replace(body=None) if it.status == 201 else it)
+    change_answers(lambda given, it: without(it, "content-type")._replace(body=b"") if it.status == 201 else it)
 
 
 def created_is_200():
@@ -178,23 +165,27 @@ def not_found_is_400():
 
 def no_error_objects():
     """Errors in a batch have a text as their body."""
-    change_answers(lambda given, it: it if it.status < 400 else Answer(it.status, it.body["error"]["message"]))
+
+    def change(given, answer):
+        return Answer(answer.status, {}, json.loads(answer.body)["error"]["message"]) if answer.status >= 400 else answer
+
+    change_answers(change)
 
 
 def body_as_text():
     """Bodies in a batch are texts of JSON."""
-    change_answers(lambda given, it: it._replace(body=json.dumps(it.body)) if isinstance(it.body, dict) else it)
+    change_answers(lambda given, it: it._replace(body=json.dumps(it.body.decode()).encode()) if it.body else it)
 
 
 def wrong_type():
     """Bodies in a batch have the type of a page."""
-    page = {"Content-Type": "text/html"}
+    page = {"content-type": "text/html"}
     change_answers(lambda given, it: it._replace(headers={**it.headers, **page}) if it.body else it)
 
 
 def no_request_headers():
     """The headers of requests in a batch are dropped."""
-    change_requests(lambda request: request._replace(headers={"host": request.headers.get("host", "")}))
+    change_requests(lambda request: request._replace(headers={}))
 
 
 def no_query():
@@ -210,28 +201,34 @@ def no_signs():
             return {name: plain(it) for name, it in value.items()}
         return value.encode("ascii", "replace").decode() if isinstance(value, str) else value
 
-    change_requests(lambda request: request._replace(body=plain(request.body)))
+    change_bodies(lambda request: True, plain)
+
+
+def change_bodies(is_changed, change):
+    """Has the bodies of some requests changed, as values."""
+
+    def changed(request):
+        if not request.body or not is_changed(request):
+            return request
+        return request._replace(body=json.dumps(change(json.loads(request.body))).encode())
+
+    change_requests(changed)
 
 
 def put_as_patch():
     """A PUT of a batch keeps what it does not name."""
-    change_requests(lambda request: request._replace(method="patch") if request.method == "put" else request)
+    change_requests(lambda request: request._replace(method="PATCH") if request.method == "PUT" else request)
 
 
 def patch_as_put():
     """A PATCH of a batch clears what it does not name."""
-
-    def whole(request):
-        if request.method != "patch" or not isinstance(request.body, dict):
-            return request
-        return request._replace(body={"Title": "", "Shelf": None, "Reader": None, **request.body})
-
-    change_requests(whole)
+    cleared = {"Title": "", "Shelf": None, "Reader": None}
+    change_bodies(lambda request: request.method == "PATCH", lambda body: {**cleared, **body})
 
 
 def lost_changes():
     """A PATCH of a batch outside of a group is answered, and not kept."""
-    change_requests(lambda request: request._replace(body={}) if request.method == "patch" else request)
+    change_bodies(lambda request: request.method == "PATCH", lambda body: {})
 
 
 def deletes_nothing():
@@ -243,11 +240,11 @@ def other_urls_answered():
     """A delete by an absolute URL, or one that begins with /, is answered 204 and not performed."""
     answer = Execution.answer
 
-    def answering(self, id, perform):
-        given = self.requests[id]
+    def answering(self, request):
+        given = self.requests[request.id]
         if given["method"] == "delete" and given["url"].startswith(("/", "http")):
             return Answer(204)
-        return answer(self, id, perform)
+        return answer(self, request)
 
     Execution.answer = answering
 
@@ -257,7 +254,8 @@ def mixed_answers():
     bodies, respond = {}, Execution.respond
 
     def keep(given, answer):
-        bodies[given["id"]] = answer.body
+        if answer.body:
+            bodies[given["id"]] = json.loads(answer.body)
         return answer
 
     def responding(self):
@@ -271,26 +269,42 @@ def mixed_answers():
     Execution.respond = responding
 
 
-def one_at_a_time():
-    """A batch beside another is refused."""
-    answer, lock = batches.Batches.answer, threading.Lock()
+def refuse_beside(refusal):
+    """Has a batch beside another refused."""
+    respond, turn = Execution.respond, threading.Lock()
 
-    def answering(self, *rest):
-        if not lock.acquire(blocking=False):
-            raise Refusal(500, "Busy", "The state of a batch is in use")
+    def responding(self):
+        if not turn.acquire(blocking=False):
+            raise refusal
         try:
-            return answer(self, *rest)
+            return respond(self)
         finally:
-            lock.release()
+            turn.release()
 
-    batches.Batches.answer = answering
+    Execution.respond = responding
+
+
+def one_at_a_time():
+    """A batch beside another is refused, as by a service that fails."""
+    refuse_beside(Refusal(500, "Busy", "The state of a batch is in use"))
+
+
+def with_mode(mode):
+    """Has each batch performed in a mode, whatever the client prefers."""
+    respond = Execution.respond
+
+    def responding(self):
+        self.options["mode"] = mode
+        return respond(self)
+
+    Execution.respond = responding
 
 
 def no_stop():
     """A batch continues after an error, whatever the client prefers."""
-    web.preference = lambda headers, name: "true"
+    with_mode("continue")
 
 
 def stops_by_itself():
     """A batch ends with its first error, and the client is told that its preference to continue applies."""
-    batches.Run = lambda document, mode, width: Run(document, mode="stop", width=width)
+    with_mode("stop")

@@ -1,28 +1,50 @@
-"""How a defect gets into the service: its parts are patched before it starts."""
+"""How a defect gets into the service: parts of it, and of how batches are performed, are patched before it starts."""
 
 import json
-import os
-import sys
+from urllib.parse import urljoin
 
-ROOT = os.path.abspath(os.path.join(os.path.dirname(os.path.abspath(__file__)), *[".."] * 4))
-SERVICE = os.path.join(ROOT, "examples", "service")
-sys.path.insert(0, SERVICE)
+import odb_batch.wsgi
+from odb_batch import PreparedRequest, perform
 
-import batches  # noqa: E402
-from odata import Request  # noqa: E402
-from odb_batch import canon  # noqa: E402
 
-Execution = batches.Execution
+class Execution:
+    """A batch on its way from its document to its response. Defects patch its methods.
+
+    Attributes:
+        send: Has the service answer a request.
+        options: What a batch is performed with.
+        requests: As the document has them, by their ids, with methods in lower case.
+    """
+
+    def __init__(self, document, send, options):
+        self.document, self.send, self.options = document, send, options
+        listed = json.loads(document)["requests"]
+        self.requests = {it["id"]: {**it, "method": it["method"].lower()} for it in listed}
+
+    def respond(self):
+        """Performs the batch, and returns the response document."""
+        return perform(self.document, self.answer, **self.options)
+
+    def answer(self, request):
+        """Returns what a request is answered."""
+        return self.send(request)
+
+    def members(self, group):
+        """The ids of the requests of a group."""
+        return [id for id, it in self.requests.items() if it.get("atomicityGroup") == group]
+
+
+odb_batch.wsgi.perform = lambda document, send, **options: Execution(document, send, options).respond()
 
 
 def change_document(change):
-    """Has each batch changed before it is planned: its list of requests, as canonical text has it."""
+    """Has each batch changed before it is planned: its list of requests."""
     prepare = Execution.__init__
 
-    def with_change(self, owner, document, *rest):
-        value = json.loads(canon(document))
+    def with_change(self, document, *rest):
+        value = json.loads(document)
         change(value["requests"])
-        prepare(self, owner, json.dumps(value).encode(), *rest)
+        prepare(self, json.dumps(value).encode(), *rest)
 
     Execution.__init__ = with_change
 
@@ -42,8 +64,8 @@ def change_answers(change):
     """Has the answer to each request of a batch changed: by the request as it is given, and the answer."""
     answer = Execution.answer
 
-    def changed(self, id, perform):
-        return change(self.requests[id], answer(self, id, perform))
+    def changed(self, request):
+        return change(self.requests[request.id], answer(self, request))
 
     Execution.answer = changed
 
@@ -52,8 +74,8 @@ def change_requests(change):
     """Has each request of a batch changed before it is performed."""
     answer = Execution.answer
 
-    def changed(self, id, perform):
-        return answer(self, id, lambda request: perform(change(request)))
+    def changed(self, request):
+        return answer(self, change(request))
 
     Execution.answer = changed
 
@@ -70,12 +92,13 @@ def change_responses(change):
     Execution.respond = changed
 
 
-def is_success(response):
-    return 200 <= response["status"] <= 299
+def is_success(status):
+    return 200 <= status <= 299
 
 
-def request_of(given, url=None):
-    """A request of a batch, to be performed by the store."""
-    return Request(given["method"], url or given["url"], {"host": "", **given.get("headers", {})}, given.get("body"))
-
-
+def request_of(execution, given):
+    """A request of a batch, to be sent though its batch does not say so."""
+    headers = {name.lower(): value for name, value in given.get("headers", {}).items()}
+    body = json.dumps(given["body"]).encode() if "body" in given else b""
+    url = urljoin(execution.options["base"], given["url"])
+    return PreparedRequest(given["id"], given["method"].upper(), url, headers, body)

@@ -1,30 +1,30 @@
 """Services without a defect, or with one that no batch shows: a service may be like that."""
 
-import json
+import itertools
 import os
-import re
 import secrets
-import threading
+import signal
 import time
 
+import app
 import entities
-import store
-import web
-from odata import Answer, Refusal
+import odb_batch._endpoint
+from odb_batch import Answer, Refusal
 from of_groups import half_group
-from patching import Execution, batches, change_responses
+from of_responses import refuse_beside
+from patching import Execution, change_responses
 
 
 def refuse(what, is_in):
     """Has a batch refused that has such a request."""
-    answer = batches.Batches.answer
+    respond = Execution.respond
 
-    def refusing(self, document, mode, host):
-        if any(map(is_in, json.loads(document)["requests"])):
+    def refusing(self):
+        if any(map(is_in, self.requests.values())):
             raise Refusal(501, "NotImplemented", f"{what} are not supported")
-        return answer(self, document, mode, host)
+        return respond(self)
 
-    batches.Batches.answer = refusing
+    Execution.respond = refusing
 
 
 def refuses_groups():
@@ -37,7 +37,7 @@ def refuses_references():
 
 def always_stops():
     """A batch ends with its first error, whatever the client prefers, and leaves out what was not performed."""
-    web.preference = lambda headers, name: None
+    odb_batch._endpoint.preferences = lambda headers: []
 
     def leave_out(responses, requests):
         if any(400 <= it["status"] != 424 for it in responses):
@@ -58,49 +58,38 @@ def own_keys():
     entities._given = with_own_key
 
 
+def from_the_sixth_on(happens):
+    """Has something happen before each batch but the first five."""
+    respond, numbers = Execution.respond, itertools.count(1)
+
+    def responding(self):
+        if next(numbers) >= 6:
+            happens()
+        return respond(self)
+
+    Execution.respond = responding
+
+
 def ends():
-    """The service ends in the middle of its sixth batch."""
-    answer = batches.Batches.answer
-
-    def ending(self, document, mode, host):
-        if next(self.numbers) >= 6:
-            os._exit(1)
-        return answer(self, document, mode, host)
-
-    batches.Batches.answer = ending
+    """The service ends in the middle of its sixth batch, with all its processes."""
+    from_the_sixth_on(lambda: os.killpg(0, signal.SIGKILL))
 
 
 def stalls():
     """From the sixth batch on, the service takes its time."""
-    answer = batches.Batches.answer
-
-    def stalling(self, document, mode, host):
-        if next(self.numbers) >= 6:
-            time.sleep(3)
-        return answer(self, document, mode, host)
-
-    batches.Batches.answer = stalling
+    from_the_sixth_on(lambda: time.sleep(3))
 
 
 def one_batch_at_a_time():
     """A batch beside another is refused with 503."""
-    answer, turn = batches.Batches.answer, threading.Lock()
-
-    def answering(self, document, mode, host):
-        if not turn.acquire(blocking=False):
-            raise Refusal(503, "Busy", "A batch is being performed; try again")
-        try:
-            return answer(self, document, mode, host)
-        finally:
-            turn.release()
-
-    batches.Batches.answer = answering
+    refuse_beside(Refusal(503, "Busy", "A batch is being performed; try again"))
 
 
 def hidden_keys():
     """The service makes the keys of books by itself, and does not list them."""
     own_keys()
-    entities._OF_SET["get"] = lambda *_: Answer(403, {"error": {"code": "Hidden", "message": "Books are not listed"}})
+    hidden = {"error": {"code": "Hidden", "message": "Books are not listed"}}
+    entities._OF_SET["GET"] = lambda *_: Answer(403, {}, hidden)
 
 
 def own_keys_half_group():
@@ -114,10 +103,10 @@ def own_keys_posts_twice():
     own_keys()
     answer = Execution.answer
 
-    def answering(self, id, perform):
-        if self.requests[id]["method"] == "post":
-            answer(self, id, perform)
-        return answer(self, id, perform)
+    def answering(self, request):
+        if request.method == "POST":
+            answer(self, request)
+        return answer(self, request)
 
     Execution.answer = answering
 
@@ -143,39 +132,31 @@ def fixed_titles_half_group():
 
 def no_etags():
     """The service has no ETags."""
-    perform = entities.perform
+    perform = app.perform
 
     def performing(database, request):
         answer = perform(database, request)
         body = answer.body
         if isinstance(body, dict):
             body = {name: it for name, it in body.items() if name != "@etag"}
-        return answer._replace(body=body, headers={name: it for name, it in answer.headers.items() if name != "ETag"})
+        return answer._replace(body=body, headers={name: it for name, it in answer.headers.items() if name != "etag"})
 
-    entities.perform = store.perform = performing
+    app.perform = performing
 
 
 def properties():
     """The service shows properties by URLs of their own, and applies $select."""
-    perform = entities.perform
+    perform = app.perform
 
     def performing(database, request):
-        url, _, name = request.url.partition("?$select=")
-        url, _, part = url.partition(")/")
-        if request.method != "get" or not (name or part):
+        path, _, part = request.path.partition(")/")
+        name = request.options.get("$select")
+        if request.method != "GET" or not (name or part):
             return perform(database, request)
-        answer = perform(database, request._replace(url=url + ")" if part else url))
+        options = {key: it for key, it in request.options.items() if key != "$select"}
+        answer = perform(database, request._replace(path=path + ")" if part else path, options=options))
         if answer.status != 200 or (name or part) not in answer.body:
             return answer
         return answer._replace(body={name or "value": answer.body[name or part]})
 
-    target_of = web.target_of
-    web.target_of = lambda url, host: target_of(re.sub(r"\)/\w+$", ")", url), host)
-    entities.perform = store.perform = performing
-
-
-def references_without_rest():
-    """Such a service, in which what follows the id of a reference is dropped."""
-    properties()
-    resolved = Execution.resolved
-    Execution.resolved = lambda self, url: resolved(self, re.split("[/?]", url)[0] if url.startswith("$") else url)
+    app.perform = performing
