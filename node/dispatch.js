@@ -67,7 +67,7 @@ function outgoing(req, socket) {
 }
 
 /**
- * Has a handler answer a request, and is fulfilled with the answer, whose body is missing if it has more than `most` bytes. It is
+ * Has a handler answer a request, and is fulfilled with the answer, without its body if that has more than `most` bytes. It is
  * rejected if the handler throws, or ends the connection in place of an answer; an aborted signal ends it, too.
  */
 function dispatch(handler, client, request, most) {

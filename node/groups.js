@@ -1,7 +1,7 @@
 'use strict'
 
-// A group in its transaction. Its last member is reported after the commit: what needs the group starts later, and a commit that
-// fails is what that member is answered.
+// A group in its transaction. Its last member is reported after the commit: so what needs the group starts later, and that
+// member is answered a commit that fails.
 
 const { Refused } = require('./faults.js')
 const { GroupFailed, Refusal, isSuccess } = require('./messages.js')

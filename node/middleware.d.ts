@@ -5,6 +5,11 @@ import type { PerformanceOptions } from './perform'
 /** A handler of `node:http`, as an app of Express is one, or what `app.callback()` of Koa returns. */
 export type Handler = (request: any, response: any) => unknown
 
+/** An app that answers requests in this process by a call of its own, as that of Fastify. */
+export interface Injectable {
+  inject(request: any): PromiseLike<{ statusCode: number; headers: Record<string, unknown>; rawPayload: Uint8Array }>
+}
+
 export interface BatchOptions extends PerformanceOptions {
   /** The path to which batches are sent; `/$batch` is the default. The URLs of their requests are relative to its folder. */
   path?: string
@@ -26,4 +31,9 @@ export interface BatchOptions extends PerformanceOptions {
  * What is refused is answered by an error object (OData JSON Format 4.01, section 21.1): 400 with the fault of the batch, 405,
  * 413, 415 with `Accept`, and 501. Throws a `TypeError` for an option that has none of its values.
  */
-export function batch(app: Handler, options?: BatchOptions): (request: any, response: any, next?: (error?: any) => void) => void
+export function batch(app: Handler, options?: BatchOptions): Middleware
+/** The same for an app that has no handler, in which it always has a `next`. */
+export function batch(app: Injectable, options?: BatchOptions): Middleware
+
+/** What `batch` returns. */
+export type Middleware = (request: any, response: any, next?: (error?: any) => void) => void

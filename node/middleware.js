@@ -54,8 +54,8 @@ class Room {
   }
 
   /**
-   * The answer with its body, if there is room for it. If not, a GET is answered 507; anything else was performed, so it keeps its
-   * status and its headers, and loses its body.
+   * The answer with its body, if there is room for it. If not, a GET is answered 507; any other request was performed, so its
+   * answer keeps the status and the headers.
    */
   fitting({ method }, { body, ...head }) {
     if (body?.length <= this.#left) {
@@ -67,13 +67,25 @@ class Room {
   }
 }
 
+/** Has an app answer a request by its own call for that, as Fastify has one. */
+async function injected(app, client, { method, url, headers, body }) {
+  const { remoteAddress } = client
+  const answer = await app.inject({ method, url, headers, payload: body, remoteAddress })
+  return { status: answer.statusCode, headers: answer.headers, body: answer.rawPayload }
+}
+
+/** Has an app answer a request in this process. */
+function answered(app, client, request, most) {
+  return typeof app === 'function' ? dispatch(app, client, request, most) : injected(app, client, request)
+}
+
 /** The answer to a request that carries a batch. */
-async function answerOf(handler, req, { path, root, allowed, maxSize, performed }) {
+async function answerOf(app, req, { path, root, allowed, maxSize, performed }) {
   const outer = new Outer(req, path, allowed)
   const { mode, base } = outer
   const document = await bodyOf(req, maxSize)
   const room = new Room(maxSize)
-  const send = async (request) => room.fitting(request, await dispatch(handler, req.socket, outer.inner(request), room.left))
+  const send = async (request) => room.fitting(request, await answered(app, req.socket, outer.inner(request), room.left))
   const body = await perform(document, send, { ...performed, mode, base, root: outer.rootOf(root) })
   const applied = mode === 'continue' ? { 'preference-applied': 'continue-on-error' } : {}
   return { status: 200, headers: { 'content-type': 'application/json', ...applied }, body }
@@ -91,6 +103,9 @@ function failedOf(error, log) {
 }
 
 function batch(app, options = {}) {
+  if (typeof app !== 'function' && typeof app?.inject !== 'function') {
+    throw new TypeError('the app must be a handler of node:http, or have inject')
+  }
   const settings = settingsOf(options)
   const { log = logged } = settings.performed
   return function answerBatch(req, res, next = () => app(req, res)) {

@@ -7,8 +7,8 @@ const { Refusal, mediaTypeOf } = require('./messages.js')
 const { unquoted } = require('./urls.js')
 
 const NOT_INHERITED = new Set([
-  'accept', 'accept-encoding', 'connection', 'digest', 'expect', 'idempotency-key', 'keep-alive', 'prefer', 'range', 'signature',
-  'signature-input', 'te', 'trailer', 'transfer-encoding', 'upgrade',
+  'accept', 'accept-encoding', 'connection', 'digest', 'expect', 'idempotency-key', 'keep-alive', 'prefer', 'range',
+  'signature', 'signature-input', 'te', 'trailer', 'transfer-encoding', 'upgrade',
 ])
 const PREFIXES_NOT_INHERITED = ['content-', 'if-', 'repeatability-']
 // Others could be those by which a proxy tells the service who the client is.

@@ -64,7 +64,7 @@ class Service {
   #root
   #folder
 
-  /** URLs are relative to `base` and begin with `root`, absolute URLs that end with a slash. Without a base they stay as they are. */
+  /** URLs are relative to `base` and begin with `root`, which end with a slash. Without both they stay as they are. */
   constructor(base = '', root = base) {
     this.#base = base === '' ? undefined : folderOf('base', base)
     this.#root = root === '' ? undefined : folderOf('root', root)

@@ -4,13 +4,12 @@
 
 const assert = require('node:assert/strict')
 const { AsyncLocalStorage } = require('node:async_hooks')
-const http = require('node:http')
 const net = require('node:net')
 const { once } = require('node:events')
 const { test } = require('node:test')
 const { batch: mounted } = require('../middleware.js')
 const { batch } = require('./performing.js')
-const { CONTINUES, JSON_TYPE, MOUNTS, PATH, express, serving } = require('./serving.js')
+const { CONTINUES, JSON_TYPE, MOUNTS, PATH, express, listening, serving } = require('./serving.js')
 
 const LONG = 'x'.repeat(3000)
 const storage = new AsyncLocalStorage()
@@ -59,7 +58,10 @@ const ROUTES = {
     res.on('close', () => closed.push(req.url))
     res.end()
   },
-  long: (req, res) => res.writeHead(req.method === 'GET' ? 200 : 201, { 'Content-Type': 'text/plain', Location: '7' }).end(LONG),
+  long: (req, res) => {
+    res.writeHead(req.method === 'GET' ? 200 : 201, { 'Content-Type': 'text/plain', Location: '7' })
+    res.end(LONG)
+  },
   throws: () => {
     throw new Error('as planned')
   },
@@ -121,32 +123,42 @@ everywhere('answers what is not a batch by an error object', { maxSize: 200, lim
     return error
   }
   await refused(await fetch(origin + PATH), 405, 'NotAllowed', { allow: 'POST' })
-  await refused(await post('x', { 'content-type': 'multipart/mixed; boundary=b' }), 415, 'BadMediaType', { accept: 'application/json' })
+  const multipart = await post('x', { 'content-type': 'multipart/mixed; boundary=b' })
+  await refused(multipart, 415, 'BadMediaType', { accept: 'application/json' })
   const fault = await refused(await post('{"requests":[{"id":"a"}]}'), 400, 'F14')
   assert.equal(fault.target, '/requests/0')
   assert.match(fault.message, /^\w+: \S/)
   await refused(await post(GROUP), 501, 'NoGroups')
   await refused(await post(JSON.stringify(batch(['a'], ['b'], ['c']))), 413, 'TooManyRequests')
   await refused(await post(' '.repeat(201)), 413, 'TooLong', { connection: 'close' })
-  const chunks = new ReadableStream({ pull: (it) => it.enqueue(Buffer.alloc(100, ' ')) })
-  const answer = await fetch(origin + PATH, { method: 'POST', headers: JSON_TYPE, body: chunks, duplex: 'half' }).catch(() => null)
-  if (answer !== null) await refused(answer, 413, 'TooLong')
+  const body = new ReadableStream({ pull: (it) => it.enqueue(Buffer.alloc(100, ' ')) })
+  const endless = await fetch(origin + PATH, { method: 'POST', headers: JSON_TYPE, body, duplex: 'half' }).catch(() => null)
+  if (endless !== null) await refused(endless, 413, 'TooLong') // else the connection had ended before the answer was read
 })
 
 everywhere('answers a host that is none', {}, async ({ port }) => {
   const socket = net.connect(port, '127.0.0.1')
   const document = JSON.stringify(batch(['a']))
-  socket.end(`POST ${PATH} HTTP/1.1\r\nHost: a b\r\nConnection: close\r\nContent-Type: application/json\r\nContent-Length: ${document.length}\r\n\r\n${document}`)
-  const [head] = await once(socket, 'data')
-  assert.match(head.toString(), /^HTTP\/1.1 400 [^]*BadHost/)
+  const head = [`POST ${PATH} HTTP/1.1`, 'Host: a b', 'Content-Type: application/json', `Content-Length: ${document.length}`]
+  socket.end([...head, '', document].join('\r\n'))
+  const [answer] = await once(socket, 'data')
+  assert.match(answer.toString(), /^HTTP\/1.1 400 [^]*BadHost/)
 })
+
+// What a client prefers, and what a request after a failure is answered.
+const PREFERENCES = [
+  ['', 424],
+  ['respond-async', 424],
+  ['continue-on-error=false', 424],
+  ['x="a, continue-on-error"', 424],
+  ['continue-on-error', 204],
+  ['Continue-On-Error=TRUE', 204],
+  ['return=minimal, odata.continue-on-error="true"', 204],
+]
 
 everywhere('stops at the first error unless the client prefers to continue', {}, async ({ post }) => {
   const document = JSON.stringify(batch(['a', 'get', 'status?is=404'], ['b', 'get', 'status?is=204']))
-  for (const [prefer, expected] of [
-    ['', 424], ['respond-async', 424], ['continue-on-error=false', 424], ['continue-on-error', 204], ['Continue-On-Error=TRUE', 204],
-    ['return=minimal, odata.continue-on-error="true"', 204], ['x="a, continue-on-error"', 424],
-  ]) {
+  for (const [prefer, expected] of PREFERENCES) {
     const answer = await post(document, prefer ? { ...JSON_TYPE, prefer } : JSON_TYPE)
     assert.equal((await answer.json()).responses[1].status, expected, prefer)
     assert.equal(answer.headers.get('preference-applied'), expected === 204 ? 'continue-on-error' : null)
@@ -154,10 +166,12 @@ everywhere('stops at the first error unless the client prefers to continue', {},
 })
 
 everywhere('hands requests to the handler with what they inherit', {}, async ({ origin, responses }) => {
-  const document = batch(['a', 'patch', 'echo?x=a b', { headers: { Accept: 'text/x', 'User-Agent': 'own', Prefer: 'return=minimal' }, body: { p: 1 } }])
+  const own = { Accept: 'text/x', 'User-Agent': 'own', Prefer: 'return=minimal' }
+  const document = batch(['a', 'patch', 'echo?x=a b', { headers: own, body: { p: 1 } }])
   const outer = {
-    ...CONTINUES, authorization: 'Bearer 1', cookie: 'c=1', traceparent: '00', accept: 'application/json', 'if-match': '"1"',
-    prefer: 'continue-on-error, odata.maxpagesize=5', 'content-language': 'de', 'repeatability-request-id': 'r', 'user-agent': 'outer',
+    ...JSON_TYPE, authorization: 'Bearer 1', cookie: 'c=1', traceparent: '00', accept: 'application/json', 'if-match': '"1"',
+    prefer: 'continue-on-error, odata.maxpagesize=5', 'content-language': 'de', 'repeatability-request-id': 'r',
+    'user-agent': 'outer',
   }
   const { a } = await responses(document, outer)
   const { host, ...headers } = a.body.headers
@@ -183,7 +197,7 @@ everywhere('refuses headers by which a proxy may say who the client is', { allow
 
 everywhere('keeps requests below the root', { root: '/odata/' }, async ({ origin, responses }) => {
   const inside = ['status?is=204', '/odata/status?is=204', `${origin}/odata/status?is=204`, './status?is=204']
-  const outside = ['/status?is=204', '../status?is=204', '%2e%2e/status?is=204', 'http://169.254.169.254/', '//other/odata/status?is=204']
+  const outside = ['/status', '../status', '%2e%2e/status', 'http://169.254.169.254/', '//other/odata/status']
   const urls = [...inside, ...outside]
   const found = Object.values(statusesOf(await responses(batch(...urls.map((url, k) => [`r${k}`, 'get', url])))))
   assert.deepEqual(found, [...inside.map(() => 204), ...outside.map(() => 404)])
@@ -203,7 +217,7 @@ everywhere('shows answers however they are written', {}, async ({ responses }) =
   const names = ['text', 'image', 'stream', 'chunked', 'hints', 'twice', 'late']
   const found = await responses(batch(...names.map((name) => [name, 'get', name]), ['none', 'get', 'status?is=204']))
   assert.deepEqual(names.map((name) => found[name].body), ['é', '_-8', 'abc', 'first, second', 'final', undefined, 'over'])
-  assert.deepEqual(found.twice.headers, { vary: 'a, b', ...(found.twice.headers['x-powered-by'] ? { 'x-powered-by': 'Express' } : {}) })
+  assert.deepEqual([found.twice.headers.vary, found.twice.headers['set-cookie']], ['a, b', undefined])
   assert.deepEqual(new Set(Object.values(statusesOf(found))), new Set([200, 204]))
 })
 
@@ -224,7 +238,8 @@ everywhere('answers what handlers do wrong', { timeout: 50, width: 8 }, async ({
 
 everywhere('limits what the answers have together', { maxSize: 7000, width: 1 }, async ({ responses }) => {
   const names = ['a', 'b', 'c', 'd']
-  const found = await responses(batch(...names.map((id) => [id, id === 'd' ? 'post' : 'get', 'long']), ['e', 'get', 'status?is=204']))
+  const long = names.map((id) => [id, id === 'd' ? 'post' : 'get', 'long'])
+  const found = await responses(batch(...long, ['e', 'get', 'status?is=204']))
   assert.deepEqual(statusesOf(found), { a: 200, b: 200, c: 507, d: 201, e: 204 })
   assert.deepEqual([found.b.body, found.d.body, found.d.headers.location], [LONG, undefined, '7'])
 })
@@ -248,23 +263,40 @@ everywhere('follows references to what a handler has made', { root: '/' }, async
   assert.deepEqual(statusesOf(await responses(document)), { a: 201, b: 404 })
 })
 
-test('takes what a parser of Express has left of a body', { skip: express() === undefined && 'express is not installed' }, async () => {
-  const document = JSON.stringify(batch(['a', 'get', 'status?is=204']))
-  for (const [parser, status] of [['raw', 200], ['text', 200], ['json', 500]]) {
-    const app = express()()
+const WITHOUT_EXPRESS = { skip: express() === undefined && 'express is not installed' }
+
+for (const [parser, status] of [['raw', 200], ['text', 200], ['json', 500]]) {
+  test(`express: takes what its parser ${parser} has left of a body`, WITHOUT_EXPRESS, async () => {
     const errors = []
-    app.use(express()[parser]({ type: '*/*' })).use(mounted(app, { path: PATH, log: (error) => errors.push(error.message) })).use(handler)
-    const server = http.createServer(app)
-    await once(server.listen(0, '127.0.0.1'), 'listening')
-    const url = `http://127.0.0.1:${server.address().port}${PATH}`
-    assert.equal((await fetch(url, { method: 'POST', headers: JSON_TYPE, body: document })).status, status, parser)
-    assert.deepEqual(errors, status === 200 ? [] : ['a parser has read the body of the batch: batch() has to come before it'])
-    server.closeAllConnections()
-    server.close()
+    const options = { path: PATH, log: (error) => errors.push(error.message) }
+    const app = express()().use(express()[parser]({ type: '*/*' }))
+    await listening(app.use(mounted(app, options)).use(handler), async ({ post }) => {
+      const answer = await post(JSON.stringify(batch(['a', 'get', 'status?is=204'])))
+      const expected = ['a parser has read the body of the batch: batch() has to come before it']
+      assert.deepEqual([answer.status, errors], [status, status === 200 ? [] : expected])
+    })
+  })
+}
+
+test('has an app answer by its own call for that, as Fastify has one', async () => {
+  const asked = []
+  const app = {
+    async inject({ method, url, payload }) {
+      asked.push([method, url, payload.toString()])
+      return { statusCode: 201, headers: { 'content-type': 'application/json' }, rawPayload: Buffer.from('{"p":1.50}') }
+    },
   }
+  const answer = mounted(app, { path: PATH })
+  await listening((req, res) => answer(req, res, () => res.writeHead(404).end()), async ({ origin, post }) => {
+    const found = await (await post(JSON.stringify(batch(['a', 'post', 'Books', { body: 7 }])))).text()
+    assert.match(found, /^\{"responses":\[\{"body":\{"p":1.50\},.*"id":"a","status":201\}\]\}$/)
+    assert.deepEqual(asked, [['POST', '/odata/Books', '7']])
+    assert.equal((await fetch(`${origin}/odata/Books`)).status, 404)
+  })
 })
 
 test('refuses options that have none of their values', () => {
+  assert.throws(() => mounted({}), TypeError)
   for (const options of [{ path: 'odata' }, { root: '/odata' }, { root: 'odata/' }, { maxSize: -1 }, { maxsize: 7 }, { mode: 'stop' }]) {
     assert.throws(() => mounted(handler, options), TypeError)
   }

@@ -29,24 +29,32 @@ const MOUNTS = {
   },
 }
 
-/** Calls a function with a server of a handler, and with what a batch of it is answered. */
-async function serving(mount, handler, options, use) {
-  const errors = []
-  const log = (error, what) => errors.push([error, what])
-  const server = http.createServer(MOUNTS[mount](handler, { path: PATH, log, ...options }))
+/** Calls a function with a server: with its origin, and with what sends a document as a batch. */
+async function listening(listener, use) {
+  const server = http.createServer(listener)
   await once(server.listen(0, '127.0.0.1'), 'listening')
-  const origin = `http://127.0.0.1:${server.address().port}`
+  const { port } = server.address()
+  const origin = `http://127.0.0.1:${port}`
   const post = (body, headers = CONTINUES) => fetch(origin + PATH, { method: 'POST', headers, body })
-  const responses = async (document, headers) => {
-    const answer = await post(JSON.stringify(document), headers)
-    return Object.fromEntries((await answer.json()).responses.map(({ id, ...rest }) => [id, rest]))
-  }
   try {
-    await use({ origin, post, responses, errors, port: server.address().port })
+    await use({ origin, port, post })
   } finally {
     server.closeAllConnections()
     server.close()
   }
 }
 
-module.exports = { CONTINUES, JSON_TYPE, MOUNTS, PATH, express, serving }
+/** Calls a function with a server of a handler that has a $batch, and with the errors that this logs. */
+function serving(mount, handler, options, use) {
+  const errors = []
+  const log = (error, what) => errors.push([error, what])
+  return listening(MOUNTS[mount](handler, { path: PATH, log, ...options }), (server) => {
+    const responses = async (document, headers) => {
+      const answer = await server.post(JSON.stringify(document), headers)
+      return Object.fromEntries((await answer.json()).responses.map(({ id, ...rest }) => [id, rest]))
+    }
+    return use({ ...server, errors, responses })
+  })
+}
+
+module.exports = { CONTINUES, JSON_TYPE, MOUNTS, PATH, express, listening, serving }
