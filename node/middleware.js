@@ -25,20 +25,34 @@ function settingsOf(options) {
   return { path, root, allowed: allowed.map((name) => name.toLowerCase()), maxSize, performed: { limit: 1000, ...rest } }
 }
 
+/** The body of a request, as long as it has no more bytes than these; the rest is not read. */
+function readBody(req, maxSize) {
+  return new Promise((resolve, reject) => {
+    const parts = []
+    let size = 0
+    const cut = () => reject(new Refusal(400, 'CutBody', 'The batch is not whole'))
+    req.on('data', (part) => {
+      parts.push(part)
+      size += part.length
+      if (size <= maxSize) return
+      req.pause()
+      reject(tooLong(maxSize))
+    })
+    req.on('end', () => resolve(Buffer.concat(parts)))
+    for (const event of ['error', 'close']) req.on(event, cut)
+  })
+}
+
+function tooLong(maxSize) {
+  return new Refusal(413, 'TooLong', `A batch may have ${maxSize} bytes`, { headers: { connection: 'close' } })
+}
+
 /** The bytes of a batch, as a request carries it, or as a parser in front has left it. */
 async function bodyOf(req, maxSize) {
   if (Buffer.isBuffer(req.body) || typeof req.body === 'string') return req.body
   if (req.readableEnded) throw new Error('a parser has read the body of the batch: batch() has to come before it')
-  const headers = { connection: 'close' } // the rest of the body is not read
-  const tooLong = new Refusal(413, 'TooLong', `A batch may have ${maxSize} bytes`, { headers })
-  if (Number(req.headers['content-length']) > maxSize) throw tooLong
-  const parts = []
-  let size = 0
-  for await (const part of req) {
-    parts.push(part)
-    if ((size += part.length) > maxSize) throw tooLong
-  }
-  return Buffer.concat(parts)
+  if (Number(req.headers['content-length']) > maxSize) throw tooLong(maxSize)
+  return readBody(req, maxSize)
 }
 
 /** How many bytes the bodies of the answers to a batch may still have together. */

@@ -16,8 +16,8 @@ export interface PreparedRequest {
   headers: Record<string, string>
   /** The bytes on the wire, or undefined if there is no body. JSON is as in the document, byte for byte. */
   body: Bytes | undefined
-  /** Its atomicity group, or undefined. */
-  group: string | undefined
+  /** Its atomicity group, or null. */
+  group: string | null
   /** Is aborted when `timeout` is over; undefined without that option. */
   signal: Signal | undefined
 }

@@ -81,7 +81,7 @@ class Performance {
     const [first] = ids
     const name = this.#work.groupOf(first)
     this.#work.start(first)
-    if (name === undefined) this.#work.report(first, await this.#sent(first))
+    if (name === null) this.#work.report(first, await this.#sent(first))
     else await this.#group(name, new Group(this.#work, name, ids, (id) => this.#sent(id)))
   }
 
@@ -121,7 +121,7 @@ class Performance {
 /** Refuses a batch as a whole, before anything of it is sent. */
 function requirePerformable(requests, { limit, transaction }) {
   if (requests.length > limit) throw new Refusal(413, 'TooManyRequests', `A batch may have ${limit} requests`)
-  if (transaction === undefined && requests.some(({ group }) => group !== undefined)) {
+  if (transaction === undefined && requests.some(({ group }) => group !== null)) {
     throw new Refusal(501, 'NoGroups', 'Atomicity groups are not supported here')
   }
 }

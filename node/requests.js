@@ -17,7 +17,7 @@ function referenceOf(url) {
   const plain = segment.replace(/%([0-9a-f]{2})/gi, (_, digits) => String.fromCharCode(parseInt(digits, 16)))
   const name = /^\$([\w.~-]+)$/.exec(plain)?.[1]
   const isReference = name !== undefined && !RESERVED.has(name)
-  return isReference ? { reference: name, rest: url.slice(segment.length) } : { reference: undefined, rest: url }
+  return isReference ? { reference: name, rest: url.slice(segment.length) } : { reference: null, rest: url }
 }
 
 /** The requests of a batch, in its order. */
@@ -31,7 +31,7 @@ function requests(batch) {
     url,
     ...referenceOf(url),
     headers: Object.fromEntries(Object.entries(headers ?? {}).map(([name, value]) => [name.toLowerCase(), value])),
-    group: atomicityGroup ?? undefined,
+    group: atomicityGroup ?? null,
     body: body === undefined || body === null ? undefined : Buffer.from(JSON.stringify(body).replace(MARKED, '$1')),
   }))
 }

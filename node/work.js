@@ -81,13 +81,14 @@ class Work {
   /** A request as it is to be sent, or a refusal if nothing can be sent. */
   request(id) {
     const request = this.#requests.get(id)
+    const { method, group, body } = request
     const headers = { ...request.headers }
     for (const [name, other] of this.#tagged(request)) headers[name] = this.#tagOf(other)
     const url = this.#service.target(this.#urlOf(request))
     if (this.#named.has(id)) this.#sent.set(id, { url })
-    if (request.body === undefined) return { id, method: request.method, url, headers, body: undefined, group: request.group }
+    if (body === undefined) return { id, method, url, headers, body, group }
     headers['content-type'] ??= 'application/json'
-    return { id, method: request.method, url, headers, body: toWire(request.body, headers), group: request.group }
+    return { id, method, url, headers, body: toWire(body, headers), group }
   }
 
   /** The headers of a request that refer to an ETag, each with the id that it names. */
@@ -97,7 +98,7 @@ class Work {
   }
 
   #urlOf({ url, reference, rest }) {
-    return reference === undefined ? url : this.#placeOf(reference) + rest
+    return reference === null ? url : this.#placeOf(reference) + rest
   }
 
   /** The URL of what a request has created or returned. */

@@ -44,7 +44,10 @@ const app = express()
 app.use(batch(app, { path: '/odata/$batch', transaction, width: Number(process.env.WIDTH ?? 1) }))
 app.use(express.json())
 
-app.get('/odata/Books', (req, res) => res.json({ value: all().map(({ tag, ...book }) => book) }))
+app.get('/odata/Books', (req, res) => {
+  const [, name, value] = /^(\w+) eq '(.*)'$/.exec(req.query.$filter ?? '') ?? []
+  res.json({ value: all().filter((book) => name === undefined || book[name] === value).map(({ tag, ...book }) => book) })
+})
 app.post('/odata/Books', writes((req, res) => {
   const { Id, Title } = req.body
   if (typeof Id !== 'string' || typeof Title !== 'string') return refuse(res, 400, 'a book has an Id and a Title')
@@ -62,6 +65,7 @@ const change = (effect) => writes((req, res) => {
   res.status(204).end()
 })
 app.patch(BOOK, change((req, book) => store(book.Id, { ...book, ...req.body, Id: book.Id, tag: `"${++version}"` })))
+app.put(BOOK, change((req, book) => store(book.Id, { ...req.body, Id: book.Id, tag: `"${++version}"` })))
 app.delete(BOOK, change((req, book) => remove(book.Id)))
 
 if (require.main === module) {

@@ -8,7 +8,7 @@ const { match, perform, replay } = require('..')
 const { batchOf, outcomesOf, randomFrom } = require('./batches.js')
 const { GROUP, Ledger, after, batch, responsesOf, statusesOf } = require('./performing.js')
 
-const BATCHES = 400
+const BATCHES = 100
 const MODES = ['continue', 'stop']
 
 function isSuccess(status) {

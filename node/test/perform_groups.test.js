@@ -18,7 +18,7 @@ for (const width of [1, 2, 8]) {
     const [ledger, sent] = [new Ledger(), []]
     const send = async ({ id, group, method }) => {
       // x writes, too: a transaction that began before it would have the turn, and wait for x.
-      if (group === undefined && method === 'POST') await ledger.alone(() => after(10))
+      if (group === null && method === 'POST') await ledger.alone(() => after(10))
       sent.push(id)
       return { status: 200 }
     }
@@ -95,7 +95,12 @@ test('answers a transaction that cannot begin in its own words', async () => {
   assert.deepEqual(first.body, { error: { code: 'Busy', message: 'try again' } })
 })
 
-// What a transaction may do wrong, what is answered then, and whether the log says so.
+async function lateError() {
+  await after(5)
+  throw new Error('late')
+}
+
+// What a transaction may do wrong, what is answered then; the log says so, too.
 const WRONG = [
   ['its commit fails', async (_, body) => body().then(() => Promise.reject(new Error('commit'))), LAST_FAILED],
   ['it throws at once', () => { throw new Error('begin') }, FIRST_FAILED],
@@ -103,7 +108,7 @@ const WRONG = [
   ['it never calls its body', async () => {}, FIRST_FAILED],
   ['it calls its body too late', async (_, body) => void setImmediate(() => body().catch(() => {})), FIRST_FAILED],
   ['it does not wait for its body', async (_, body) => void body(), { x: 200, a: 424, b: 500, c: 424 }],
-  ['it gives up its body', (_, body) => Promise.race([body(), after(5).then(() => Promise.reject(new Error('late')))]), LAST_FAILED],
+  ['it gives up its body', (_, body) => Promise.race([body(), lateError()]), LAST_FAILED],
   ['it calls its body again', (_, body) => body().then(body), LAST_FAILED],
   ['it calls its body again, and ignores how that ends', (_, body) => body().then(body).catch(() => {}), LAST_FAILED],
 ]

@@ -21,7 +21,8 @@ const PLACES = [
 for (const [location, place] of PLACES) {
   test(`follows a reference to ${location}`, async () => {
     const urls = []
-    const document = batch(['o', 'post', 'Orders'], ['l', 'get', '$o/Lines?$top=1', { dependsOn: ['o'] }], ['m', 'get', '$metadata'])
+    const line = ['l', 'get', '$o/Lines?$top=1', { dependsOn: ['o'] }]
+    const document = batch(['o', 'post', 'Orders'], line, ['m', 'get', '$metadata'])
     await perform(document, ({ url }) => urls.push(url) && { status: 201, headers: { Location: location } }, { base: BASE })
     assert.deepEqual(urls, [`${BASE}Orders`, `${place}/Lines?$top=1`, `${BASE}$metadata`])
   })
@@ -46,7 +47,10 @@ for (const [request, answer, place] of REFERENCES) {
   test(`resolves ${request[1]} ${request[2]} to ${place}`, async () => {
     let found
     const document = batch(request, ['b', 'get', '$a/Ref', { dependsOn: ['a'] }])
-    const send = ({ id, url }) => (id === 'b' ? ((found = url), { status: 200 }) : answer)
+    const send = ({ id, url }) => {
+      found = url
+      return id === 'a' ? answer : { status: 200 }
+    }
     assert.deepEqual(await statusesOf(document, send), { a: answer.status, b: 200 })
     assert.equal(found, `${place}/Ref`)
   })
@@ -70,8 +74,12 @@ for (const [answer, tag] of TAGS) {
   test(`replaces a reference to the ETag ${tag}`, async () => {
     for (const name of ['If-Match', 'If-None-Match']) {
       let found
-      const document = batch(['a', 'get', 'A'], ['b', 'patch', '$a', { dependsOn: ['a'], headers: { [name]: '$a' }, body: {} }])
-      const send = ({ id, headers }) => ((found = headers[name.toLowerCase()]), { status: 200, ...(id === 'a' ? answer : {}) })
+      const patch = { dependsOn: ['a'], headers: { [name]: '$a' }, body: {} }
+      const document = batch(['a', 'get', 'A'], ['b', 'patch', '$a', patch])
+      const send = ({ id, headers }) => {
+        found = headers[name.toLowerCase()]
+        return { status: 200, ...(id === 'a' ? answer : {}) }
+      }
       assert.deepEqual(await statusesOf(document, send), { a: 200, b: 200 })
       assert.equal(found, tag)
     }
@@ -86,7 +94,9 @@ test('answers a reference to an ETag that there is not, and passes on what is no
   }
 })
 
-const INSIDE = ['Books', '/odata/Books', 'http://h/odata/Books', 'HTTP://H:80/odata/Books', '//h/odata/Books', './Books', '/%6fdata/Books']
+const INSIDE = [
+  'Books', '/odata/Books', 'http://h/odata/Books', 'HTTP://H:80/odata/Books', '//h/odata/Books', './Books', '/%6fdata/Books',
+]
 const OUTSIDE = [
   '/admin', '../admin', '%2e%2e/admin', '..%2fadmin', 'a/..%5c..%5cadmin', '..;/admin', '/odata', '//169.254.169.254/odata/',
   'http://169.254.169.254/', 'https://h/odata/Books', 'http://h:81/odata/Books', '\\\\other\\odata\\', 'file:///odata/Books',

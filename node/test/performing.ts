@@ -7,7 +7,7 @@ interface Fetched { status: number; headers: Map<string, string>; arrayBuffer():
 declare function fetchIt(url: string, options: { method?: string; headers?: Record<string, string>; body?: Uint8Array }): Promise<Fetched>
 
 const byFetch: Send = (request) => fetchIt(request.url, request)
-const atOnce: Send = ({ id, group }: PreparedRequest) => ({ status: 200, headers: { Vary: ['a'] }, body: { id, group } })
+const atOnce: Send = ({ id, group }: PreparedRequest) => ({ status: 200, headers: { Vary: ['a'] }, body: { id, group: group ?? '' } })
 const refusing: Send = async (): Promise<Answer> => {
   throw new Refusal(503, 'Busy', 'try again', { target: 'a', headers: { 'Retry-After': '1' } })
 }

@@ -53,7 +53,6 @@ def test_conformance(width, environment_of_node, tmp_path):
     with serving(environment_of_node, width) as url:
         lines = run(sys.executable, TOOL, url, *ABOUT, "--breaks", tmp_path, env=with_package()).splitlines()
     assert re.fullmatch(r"[0-9]+ cases, 0 of them broken", lines[-1])
-    assert [line for line in lines if line.startswith("not applicable")] == []
 
 
 def ask(url, method, path, value=None):
