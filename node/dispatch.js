@@ -60,7 +60,6 @@ function incoming(socket, { method, url, headers, body = Buffer.alloc(0) }) {
 /** The response that a handler writes to a connection, which ends with it. */
 function outgoing(req, socket) {
   const res = new ServerResponse(req)
-  res.useChunkedEncodingByDefault = false
   res.shouldKeepAlive = false
   res.assignSocket(socket)
   return res

@@ -290,6 +290,15 @@ for (const [parser, status] of [['raw', 200], ['text', 200], ['json', 500]]) {
   })
 }
 
+test('express: is found in a folder of the app', WITHOUT_EXPRESS, async () => {
+  const app = express()()
+  app.use('/odata', mounted(app, { path: PATH })).use(handler)
+  await listening(app, async ({ post }) => {
+    const answer = await post(JSON.stringify(batch(['a', 'get', 'status?is=204'])))
+    assert.equal((await answer.json()).responses[0].status, 204)
+  })
+})
+
 test('has an app answer by its own call for that, as Fastify has one', async () => {
   const asked = []
   const app = {

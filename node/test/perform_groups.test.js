@@ -80,7 +80,8 @@ test('sends nothing of a group whose transaction begins after the run has stoppe
   const send = async ({ id }) => (id === 'y' ? { status: 404 } : assert.fail('sent'))
   const transaction = (group, body) => after(20).then(body)
   const swallowing = (group, body) => transaction(group, body).catch(() => {})
-  for (const it of [transaction, swallowing]) {
+  const wrapping = (group, body) => transaction(group, body).catch((cause) => Promise.reject(new Error('failed', { cause })))
+  for (const it of [transaction, swallowing, wrapping]) {
     assert.deepEqual(await statusesOf(document, send, { mode: 'stop', width: 2, transaction: it }), { a: 424, y: 404 })
   }
 })
@@ -100,27 +101,27 @@ async function lateError() {
   throw new Error('late')
 }
 
-// What a transaction may do wrong, what is answered then; the log says so, too.
+// What a transaction may do wrong, what is answered and what was sent then; the log says so, too.
 const WRONG = [
-  ['its commit fails', async (_, body) => body().then(() => Promise.reject(new Error('commit'))), LAST_FAILED],
-  ['it throws at once', () => { throw new Error('begin') }, FIRST_FAILED],
-  ['it is rejected without a reason', () => Promise.reject(), FIRST_FAILED],
-  ['it never calls its body', async () => {}, FIRST_FAILED],
-  ['it calls its body too late', async (_, body) => void setImmediate(() => body().catch(() => {})), FIRST_FAILED],
-  ['it does not wait for its body', async (_, body) => void body(), { x: 200, a: 424, b: 500, c: 424 }],
-  ['it gives up its body', (_, body) => Promise.race([body(), lateError()]), LAST_FAILED],
-  ['it calls its body again', (_, body) => body().then(body), LAST_FAILED],
-  ['it calls its body again, and ignores how that ends', (_, body) => body().then(body).catch(() => {}), LAST_FAILED],
+  ['its commit fails', async (_, body) => body().then(() => Promise.reject(new Error('commit'))), LAST_FAILED, 'xab'],
+  ['it throws at once', () => { throw new Error('begin') }, FIRST_FAILED, 'x'],
+  ['it is rejected without a reason', () => Promise.reject(), FIRST_FAILED, 'x'],
+  ['it never calls its body', async () => {}, FIRST_FAILED, 'x'],
+  ['it calls its body too late', async (_, body) => void setImmediate(() => body().catch(() => {})), FIRST_FAILED, 'x'],
+  ['it does not wait for its body', async (_, body) => void body(), LAST_FAILED, 'xa'],
+  ['it gives up its body', (_, body) => Promise.race([body(), lateError()]), LAST_FAILED, 'xa'],
+  ['it calls its body again', (_, body) => body().then(body), LAST_FAILED, 'xab'],
+  ['it calls its body again, and ignores how that ends', (_, body) => body().then(body).catch(() => {}), LAST_FAILED, 'xab'],
 ]
 
-for (const [what, transaction, expected] of WRONG) {
+for (const [what, transaction, expected, ids] of WRONG) {
   test(`answers a group whose transaction is wrong: ${what}`, async () => {
-    const errors = []
-    const send = async ({ id }) => after(id === 'a' ? 10 : 1, { status: 200 })
-    const found = await statusesOf(GROUP, send, { transaction, log: (error, what) => errors.push([error, what]) })
-    assert.deepEqual(found, expected)
-    assert.equal(errors.length, 1)
-    assert.equal(errors[0][1], 'the transaction of g')
+    const [errors, sent] = [[], []]
+    const send = async ({ id }) => sent.push(id) && after(id === 'a' ? 50 : 1, { status: 200 })
+    const found = await statusesOf(GROUP, send, { transaction, log: (_, about) => errors.push(about) })
+    assert.deepEqual([found, errors], [expected, ['the transaction of g']])
+    await after(10) // for what comes too late
+    assert.equal(sent.join(''), ids)
   })
 }
 
