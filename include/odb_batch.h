@@ -159,6 +159,37 @@ uint32_t odb_match_with(const uint8_t *batch, size_t batch_size, const uint8_t *
                         uint32_t mode, uint32_t form,
                         uint8_t *text, size_t text_size, size_t *text_length, uint64_t seed);
 
+/* Where a part of a request lies: `length` bytes from `start` on. `start` is ODB_NONE and `length` 0 if the request has
+ * no such part. */
+typedef struct odb_part {
+    size_t start;
+    size_t length;
+} odb_part;
+
+#define ODB_NONE SIZE_MAX
+
+/* What is to be sent of a request: where its parts lie in a text, and where its body lies in the document. */
+typedef struct odb_request {
+    odb_part id;
+    odb_part method;  /* in upper case, as POST */
+    odb_part url;     /* as the batch has it */
+    odb_part rest;    /* of the URL after the id that it refers to: /Lines of $a/Lines; else the whole URL */
+    odb_part headers; /* a JSON object of strings, names in lower case; empty if there are none */
+    odb_part group;   /* the atomicity group, or ODB_NONE */
+    odb_part body;    /* in the document, or ODB_NONE; the bytes as they were written */
+    size_t reference; /* the position of the request that the URL refers to, or ODB_NONE */
+} odb_request;
+
+/* Gives what is to be sent of each request of a batch, in the order of the batch. The text has all parts but the bodies,
+ * which lie in the document. `requests` is a buffer of `requests_size` structs; it may be NULL, which is one of size 0.
+ * `*count` is set to the number of requests; it must not be NULL. Returns ODB_DONE; or, with both buffers as they were,
+ * ODB_SMALL_BUFFER if one of them has too little room. Of a batch that is refused `*count` is 0 and `requests` is as it
+ * was, and it returns what `odb_check` does: the text is the line of the fault. Costs
+ * O(n log n) time for n bytes of the document, and copies no body. */
+uint32_t odb_requests(const uint8_t *batch, size_t batch_size,
+                      uint8_t *text, size_t text_size, size_t *text_length,
+                      odb_request *requests, size_t requests_size, size_t *count, uint64_t seed);
+
 /* A live run: a caller starts requests and reports how they ended, and learns what may start then. Requests are
  * named by their positions in the batch, from 0.
  *
@@ -377,6 +408,15 @@ static inline uint32_t odb_inline_replay_as(ODB_INLINE_IN(batch), ODB_INLINE_IN(
                          ODB_INLINE_SLICE(text), text_length, seed);
 }
 
+static inline uint32_t odb_inline_requests(ODB_INLINE_IN(batch), ODB_INLINE_TEXT, odb_request *requests,
+                                           size_t requests_size, size_t *count, uint64_t seed)
+{
+    uint8_t none = 0;
+    odb_request no_request = {{0, 0}, {0, 0}, {0, 0}, {0, 0}, {0, 0}, {0, 0}, {0, 0}, 0};
+    return odb_requests(ODB_INLINE_SLICE(batch), ODB_INLINE_SLICE(text), text_length,
+                        requests ? requests : &no_request, requests ? requests_size : 0, count, seed);
+}
+
 static inline uint32_t odb_inline_run_open(ODB_INLINE_IN(batch), ODB_INLINE_IN(events), uint32_t mode,
                                            uint32_t width, odb_live_run *run, ODB_INLINE_TEXT, uint64_t seed)
 {
@@ -451,6 +491,7 @@ static inline uint32_t odb_inline_run_response(odb_live_run *run, ODB_INLINE_TEX
 #define odb_match_with odb_inline_match_with
 #define odb_run_as odb_inline_run_as
 #define odb_replay_as odb_inline_replay_as
+#define odb_requests odb_inline_requests
 #define odb_run_open odb_inline_run_open
 #define odb_run_ready odb_inline_run_ready
 #define odb_run_running odb_inline_run_running

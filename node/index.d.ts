@@ -151,6 +151,37 @@ export function run(batch: Document, events: Events, options?: RunOptions): Byte
 /** Replays a batch by recorded outcomes. Throws a `RangeError` for an option that has none of its values. */
 export function replay(batch: Document, outcomes: Document, options?: ReplayOptions): Replay
 
+/** A request of a batch, as it is to be sent. */
+export interface Request {
+  id: string
+  /** Its method in upper case, as `POST`. */
+  method: string
+  /** Its URL, as the batch has it. */
+  url: string
+  /** The id of the request that the URL refers to, or null. */
+  reference: string | null
+  /**
+   * The part of the URL after that id: of `$a/Lines?x=1` the reference is `a`, and the rest is `/Lines?x=1`. The whole
+   * URL if it refers to no request.
+   */
+  rest: string
+  /** Its headers, with their names in lower case. */
+  headers: Record<string, string>
+  /** Its atomicity group, or null. */
+  group: string | null
+  /**
+   * The bytes of its body, just as they are in the document, whatever numbers they have; undefined if it has none, or
+   * `null`. Of a document that is bytes, they are those bytes and no copy.
+   */
+  body: Bytes | undefined
+}
+
+/**
+ * Returns what is to be sent of each request of a batch, in the order of the batch. A body is the bytes of the
+ * document: of a batch that is an object, of the text that `JSON.stringify` writes of it.
+ */
+export function requests(batch: Document): Request[]
+
 /** What a command prints of its documents. */
 export interface Output {
   /** Whether the text is the result; else it is the fault of a document. */
@@ -248,6 +279,12 @@ export class Run {
    * another, each once it is ready.
    */
   nextUnit(): string[] | null
+
+  /**
+   * Returns what is to be sent of a request. The batch is read once for all requests, when this is called for the first
+   * time: do not change the bytes of the document before. Throws for an unknown id as `start`.
+   */
+  request(id: string): Request
 
   /**
    * Returns what has become of a request, and whether it may start now. It takes constant time, and throws for an

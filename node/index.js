@@ -7,6 +7,7 @@ const { canon, check, match, output, plan, replay, run } = require('./commands.j
 const { Fault, Refused } = require('./faults.js')
 const { GroupFailed, Refusal } = require('./messages.js')
 const { perform } = require('./perform.js')
+const { requests } = require('./requests.js')
 const { Run } = require('./run.js')
 
 /** The version of the library, MAJOR.MINOR.PATCH. */
@@ -25,6 +26,7 @@ module.exports = {
   perform,
   plan,
   replay,
+  requests,
   run,
   version,
 }

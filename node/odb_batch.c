@@ -1,4 +1,5 @@
-/* The addon of odb_batch for Node, by Node-API: the commands as one function, and live runs (runs.c).
+/* The addon of odb_batch for Node, by Node-API: the commands as one function, what is to be sent (requests.c), and
+ * live runs (runs.c).
  *
  *   call(command, batch, second, mode, width, order, trace, form) -> [status, text]
  *
@@ -136,7 +137,7 @@ static void end_instance(napi_env env, void *instance, void *hint)
     release_instance(instance);
 }
 
-/* Makes the instance, with a seed that nobody can see, and exports `call`, `version` and the runs. */
+/* Makes the instance, with a seed that nobody can see, and exports `call`, `version`, `requests` and the runs. */
 NAPI_MODULE_INIT()
 {
     napi_value function, version;
@@ -151,7 +152,8 @@ NAPI_MODULE_INIT()
     if (napi_create_function(env, "call", NAPI_AUTO_LENGTH, call, NULL, &function) == napi_ok
         && napi_set_named_property(env, exports, "call", function) == napi_ok
         && napi_create_uint32(env, odb_version(), &version) == napi_ok
-        && napi_set_named_property(env, exports, "version", version) == napi_ok)
+        && napi_set_named_property(env, exports, "version", version) == napi_ok
+        && export_requests(env, exports) == napi_ok)
         export_runs(env, exports);
     return exports;
 }

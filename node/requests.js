@@ -1,39 +1,48 @@
 'use strict'
 
-// What is to be sent of each request of a batch.
+// What is to be sent of each request of a batch. index.d.ts says what the call takes and returns.
 
-const { randomBytes } = require('node:crypto')
+const addon = require('./odb_batch.node')
 const { bytesOf } = require('./documents.js')
-const { check } = require('./commands.js')
+const { settle } = require('./faults.js')
 
-const MARK = randomBytes(16).toString('hex')
-const NUMBERS = /"(?:[^"\\]|\\.)*"|-?\d[\d.eE+-]*/g
-const MARKED = new RegExp(`"${MARK}(-?\\d[\\d.eE+-]*)"`, 'g')
-const RESERVED = new Set(['batch', 'crossjoin', 'all', 'entity', 'root', 'id', 'metadata'])
+// How many numbers a request has: a start and a length for each of seven parts, and a position.
+const NUMBERS = 15
 
-/** The id that the first segment of a URL refers to, and the rest of the URL. */
-function referenceOf(url) {
-  const segment = /^[^/?#]*/.exec(url)[0]
-  const plain = segment.replace(/%([0-9a-f]{2})/gi, (_, digits) => String.fromCharCode(parseInt(digits, 16)))
-  const name = /^\$([\w.~-]+)$/.exec(plain)?.[1]
-  const isReference = name !== undefined && !RESERVED.has(name)
-  return isReference ? { reference: name, rest: url.slice(segment.length) } : { reference: null, rest: url }
+/** The bytes of a part, or none if there is no such part. */
+function partOf(bytes, [start, length]) {
+  return start < 0 ? undefined : bytes.subarray(start, start + length)
 }
 
-/** The requests of a batch, in its order. */
-function requests(batch) {
-  const bytes = bytesOf(batch)
-  check(bytes)
-  const text = Buffer.from(bytes).toString().replace(NUMBERS, (it) => (it[0] === '"' ? it : `"${MARK}${it}"`))
-  return JSON.parse(text).requests.map(({ id, method, url, headers, atomicityGroup, body }) => ({
+/** The request whose parts lie there; its reference is missing yet. */
+function requestOf(document, text, numbers) {
+  const [id, method, url, rest, headers, group] = Array.from({ length: 6 }, (_, at) =>
+    partOf(text, numbers.subarray(2 * at))?.toString(),
+  )
+  return {
     id,
-    method: method.toUpperCase(),
+    method,
     url,
-    ...referenceOf(url),
-    headers: Object.fromEntries(Object.entries(headers ?? {}).map(([name, value]) => [name.toLowerCase(), value])),
-    group: atomicityGroup ?? null,
-    body: body === undefined || body === null ? undefined : Buffer.from(JSON.stringify(body).replace(MARKED, '$1')),
-  }))
+    reference: null,
+    rest,
+    headers: JSON.parse(headers),
+    group: group ?? null,
+    body: partOf(document, numbers.subarray(12)),
+  }
+}
+
+function requests(batch) {
+  const given = bytesOf(batch)
+  const document = Buffer.from(given.buffer, given.byteOffset, given.length)
+  const [status, text, all] = addon.requests(document)
+  settle('requests', status, text)
+  const numbers = Array.from({ length: all.length / NUMBERS }, (_, at) => all.subarray(NUMBERS * at, NUMBERS * (at + 1)))
+  const found = numbers.map((it) => requestOf(document, text, it))
+  numbers.forEach((it, at) => {
+    const reference = it[NUMBERS - 1]
+    if (reference >= 0) found[at].reference = found[reference].id
+  })
+  return found
 }
 
 module.exports = { requests }

@@ -6,6 +6,7 @@ const addon = require('./odb_batch.node')
 const { OF_RUN, numbersOf, optionsOf, run } = require('./commands.js')
 const { arrayOf, bytesOf, eventsOf, headersOf, jsonOf } = require('./documents.js')
 const { DONE, Fault, REFUSED, Refused, errorOf, settle } = require('./faults.js')
+const { requests } = require('./requests.js')
 
 const OF_LIVE = [...OF_RUN, 'events']
 const MOST = 2 ** 32 - 1
@@ -56,6 +57,8 @@ class Run {
   #positions
   #listed
   #size
+  #batch
+  #requests
 
   constructor(batch, options = {}) {
     const { mode, width, events = [] } = optionsOf(options, OF_LIVE)
@@ -66,6 +69,8 @@ class Run {
     const [status, text, opened] = addon.open(given, happened, modeNumber, widthNumber)
     settle('open', status, text)
     this.#run = opened
+    // For who asks what is to be sent of the requests.
+    this.#batch = given
     const [listed, lines] = addon.ids(opened, given.length >> 3)
     settle('ids', listed, lines)
     // The ids of the requests by their positions, and the positions by the ids.
@@ -131,6 +136,11 @@ class Run {
     const [status, positions] = this.#listing('nextUnit')
     settle('nextUnit', status, '')
     return positions.length > 0 ? this.#idsOf(positions) : null
+  }
+
+  request(id) {
+    if (this.#open) this.#requests ??= requests(this.#batch)
+    return this.#requests[this.#position(id)]
   }
 
   state(id) {

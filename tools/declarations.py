@@ -29,6 +29,7 @@ TYPES = {
     "&[u8]": ["const uint8_t *{}", "size_t {}_size"],
     "&mut [u8]": ["uint8_t *{}", "size_t {}_size"],
     "&mut [u32]": ["uint32_t *{}", "size_t {}_size"],
+    "&mut [Request]": ["odb_request *{}", "size_t {}_size"],
     "Handle": ["odb_live_run {}"],
     "&mut Handle": ["odb_live_run *{}"],
     "&mut Slot": ["odb_live_run *{}"],
@@ -41,6 +42,11 @@ HANDLES = {
     "Handle": "crates/odb_ffi/src/handle.rt",
     "Slot": "crates/odb_ffi/src/slot.rt",
 }
+
+# The structs of the source that have the same fields for C.
+STRUCTS = {"Part": "odb_part", "Request": "odb_request"}
+STRUCTS_PATH = "crates/odb_ffi/src/request.rt"
+FIELDS = {"usize": "size_t", **STRUCTS}
 
 # A number of the header, and the constant or the definition of the source that has it.
 NUMBERS = {
@@ -107,6 +113,17 @@ def one(pattern, text, what):
     return found[0]
 
 
+def struct_differences(header):
+    """The structs that have other fields in the header than in the source, a line each."""
+    text = text_of(STRUCTS_PATH)
+    for name, typedef in STRUCTS.items():
+        wanted = one(rf"#\[repr\(C\)\](?:\s*#\[[^]]*\])*\s*pub struct {name} \{{([^}}]*)\}}", text, STRUCTS_PATH)
+        found = one(rf"typedef struct {typedef} \{{([^}}]*)\}} {typedef};", header, HEADER)
+        fields = [f"{FIELDS[kind]} {field}" for field, kind in re.findall(r"(?m)^\s*pub (\w+): (\w+),$", wanted)]
+        if re.findall(r"(?m)^\s*(\w+ \w+);", found) != fields:
+            yield f"{typedef}: the header and the source have different fields"
+
+
 def differences():
     """What differs, a line each."""
     wanted, found = exports(), declarations()
@@ -123,6 +140,7 @@ def differences():
         kinds = re.findall(r"(?m)^\s*(?:pub(?:\(crate\))? )?\w+: ([^{]*?),$", fields)
         if kinds != ["*mut u8", "Global"]:
             yield f"{name}: its fields are {kinds}, and not those of an odb_live_run"
+    yield from struct_differences(header)
     if one(r"typedef struct odb_live_run \{\s*([^}]*?)\s*\} odb_live_run;", header, HEADER) != "void *at;":
         yield "odb_live_run: it is another struct in the header"
 

@@ -22,6 +22,8 @@ F04 NoRequests batch
 >>> output("check", batch)
 Output(accepted=True, text=b'{"groups":0,"requests":2}\\n')
 
+:func:`requests` has what is to be sent of each request, for who performs the batch or hands it on.
+
 A :class:`Run` is a live run, for who performs the requests: it says which of them may start now, takes what
 each is answered, and has the response in the end.
 
@@ -52,6 +54,7 @@ from ._commands import (
 from ._documents import Document, Events, Report, Start
 from ._faults import Fault, OdbError, Refused
 from ._library import VERSION as __version__
+from ._requests import Request, requests
 from ._runs import RequestState, Run
 
 __all__ = [
@@ -70,6 +73,7 @@ __all__ = [
     "Refused",
     "Replay",
     "Report",
+    "Request",
     "RequestState",
     "Run",
     "Start",
@@ -80,5 +84,6 @@ __all__ = [
     "output",
     "plan",
     "replay",
+    "requests",
     "run",
 ]

@@ -10,6 +10,12 @@ VARIABLE = "ODB_BATCH_LIBRARY"
 
 DONE, REFUSED, WRONG_OPTION, OUT_OF_MEMORY, SMALL_BUFFER = 0, 1, 2, 4, 5
 
+# Where a part of a request starts that it does not have.
+NONE = 2 ** (8 * ctypes.sizeof(ctypes.c_size_t)) - 1
+
+# How many numbers an odb_request has: a start and a length for each of seven parts, and a position.
+_NUMBERS = 15
+
 # The version that this package is made for; the library may have another patch.
 MAJOR, MINOR = 0, 2
 
@@ -44,6 +50,7 @@ _PARAMETERS: Dict[str, List[Any]] = {
     "odb_match_with": [*_BYTES, *_BYTES, *_NUMBER * 2, *_SEEDED],
     "odb_run_as": [*_BYTES, *_BYTES, *_NUMBER * 3, *_SEEDED],
     "odb_replay_as": [*_BYTES, *_BYTES, *_NUMBER * 5, *_SEEDED],
+    "odb_requests": [*_BYTES, *_TEXT, ctypes.c_void_p, ctypes.c_size_t, _SIZE, ctypes.c_uint64],
     "odb_run_open": [*_BYTES, *_BYTES, *_NUMBER * 2, *_RUN, *_SEEDED],
     "odb_run_ready": [*_RUN, *_POSITIONS],
     "odb_run_running": [*_RUN, *_POSITIONS],
@@ -120,6 +127,21 @@ def call(name: str, documents: Tuple[bytes, ...], options: Tuple[Any, ...], room
         if status != SMALL_BUFFER:
             return status, ctypes.string_at(text, length.value)
         room = length.value
+
+
+def call_requests(batch: bytes, room: int, most: int) -> Tuple[int, bytes, List[Tuple[int, ...]]]:
+    """The status of a call for the requests of a batch, the text, and the numbers of each request. `room` and `most` are
+    guesses of how long the text is, and how many requests there are."""
+    length, count = ctypes.c_size_t(), ctypes.c_size_t()
+    while True:
+        text, numbers = ctypes.create_string_buffer(room), (ctypes.c_size_t * (_NUMBERS * max(most, 1)))()
+        status = _LIBRARY.odb_requests(
+            batch, len(batch), text, room, ctypes.byref(length), numbers, most, ctypes.byref(count), _SEED
+        )
+        if status != SMALL_BUFFER:
+            found = iter(numbers[: _NUMBERS * count.value])
+            return status, ctypes.string_at(text, length.value), list(zip(*[found] * _NUMBERS))
+        room, most = max(length.value, room), max(count.value, most)
 
 
 def call_run(name: str, handle: Handle, *arguments: Any) -> int:

@@ -4,12 +4,13 @@ import ctypes
 import threading
 import weakref
 from types import TracebackType
-from typing import Any, List, Literal, Mapping, NamedTuple, NoReturn, Optional, SupportsIndex, Tuple, Type
+from typing import Any, List, Literal, Mapping, NamedTuple, NoReturn, Optional, SupportsIndex, Tuple, Type, Union
 
 from . import _library
 from ._commands import MAX_WIDTH, Mode, answer, failure_of, policy
 from ._documents import Document, Events, body_of, bytes_of, events_of, json_of
 from ._faults import Fault, Refused
+from ._requests import Request, requests
 
 # Why a start or a report is refused, by the status that says so.
 _CAUSES = {
@@ -83,7 +84,7 @@ class Run:
         MemoryError: An allocation failed.
     """
 
-    __slots__ = ("_lock", "_handle", "_release", "_ids", "_at", "_listed", "_size", "__weakref__")
+    __slots__ = ("_lock", "_handle", "_release", "_ids", "_at", "_listed", "_size", "_batch", "__weakref__")
 
     def __init__(
         self, batch: Document, *, mode: Mode = "continue", width: int = MAX_WIDTH, events: Events = ()
@@ -91,6 +92,8 @@ class Run:
         options, given, happened = policy(mode, width), bytes_of(batch), events_of(events)
         # How many bytes the response is made of.
         self._size = len(given) + len(happened)
+        # The batch, or what is to be sent of its requests, once that was asked for.
+        self._batch: Union[bytes, Tuple[Request, ...]] = given
         self._lock = threading.Lock()
         self._handle = _library.Handle()
         answer("odb_run_open", given, happened, options=(*options, ctypes.byref(self._handle)))
@@ -187,6 +190,30 @@ class Run:
         status, positions = self._positions("odb_run_next_unit")
         _settle("odb_run_next_unit", status, "")
         return tuple(self._ids[position] for position in positions) or None
+
+    def request(self, id: str) -> Request:
+        """Returns what is to be sent of a request: its method, URL, headers and body.
+
+        The batch is read once for all requests, when this is called for the first time.
+
+        >>> from odb_batch import Run
+        >>> batch = {"requests": [{"id": "a", "method": "post", "url": "Orders", "body": {}},
+        ...                       {"id": "b", "method": "get", "url": "$a/Lines", "dependsOn": ["a"]}]}
+        >>> with Run(batch) as run:
+        ...     run.request("b").reference, run.request("b").rest
+        ('a', '/Lines')
+
+        Raises:
+            KeyError: No request of the batch has this id.
+            ValueError: The run is closed.
+            MemoryError: An allocation failed.
+        """
+        position = self._at[id]
+        with self._lock:
+            self._require_open()
+            if isinstance(self._batch, bytes):
+                self._batch = requests(self._batch)
+            return self._batch[position]
 
     def state(self, id: str) -> RequestState:
         """Returns what has become of a request, and whether it may start now. It takes constant time.

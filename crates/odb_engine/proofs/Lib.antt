@@ -15,6 +15,7 @@ mod MatchLemmas
 mod CanonLawLemmas
 mod MatchLawLemmas
 mod LiveLemmas
+mod RequestLemmas
 mod LabelLemmas
 mod LiveLawLemmas
 mod TaskLawLemmas

@@ -13,6 +13,7 @@ pub mod Contents
 pub mod Tasks
 pub mod Labels
 pub mod Live
+pub mod Requests
 pub mod lines
 -- For invariants and private clauses.
 pub mod LabelTables

@@ -13,7 +13,8 @@
 //! of a [`Command`], and `ending` writes that text, or the fault by which it halted.
 //! Another command is a relation in specs/, a variant of [`Task`], and a function in a file of its own that
 //! returns its text. [`answer_in_memory`] returns what a task writes of documents in memory, and [`answer_lines`]
-//! does an [`EachLine`] on each line of an input. `live` opens a run that its caller drives.
+//! does an [`EachLine`] on each line of an input. `live` opens a run that its caller drives, and
+//! [`requests_in`] returns what is to be sent of each request.
 #![tactic(auto)]
 
 mod answer;
@@ -32,6 +33,7 @@ mod live;
 mod match_responses;
 mod plan;
 mod replay;
+mod requests;
 mod response;
 mod run;
 mod setup;
@@ -52,6 +54,7 @@ pub use live::{LiveRun, open_run};
 pub use match_responses::match_batch;
 pub use plan::plan_batch;
 pub use replay::replay_batch;
+pub use requests::requests_in;
 pub use run::run_batch;
 pub use setup::Setup;
 pub use source::Source;

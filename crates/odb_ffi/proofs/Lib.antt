@@ -2,4 +2,5 @@ mod AddressLemmas
 mod AnswerLemmas
 mod OutcomeLemmas
 mod PositionLemmas
+mod RequestLemmas
 mod ReturnLemmas

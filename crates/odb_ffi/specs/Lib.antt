@@ -4,6 +4,7 @@ pub mod Options
 pub mod Positions
 pub mod Live
 pub mod Units
+pub mod Requests
 pub mod Handles
 -- What a slot owns.
 pub mod Owned

@@ -5,9 +5,9 @@
 //! engine states. A call of a command keeps nothing; a live run is a handle that its caller closes.
 //! `include/odb_batch.h` declares the exports for C.
 //!
-//! [`exports`], [`run_exports`] and [`unit_exports`] have the exports alone. What they do over slices and numbers is beside them:
+//! [`exports`], [`request_exports`], [`run_exports`] and [`unit_exports`] have the exports alone. What they do over slices and numbers is beside them:
 //! `options` and `status` name the numbers, `answer` does a task and copies a text to the caller's buffer, and
-//! `live` and `units` drive a run. What needs a pointer is in `address`, [`handle`], `lent` and [`slot`].
+//! `live` and `units` drive a run, and `requests` copies what is to be sent. [`request`] is that of one request. What needs a pointer is in `address`, [`handle`], `lent` and [`slot`].
 #![tactic(auto)]
 
 mod address;
@@ -20,6 +20,9 @@ mod live;
 pub mod options;
 mod outcome;
 mod positions;
+pub mod request;
+pub mod request_exports;
+mod requests;
 pub mod run_exports;
 pub mod slot;
 pub mod status;

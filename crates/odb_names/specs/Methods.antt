@@ -12,6 +12,14 @@ method_name Patch = codes "patch"
 method_name Post = codes "post"
 method_name Put = codes "put"
 
+-- as HTTP names it (RFC 9110, section 9.1)
+abbrev pub http_name : Method → List ℕ
+http_name Delete = codes "DELETE"
+http_name Get = codes "GET"
+http_name Patch = codes "PATCH"
+http_name Post = codes "POST"
+http_name Put = codes "PUT"
+
 -- the text is the method's name, in any ASCII case
 abbrev pub Names : List ℕ → Method → Type 0
 Names text method = map to_ascii_lowercase text ≡ method_name method

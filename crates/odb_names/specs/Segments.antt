@@ -33,6 +33,11 @@ pub record IsFirstSegment (url segment : List ℕ) : Type 0 where
   pub rest : List ℕ
   pub splits : SplitsRun is_in_segment url segment rest
 
+-- the part after the first segment
+pub record IsAfterFirstSegment (url rest : List ℕ) : Type 0 where
+  pub segment : List ℕ
+  pub splits : SplitsRun is_in_segment url segment rest
+
 -- the last segment is the part after the last `/` of the path, which ends before the first `?` or `#`
 pub record IsLastSegment (url segment : List ℕ) : Type 0 where
   pub before : List ℕ

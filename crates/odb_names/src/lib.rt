@@ -18,4 +18,4 @@ pub use base64url::is_base64url;
 pub use identifier::is_request_id;
 pub use method::Method;
 pub use segment::Front;
-pub use url::{front, is_nested_batch};
+pub use url::{after_first_segment, front, is_nested_batch};

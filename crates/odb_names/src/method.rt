@@ -2,7 +2,7 @@
 
 ghost use Rattle.std.specs.Prelude.{◌≡◌, ℕ, MatchOption, IfSome};
 ghost use Rattle.odb_names.specs.declared.method.Method.{Method};
-ghost use Rattle.odb_names.specs.Methods.{Names, method_name, takes_body};
+ghost use Rattle.odb_names.specs.Methods.{Names, http_name, method_name, takes_body};
 
 /// What a request asks for (OData JSON Format 4.01, section 19.1).
 #[derive(Clone, Copy, Debug, PartialEq, Eq, Hash)]
@@ -46,6 +46,19 @@ impl Method {
             Method::Patch => "patch",
             Method::Post => "post",
             Method::Put => "put",
+        }
+    }
+
+    /// Returns the method as a request of HTTP names it, in upper case (RFC 9110, section 9.1).
+    pub fn http_name(self) -> &'static str
+        ensures { result.now ≡ http_name self }
+    {
+        match self {
+            Method::Delete => "DELETE",
+            Method::Get => "GET",
+            Method::Patch => "PATCH",
+            Method::Post => "POST",
+            Method::Put => "PUT",
         }
     }
 

@@ -4,7 +4,7 @@ ghost use Rattle.std.specs.Prelude.{◌≡◌, ◌+◌, ◌<◌, ◌↔◌, ℕ,
 ghost use Rattle.percent_encoding.specs.Percent.{percent_decode};
 ghost use Rattle.odb_names.specs.Classes.{begins_with_sign};
 ghost use Rattle.odb_names.specs.Fronts.{FrontForm, HasFront, form, reference};
-ghost use Rattle.odb_names.specs.Segments.{HasNoEscape, HasNoSlash, IsFirstSegment, IsLastSegment, IsNestedBatch, slash};
+ghost use Rattle.odb_names.specs.Segments.{HasNoEscape, HasNoSlash, IsAfterFirstSegment, IsFirstSegment, IsLastSegment, IsNestedBatch, slash};
 
 use crate::run::{Class, split_run};
 use crate::segment::Front;
@@ -16,6 +16,17 @@ fn first_segment(url: &[u8]) -> &[u8]
     ensures { IsFirstSegment url.now result.now }
 {
     split_run(url, Class::Segment).0
+}
+
+/// Returns the bytes of a URL after its first segment: from its first `/`, `?` or `#` on, and none if it has none
+/// of these.
+///
+/// Of a URL that refers to a request ([`Front::Reference`]) they continue the URL of what that request has made
+/// (OData JSON Format 4.01, section 19.1): `/Lines?x=1` of `$a/Lines?x=1`.
+pub fn after_first_segment(url: &str) -> &[u8]
+    ensures { IsAfterFirstSegment url.now result.now }
+{
+    split_run(url.as_bytes(), Class::Segment).1
 }
 
 /// Returns the position of the last `/` of a path.

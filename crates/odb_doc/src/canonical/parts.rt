@@ -1,10 +1,11 @@
 //! The canonical text of one request.
 
 ghost use Rattle.std.specs.Prelude.{◌≡◌, ◌<◌, ◌+◌, ◌++◌, ◌∷◌, false, codes, length, map, string_bytes, OnOk};
-ghost use Rattle.serde_json.specs.Data.{string};
+ghost use Rattle.serde_json.specs.Data.{object, string};
 ghost use Rattle.serde_json.specs.Written.{comma_if, compact_text};
 ghost use Rattle.odb_doc.specs.batch.Batches.{records};
-ghost use Rattle.odb_doc.specs.canonical.Canonical.{HasWholeBodies, headers_value, names_value};
+ghost use Rattle.odb_doc.specs.canonical.Canonical.{HasWholeBodies, header_members, headers_value, names_value};
+ghost use Rattle.odb_doc.specs.batch.Records.{record_of};
 ghost use Rattle.odb_doc.specs.Headers.{lent_header};
 ghost use Rattle.odb_doc.specs.canonical.CanonicalParts as canonical_parts;
 ghost use Rattle.odb_doc.specs.Texts.{member_part};
@@ -71,6 +72,22 @@ fn push_members(alloc: Global, text: &mut String, headers: &[Header<'_>]) -> Res
         push_lent(alloc, text, k > 0, headers[k])?;
     }
     text.push_str("}")
+}
+
+impl Request<'_> {
+    /// Appends the headers as a JSON object, which is empty if there are none: names in lower case, in byte
+    /// order.
+    ///
+    /// # Errors
+    ///
+    /// If an allocation fails; the text may have received a part of the object.
+    pub fn push_headers(&self, alloc: Global, text: &mut String) -> Result<(), AllocError>
+        ensures { OnOk result (string_bytes text.new ≡ string_bytes text.old
+            ++ compact_text (object (header_members (record_of self.now).headers))) }
+    {
+        text.push_str("{")?;
+        push_members(alloc, text, self.headers.as_slice())
+    }
 }
 
 /// Appends the member `headers`, if there are headers.

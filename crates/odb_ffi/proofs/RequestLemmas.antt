@@ -1,0 +1,27 @@
+-- What is to be sent, as it is written to the buffer of the caller.
+use Rattle.std.proofs.Common.{◌≡◌, ◌∙◌, ◌+◌, ◌<◌, ◌≤◌, ℕ, List, [], ◌∷◌, ◌++◌, length, map, take, drop, get_or, sym, ap, arith, append_assoc}
+use Rattle.std.proofs.Math.ListN.{set}
+use Rattle.std.proofs.Math.Seq.{set-append_seam}
+use Rattle.std.proofs.lemmas.List.{drop_more, length-map, length-take-le, map-append, take_more}
+use Rattle.odb_send.specs.declared.parts.RequestParts.{RequestParts}
+use Rattle.odb_ffi.specs.declared.request.Request.{Request}
+use Rattle.odb_ffi.specs.Requests.{request_of}
+
+-- the requests up to one are written, and the rest of the buffer is as it was
+abbrev pub written : List RequestParts → List Request → ℕ → List Request
+written parts old i = map request_of (take i parts) ++ drop i old
+
+-- one request more
+pub written-next : (parts : List RequestParts) (old : List Request) (i : ℕ) (p : RequestParts) → i < length parts → length parts ≤ length old → get_or parts i p ≡ p → set (written parts old i) i (request_of p) ≡ written parts old (i + 1)
+written-next parts old i p within room is =
+    let before = map request_of (take i parts) in
+    let x = request_of p in
+    let rest = drop (i + 1) old in
+    let count : length before ≡ i = length-map (take i parts) request_of ∙ length-take-le i parts (omega (arith, within)) in
+    let next : map request_of (take (i + 1) parts) ≡ before ++ x ∷ [] =
+    ap (λ (ps : List RequestParts). map request_of ps) (take_more parts i p within ∙ ap (λ (q : RequestParts). take i parts ++ q ∷ []) is) ∙ map-append request_of (take i parts) (p ∷ []) in
+    ap (λ (rs : List Request). set (before ++ rs) i x) (drop_more old i x (omega (arith, within, room)))
+    ∙ ap (λ n. set (before ++ get_or old i x ∷ rest) n x) (sym count)
+    ∙ set-append_seam before (get_or old i x) rest x
+    ∙ sym (append_assoc before (x ∷ []) rest)
+    ∙ ap (λ (rs : List Request). rs ++ rest) (sym next)
