@@ -10,7 +10,7 @@ const { Refusal, perform } = require('..')
 const { SILENT, after, batch, responsesOf, statusesOf } = require('./performing.js')
 
 const ONE = batch(['a'])
-const NUMBERS = '{"p":9.990,"n":12345678901234567890123.25,"i":9007199254740993,"e":[-1E3],"k\\"2":"1.50"}'
+const NUMBERS = '{"p": 9.990,"n":12345678901234567890123.25,"i":9007199254740993,"e":[-1E3 ],"k\\"2":"1.50","p":1}'
 
 function errorOf(name, code) {
   return Object.assign(new Error(code ?? name), { name, code })
@@ -62,7 +62,7 @@ test('answers 504 when the time is over, and says so to who sends', async () => 
   assert.equal(reason, 'TimeoutError')
 })
 
-test('passes on numbers as they are', async () => {
+test('passes on bodies of JSON byte for byte', async () => {
   let sent
   const document = `{"requests":[{"id":"a","method":"post","url":"A","body":${NUMBERS}}]}`
   const send = ({ headers, body }) => {
