@@ -100,7 +100,7 @@ async function answerOf(app, req, { path, root, allowed, maxSize, performed }) {
   const document = await bodyOf(req, maxSize)
   const room = new Room(maxSize)
   const send = async (request) => room.fitting(request, await answered(app, req.socket, outer.inner(request), room.left))
-  const body = await perform(document, send, { ...performed, mode, base, root: outer.rootOf(root) })
+  const body = await perform(document, send, { ...performed, mode, base, roots: outer.rootsOf(root) })
   const applied = mode === 'continue' ? { 'preference-applied': 'continue-on-error' } : {}
   return { status: 200, headers: { 'content-type': 'application/json', ...applied }, body }
 }

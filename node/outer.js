@@ -20,12 +20,26 @@ const ALLOWED = [
 const IGNORED = new Set([
   'accept-encoding', 'cache-control', 'connection', 'content-length', 'date', 'host', 'pragma', 'user-agent',
 ])
+const FORWARDED = /host="?([^";,\s]+)/gi
+const HOST = /^([a-z0-9._~-]+|\[[0-9a-f:.]+\])(:[0-9]{1,5})?$/i
 const PREFERENCES = /(?:[^,"]|"[^"]*"?)+/g
 const OF_BATCH = new Set(['callback', 'continue-on-error', 'respond-async', 'wait'])
 
 /** The path of a URL without its last segment. */
 function folderOf(path) {
   return path.slice(0, path.lastIndexOf('/') + 1)
+}
+
+/** A URL with a decoded path, or a refusal if the host is none. */
+function urlOf(scheme, host, path) {
+  if (!HOST.test(host)) throw new Refusal(400, 'BadHost', 'The host is not a name with a port', { target: 'host' })
+  return `${scheme}://${host}${encodeURI(path)}`
+}
+
+/** The hosts that a client has asked, by what proxies say. */
+function forwardedHosts({ 'x-forwarded-host': names = '', forwarded = '' }) {
+  const named = [...names.split(','), ...Array.from(forwarded.matchAll(FORWARDED), ([, host]) => host)]
+  return named.map((host) => host.trim()).filter((host) => HOST.test(host))
 }
 
 /** The preferences of a request (RFC 7240), each with its name, its value and its text. */
@@ -79,21 +93,21 @@ class Outer {
 
   /** The URL that those of the requests are relative to. */
   get base() {
-    return this.#urlOf(folderOf(this.path))
+    const { socket, protocol = socket.encrypted ? 'https' : 'http' } = this.req
+    return urlOf(protocol, this.#host, folderOf(this.path))
   }
 
-  /** What the URL of each request begins with, by a decoded path. */
-  rootOf(path) {
-    return this.#urlOf(path)
+  get #host() {
+    return this.req.headers.host ?? 'localhost'
   }
 
-  #urlOf(path) {
-    const { socket, headers, protocol = socket.encrypted ? 'https' : 'http' } = this.req
-    try {
-      return new URL(encodeURI(path), `${protocol}://${headers.host ?? 'localhost'}`).href
-    } catch {
-      throw new Refusal(400, 'BadHost', 'The header Host cannot be read', { target: 'host' })
-    }
+  /**
+   * What the URL of each request begins with, by a path. A client and the app may write it with the scheme and the host that a
+   * proxy in front has; a request is answered here, whatever they are.
+   */
+  rootsOf(path) {
+    const hosts = [...new Set([this.#host, ...forwardedHosts(this.req.headers)])]
+    return hosts.flatMap((host) => ['http', 'https'].map((scheme) => urlOf(scheme, host, path)))
   }
 
   /** A request of the batch as the service has it, with what it inherits; or a refusal if it may not be sent. */

@@ -78,10 +78,10 @@ export interface PerformOptions extends PerformanceOptions {
   /** The absolute URL, with a slash at its end, that URLs are relative to; without it they stay as they are. */
   base?: string
   /**
-   * What the URL of each request begins with, an absolute URL with a slash at its end: others are answered 404. It is the
-   * base if that is given. With `''` a request may lead anywhere.
+   * What the URLs of requests begin with, absolute URLs with a slash at their end: others are answered 404. The base alone if
+   * that is given. If there are none, a request may lead anywhere.
    */
-  root?: string
+  roots?: readonly string[]
 }
 
 /**

@@ -11,7 +11,7 @@ const { requests: requestsOf } = require('./requests.js')
 const { Service } = require('./urls.js')
 const { Work } = require('./work.js')
 
-const OF_PERFORM = ['mode', 'width', 'transaction', 'base', 'root', 'timeout', 'limit', 'stop', 'log']
+const OF_PERFORM = ['mode', 'width', 'transaction', 'base', 'roots', 'timeout', 'limit', 'stop', 'log']
 const MOST_REQUESTS = 10000
 
 function logged(error, what) {
@@ -128,7 +128,7 @@ function requirePerformable(requests, { limit, transaction }) {
 
 async function perform(batch, send, options = {}) {
   const settings = settingsOf(options)
-  const service = new Service(settings.base, settings.root)
+  const service = new Service(settings.base, settings.roots)
   const document = bytesOf(batch)
   const requests = requestsOf(document)
   requirePerformable(requests, settings)

@@ -61,35 +61,36 @@ function folderOf(name, text) {
 /** Where the requests of a batch may lead. */
 class Service {
   #base
-  #root
-  #folder
+  #roots
 
-  /** URLs are relative to `base` and begin with `root`, which end with a slash. Without both they stay as they are. */
-  constructor(base = '', root = base) {
+  /**
+   * URLs are relative to `base`, and each begins with one of `roots`; all of these end with a slash. Without a base URLs stay as
+   * they are, and without roots they may be any.
+   */
+  constructor(base = '', roots = base === '' ? [] : [base]) {
     this.#base = base === '' ? undefined : folderOf('base', base)
-    this.#root = root === '' ? undefined : folderOf('root', root)
-    this.#folder = unquoted(this.#root?.pathname ?? '/')
+    this.#roots = roots.map((root) => folderOf('roots', root))
   }
 
   /** The URL to which a request is sent, or a refusal if it leads out of the service. */
   target(url) {
-    if (this.#base === undefined && this.#root === undefined) return url
+    if (this.#base === undefined && this.#roots.length === 0) return url
     const found = joined(url, this.#base)
     found.hash = ''
-    if (this.#root !== undefined && !this.#has(found)) {
-      throw new Refusal(404, 'NotFound', `The URL leads out of ${this.#root.href}`)
+    if (this.#roots.length > 0 && !this.#roots.some((root) => isBelow(found, root))) {
+      throw new Refusal(404, 'NotFound', 'The URL leads out of the service')
     }
     return found.href
   }
+}
 
-  /** Whether a URL is below the root, however its path is encoded. */
-  #has({ protocol, host, pathname }) {
-    const path = unquoted(pathname)
-    // Servers take \ for /, and drop what follows a ; in a segment.
-    const climbs = path.split(/[\\/]/).some((segment) => segment.split(';', 1)[0] === '..')
-    const isSame = protocol === this.#root.protocol && host === this.#root.host
-    return isSame && path.startsWith(this.#folder) && !climbs && !NOT_PRINTABLE.test(path)
-  }
+/** Whether a URL is below another one, however its path is encoded. */
+function isBelow({ protocol, host, pathname }, root) {
+  const path = unquoted(pathname)
+  // Servers take \ for /, and drop what follows a ; in a segment.
+  const climbs = path.split(/[\\/]/).some((segment) => segment.split(';', 1)[0] === '..')
+  const isSame = protocol === root.protocol && host === root.host
+  return isSame && path.startsWith(unquoted(root.pathname)) && !climbs && !NOT_PRINTABLE.test(path)
 }
 
 module.exports = { Service, entityUrl, followed, unquoted }

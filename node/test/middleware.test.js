@@ -215,6 +215,14 @@ everywhere('keeps requests below the root', { root: '/odata/' }, async ({ origin
   assert.deepEqual(found, [...inside.map(() => 204), ...outside.map(() => 404)])
 })
 
+everywhere('takes URLs with the scheme and the host of a proxy for its own', {}, async ({ origin, responses }) => {
+  const origins = ['https://public', 'http://a.b:81', origin.replace('http', 'https')]
+  const document = batch(...origins.map((it, k) => [`r${k}`, 'get', `${it}/odata/status?is=204`]))
+  const headers = { ...CONTINUES, 'x-forwarded-host': 'public, b@d', forwarded: 'for=x;host="a.b:81"' }
+  assert.deepEqual(statusesOf(await responses(document, headers)), { r0: 204, r1: 204, r2: 204 })
+  assert.deepEqual(statusesOf(await responses(document)), { r0: 404, r1: 404, r2: 204 })
+})
+
 everywhere('reaches what a wider root has', { root: '/' }, async ({ responses }) => {
   assert.deepEqual(statusesOf(await responses(batch(['a', 'get', '/status?is=204']))), { a: 204 })
 })

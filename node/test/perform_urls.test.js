@@ -117,11 +117,12 @@ test('keeps a Location from leading out of the service', async () => {
   assert.deepEqual(await statusesOf(document, send, { base: BASE }), { a: 201, b: 404 })
 })
 
-test('goes further than the base where the root allows it', async () => {
+test('goes further than the base where the roots allow it', async () => {
   const document = batch(['a', 'get', '/other/A'], ['b', 'get', 'http://x/B'])
   const send = () => ({ status: 200 })
-  assert.deepEqual(await statusesOf(document, send, { base: BASE, root: 'http://h/' }), { a: 200, b: 404 })
-  assert.deepEqual(await statusesOf(document, send, { base: BASE, root: '' }), { a: 200, b: 200 })
+  assert.deepEqual(await statusesOf(document, send, { base: BASE, roots: ['http://h/'] }), { a: 200, b: 404 })
+  assert.deepEqual(await statusesOf(document, send, { base: BASE, roots: [BASE, 'http://x/'] }), { a: 404, b: 200 })
+  assert.deepEqual(await statusesOf(document, send, { base: BASE, roots: [] }), { a: 200, b: 200 })
 })
 
 test('answers 400 to a URL that cannot be read', async () => {

@@ -16,7 +16,7 @@ const transaction: Transaction = async (group, body) => {
     if (!(error instanceof GroupFailed) || error.group !== group) throw error
   })
 }
-const options: PerformOptions = { mode: 'stop', width: 2, transaction, base: 'http://h/', root: '', timeout: 5, limit: 7, log: () => {} }
+const options: PerformOptions = { mode: 'stop', width: 2, transaction, base: 'http://h/', roots: [], timeout: 5, limit: 7, log: () => {} }
 export const responses: Promise<Bytes>[] = [byFetch, atOnce, refusing].map((send) => perform('{"requests":[]}', send, options))
 
 const settings: BatchOptions = { path: '/$batch', root: '/', allowed: ['X-Tenant'], maxSize: 1, limit: 1, width: 8, timeout: 5, transaction }
