@@ -1,8 +1,8 @@
 // Calls for tsc --strict, which is to accept them, and to refuse those with an expected error.
 
 import {
-  Bytes, Counts, Document, Fault, Output, PlannedRequest, Refused, Replay, Run, RunEvent,
-  canon, check, match, output, plan, replay, run, version,
+  Bytes, Counts, Document, Fault, Output, PlannedRequest, Refused, Replay, Request, Run, RunEvent,
+  canon, check, match, output, plan, replay, requests, run, version,
 } from '../index'
 
 interface Batch { requests: { id: string; method: string; url: string }[] }
@@ -14,11 +14,13 @@ const counts: Counts = check(documents[0])
 const planned: PlannedRequest[] = plan(batch)
 const statuses: Map<string, number> = match(batch, run(batch, events, { mode: 'stop', width: 2 }))
 const stopped: Map<string, number> = match(batch, '', { mode: 'stop' })
+const sent: Request[] = [...requests(batch), new Run(batch).request('a')]
+const lengths: number[] = sent.map(({ body, rest, reference }) => (body?.length ?? 0) + rest.length + (reference ?? '').length)
 const replayed: Replay = replay(batch, '', { order: 'wide', mode: 'continue', trace: true })
 const printed: Output = output('run', batch, events, { form: 'lines' })
 const text: string = canon(batch).toString() + version
 const bytes: Uint8Array = replayed.response
-const length: number = printed.text.length + bytes.length + counts.groups + planned.length + statuses.size + stopped.size + text.length
+const length: number = printed.text.length + bytes.length + counts.groups + planned.length + statuses.size + stopped.size + text.length + lengths.length
 
 // @ts-expect-error
 run(batch, events, { mode: 'stopp' })

@@ -57,6 +57,13 @@ static int canon(void)
     return is_done(odb_canon(bytes(batch), strlen(batch), text, sizeof text, &length, 7));
 }
 
+static int requests(void)
+{
+    static odb_request found[10000];
+    size_t count;
+    return is_done(odb_requests(bytes(batch), strlen(batch), text, sizeof text, &length, found, 10000, &count, 7));
+}
+
 static int check_in_json(void)
 {
     return is_done(odb_check_as(bytes(batch), strlen(batch), ODB_JSON, text, sizeof text, &length, 7));
@@ -255,6 +262,7 @@ static void measure_deep(void)
     measure("a plan of a deep body", plan);
     measure("a plan of a deep body in JSON", plan_in_json);
     measure("a canonical text of a deep body", canon);
+    measure("what is to be sent of a deep body", requests);
     measure("a canonical text of a deep body in JSON", canon_in_json);
     make(second, "{\"responses\":[{\"id\":\"a\",\"status\":200,\"body\":", DEEPEST, "}]}");
     measure("a match of a deep body", match);
@@ -284,6 +292,7 @@ static void measure_chain(void)
     measure("a plan of a chain in JSON", plan_in_json);
     measure("a canonical text of a chain in JSON", canon_in_json);
     measure("a canonical text of a chain", canon);
+    measure("what is to be sent of a chain", requests);
     measure("a replay of a chain", replay);
     measure("a replay of a chain in JSON", replay_in_json);
     make_chain("responses", "");

@@ -36,10 +36,13 @@ def skip_before(tool, word, pattern, *wanted):
         pytest.skip(f"{tool} {'.'.join(map(str, wanted))} is not installed")
 
 
-@pytest.mark.parametrize("is_live", [False, True], ids=PROGRAMS)
-def test_c(is_live, library, environment, tmp_path):
-    lay_out(tmp_path, f"{PAGES}/live.c", page_c=block("c"), run_inc=block("c", 1))
-    source, wanted = ("live.c", '{"responses":[{"body":{},"id":"a","status":200}]}\n') if is_live else ("page.c", ONE)
+IN_C = {"page.c": ONE, "live.c": '{"responses":[{"body":{},"id":"a","status":200}]}\n', "requests.c": "9.990"}
+
+
+@pytest.mark.parametrize("source, wanted", IN_C.items())
+def test_c(source, wanted, library, environment, tmp_path):
+    lay_out(tmp_path, f"{PAGES}/live.c", f"{PAGES}/requests.c")
+    lay_out(tmp_path, page_c=block("c"), run_inc=block("c", 1), requests_inc=block("c", 2))
     flags = ["-std=c99", *STRICT, f"-I{ROOT}/include", f"-L{library}"]
     run("cc", *flags, "-o", "page", source, "-lodb_batch", cwd=tmp_path)
     run("./page", wanted=wanted, env=environment, cwd=tmp_path)

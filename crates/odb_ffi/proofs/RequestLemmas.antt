@@ -12,14 +12,15 @@ abbrev pub written : List RequestParts → List Request → ℕ → List Request
 written parts old i = map request_of (take i parts) ++ drop i old
 
 -- one request more
-pub written-next : (parts : List RequestParts) (old : List Request) (i : ℕ) (p : RequestParts) → i < length parts → length parts ≤ length old → get_or parts i p ≡ p → set (written parts old i) i (request_of p) ≡ written parts old (i + 1)
-written-next parts old i p within room is =
+pub written-next : (parts : List RequestParts) (old : List Request) (i : ℕ) (d : RequestParts) → i < length parts → length parts ≤ length old → set (written parts old i) i (request_of (get_or parts i d)) ≡ written parts old (i + 1)
+written-next parts old i d within room =
     let before = map request_of (take i parts) in
+    let p = get_or parts i d in
     let x = request_of p in
     let rest = drop (i + 1) old in
     let count : length before ≡ i = length-map (take i parts) request_of ∙ length-take-le i parts (omega (arith, within)) in
     let next : map request_of (take (i + 1) parts) ≡ before ++ x ∷ [] =
-    ap (λ (ps : List RequestParts). map request_of ps) (take_more parts i p within ∙ ap (λ (q : RequestParts). take i parts ++ q ∷ []) is) ∙ map-append request_of (take i parts) (p ∷ []) in
+    ap (λ (ps : List RequestParts). map request_of ps) (take_more parts i d within) ∙ map-append request_of (take i parts) (p ∷ []) in
     ap (λ (rs : List Request). set (before ++ rs) i x) (drop_more old i x (omega (arith, within, room)))
     ∙ ap (λ n. set (before ++ get_or old i x ∷ rest) n x) (sym count)
     ∙ set-append_seam before (get_or old i x) rest x

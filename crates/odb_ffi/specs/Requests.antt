@@ -45,8 +45,8 @@ pub record BeginsWith {X : Type 0} (xs old new : List X) : Type 0 where
 -- what was found fits into both buffers
 pub record IsGiven (found : Requests) (status : ℕ) (text new_text : List ℕ) (requests new_requests : List Request) : Type 0 where
   pub is : status ≡ 0
-  pub text : BeginsWith (string_bytes found.text) text new_text
-  pub requests : BeginsWith (map request_of found.parts.items) requests new_requests
+  pub has_text : BeginsWith (string_bytes found.text) text new_text
+  pub has_requests : BeginsWith (map request_of found.parts.items) requests new_requests
 
 -- what was found does not fit into one of the buffers, and both are as they were
 pub record IsTooLarge (found : Requests) (status : ℕ) (text new_text : List ℕ) (requests new_requests : List Request) : Type 0 where
@@ -57,8 +57,8 @@ pub record IsTooLarge (found : Requests) (status : ℕ) (text new_text : List �
 
 -- what a call returns that has found this
 pub record Gives (found : Requests) (status text_length count : ℕ) (text new_text : List ℕ) (requests new_requests : List Request) : Type 0 where
-  pub text_length : text_length ≡ length (string_bytes found.text)
-  pub count : count ≡ length found.parts.items
+  pub sets_length : text_length ≡ length (string_bytes found.text)
+  pub sets_count : count ≡ length found.parts.items
   pub so : IsGiven found status text new_text requests new_requests ⊎ IsTooLarge found status text new_text requests new_requests
 
 -- What a call returns that gives what is to be sent of the batch in these bytes. Of a batch that is refused the text is the

@@ -1,5 +1,5 @@
 -- Where pieces of a growing text lie.
-use Rattle.std.proofs.Common.{◌≡◌, ◌∙◌, ◌+◌, ◌-◌, ◌<◌, ◌≤◌, ℕ, List, [], ◌∷◌, ◌++◌, length, map, take, Option, Some, None, unwrap_or, inl, inr, refl, sym, ap, subst, arith, append_assoc, get_or, slice_get}
+use Rattle.std.proofs.Common.{◌≡◌, ◌∙◌, ◌+◌, ◌-◌, ◌<◌, ◌≤◌, ℕ, List, [], ◌∷◌, ◌++◌, length, take, Option, Some, None, unwrap_or, inl, inr, refl, sym, ap, subst, arith, append_assoc, get_or, slice_get}
 use Rattle.std.proofs.lemmas.List.{append-nil, length-append, map-append, take_more}
 use Rattle.std.proofs.lemmas.Option.{get_or_from_slice_get, slice_get_cases, slice_get_within}
 use Rattle.std.proofs.lemmas.Slice.Zip.{AllZip-long}
@@ -11,7 +11,7 @@ use Rattle.odb_doc.specs.batch.Records.{Record, ReadsAs}
 use Rattle.odb_spans.specs.Spans.{HasBodyAt}
 use Rattle.odb_spans.specs.declared.span.Span.{Span}
 use Rattle.odb_send.specs.declared.parts.RequestParts.{RequestParts}
-use Rattle.odb_send.specs.Parts.{HasPart, HasPartIf, HasParts, HasRest, IsBatchIn, IsRest, bodies_of}
+use Rattle.odb_send.specs.Parts.{HasPart, HasPartIf, HasParts, HasRest, IsRest, bodies_of}
 use Rattle.odb_send.specs.Pieces.{Extends}
 
 -- ---- a text that grows

@@ -37,11 +37,7 @@ pub struct RequestParts {
 }
 
 /// Appends the headers of a request, and returns where they lie.
-fn push_headers(
-    alloc: Global,
-    text: &mut String,
-    request: &Request<'_>,
-) -> Result<Span, AllocError>
+fn push_headers(alloc: Global, text: &mut String, request: &Request<'_>) -> Result<Span, AllocError>
     ensures text { OnOk result (Extends (string_bytes text.old) (string_bytes text.new)) }
     ensures part { IfOk result (HasPart (string_bytes text.new)
         (headers_text (record_of request.now))) }

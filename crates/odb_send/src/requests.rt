@@ -48,11 +48,7 @@ fn with_bodies(
 /// # Errors
 ///
 /// If an allocation fails.
-pub fn requests_of(
-    alloc: Global,
-    document: &[u8],
-    plan: &Plan<'_>,
-) -> Result<Requests, AllocError>
+pub fn requests_of(alloc: Global, document: &[u8], plan: &Plan<'_>) -> Result<Requests, AllocError>
     requires { (d : Data) × IsBatchIn document.now d (plan_records plan.now) }
     ensures { IfOk result (λ found. (d : Data) → IsBatchIn document.now d (plan_records plan.now)
         → AreRequestsOf document.now d (plan_records plan.now) found) }

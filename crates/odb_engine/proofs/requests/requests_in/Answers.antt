@@ -1,5 +1,5 @@
 -- What is to be sent of the batch in a document.
-use Rattle.std.proofs.Common.{IfErr, inl, inr}
+use Rattle.std.proofs.Common.{IfErr, inl}
 use Rattle.odb_doc.specs.declared.fault.Place.TheVariants.{Batch}
 use Rattle.odb_doc.specs.batch.Batches.{records}
 use Rattle.odb_check.specs.Plans.{plan_records}

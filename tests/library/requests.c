@@ -1,0 +1,148 @@
+/* Tries the call for what is to be sent of each request of a batch.
+ *
+ * The last line that it prints is `N tries, M wrong`; a wrong one is shown before it. Buffers are blocks of just
+ * their size, so that valgrind and the sanitizers see what goes beyond. */
+
+#include "odb_batch.h"
+
+#include "allocations.h"
+#include "tries.h"
+
+#include <stdio.h>
+#include <stdlib.h>
+#include <string.h>
+
+#define FILLING 0xa5
+#define MOST 3        /* requests of the batch */
+#define ROOM 256      /* more than the text of the batch */
+
+#define BODY "{\"price\": 9.990, \"number\": 12345678901234567890123}"
+#define BATCH "{\"requests\":[" \
+    "{\"id\":\"a\",\"method\":\"Post\",\"url\":\"Orders\",\"atomicityGroup\":\"g\",\"headers\":{\"X-B\":\"2\",\"A\":\"1\"},\"body\": " BODY " }," \
+    "{\"id\":\"b\",\"method\":\"get\",\"url\":\"$a/Lines?x=1\",\"dependsOn\":[\"g\"],\"body\":null}," \
+    "{\"body\":1,\"id\":\"c\",\"method\":\"PUT\",\"url\":\"\\u0041\",\"body\":[ 2.0 ]}]}"
+#define REFUSED "{\"requests\":[{\"id\":\"a\",\"method\":\"get\",\"url\":\"$b\"}]}"
+#define LINE "fault F44 UnknownReference /requests/0\n"
+
+/* What a request is to be. */
+struct wanted {
+    const char *id, *method, *url, *rest, *headers, *group, *body;
+    size_t reference;
+};
+
+static const struct wanted wanted[MOST] = {
+    {"a", "POST", "Orders", "Orders", "{\"a\":\"1\",\"x-b\":\"2\"}", "g", BODY, ODB_NONE},
+    {"b", "GET", "$a/Lines?x=1", "/Lines?x=1", "{}", NULL, NULL, 0},
+    {"c", "PUT", "A", "A", "{}", NULL, "[ 2.0 ]", ODB_NONE},
+};
+
+/* Whether the part of a text is as wanted. */
+static int part_is(const char *text, odb_part part, const char *wanted)
+{
+    if (wanted == NULL)
+        return part.start == ODB_NONE && part.length == 0;
+    return part.length == strlen(wanted) && memcmp(text + part.start, wanted, part.length) == 0;
+}
+
+static int request_is(const char *text, const odb_request *found, const struct wanted *it)
+{
+    return part_is(text, found->id, it->id) && part_is(text, found->method, it->method)
+        && part_is(text, found->url, it->url) && part_is(text, found->rest, it->rest)
+        && part_is(text, found->headers, it->headers) && part_is(text, found->group, it->group)
+        && part_is(BATCH, found->body, it->body) && found->reference == it->reference;
+}
+
+/* The status of a call. */
+static uint32_t ask(const char *batch, char *text, size_t room, size_t *length, odb_request *requests, size_t most,
+                    size_t *count)
+{
+    return odb_requests((const uint8_t *)batch, strlen(batch), (uint8_t *)text, room, length, requests, most, count, 7);
+}
+
+/* Whether all bytes are as they were before. */
+static int is_unchanged(const void *at, size_t size)
+{
+    const unsigned char *bytes = at;
+    for (size_t i = 0; i < size; i++)
+        if (bytes[i] != FILLING)
+            return 0;
+    return 1;
+}
+
+static void *filled(size_t size)
+{
+    void *block = malloc(size > 0 ? size : 1);
+    if (block == NULL)
+        exit(70);
+    memset(block, FILLING, size);
+    return block;
+}
+
+/* Asks with buffers of each size, of which only the last ones are large enough. */
+static void try_sizes(void)
+{
+    size_t whole = 77, number = 77;
+    count("the sizes", 0, ask(BATCH, NULL, 0, &whole, NULL, 0, &number) == ODB_SMALL_BUFFER && number == MOST && whole < ROOM);
+    for (size_t room = 0; room <= whole + 1; room++) {
+        for (size_t most = 0; most <= MOST + 1; most++) {
+            char *text = filled(room);
+            odb_request *requests = filled(most * sizeof *requests);
+            size_t length = 77, found = 77;
+            uint32_t status = ask(BATCH, text, room, &length, requests, most, &found);
+            int fits = room >= whole && most >= MOST;
+            int right = length == whole && found == MOST && status == (fits ? ODB_DONE : ODB_SMALL_BUFFER);
+            for (size_t at = 0; right && fits && at < MOST; at++)
+                right = request_is(text, &requests[at], &wanted[at]);
+            right = right && is_unchanged(text + (fits ? whole : 0), fits ? room - whole : room);
+            right = right && is_unchanged(requests + (fits ? MOST : 0), (fits ? most - MOST : most) * sizeof *requests);
+            count("a size", (long)(room * 10 + most), right);
+            free(requests);
+            free(text);
+        }
+    }
+}
+
+static void try_refused(void)
+{
+    char text[ROOM];
+    odb_request *requests = filled(sizeof *requests);
+    size_t length = 77, found = 77;
+    uint32_t status = ask(REFUSED, text, ROOM, &length, requests, 1, &found);
+    count("a refused batch", 0, status == ODB_REFUSED && found == 0 && length == strlen(LINE) && memcmp(text, LINE, length) == 0);
+    status = ask(REFUSED, text, strlen(LINE) - 1, &length, requests, 1, &found);
+    count("its long line", 0, status == ODB_SMALL_BUFFER && found == 0 && length == strlen(LINE));
+    count("its requests", 0, is_unchanged(requests, sizeof *requests));
+    free(requests);
+}
+
+static void try_none(void)
+{
+    size_t length = 77, found = 77;
+    count("no requests", 0, ask("{\"requests\":[]}", NULL, 0, &length, NULL, 0, &found) == ODB_DONE && length == 0 && found == 0);
+}
+
+/* Has each allocation fail in turn. */
+static void try_memory(void)
+{
+    char text[ROOM];
+    odb_request requests[MOST];
+    for (long after = 0;; after++) {
+        size_t length = 77, found = 77;
+        refuse_after(after, 1);
+        uint32_t status = ask(BATCH, text, ROOM, &length, requests, MOST, &found);
+        if (!allow_all()) {
+            count("with all memory", after, status == ODB_DONE && found == MOST);
+            return;
+        }
+        count("without memory", after, status == ODB_OUT_OF_MEMORY && length == 0 && found == 0);
+    }
+}
+
+int main(void)
+{
+    try_sizes();
+    try_refused();
+    try_none();
+    try_memory();
+    return ended();
+}
