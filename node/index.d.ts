@@ -333,3 +333,7 @@ export interface Run extends Disposes {}
 
 /** The version of the library, MAJOR.MINOR.PATCH. */
 export const version: string
+
+export {
+  Answer, Fetched, GroupFailed, PerformanceOptions, PerformOptions, PreparedRequest, Refusal, Send, Signal, Transaction, perform,
+} from './perform'

@@ -5,10 +5,28 @@
 const { version: number } = require('./odb_batch.node')
 const { canon, check, match, output, plan, replay, run } = require('./commands.js')
 const { Fault, Refused } = require('./faults.js')
+const { GroupFailed, Refusal } = require('./messages.js')
+const { perform } = require('./perform.js')
 const { requests } = require('./requests.js')
 const { Run } = require('./run.js')
 
 /** The version of the library, MAJOR.MINOR.PATCH. */
 const version = [number / 10000, number / 100, number].map((it) => Math.floor(it) % 100).join('.')
 
-module.exports = { Fault, Refused, Run, canon, check, match, output, plan, replay, requests, run, version }
+module.exports = {
+  Fault,
+  GroupFailed,
+  Refusal,
+  Refused,
+  Run,
+  canon,
+  check,
+  match,
+  output,
+  perform,
+  plan,
+  replay,
+  requests,
+  run,
+  version,
+}

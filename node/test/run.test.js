@@ -6,15 +6,9 @@ const { once } = require('node:events')
 const { test } = require('node:test')
 const { Worker } = require('node:worker_threads')
 const { Fault, Refused, Run, match, replay, run } = require('..')
+const { lending } = require('./batches.js')
 
-const BATCH = {
-  requests: [
-    { id: 'book', method: 'get', url: "Books('dune')" },
-    { id: 'mark', atomicityGroup: 'lend', dependsOn: ['book'], method: 'delete', url: "Books('dune')" },
-    { id: 'loan', atomicityGroup: 'lend', dependsOn: ['book'], method: 'post', url: 'Loans' },
-    { id: 'list', dependsOn: ['lend'], method: 'get', url: 'Loans' },
-  ],
-}
+const BATCH = lending('book')
 const EVENTS = [
   { step: 'start', id: 'book' },
   { step: 'report', id: 'book', status: 200, headers: { ETag: '7' }, body: { Größe: [1, null, 'x'] } },

@@ -3,15 +3,9 @@
 const assert = require('node:assert/strict')
 const { test } = require('node:test')
 const { Refused, Run } = require('..')
+const { lending } = require('./batches.js')
 
-const BATCH = {
-  requests: [
-    { id: 'book', method: 'get', url: "Books('dune')" },
-    { id: 'mark', atomicityGroup: 'lend', dependsOn: ['book'], method: 'delete', url: "Books('dune')" },
-    { id: 'loan', atomicityGroup: 'lend', dependsOn: ['mark'], method: 'post', url: 'Loans' },
-    { id: 'list', dependsOn: ['lend'], method: 'get', url: 'Loans' },
-  ],
-}
+const BATCH = lending('mark')
 
 /** Calls a function with a run, which is closed then. */
 function withRun(options, use) {

@@ -1,0 +1,89 @@
+'use strict'
+
+// Has a handler of node:http answer a request in this process, over a connection that only keeps what is written.
+
+const { IncomingMessage, ServerResponse } = require('node:http')
+const { Duplex } = require('node:stream')
+const { parsed } = require('./wire.js')
+
+// What a handler may ask of the connection of a client.
+const OF_CONNECTION = ['authorized', 'encrypted', 'localAddress', 'localPort', 'remoteAddress', 'remoteFamily', 'remotePort']
+const CALLS_WITHOUT_EFFECT = ['ref', 'setKeepAlive', 'setNoDelay', 'setTimeout', 'unref']
+
+// How many bytes of a head are kept.
+const MOST_OF_HEAD = 65536
+
+/** A connection that looks like that of the client, and keeps what is written to it, up to a number of bytes. */
+class Kept extends Duplex {
+  #parts = []
+  #size = 0
+  #most
+
+  constructor(outer, most) {
+    super()
+    this.#most = most
+    for (const name of OF_CONNECTION) this[name] = outer[name]
+    for (const name of CALLS_WITHOUT_EFFECT) this[name] = () => this
+    if (outer.getPeerCertificate) this.getPeerCertificate = (...given) => outer.getPeerCertificate(...given)
+  }
+
+  _read() {}
+
+  _write(part, _encoding, done) {
+    if (!this.isCut) this.#parts.push(part)
+    this.#size += part.length
+    done()
+  }
+
+  /** Whether more was written than is kept. */
+  get isCut() {
+    return this.#size > this.#most
+  }
+
+  get bytes() {
+    return Buffer.concat(this.#parts)
+  }
+}
+
+/** The request as a handler reads it. */
+function incoming(socket, { method, url, headers, body = Buffer.alloc(0) }) {
+  const given = body.length > 0 ? { ...headers, 'content-length': String(body.length) } : headers
+  const rawHeaders = Object.entries(given).flat()
+  const http = { httpVersion: '1.1', httpVersionMajor: 1, httpVersionMinor: 1 }
+  const req = Object.assign(new IncomingMessage(socket), { method, url, headers: given, rawHeaders, ...http })
+  req.push(body)
+  req.push(null)
+  req.complete = true
+  return req
+}
+
+/** The response that a handler writes to a connection, which ends with it. */
+function outgoing(req, socket) {
+  const res = new ServerResponse(req)
+  res.shouldKeepAlive = false
+  res.assignSocket(socket)
+  return res
+}
+
+/**
+ * Has a handler answer a request, and is fulfilled with the answer, without its body if that has more than `most` bytes. It is
+ * rejected if the handler throws, or ends the connection in place of an answer; an aborted signal ends it, too.
+ */
+function dispatch(handler, client, request, most) {
+  return new Promise((resolve, reject) => {
+    const socket = new Kept(client, most + MOST_OF_HEAD)
+    const req = incoming(socket, request)
+    const res = outgoing(req, socket)
+    res.on('finish', () => {
+      const { body, ...head } = parsed(socket.bytes)
+      resolve(socket.isCut || body.length > most ? head : { ...head, body })
+      socket.destroy() // so that the response is closed, too: what a handler holds may wait for that
+    })
+    res.on('close', () => reject(Object.assign(new Error('the handler ended the connection'), { code: 'ECONNRESET' })))
+    for (const it of [res, socket]) it.on('error', reject)
+    request.signal?.addEventListener('abort', () => socket.destroy())
+    Promise.resolve(handler(req, res)).catch(reject)
+  })
+}
+
+module.exports = { dispatch }

@@ -1,0 +1,88 @@
+'use strict'
+
+// A group in its transaction. Its last member is reported after the commit: so what needs the group starts later, and that
+// member is answered a commit that fails.
+
+const { Refused } = require('./faults.js')
+const { GroupFailed, Refusal, isSuccess } = require('./messages.js')
+
+class Group {
+  #work
+  #name
+  #ids
+  #send
+  // What is started and not reported, and what the last member is answered.
+  #open
+  #answer
+  // The work of the members, once the transaction has called for it, and why it has failed.
+  #members
+  #failure
+  #isDone = false
+  #isOver = false
+
+  /** `send` sends the request with an id, and is fulfilled with its answer. The first member has started. */
+  constructor(work, name, ids, send) {
+    this.#work = work
+    this.#name = name
+    this.#ids = ids
+    this.#send = send
+    this.#open = ids[0]
+  }
+
+  /** Performs the members. A transaction calls it once, and commits if it is fulfilled. */
+  perform() {
+    if (this.#isOver || this.#members !== undefined) {
+      this.#failure ??= new Error(`the transaction of ${this.#name} must call its body once, before it ends`)
+      return Promise.reject(this.#failure)
+    }
+    this.#members = this.#performed()
+    this.#members.catch((error) => (this.#failure = error)) // also where the transaction does not look at it
+    return this.#members
+  }
+
+  async #performed() {
+    for (const id of this.#ids) {
+      if (id !== this.#open) this.#start(id)
+      if (this.#isOver) return
+      const answer = await this.#sent(id)
+      if (id === this.#ids.at(-1) && isSuccess(answer)) this.#answer = answer
+      else this.#report(id, answer)
+    }
+    this.#isDone = true
+  }
+
+  #start(id) {
+    this.#work.start(id)
+    this.#open = id
+  }
+
+  #sent(id) {
+    if (this.#work.isStopped) throw new Refusal(424, 'Stopped', 'The batch had stopped before the request was sent')
+    return this.#send(id)
+  }
+
+  #report(id, answer) {
+    this.#open = undefined
+    if (!this.#work.report(id, answer)) throw new GroupFailed(this.#name)
+  }
+
+  /** Why a transaction that is fulfilled has not committed the group, or undefined. */
+  get shortcoming() {
+    if (this.#failure !== undefined || this.#isDone) return this.#failure
+    return new Error(`the transaction of ${this.#name} must call its body, and wait for it`)
+  }
+
+  /**
+   * Ends the group after its transaction, which was rolled back for a reason, or was committed if that is undefined. `explain`
+   * makes an answer of a reason. Returns whether the reason says no more than the response does.
+   */
+  async end(reason, explain) {
+    this.#isOver = true
+    await this.#members?.catch(() => {})
+    if (this.#open === undefined) return reason instanceof GroupFailed || reason instanceof Refused
+    this.#work.report(this.#open, reason === undefined ? this.#answer : explain(this.#failure ?? reason))
+    return true
+  }
+}
+
+module.exports = { Group }

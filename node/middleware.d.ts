@@ -1,0 +1,39 @@
+// The entry `odb-batch/middleware`.
+
+import type { PerformanceOptions } from './perform'
+
+/** A handler of `node:http`, as an app of Express is one, or what `app.callback()` of Koa returns. */
+export type Handler = (request: any, response: any) => unknown
+
+/** An app that answers requests in this process by a call of its own, as that of Fastify. */
+export interface Injectable {
+  inject(request: any): PromiseLike<{ statusCode: number; headers: Record<string, unknown>; rawPayload: Uint8Array }>
+}
+
+export interface BatchOptions extends PerformanceOptions {
+  /** The path to which batches are sent; `/$batch` is the default. The URLs of their requests are relative to its folder. */
+  path?: string
+  /** What the path of each request begins with, with a slash at its end; the folder of `path` is the default. */
+  root?: string
+  /** Names of headers that requests may have, beside those of OData and of conditional requests. Others are answered 400. */
+  allowed?: readonly string[]
+  /** How many bytes a batch may have, and its answers together; 16,777,216 is the default. */
+  maxSize?: number
+  /** How many requests a batch may have; 1,000 is the default. */
+  limit?: number
+}
+
+/**
+ * Makes a handler that answers `POST` to one path as a batch, and passes other requests on: to `next`, or to the app if it is
+ * called without it. Each request of a batch is answered by the app in this process, with the headers of the outer request but
+ * those that are about the batch. The mode is `continue` if the preference continue-on-error says so, else `stop`.
+ *
+ * What is refused is answered by an error object (OData JSON Format 4.01, section 21.1): 400 with the fault of the batch, 405,
+ * 413, 415 with `Accept`, and 501. Throws a `TypeError` for an option that has none of its values.
+ */
+export function batch(app: Handler, options?: BatchOptions): Middleware
+/** The same for an app that has no handler, in which it always has a `next`. */
+export function batch(app: Injectable, options?: BatchOptions): Middleware
+
+/** What `batch` returns. */
+export type Middleware = (request: any, response: any, next?: (error?: any) => void) => void

@@ -1,0 +1,333 @@
+'use strict'
+
+// A $batch over HTTP, before a handler of node:http and before an app of Express.
+
+const assert = require('node:assert/strict')
+const { AsyncLocalStorage } = require('node:async_hooks')
+const net = require('node:net')
+const { once } = require('node:events')
+const { test } = require('node:test')
+const { batch: mounted } = require('../middleware.js')
+const { batch } = require('./performing.js')
+const { CONTINUES, JSON_TYPE, MOUNTS, PATH, express, listening, serving } = require('./serving.js')
+
+const LONG = 'x'.repeat(3000)
+const storage = new AsyncLocalStorage()
+const closed = []
+
+async function textOf(req) {
+  const parts = []
+  for await (const part of req) parts.push(part)
+  return Buffer.concat(parts).toString()
+}
+
+// What a handler does, by the path of the request.
+const ROUTES = {
+  echo: async (req, res) => {
+    const { method, url, headers, socket } = req
+    const body = await textOf(req)
+    res.setHeader('Content-Type', 'application/json')
+    res.end(JSON.stringify({ method, url, headers, body, address: socket.remoteAddress, group: storage.getStore() }))
+  },
+  status: (req, res) => res.writeHead(Number(new URL(req.url, 'http://h').searchParams.get('is'))).end(),
+  text: (req, res) => res.writeHead(200, { 'Content-Type': 'text/plain; charset=iso-8859-1' }).end(Buffer.from('é', 'latin1')),
+  image: (req, res) => res.writeHead(200, 'Fine', { 'Content-Type': 'image/png' }).end(Buffer.from([255, 239])),
+  stream: async (req, res) => {
+    res.setHeader('Content-Type', 'text/plain')
+    for (const part of ['a', 'b', 'c']) {
+      res.write(part)
+      await new Promise((resolve) => setTimeout(resolve, 2))
+    }
+    res.end()
+  },
+  chunked: (req, res) => {
+    res.writeHead(200, { 'Content-Type': 'text/plain', 'Transfer-Encoding': 'chunked' })
+    res.write('first, ')
+    res.end('second')
+  },
+  hints: (req, res) => {
+    res.writeEarlyHints({ link: '</a.css>; rel=preload' })
+    res.writeHead(200, { 'Content-Type': 'text/plain' }).end('final')
+  },
+  twice: (req, res) => {
+    res.setHeader('Set-Cookie', ['x=1', 'y=2'])
+    res.setHeader('Vary', ['a', 'b'])
+    res.end()
+  },
+  closing: (req, res) => {
+    res.on('close', () => closed.push(req.url))
+    res.end()
+  },
+  long: (req, res) => {
+    res.writeHead(req.method === 'GET' ? 200 : 201, { 'Content-Type': 'text/plain', Location: '7' })
+    res.end(LONG)
+  },
+  throws: () => {
+    throw new Error('as planned')
+  },
+  rejects: async (req) => {
+    await textOf(req)
+    throw new Error('as planned')
+  },
+  hangs: () => {},
+  cuts: (req) => req.socket.destroy(),
+  late: (req, res) => {
+    res.end('over')
+    res.write('more')
+  },
+}
+
+function handler(req, res) {
+  const [, name] = /^\/(?:odata\/)?(\w*)/.exec(req.url)
+  return (ROUTES[name] ?? ((_, other) => other.writeHead(404).end()))(req, res)
+}
+
+/** A test before each kind of handler. */
+function everywhere(name, options, use) {
+  for (const mount of Object.keys(MOUNTS)) {
+    const skip = mount === 'express' && express() === undefined && 'express is not installed'
+    test(`${mount}: ${name}`, { skip }, () => serving(mount, handler, options, (service) => use(service, mount)))
+  }
+}
+
+/** The statuses of responses. */
+function statusesOf(responses) {
+  return Object.fromEntries(Object.entries(responses).map(([id, { status }]) => [id, status]))
+}
+
+everywhere('passes on what is not a batch', {}, async ({ origin }) => {
+  for (const path of ['/odata/status?is=204', '/odata/$batches', '/$batch', '/odata/$batch/']) {
+    assert.equal((await fetch(origin + path)).status, path.includes('204') ? 204 : 404)
+  }
+})
+
+everywhere('takes a batch however its path is encoded', {}, async ({ origin }) => {
+  const body = JSON.stringify(batch(['a', 'get', 'status?is=204']))
+  for (const path of ['/odata/%24batch', '/odata/$batch?x=1']) {
+    const answer = await fetch(origin + path, { method: 'POST', headers: JSON_TYPE, body })
+    assert.equal((await answer.json()).responses[0].status, 204)
+  }
+})
+
+// What fetch adds to the headers of a request.
+const OF_FETCH = ['accept-language', 'cache-control', 'pragma', 'sec-fetch-mode']
+
+const GROUP = JSON.stringify(batch(['a', 'get', 'echo', { atomicityGroup: 'g' }]))
+
+everywhere('answers what is not a batch by an error object', { maxSize: 200, limit: 2 }, async ({ origin, post }) => {
+  const refused = async (answer, status, code, headers = {}) => {
+    const { error } = await answer.json()
+    assert.deepEqual([answer.status, error.code, answer.headers.get('odata-version')], [status, code, '4.01'])
+    assert.equal(answer.headers.get('content-type'), 'application/json')
+    for (const [name, value] of Object.entries(headers)) assert.equal(answer.headers.get(name), value)
+    return error
+  }
+  await refused(await fetch(origin + PATH), 405, 'NotAllowed', { allow: 'POST' })
+  const multipart = await post('x', { 'content-type': 'multipart/mixed; boundary=b' })
+  await refused(multipart, 415, 'BadMediaType', { accept: 'application/json' })
+  const fault = await refused(await post('{"requests":[{"id":"a"}]}'), 400, 'F14')
+  assert.equal(fault.target, '/requests/0')
+  assert.match(fault.message, /^\w+: \S/)
+  await refused(await post(GROUP), 501, 'NoGroups')
+  await refused(await post(JSON.stringify(batch(['a'], ['b'], ['c']))), 413, 'TooManyRequests')
+  await refused(await post(' '.repeat(201)), 413, 'TooLong', { connection: 'close' })
+  const body = new Blob([' '.repeat(201)]).stream() // without a Content-Length
+  const chunked = await fetch(origin + PATH, { method: 'POST', headers: JSON_TYPE, body, duplex: 'half' })
+  await refused(chunked, 413, 'TooLong', { connection: 'close' })
+})
+
+everywhere('answers a host that is none', {}, async ({ port }) => {
+  const socket = net.connect(port, '127.0.0.1')
+  const document = JSON.stringify(batch(['a']))
+  const head = [`POST ${PATH} HTTP/1.1`, 'Host: a b', 'Content-Type: application/json', `Content-Length: ${document.length}`]
+  socket.end([...head, '', document].join('\r\n'))
+  const [answer] = await once(socket, 'data')
+  assert.match(answer.toString(), /^HTTP\/1.1 400 [^]*BadHost/)
+})
+
+// What a client prefers, and what a request after a failure is answered.
+const PREFERENCES = [
+  ['', 424],
+  ['respond-async', 424],
+  ['continue-on-error=false', 424],
+  ['x="a, continue-on-error"', 424],
+  ['continue-on-error', 204],
+  ['Continue-On-Error=TRUE', 204],
+  ['return=minimal, odata.continue-on-error="true"', 204],
+]
+
+everywhere('performs nothing of a batch that is cut', {}, async ({ port, post, errors }) => {
+  closed.length = 0
+  const document = JSON.stringify(batch(['a', 'get', 'closing']))
+  const head = [`POST ${PATH} HTTP/1.1`, 'Host: h', 'Content-Type: application/json', `Content-Length: ${document.length + 1}`]
+  const socket = net.connect(port, '127.0.0.1')
+  socket.write([...head, '', document].join('\r\n'))
+  await once(socket, 'ready')
+  socket.destroy()
+  await post(document)
+  assert.deepEqual([closed, errors], [['/odata/closing'], []])
+})
+
+everywhere('stops at the first error unless the client prefers to continue', {}, async ({ post }) => {
+  const document = JSON.stringify(batch(['a', 'get', 'status?is=404'], ['b', 'get', 'status?is=204']))
+  for (const [prefer, expected] of PREFERENCES) {
+    const answer = await post(document, prefer ? { ...JSON_TYPE, prefer } : JSON_TYPE)
+    assert.equal((await answer.json()).responses[1].status, expected, prefer)
+    assert.equal(answer.headers.get('preference-applied'), expected === 204 ? 'continue-on-error' : null)
+  }
+})
+
+everywhere('hands requests to the handler with what they inherit', {}, async ({ origin, responses }) => {
+  const own = { Accept: 'text/x', 'User-Agent': 'own', Prefer: 'return=minimal' }
+  const document = batch(['a', 'patch', 'echo?x=a b', { headers: own, body: { p: 1 } }])
+  const outer = {
+    ...JSON_TYPE, authorization: 'Bearer 1', cookie: 'c=1', traceparent: '00', accept: 'application/json', 'if-match': '"1"',
+    prefer: 'continue-on-error, odata.maxpagesize=5', 'content-language': 'de', 'repeatability-request-id': 'r',
+    'user-agent': 'outer',
+  }
+  const { a } = await responses(document, outer)
+  const { host, ...headers } = a.body.headers
+  for (const name of OF_FETCH) delete headers[name]
+  assert.deepEqual(headers, {
+    authorization: 'Bearer 1', cookie: 'c=1', traceparent: '00', accept: 'text/x', 'user-agent': 'outer',
+    prefer: 'return=minimal, odata.maxpagesize=5', 'content-type': 'application/json', 'content-length': '7',
+  })
+  assert.deepEqual([a.body.method, a.body.url, a.body.body], ['PATCH', '/odata/echo?x=a%20b', '{"p":1}'])
+  assert.deepEqual([`http://${host}`, a.body.address.endsWith('127.0.0.1')], [origin, true])
+})
+
+everywhere('refuses headers by which a proxy may say who the client is', { allowed: ['X-Tenant'] }, async ({ responses }) => {
+  const names = ['X-Forwarded-For', 'X-Remote-User', 'Authorization', 'X-Tenant', 'If-Match', 'Content-Length', 'Host']
+  const document = batch(...names.map((name, k) => [`r${k}`, 'get', 'echo', { headers: { [name]: '1' } }]), [
+    'bad', 'get', 'echo', { headers: { Accept: 'a\r\nX-Remote-User: root' } },
+  ])
+  const found = await responses(document)
+  assert.deepEqual(Object.values(statusesOf(found)), [400, 400, 400, 200, 200, 200, 200, 400])
+  assert.deepEqual([found.r0.body.error.code, found.r0.body.error.target], ['HeaderNotAllowed', 'x-forwarded-for'])
+  assert.equal(found.bad.body.error.code, 'BadHeader')
+})
+
+everywhere('keeps requests below the root', { root: '/odata/' }, async ({ origin, responses }) => {
+  const inside = ['status?is=204', '/odata/status?is=204', `${origin}/odata/status?is=204`, './status?is=204']
+  const outside = ['/status', '../status', '%2e%2e/status', 'http://169.254.169.254/', '//other/odata/status']
+  const urls = [...inside, ...outside]
+  const found = Object.values(statusesOf(await responses(batch(...urls.map((url, k) => [`r${k}`, 'get', url])))))
+  assert.deepEqual(found, [...inside.map(() => 204), ...outside.map(() => 404)])
+})
+
+everywhere('takes URLs with the scheme and the host of a proxy for its own', {}, async ({ origin, responses }) => {
+  const origins = ['https://public', 'http://a.b:81', origin.replace('http', 'https')]
+  const document = batch(...origins.map((it, k) => [`r${k}`, 'get', `${it}/odata/status?is=204`]))
+  const headers = { ...CONTINUES, 'x-forwarded-host': 'public, b@d', forwarded: 'for=x;host="a.b:81"' }
+  assert.deepEqual(statusesOf(await responses(document, headers)), { r0: 204, r1: 204, r2: 204 })
+  assert.deepEqual(statusesOf(await responses(document)), { r0: 404, r1: 404, r2: 204 })
+})
+
+everywhere('reaches what a wider root has', { root: '/' }, async ({ responses }) => {
+  assert.deepEqual(statusesOf(await responses(batch(['a', 'get', '/status?is=204']))), { a: 204 })
+})
+
+everywhere('has no batch in a batch, at a path of another name either', { path: '/odata/many' }, async ({ origin }) => {
+  const body = JSON.stringify(batch(['a', 'post', 'many', { body: {} }], ['b', 'post', 'm%61ny', { body: {} }]))
+  const answer = await fetch(`${origin}/odata/many`, { method: 'POST', headers: CONTINUES, body })
+  assert.deepEqual((await answer.json()).responses.map((it) => it.body.error.code), ['NestedBatch', 'NestedBatch'])
+})
+
+everywhere('shows answers however they are written', {}, async ({ responses }) => {
+  const names = ['text', 'image', 'stream', 'chunked', 'hints', 'twice', 'late']
+  const found = await responses(batch(...names.map((name) => [name, 'get', name]), ['none', 'get', 'status?is=204']))
+  assert.deepEqual(names.map((name) => found[name].body), ['é', '_-8', 'abc', 'first, second', 'final', undefined, 'over'])
+  assert.deepEqual([found.twice.headers.vary, found.twice.headers['set-cookie']], ['a, b', undefined])
+  assert.deepEqual(new Set(Object.values(statusesOf(found))), new Set([200, 204]))
+})
+
+everywhere('closes a response, so that a handler lets go what it holds', {}, async ({ responses }) => {
+  closed.length = 0
+  await responses(batch(['a', 'get', 'closing?1'], ['b', 'get', 'closing?2']))
+  assert.deepEqual(closed, ['/odata/closing?1', '/odata/closing?2'])
+})
+
+everywhere('answers what handlers do wrong', { timeout: 50, width: 8 }, async ({ responses, errors }, mount) => {
+  const names = ['throws', 'cuts', 'hangs', ...(mount === 'express' ? [] : ['rejects'])] // Express 4 does not look at promises
+  const found = await responses(batch(...names.map((name) => [name, 'get', name])))
+  const expected = { throws: 500, cuts: 502, hangs: 504, ...(mount === 'express' ? {} : { rejects: 500 }) }
+  assert.deepEqual(statusesOf(found), expected)
+  const own = mount === 'express' ? 1 : 0 // Express answers what is thrown by itself
+  assert.equal(errors.length, names.length - own)
+})
+
+everywhere('limits what the answers have together', { maxSize: 7000, width: 1 }, async ({ responses }) => {
+  const names = ['a', 'b', 'c', 'd']
+  const long = names.map((id) => [id, id === 'd' ? 'post' : 'get', 'long'])
+  const found = await responses(batch(...long, ['e', 'get', 'status?is=204']))
+  assert.deepEqual(statusesOf(found), { a: 200, b: 200, c: 507, d: 201, e: 204 })
+  assert.deepEqual([found.b.body, found.d.body, found.d.headers.location], [LONG, undefined, '7'])
+})
+
+everywhere('reads a body of a request as a whole', {}, async ({ responses }) => {
+  const text = 'y'.repeat(1000000)
+  const { a } = await responses(batch(['a', 'put', 'echo', { headers: { 'Content-Type': 'text/plain' }, body: text }]))
+  assert.equal(a.body.body, text)
+})
+
+const transaction = (group, body) => storage.run(group, body)
+
+everywhere('has handlers in the transaction of a group', { transaction }, async ({ responses }) => {
+  const document = batch(['a', 'post', 'echo', { atomicityGroup: 'g', body: 1 }], ['b', 'get', 'echo'])
+  const { a, b } = await responses(document)
+  assert.deepEqual([a.body.group, b.body.group], ['g', undefined])
+})
+
+everywhere('follows references to what a handler has made', { root: '/' }, async ({ responses }) => {
+  const document = batch(['a', 'post', 'long', { body: 1 }], ['b', 'get', '$a/x?y', { dependsOn: ['a'] }])
+  assert.deepEqual(statusesOf(await responses(document)), { a: 201, b: 404 })
+})
+
+const WITHOUT_EXPRESS = { skip: express() === undefined && 'express is not installed' }
+
+for (const [parser, status] of [['raw', 200], ['text', 200], ['json', 500]]) {
+  test(`express: takes what its parser ${parser} has left of a body`, WITHOUT_EXPRESS, async () => {
+    const errors = []
+    const options = { path: PATH, log: (error) => errors.push(error.message) }
+    const app = express()().use(express()[parser]({ type: '*/*' }))
+    await listening(app.use(mounted(app, options)).use(handler), async ({ post }) => {
+      const answer = await post(JSON.stringify(batch(['a', 'get', 'status?is=204'])))
+      const expected = ['a parser has read the body of the batch: batch() has to come before it']
+      assert.deepEqual([answer.status, errors], [status, status === 200 ? [] : expected])
+    })
+  })
+}
+
+test('express: is found in a folder of the app', WITHOUT_EXPRESS, async () => {
+  const app = express()()
+  app.use('/odata', mounted(app, { path: PATH })).use(handler)
+  await listening(app, async ({ post }) => {
+    const answer = await post(JSON.stringify(batch(['a', 'get', 'status?is=204'])))
+    assert.equal((await answer.json()).responses[0].status, 204)
+  })
+})
+
+test('has an app answer by its own call for that, as Fastify has one', async () => {
+  const asked = []
+  const app = {
+    async inject({ method, url, payload }) {
+      asked.push([method, url, payload.toString()])
+      return { statusCode: 201, headers: { 'content-type': 'application/json' }, rawPayload: Buffer.from('{"p":1.50}') }
+    },
+  }
+  const answer = mounted(app, { path: PATH })
+  await listening((req, res) => answer(req, res, () => res.writeHead(404).end()), async ({ origin, post }) => {
+    const found = await (await post(JSON.stringify(batch(['a', 'post', 'Books', { body: 7 }])))).text()
+    assert.match(found, /^\{"responses":\[\{"body":\{"p":1.50\},.*"id":"a","status":201\}\]\}$/)
+    assert.deepEqual(asked, [['POST', '/odata/Books', '7']])
+    assert.equal((await fetch(`${origin}/odata/Books`)).status, 404)
+  })
+})
+
+test('refuses options that have none of their values', () => {
+  assert.throws(() => mounted({}), TypeError)
+  const wrong = [{ path: 'odata' }, { root: '/odata' }, { root: 'odata/' }, { maxSize: -1 }, { maxsize: 7 }, { mode: 'stop' }]
+  for (const options of wrong) {
+    assert.throws(() => mounted(handler, options), TypeError)
+  }
+})

@@ -1,0 +1,96 @@
+'use strict'
+
+// URLs of requests: joined to the base of the service, and not outside of it.
+
+const { Refusal } = require('./messages.js')
+
+// What a URL without scheme, host and leading slash is joined to, where there is no base.
+const NOWHERE = 'relative://nowhere/'
+const NOT_PRINTABLE = /[\p{C}\p{Zl}\p{Zp}]/u
+
+/** The characters of a part of a URL; a `%` that no two hexadecimal digits follow is kept. */
+function unquoted(part) {
+  if (!part.includes('%')) return part
+  const bytes = part.replace(/%([0-9a-f]{2})/gi, (_, digits) => String.fromCharCode(parseInt(digits, 16)))
+  return Buffer.from(bytes, 'latin1').toString()
+}
+
+/** A URL that is relative to another one, which is absolute. */
+function joined(url, base) {
+  try {
+    return new URL(url, base)
+  } catch {
+    throw new Refusal(400, 'BadUrl', 'The URL cannot be read')
+  }
+}
+
+function isAbsolute(url) {
+  return /^[a-z][a-z0-9+.-]*:/i.test(url)
+}
+
+/** A URL that is relative to another one, which may be relative, too. */
+function followed(url, from) {
+  if (isAbsolute(url)) return url
+  if (isAbsolute(from)) return joined(url, from).href
+  if (url.startsWith('/')) return url
+  const slash = from.startsWith('/') ? '/' : ''
+  return slash + joined(url, NOWHERE + from.slice(slash.length)).href.slice(NOWHERE.length)
+}
+
+/** The URL of a resource, to which more segments may be appended: without a query, a fragment and slashes at its end. */
+function entityUrl(url) {
+  let end = url.search(/[?#]|$/)
+  while (url[end - 1] === '/') end--
+  return url.slice(0, end)
+}
+
+/** A URL that an option names: absolute, and with a slash at its end. */
+function folderOf(name, text) {
+  let url
+  try {
+    url = new URL(text)
+  } catch {
+    url = undefined
+  }
+  if (url === undefined || !url.pathname.endsWith('/') || url.search + url.hash !== '') {
+    throw new TypeError(`the ${name} must be a URL that ends with /, not ${String(text)}`)
+  }
+  return url
+}
+
+/** Where the requests of a batch may lead. */
+class Service {
+  #base
+  #roots
+
+  /**
+   * URLs are relative to `base`, and each begins with one of `roots`; all of these end with a slash. Without a base URLs stay as
+   * they are, and without roots they may be any.
+   */
+  constructor(base = '', roots = base === '' ? [] : [base]) {
+    this.#base = base === '' ? undefined : folderOf('base', base)
+    this.#roots = roots.map((root) => folderOf('roots', root))
+  }
+
+  /** The URL to which a request is sent, or a refusal if it leads out of the service. */
+  target(url) {
+    if (this.#base === undefined && this.#roots.length === 0) return url
+    const found = joined(url, this.#base)
+    found.hash = ''
+    if (this.#roots.length > 0 && !this.#roots.some((root) => isBelow(found, root))) {
+      throw new Refusal(404, 'NotFound', 'The URL leads out of the service')
+    }
+    return found.href
+  }
+}
+
+/** Whether a URL is below another one, however its path is encoded. */
+function isBelow({ protocol, host, pathname }, root) {
+  const path = unquoted(pathname)
+  // Servers take \ for /, and drop what follows a ; in a segment.
+  const climbs = path.split(/[\\/]/).some((segment) => segment.split(';', 1)[0] === '..')
+  const isSame = protocol === root.protocol && host === root.host
+  return isSame && path.startsWith(unquoted(root.pathname)) && !climbs && !NOT_PRINTABLE.test(path)
+}
+
+module.exports = { Service, entityUrl, followed, unquoted }
