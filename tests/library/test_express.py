@@ -16,7 +16,7 @@ from support.commands import run, with_package
 from support.program import ROOT
 
 APP = os.path.join(ROOT, "examples", "frameworks", "express_app.js")
-TOOL = os.path.join(ROOT, "conformance")
+TOOL = ("-m", "odb_batch", "conformance")
 ABOUT = ("--set", "Books", "--key", "Id", "--body", '{"Title": "Conformance"}')
 SECONDS = 20
 WIDTHS = (1, 8)
@@ -51,7 +51,7 @@ def serving(environment, width):
 @pytest.mark.parametrize("width", WIDTHS)
 def test_conformance(width, environment_of_node, tmp_path):
     with serving(environment_of_node, width) as url:
-        lines = run(sys.executable, TOOL, url, *ABOUT, "--breaks", tmp_path, env=with_package()).splitlines()
+        lines = run(sys.executable, *TOOL, url, *ABOUT, "--breaks", tmp_path, env=with_package()).splitlines()
     assert re.fullmatch(r"[0-9]+ cases, 0 of them broken", lines[-1])
 
 

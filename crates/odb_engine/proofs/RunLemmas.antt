@@ -22,7 +22,7 @@ use Rattle.odb_doc.specs.Refusals.{Printed}
 use Rattle.odb_sched.specs.run.Refusals as refusals
 use Rattle.odb_sched.specs.run.Resolving.{IsResolved, RefusesNamed}
 use Rattle.odb_sched.specs.run.Runs.{Refuses, after_all}
-use Rattle.odb_sched.specs.run.State.{State, phase_at, first_state}
+use Rattle.odb_sched.specs.run.State.{State, phase_at, first_state, started, reported}
 use Rattle.odb_doc.specs.Statuses.{is_success}
 use Rattle.odb_sched.specs.run.Steps.{unit_succeeded}
 use Rattle.odb_reply.specs.NotWhole.{HasWholeBody, HasWholeBodies}
@@ -65,9 +65,9 @@ module _ (holds : Outcome → Type 0) where
   on-after : (state : State) (events : List Event) → All OnEvent events → All OnPhase state.phases → All OnPhase (after_all state events).phases
   on-after state [] each so = so
   on-after state (event.Start i ∷ events) each so =
-      on-after _ events (All-tail OnEvent _ events each) (All-set OnPhase state.phases i Running tt so)
+      on-after (started state i) events (All-tail OnEvent _ events each) (All-set OnPhase state.phases i Running tt so)
   on-after state (event.Report i outcome ∷ events) each so =
-      on-after _ events (All-tail OnEvent _ events each) (All-set OnPhase state.phases i (Reported outcome) (All-head OnEvent _ events each) so)
+      on-after (reported state i outcome) events (All-tail OnEvent _ events each) (All-set OnPhase state.phases i (Reported outcome) (All-head OnEvent _ events each) so)
 
   -- an answer shows what was reported, or nothing
   on-answer : (phase : Phase) (b : Bool) → OnPhase phase → IfSome (answer_of phase b) holds

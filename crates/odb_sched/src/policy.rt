@@ -20,7 +20,7 @@ pub enum Mode {
 pub struct Policy {
     /// Whether an error stops the run.
     pub mode: Mode,
-    /// The number of requests that may run at once.
+    /// The number of requests that may run at once, where a unit that is sent as one counts as one.
     pub width: u32,
     ghost wide: { 0 < width },
 }
