@@ -35,8 +35,9 @@ def _extras():
 
 def _files():
     """The files of the package, by their paths in a wheel."""
-    names = sorted(it for it in os.listdir(PACKAGE) if it.endswith(".py") or it in ("py.typed", LIBRARY))
-    return {f"{NAME}/{name}": os.path.join(PACKAGE, name) for name in names}
+    places = (os.path.join(folder, name) for folder, _, names in os.walk(PACKAGE) for name in names)
+    found = sorted(it for it in places if it.endswith(".py") or os.path.basename(it) in ("py.typed", LIBRARY))
+    return {os.path.relpath(it, HERE).replace(os.sep, "/"): it for it in found}
 
 
 def _tag(settings):

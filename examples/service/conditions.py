@@ -3,27 +3,28 @@
 import re
 from typing import Mapping, Optional
 
-from odata import Answer, Refusal, Request
+from odb_batch import Answer, Refusal
 
 # An entity tag, and a list of them (RFC 9110, section 8.8.3).
 TAG = re.compile(r'(W/)?("[!#-~\x80-\xff]*")')
 TAGS = re.compile(rf"[ \t,]*(?:{TAG.pattern}[ \t,]*)*")
 
 
-def unmet_precondition(request: Request, tag: Optional[str]) -> Optional[Answer]:
+def unmet_precondition(method: str, headers: Mapping[str, str], tag: Optional[str]) -> Optional[Answer]:
     """What a request is answered whose If-Match or If-None-Match does not hold (RFC 9110, section 13.2.2), or None.
 
     Args:
-        request: A request that nothing else forbids.
+        method: Of a request that nothing else forbids.
+        headers: By their names in lower case.
         tag: The ETag of what its URL names, a strong one, or None for an entity set.
     """
-    required, excluded = request.headers.get("if-match"), request.headers.get("if-none-match")
+    required, excluded = headers.get("if-match"), headers.get("if-none-match")
     if required is not None and not _has_tag("If-Match", required, tag, is_weak=False):
         return Refusal(412, "PreconditionFailed", "If-Match does not have the current ETag").answer
     if excluded is None or not _has_tag("If-None-Match", excluded, tag, is_weak=True):
         return None
-    if request.method == "get":
-        return Answer(304, None, {"ETag": tag} if tag else {})
+    if method == "GET":
+        return Answer(304, {"etag": tag} if tag else {})
     return Refusal(412, "PreconditionFailed", "If-None-Match has the current ETag, or is *").answer
 
 

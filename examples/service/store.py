@@ -1,18 +1,17 @@
-"""The lending library in its database: what is in it, and who may write when.
-
-SQLite has one writer at a time, and any number of readers, which see what was committed last. The
-store has one connection that writes, for whoever has its turn, and further ones that read.
-"""
+"""The database of the library, and its transactions: that of a group, or of a request that writes."""
 
 import itertools
+import logging
 import queue
 import sqlite3
 import threading
-from contextlib import contextmanager
-from typing import Iterator
+from contextlib import closing, contextmanager
+from contextvars import ContextVar
+from typing import Iterator, Optional
 
-from entities import perform
-from odata import Answer, Refusal, Request
+from odb_batch import Refusal
+
+LOG = logging.getLogger(__name__)
 
 # The statements that lead from each version of the schema to the next one.
 SCHEMA = (
@@ -30,88 +29,90 @@ SCHEMA = (
         "CREATE TABLE Versions (Last INTEGER NOT NULL)",
         "INSERT INTO Versions VALUES (1)",
     ),
+    # The digits of a price: a number of SQLite would lose some.
+    ("ALTER TABLE Books ADD COLUMN Price TEXT",),
 )
 
 
-class Transaction:
-    """What the holder of the writer's turn does in one transaction."""
-
-    def __init__(self, database: sqlite3.Connection) -> None:
-        self._database = database
-
-    def perform(self, request: Request) -> Answer:
-        return perform(self._database, request)
-
-    def commit(self) -> None:
-        self._database.execute("COMMIT")
-
-
 class Store:
-    """The database of the library.
+    """The database of the library. Its connections are used by one thread at a time.
 
     Args:
         path: Its file, which is made if it is missing.
-        patience: For how many seconds a transaction waits for its turn.
+        patience: For how many seconds a transaction waits until it may write.
     """
 
     def __init__(self, path: str, patience: float = 20.0) -> None:
-        self._path, self._patience = path, patience
-        self._turn = threading.Lock()
-        self._readers: "queue.SimpleQueue[sqlite3.Connection]" = queue.SimpleQueue()
-        self._writer = self._connect()
-        self._writer.execute("PRAGMA journal_mode = WAL")
-        self._writer.execute("PRAGMA foreign_keys = ON")
-        with self.transaction() as work:
-            (version,) = self._writer.execute("PRAGMA user_version").fetchone()
+        self._path, self._patience, self._turn = path, patience, threading.Lock()
+        self._idle: "queue.SimpleQueue[sqlite3.Connection]" = queue.SimpleQueue()
+        self._group: ContextVar[Optional[sqlite3.Connection]] = ContextVar("group", default=None)
+        # It is closed again, since a process that is forked from this one may not use it.
+        with closing(self._connect()) as database:
+            database.execute("PRAGMA journal_mode = WAL")
+            database.execute("BEGIN IMMEDIATE")
+            (version,) = database.execute("PRAGMA user_version").fetchone()
             for statement in itertools.chain(*SCHEMA[version:]):
-                self._writer.execute(statement)
-            if version < len(SCHEMA):
-                self._writer.execute(f"PRAGMA user_version = {len(SCHEMA)}")
-            work.commit()
+                database.execute(statement)
+            database.execute(f"PRAGMA user_version = {max(version, len(SCHEMA))}")
+            database.execute("COMMIT")
 
     def _connect(self) -> sqlite3.Connection:
-        return sqlite3.connect(self._path, timeout=self._patience, isolation_level=None, check_same_thread=False)
-
-    def close(self) -> None:
-        """Closes the connections, of which none may be in use."""
-        while not self._readers.empty():
-            self._readers.get().close()
-        self._writer.close()
+        database = sqlite3.connect(self._path, timeout=self._patience, isolation_level=None, check_same_thread=False)
+        database.execute("PRAGMA foreign_keys = ON")
+        return database
 
     @contextmanager
-    def transaction(self) -> Iterator[Transaction]:
-        """Waits for the writer's turn, and begins a transaction. Unless it is committed, it is rolled back."""
-        if not self._turn.acquire(timeout=self._patience):
-            raise Refusal(503, "Busy", "The database was busy for too long; try again")
-        try:
+    def group(self, name: str) -> Iterator[None]:
+        """The transaction of an atomicity group, whose requests are performed in this thread: committed at its end, and
+        rolled back on any exception."""
+        with self._transaction(name) as database:
+            token = self._group.set(database)
             try:
-                self._writer.execute("BEGIN IMMEDIATE")
-            except sqlite3.OperationalError as error:
-                raise Refusal(503, "Busy", str(error)) from None
-            try:
-                yield Transaction(self._writer)
+                yield
             finally:
-                if self._writer.in_transaction:
-                    self._writer.execute("ROLLBACK")
+                self._group.reset(token)
+
+    @contextmanager
+    def session(self, is_writing: bool) -> Iterator[sqlite3.Connection]:
+        """The connection of a request: that of its group, or else one in a transaction of its own if it writes."""
+        group = self._group.get()
+        if group is not None:
+            yield group
+            return
+        with self._transaction("") if is_writing else self._connection() as database:
+            yield database
+
+    @contextmanager
+    def _transaction(self, name: str) -> Iterator[sqlite3.Connection]:
+        """Waits until nobody else writes, and begins a transaction. Threads of this process take turns by a lock, and SQLite
+        sees to other processes."""
+        busy = Refusal(503, "Busy", "The database was busy for too long; try again", retry_after="1")
+        if not self._turn.acquire(timeout=self._patience):
+            raise busy
+        try:
+            with self._connection() as database:
+                try:
+                    database.execute("BEGIN IMMEDIATE")
+                except sqlite3.OperationalError:
+                    raise busy from None
+                try:
+                    yield database
+                    # While nobody else can commit, so these lines have the order of the commits.
+                    LOG.info("commit %s", name)
+                    database.execute("COMMIT")
+                finally:
+                    if database.in_transaction:
+                        database.execute("ROLLBACK")
         finally:
             self._turn.release()
 
-    def read(self, request: Request) -> Answer:
-        """Answers a get by what is committed."""
+    @contextmanager
+    def _connection(self) -> Iterator[sqlite3.Connection]:
         try:
-            reader = self._readers.get_nowait()
+            database = self._idle.get_nowait()
         except queue.Empty:
-            reader = self._connect()
-            reader.execute("PRAGMA query_only = ON")
+            database = self._connect()
         try:
-            return perform(reader, request)
+            yield database
         finally:
-            self._readers.put(reader)
-
-    def write(self, request: Request) -> Answer:
-        """Answers a request that writes, in a transaction of its own."""
-        with self.transaction() as work:
-            answer = work.perform(request)
-            if answer.is_success:
-                work.commit()
-            return answer
+            self._idle.put(database)

@@ -2,7 +2,7 @@
 
 from collections import ChainMap
 from types import MappingProxyType
-from typing import Dict, List, Sequence, Tuple
+from typing import Any, Callable, Dict, List, Sequence, Tuple
 
 from odb_batch import (
     Counts,
@@ -25,6 +25,7 @@ from odb_batch import (
     replay,
     run,
 )
+from odb_batch.conformance import conformance_cases, judge, serving
 
 batch: Document = MappingProxyType({"requests": [ChainMap({"id": "a"}, {"method": "get", "url": "X"})]})
 mode: Mode = "stop"
@@ -39,6 +40,20 @@ statuses: Dict[str, int] = match(batch, memoryview(run(batch, [Start("a"), Repor
 stopped: Dict[str, int] = match(batch, "", mode=mode)
 undone: Tuple[str, ...] = replay(batch, {"outcomes": []}, order="wide", mode="continue", trace=True).undone
 printed: Output = output("run", batch, "", form="lines")
+
+
+def application(environ: Dict[str, Any], start_response: Callable[..., Any]) -> List[bytes]:
+    return []
+
+
+with serving(application) as url:
+    for case in conformance_cases("group-*"):
+        judge(url, case, set="Books", key="Id", body={"Title": "Emma"}, headers=MappingProxyType({}), timeout=5)
+
+judge("", conformance_cases(), set="Books", key="Id", body={})  # type: ignore[arg-type]
+judge("", "chain", set="Books", key="Id", body="{}")  # type: ignore[arg-type]
+judge("", "chain")  # type: ignore[call-arg]
+serving("library:app")  # type: ignore[arg-type]
 
 planned.requests = ()  # type: ignore[misc]
 planned[0] = first  # type: ignore[index]

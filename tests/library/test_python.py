@@ -44,4 +44,7 @@ def test_it_is_installed_without_a_network(library, environment, tmp_path):
     run(sys.executable, *pip, "--root-user-action=ignore", "--target", place, copy, env=environment)
     (tmp_path / "page.py").write_text(block("python"), encoding="utf-8")
     plain = {key: it for key, it in environment.items() if key not in ("ODB_BATCH_LIBRARY", "LD_LIBRARY_PATH")}
-    run(sys.executable, tmp_path / "page.py", wanted=IN_PYTHON, env={**plain, "PYTHONPATH": str(place)})
+    plain["PYTHONPATH"] = str(place)
+    run(sys.executable, tmp_path / "page.py", wanted=IN_PYTHON, env=plain)
+    words = ["conformance", "--list", "--case", "chain"]
+    assert run(sys.executable, "-m", "odb_batch", *words, env=plain, cwd=tmp_path).startswith("chain ")

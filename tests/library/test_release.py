@@ -368,7 +368,7 @@ def service(unpacked, python, log):
 def test_its_tool_judges_its_service(unpacked, python, tmp_path):
     with service(unpacked, python, tmp_path / "log") as url:
         words = [url, "--set", "Books", "--key", "Id", "--body", '{"Title": "Emma"}']
-        said = unpacked.run(python, unpacked.docs / "conformance", *words, PYTHONDONTWRITEBYTECODE="1")
+        said = unpacked.run(python, "-m", "odb_batch", "conformance", *words)
     print(said.splitlines()[-1])
     assert re.fullmatch(r"\d+ cases, 0 of them broken", said.splitlines()[-1])
 

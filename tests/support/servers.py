@@ -15,7 +15,6 @@ import tempfile
 import pytest
 
 from .commands import with_package
-from .program import ROOT
 
 SECONDS = 20
 JSON = {"Content-Type": "application/json"}
@@ -108,7 +107,7 @@ class Server:
 def conformance(server, folder, *options):
     """Judges an application by the conformance tool; returns its exit status and what it printed."""
     body = ["--set", "Books", "--key", "Id", "--body", '{"Title": "Emma"}', "--breaks", os.path.join(folder, "breaks")]
-    words = [sys.executable, os.path.join(ROOT, "conformance"), server.url, *body, *options]
+    words = [sys.executable, "-m", "odb_batch", "conformance", server.url, *body, *options]
     done = subprocess.run(
         words, stdout=subprocess.PIPE, stderr=subprocess.STDOUT, text=True, env=with_package(), timeout=300
     )

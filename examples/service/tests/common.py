@@ -1,69 +1,74 @@
-"""What the tests share: the service as a process of its own, its log, and a client."""
+"""What the tests share: the service under gunicorn as processes of its own, its log, and a client."""
 
 import http.client
 import json
 import os
-import re
-import select
 import signal
 import sqlite3
-import subprocess
-import sys
-import threading
 import time
-from contextlib import ExitStack
+from contextlib import ExitStack, suppress
 
 import pytest
 
-from support.commands import with_package
 from support.program import ROOT
+from support.servers import CONTINUE, JSON, SECONDS, Server, skip_without
 
-SECONDS = 20
-
-JSON = {"Content-Type": "application/json"}
-CONTINUE = {**JSON, "Prefer": "continue-on-error"}
+SERVICE = os.path.join(ROOT, "examples", "service")
+BATCH_URL = "/library/$batch"
 
 
-class Process:
-    """The service as a process on a free port of the loopback, with its log as a list of lines."""
+class Process(Server):
+    """The service on a free port of the loopback.
 
-    program = (os.path.join(ROOT, "examples", "service"),)
+    Args:
+        database: The file of its database.
+        width: How many requests of a batch it performs at once.
+        patience: For how many seconds it waits for a client.
+        workers: How many processes answer.
+    """
 
-    def __init__(self, database, *options):
-        words = [sys.executable, *self.program, "--port", "0", "--database", database, *options]
-        self.process = subprocess.Popen(words, stderr=subprocess.PIPE, text=True, env=with_package())
-        self.log = []
-        first = self.process.stderr.readline() if select.select([self.process.stderr], [], [], SECONDS)[0] else ""
-        if "listening" not in first:
-            try:
-                raise AssertionError(first + self.process.communicate(timeout=SECONDS)[1])
-            finally:
-                self.process.kill()
-        self.port = int(re.search(r":(\d+)/library/", first)[1])
-        self.reader = threading.Thread(target=self._read, daemon=True)
-        self.reader.start()
+    # Where the module of the application is.
+    folder = SERVICE
 
-    def _read(self):
-        for line in self.process.stderr:
-            self.log.append(line.rstrip("\n"))
+    def __init__(self, database, width=1, patience=20, workers=2):
+        skip_without("gunicorn")
+        words = ["gunicorn", "--config", os.path.join(SERVICE, "gunicorn.conf.py"), "--bind", "fd://{fd}"]
+        words += ["--workers", str(workers), "--pythonpath", self.folder, self.app(database, width)]
+        log = database + ".log"
+        self.begin = os.path.getsize(log) if os.path.exists(log) else 0
+        super().__init__(words, SERVICE, log, PATIENCE=str(patience))
+        self.url = f"http://127.0.0.1:{self.port}/library/"
+        # A worker that gets a signal before it answers would not end by it.
+        until(self.count_of_workers, lambda count: count == workers or self.process.poll() is not None)
+        assert self.process.poll() is None, self.lines
+
+    def app(self, database, width):
+        """The application, as gunicorn is given it."""
+        return f"app:make_app({database!r}, {width})"
+
+    def count_of_workers(self):
+        return sum(line.endswith(" answers") for line in self.lines)
+
+    @property
+    def lines(self):
+        """The lines of its log, which those before it have begun."""
+        with open(self.log, "rb") as file:
+            file.seek(self.begin)
+            return file.read().decode().splitlines()
 
     def kill(self):
-        self.process.kill()
-        self._join()
+        """Ends all its processes at once."""
+        with suppress(ProcessLookupError):
+            os.killpg(self.process.pid, signal.SIGKILL)
+        self.process.wait()
 
     def stop(self, number=signal.SIGTERM):
         """Ends it as a user does; returns its exit status."""
         self.process.send_signal(number)
-        return self._join()
-
-    def _join(self):
         try:
             return self.process.wait(SECONDS)
         finally:
-            self.process.kill()
-            self.process.wait()
-            self.reader.join(SECONDS)
-            self.process.stderr.close()
+            self.kill()
 
     def __enter__(self):
         return self
@@ -82,18 +87,22 @@ class Client:
     def __init__(self, port):
         self.connection = http.client.HTTPConnection("127.0.0.1", port, timeout=SECONDS)
 
-    def ask(self, method, path, body=None, headers=JSON):
-        """Sends a request; returns the status and the value of the answer."""
+    def ask_for_bytes(self, method, path, body=None, headers=JSON):
+        """Sends a request; returns the status and the body of the answer."""
         data = body if isinstance(body, (bytes, type(None))) else json.dumps(body).encode()
         self.connection.request(method, path, data, headers)
         answer = self.connection.getresponse()
-        text = answer.read()
         self.headers = answer.headers
-        return answer.status, json.loads(text) if text else None
+        return answer.status, answer.read()
+
+    def ask(self, method, path, body=None, headers=JSON):
+        """Sends a request; returns the status and the value of the answer."""
+        status, text = self.ask_for_bytes(method, path, body, headers)
+        return status, json.loads(text) if text else None
 
     def batch(self, *requests, headers=CONTINUE):
         """Sends a batch; returns the responses by their ids."""
-        status, value = self.ask("POST", "/$batch", {"requests": list(requests)}, headers)
+        status, value = self.ask("POST", BATCH_URL, {"requests": list(requests)}, headers)
         if status != 200:
             raise AssertionError(f"the batch was answered {status}: {value}")
         return {it["id"]: it for it in value["responses"]}
@@ -137,15 +146,15 @@ def until(look, is_good):
 
 
 class ServiceTest:
-    """Tests over one process of the service for each class, with a client for each test."""
+    """Tests over one service for each class, with a client for each test."""
 
-    options = ()
+    options = {}
 
     @pytest.fixture(scope="class", autouse=True)
     def start(self, request, tmp_path_factory):
         kind = request.cls
         kind.database = str(tmp_path_factory.mktemp("service") / "library.sqlite")
-        with Process(kind.database, *kind.options) as kind.service:
+        with Process(kind.database, **kind.options) as kind.service:
             yield
 
     @pytest.fixture(autouse=True)

@@ -3,10 +3,10 @@
 import json
 import socket
 
-from common import SECONDS, ServiceTest
+from common import BATCH_URL, SECONDS, ServiceTest
 
 
-def head(*lines, method="POST", path="/$batch"):
+def head(*lines, method="POST", path=BATCH_URL):
     return "\r\n".join([f"{method} {path} HTTP/1.1", "Host: here", *lines, "", ""]).encode()
 
 
@@ -25,7 +25,7 @@ def everything(connection):
 class ClientTest(ServiceTest):
     """Tests that send bytes, to a service with little patience."""
 
-    options = ("--patience", "1.5")
+    options = {"patience": 1.5}
 
     def connect(self):
         return self.opened.enter_context(socket.create_connection(("127.0.0.1", self.service.port), timeout=SECONDS))

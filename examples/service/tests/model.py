@@ -35,7 +35,7 @@ class Library:
 
     def perform(self, method, url, body):
         """Performs a request; returns the status and the location of what was created."""
-        named = re.fullmatch(r"(?:/library)?/?(Books|Loans)(?:\('?(\w+)'?\))?", url)
+        named = re.fullmatch(r"(?:/library/)?(Books|Loans)(?:\('?(\w+)'?\))?", url)
         if named is None:
             return 404, None
         name, key = named.groups()
@@ -79,7 +79,7 @@ def writing(random, covered):
             ("post", "Loans", {"Book": book, "Reader": random.randrange(99)}),
             ("post", "/library/Loans", {"Book": book, "Reader": random.randrange(99)}),
             ("patch", f"Books('{book}')", {"Shelf": random.choice(SHELVES)}),
-            ("PUT", f"/Books('{book}')", {"Title": "Put", "Reader": random.randrange(99)}),
+            ("PUT", f"/library/Books('{book}')", {"Title": "Put", "Reader": random.randrange(99)}),
             ("delete", at, None),
             ("delete", f"Loans({random.randrange(1, 30)})", None),
         )

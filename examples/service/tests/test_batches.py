@@ -5,7 +5,7 @@ import os
 
 import pytest
 
-from common import CONTINUE, JSON, ROOT, ServiceTest, new_book, request, rows
+from common import BATCH_URL, CONTINUE, JSON, ROOT, ServiceTest, new_book, request, rows
 from odb_batch import match
 
 
@@ -22,7 +22,7 @@ class TestExamples(ServiceTest):
             ("usual", {"book": 200, "mark": 424, "loan": 409, "list": 424}),
             ("references", {"order": 404, "line": 424, "stock": 404}),
         ]:
-            status, value = self.client.ask("POST", "/$batch", example(name), CONTINUE)
+            status, value = self.client.ask("POST", BATCH_URL, example(name), CONTINUE)
             assert (status, match(example(name), value)) == (200, wanted), name
 
     @pytest.mark.parametrize("name, code, word, place", [
@@ -30,7 +30,7 @@ class TestExamples(ServiceTest):
         ("wrong_body", "F21", "BadBody", "/requests/1"),
     ])  # fmt: skip
     def test_refuses_the_other_batches_of_the_examples(self, name, code, word, place):
-        status, value = self.client.ask("POST", "/$batch", example(name))
+        status, value = self.client.ask("POST", BATCH_URL, example(name))
         error = value["error"]
         assert (status, error["code"], error["target"]) == (400, code, place)
         assert error["message"].startswith(f"{word}: ")
@@ -67,6 +67,57 @@ class TestGroups(ServiceTest):
             assert set(found.values()) == {201}
 
 
+# The group may begin only after x, though its first member needs nothing.
+HELD = (new_book("x", "x1"), new_book("a", "a1", "g"), new_book("b", "b1", "g", needs=["x"]))
+# The same, and x is a group that fails.
+FAILING = (
+    new_book("x", "x1", "h"),
+    new_book("y", "dune", "h"),
+    new_book("a", "a1", "g"),
+    new_book("b", "b1", "g", needs=["h"]),
+)
+# Two groups that begin at any time and get into each other's way, and a read after one of them.
+RIVALS = (
+    new_book("a", "a1", "g"),
+    new_book("b", "b1", "g"),
+    new_book("c", "c1", "h"),
+    new_book("d", "a1", "h"),
+    request("e", "get", "Books('b1')", needs=["g"]),
+)
+
+
+class TestOrders(ServiceTest):
+    """No group holds the one writer while it waits for what waits for the writer."""
+
+    @pytest.fixture(autouse=True)
+    def clear(self, connect_client):
+        yield
+        for id in ("a1", "b1", "c1", "x1"):
+            self.client.ask("DELETE", f"/library/Books('{id}')")
+
+    def perform(self, batch, headers):
+        statuses = tuple(self.client.statuses(*batch, headers=headers).values())
+        return statuses, [id for id, *_ in rows(self.database) if id not in ("dune", "emma")]
+
+    @pytest.mark.parametrize("headers", [CONTINUE, JSON], ids=["continue", "stop"])
+    @pytest.mark.parametrize("batch, wanted", [
+        (HELD, ((201, 201, 201), ["a1", "b1", "x1"])),
+        (FAILING, ((424, 409, 424, 424), [])),
+    ], ids=["held", "failing"])  # fmt: skip
+    def test_a_group_begins_once_it_needs_nothing_outside(self, batch, wanted, headers):
+        assert self.perform(batch, headers) == wanted
+
+    @pytest.mark.parametrize("time", range(5))
+    def test_groups_take_turns(self, time):
+        found = self.perform(RIVALS, CONTINUE)
+        g_first, h_first = ((201, 201, 424, 409, 200), ["a1", "b1"]), ((409, 424, 201, 201, 424), ["a1", "c1"])
+        assert found in ([g_first, h_first] if self.options else [g_first])
+
+
+class TestOrdersInThreads(TestOrders):
+    options = {"width": 8}
+
+
 class TestReferences(ServiceTest):
     def test_a_reference_is_the_location_of_what_was_created(self):
         found = self.client.batch(
@@ -82,22 +133,26 @@ class TestReferences(ServiceTest):
         assert found["b"]["headers"]["location"] == "/library/Books('it''s%20a%2Fb%3F')"
         assert found["show"]["body"]["Title"] == "it's a/b?"
 
-    def test_a_reference_to_what_created_nothing_is_refused(self):
+    def test_a_reference_to_a_get_is_what_it_read(self):
         found = self.client.batch(
-            request("read", "get", "Books"),
-            request("use", "get", "$read", needs=["read"]),
+            request("read", "get", "Books('dune')"),
+            request("change", "patch", "$read", {"Shelf": "R"}, needs=["read"]),
+            request("again", "get", "$change", needs=["change"]),
+        )
+        assert [it["status"] for it in found.values()] == [200, 204, 200], found
+        assert found["again"]["body"]["Shelf"] == "R"
+
+    def test_a_reserved_name_is_no_reference(self):
+        found = self.client.batch(
+            request("removed", "delete", "Books('dune')", headers={"If-Match": '"none"'}),
             request("metadata", "get", "Books"),
             request("reserved", "get", "$metadata", needs=["metadata"]),
         )
-        assert [it["status"] for it in found.values()] == [200, 400, 200, 200]
-        assert found["use"]["body"]["error"]["code"] == "NoLocation"
+        assert [it["status"] for it in found.values()] == [412, 200, 200]
         assert "$EntityContainer" in found["reserved"]["body"]
 
 
 class TestPreferences(ServiceTest):
-    # One request at once, so it is known which ones come after an error.
-    options = ("--width", "1")
-
     @pytest.mark.parametrize("prefer, continues", [
         (None, False),
         ("continue-on-error", True),
@@ -123,49 +178,54 @@ class TestPreferences(ServiceTest):
 
 class TestEntities(ServiceTest):
     def test_answers_single_requests(self):
-        book = {"Id": "e1", "Title": "E", "Shelf": None, "Reader": None}
+        book = {"Id": "e1", "Title": "E", "Shelf": None, "Reader": None, "Price": None}
         location = "/library/Books('e1')"
         for method, path, body, status, shown in [
             ("POST", "/library/Books", {"Id": "e1", "Title": "E", "note@x.y": 1}, 201, book),
-            ("POST", "/Books", {"Id": "e1", "Title": "E"}, 409, None),
+            ("POST", "/library/Books", {"Id": "e1", "Title": "E"}, 409, None),
             ("GET", "/library/Books('e1')", None, 200, book),
-            ("GET", "/Books(Id='e1')?x=1", None, 200, book),
+            ("GET", "/library/Books(Id='e1')?x=1", None, 200, book),
             ("PATCH", location, {"Shelf": "A", "Id": "other"}, 204, None),
             ("PATCH", location, {}, 204, None),
             ("GET", location, None, 200, {**book, "Shelf": "A"}),
             ("PUT", location, {"Title": "F"}, 204, None),
             ("GET", location, None, 200, {**book, "Title": "F"}),
-            ("POST", "/Loans", {"Book": "e1", "Reader": 9}, 201, {"Id": 1, "Book": "e1", "Reader": 9}),
-            ("POST", "/Loans", {"Book": "nothing", "Reader": 9}, 409, None),
+            ("POST", "/library/Loans", {"Book": "e1", "Reader": 9}, 201, {"Id": 1, "Book": "e1", "Reader": 9}),
+            ("POST", "/library/Loans", {"Book": "nothing", "Reader": 9}, 409, None),
             ("DELETE", location, None, 409, None),
-            ("DELETE", "/Loans(1)", None, 204, None),
+            ("DELETE", "/library/Loans(1)", None, 204, None),
             ("DELETE", location, None, 204, None),
             ("DELETE", location, None, 404, None),
             ("PATCH", location, {}, 404, None),
-            ("GET", "/Loans(1)", None, 404, None),
-            ("GET", "/Loans('1')", None, 400, None),
-            ("GET", "/Books(1)", None, 400, None),
-            ("GET", "/Books(null)", None, 400, None),
-            ("GET", "/Books?$top=1", None, 501, None),
-            ("GET", "/Books('dune')?$select=Title", None, 501, None),
-            ("GET", "/Books?$filter=startswith(Title,'D')", None, 501, None),
-            ("GET", "/Books?$filter=Title%20eq%201", None, 400, None),
-            ("GET", "/Books('dune')/Title", None, 404, None),
+            ("GET", "/library/Loans(1)", None, 404, None),
+            ("GET", "/library/Loans('1')", None, 400, None),
+            ("GET", "/library/Books(1)", None, 400, None),
+            ("GET", "/library/Books(null)", None, 400, None),
+            ("GET", "/library/Books?$top=1", None, 501, None),
+            ("GET", "/library/Books('dune')?$select=Title", None, 501, None),
+            ("GET", "/library/Books?$filter=startswith(Title,'D')", None, 501, None),
+            ("GET", "/library/Books?$filter=Title%20eq%201", None, 400, None),
+            ("GET", "/library/Books('dune')/Title", None, 404, None),
             ("GET", "/libraryBooks", None, 404, None),
             ("GET", "/", None, 404, None),
-            ("DELETE", "/Books", None, 405, None),
-            ("POST", "/Books('dune')", {}, 405, None),
-            ("POST", "/$metadata", {}, 405, None),
-            ("GET", "/$batch", None, 405, None),
-            ("POST", "/Books", [], 400, None),
-            ("POST", "/Books", {"Id": "e2"}, 400, None),
-            ("POST", "/Books", {"Id": "e2", "Title": 7}, 400, None),
-            ("POST", "/Books", {"Id": "e2", "Title": "E", "Reader": 2**63}, 400, None),
-            ("POST", "/Books", {"Id": "e2", "Title": "E", "Reader": True}, 400, None),
-            ("POST", "/Books", {"Id": "e2", "Title": "E", "Readers": 1}, 400, None),
-            ("POST", "/Books", b'{"Id": "\\ud800", "Title": "E"}', 400, None),
-            ("POST", "/Books", b'{"Id": "e2", "Title": "E"', 400, None),
-            ("POST", "/Books", b"[" * 100_000, 400, None),
+            ("DELETE", "/library/Books", None, 405, None),
+            ("POST", "/library/Books('dune')", {}, 405, None),
+            ("POST", "/library/$metadata", {}, 405, None),
+            ("GET", BATCH_URL, None, 405, None),
+            ("POST", "/library/Books", [], 400, None),
+            ("POST", "/library/Books", {"Id": "e2"}, 400, None),
+            ("POST", "/library/Books", {"Id": "e2", "Title": 7}, 400, None),
+            ("POST", "/library/Books", {"Id": "e2", "Title": "E", "Reader": 2**63}, 400, None),
+            ("POST", "/library/Books", {"Id": "e2", "Title": "E", "Reader": True}, 400, None),
+            ("POST", "/library/Books", {"Id": "e2", "Title": "E", "Readers": 1}, 400, None),
+            ("POST", "/library/Books", b'{"Id": "\\ud800", "Title": "E"}', 400, None),
+            ("POST", "/library/Books", b'{"Id": "e2", "Title": "E"', 400, None),
+            ("POST", "/library/Books", b"[" * 100_000, 400, None),
+            ("POST", "/library/Books", b'{"Id": "e2", "Title": "E", "Price": NaN}', 400, None),
+            ("POST", "/library/Books", {"Id": "e2", "Title": "E", "Price": "9.99"}, 400, None),
+            ("POST", "/library/Books", {"Id": "e2", "Title": "E" * 2**20}, 413, None),
+            ("TRACE", "/library/Books", None, 405, None),
+            ("GET", "/library/Books('%ff')", None, 400, None),
         ]:
             found, value = self.client.ask(method, path, body)
             assert found == status, (method, path, str(body)[:40], value)
@@ -176,13 +236,13 @@ class TestEntities(ServiceTest):
 
     def test_performs_absolute_urls_of_its_own_host_alone(self):
         own = f"http://127.0.0.1:{self.service.port}"
-        urls = {f"{own}/Books": 200, "http://elsewhere/Books": 404, "http://[/Books": 400}
+        urls = {f"{own}/library/Books": 200, "http://elsewhere/library/Books": 404, f"{own}/Books": 404}
         found = self.client.statuses(*(request(f"r{k}", "get", url) for k, url in enumerate(urls)))
         assert list(found.values()) == list(urls.values())
 
     def test_lists_and_filters(self):
         status, value = self.client.ask("GET", "/library/Books?$filter=Title%20eq%20'Emma'")
-        emma = {"@etag": '"1"', "Id": "emma", "Title": "Emma", "Shelf": "A1", "Reader": None}
+        emma = {"@etag": '"1"', "Id": "emma", "Title": "Emma", "Shelf": "A1", "Reader": None, "Price": None}
         assert (status, value["value"]) == (200, [emma])
         assert value["@context"] == "/library/$metadata#Books"
 
@@ -198,27 +258,36 @@ class TestSizes(ServiceTest):
 
     def test_performs_what_the_library_has_read(self):
         document = b'{"requests":[{"id":"a","method":"GET","url":"Nothing","url":"Books","headers":{"PREFER":"x"}}]}'
-        status, value = self.client.ask("POST", "/$batch", document)
+        status, value = self.client.ask("POST", BATCH_URL, document)
         assert (status, match(document, value)) == (200, {"a": 200})
 
-    def test_refuses_a_number_that_is_not_whole(self):
-        half = {**new_book("a", "x"), "body": {"Reader": 1.5}}
-        status, value = self.client.ask("POST", "/$batch", {"requests": [half]})
-        assert (status, value["error"]["code"]) == (400, "F50")
+    @pytest.mark.parametrize("price", [b"9.990", b"12345678901234567890123", b"-0.00", b"1E+30"])
+    def test_keeps_the_digits_of_a_number(self, price):
+        """In the body of a request, in its answer, and in the database."""
+        id = price.decode()
+        create = b'{"id":"a","method":"post","url":"Books","body":{"Id":"%s","Title":"T","Price":%s}}' % (price, price)
+        show = b'{"id":"b","method":"get","url":"$a","dependsOn":["a"]}'
+        document = b'{"requests":[%s,%s]}' % (create, show)
+        status, text = self.client.ask_for_bytes("POST", BATCH_URL, document)
+        assert (status, match(document, text)) == (200, {"a": 201, "b": 200})
+        assert text.count(b'"Price":%s}' % price) == 2
+        status, text = self.client.ask_for_bytes("GET", f"/library/Books('{id.replace('+', '%2B')}')")
+        assert (status, text.endswith(b'"Price":%s}' % price)) == (200, True)
 
     def test_refuses_gets_by_which_the_response_gets_too_long(self):
-        assert self.client.ask("POST", "/Books", {"Id": "long", "Title": "t" * 1_000_000})[0] == 201
+        assert self.client.ask("POST", "/library/Books", {"Id": "long", "Title": "t" * 1_000_000})[0] == 201
         gets = [request(f"r{k}", "get", "Books('long')") for k in range(20)]
         found = self.client.batch(*gets, new_book("new", "small"), request("needs", "get", "Books", needs=["r19"]))
         statuses = [it["status"] for it in found.values()]
         assert (sorted(statuses[:20]), statuses[20]) == ([200] * 16 + [507] * 4, 201)
         refused = next(it for it in found.values() if it["status"] == 507)
         assert refused["body"]["error"]["code"] == "TooLong"
-        assert self.client.ask("DELETE", "/Books('long')")[0] == 204
+        assert self.client.ask("DELETE", "/library/Books('long')")[0] == 204
 
     def test_the_response_is_the_text_of_the_library(self):
-        status, value = self.client.ask("POST", "/$batch", {"requests": [request("a", "get", "Loans")]})
+        status, value = self.client.ask("POST", BATCH_URL, {"requests": [request("a", "get", "Loans")]})
         body = {"@context": "/library/$metadata#Loans", "value": []}
-        assert (status, value) == (200, {"responses": [{"body": body, "id": "a", "status": 200}]})
+        headers = {"content-type": "application/json", "odata-version": "4.01"}
+        assert (status, value) == (200, {"responses": [{"body": body, "headers": headers, "id": "a", "status": 200}]})
         assert self.client.headers["Content-Type"] == "application/json"
         assert int(self.client.headers["Content-Length"]) == len(json.dumps(value, separators=(",", ":")))

@@ -21,11 +21,11 @@ class TestTags(ConditionTest):
     def test_each_version_of_an_entity_has_another(self):
         path, found = "/library/Books('t')", []
         for method, target, body, status, has_tag in [
-            ("POST", "/Books", {"Id": "t", "Title": "T"}, 201, True),
+            ("POST", "/library/Books", {"Id": "t", "Title": "T"}, 201, True),
             ("PATCH", path, {"Title": "T"}, 204, True),
             ("PUT", path, {"Title": "T"}, 204, False),
             ("DELETE", path, None, 204, False),
-            ("POST", "/Books", {"Id": "t", "Title": "T"}, 201, True),
+            ("POST", "/library/Books", {"Id": "t", "Title": "T"}, 201, True),
         ]:
             assert self.client.ask(method, target, body)[0] == status
             shown = self.client.headers["ETag"]
@@ -37,7 +37,7 @@ class TestTags(ConditionTest):
 
     def test_lists_have_them_and_change_none(self):
         before = self.tag()
-        _, value = self.client.ask("GET", "/Books")
+        _, value = self.client.ask("GET", "/library/Books")
         assert self.client.headers["ETag"] is None
         assert [it["@etag"] for it in value["value"] if it["Id"] == "dune"] == [before]
         assert self.client.ask("PATCH", DUNE, {"Title": 7})[0] == 400
@@ -56,7 +56,7 @@ class TestTags(ConditionTest):
         for status in (204, 412):
             with Process(path) as service:
                 with service.client() as client:
-                    found = client.ask("PATCH", "/Books('old')", {"Shelf": "A"}, {**JSON, "If-Match": '"1"'})[0]
+                    found = client.ask("PATCH", "/library/Books('old')", {"Shelf": "A"}, {**JSON, "If-Match": '"1"'})[0]
                 assert (found, service.stop()) == (status, 0)
 
 
@@ -120,14 +120,14 @@ class TestPreconditions(ConditionTest):
                 before = rows(self.database)
                 assert self.client.ask(method, DUNE, body, {**JSON, name: value})[0] == 412
                 assert rows(self.database) == before
-        assert self.client.ask("POST", "/Books", {"Id": "d", "Title": "D"})[0] == 201
+        assert self.client.ask("POST", "/library/Books", {"Id": "d", "Title": "D"})[0] == 201
         headers = {"If-Match": self.client.headers["ETag"]}
-        assert self.client.ask("DELETE", "/Books('d')", None, headers)[0] == 204
+        assert self.client.ask("DELETE", "/library/Books('d')", None, headers)[0] == 204
 
     def test_other_errors_come_first(self):
         for headers in ({"If-Match": '"no"'}, {"If-Match": "*"}, {"If-None-Match": "*"}):
-            assert self.client.ask("PATCH", "/Books('none')", {}, {**JSON, **headers})[0] == 404
-            assert self.client.ask("GET", "/Books?$filter=Pages%20eq%201", None, headers)[0] == 501
+            assert self.client.ask("PATCH", "/library/Books('none')", {}, {**JSON, **headers})[0] == 404
+            assert self.client.ask("GET", "/library/Books?$filter=Pages%20eq%201", None, headers)[0] == 501
             assert self.client.ask("POST", DUNE, {}, {**JSON, **headers})[0] == 405
         # But not those of the body.
         assert self.client.ask("PATCH", DUNE, [], {**JSON, "If-Match": '"no"'})[0] == 412
@@ -135,8 +135,8 @@ class TestPreconditions(ConditionTest):
     def test_of_a_set_which_has_no_tag(self):
         book = {"Id": "s", "Title": "S"}
         for headers, status in [({"If-Match": '"1"'}, 412), ({"If-None-Match": "*"}, 412), ({"If-Match": "*"}, 201)]:
-            assert self.client.ask("POST", "/Books", book, {**JSON, **headers})[0] == status
-        assert self.client.ask("GET", "/Books", None, {"If-None-Match": '"1"'})[0] == 200
+            assert self.client.ask("POST", "/library/Books", book, {**JSON, **headers})[0] == status
+        assert self.client.ask("GET", "/library/Books", None, {"If-None-Match": '"1"'})[0] == 200
 
 
 class TestInBatches(ConditionTest):
@@ -148,7 +148,7 @@ class TestInBatches(ConditionTest):
             found = self.client.batch(*batch, headers=headers)
             assert [it["status"] for it in found.values()] == [304, 424, 201]
             assert set(found["shown"]) == {"id", "status", "headers"}
-            assert self.client.ask("DELETE", "/Books('after304')")[0] == 204
+            assert self.client.ask("DELETE", "/library/Books('after304')")[0] == 204
 
     def test_a_precondition_that_fails_undoes_its_group(self):
         before = rows(self.database)
@@ -187,12 +187,13 @@ class TestInBatches(ConditionTest):
             change("stale", "3", "shown", ["again", "shown"]),
             request("list", "get", "Books", needs=["again"]),
             change("none", "4", "list", ["list"]),
-            change("early", "5", "again", ["list"]),
+            change("early", "5", "late", ["list"]),
+            request("late", "get", "Books('emma')"),
         )
-        assert [it["status"] for it in found.values()] == [200, 204, 204, 412, 200, 400, 400]
+        assert [it["status"] for it in found.values()] == [200, 204, 204, 412, 200, 424, 400, 200]
         for id in ("none", "early"):
             assert found[id]["body"]["error"]["code"] == "NoETag"
-        assert self.client.ask("GET", "/Books('emma')")[1]["Shelf"] == "2"
+        assert self.client.ask("GET", "/library/Books('emma')")[1]["Shelf"] == "2"
 
 
 class TestFormats(ServiceTest):
@@ -211,15 +212,16 @@ class TestFormats(ServiceTest):
         ({"Accept": "application/*;q=0, */*"}, 406),
     ])  # fmt: skip
     def test_refuses_clients_that_cannot_read_the_answer(self, headers, status):
-        assert self.client.ask("GET", "/Books", None, headers)[0] == status
-        batch = {"requests": [request("a", "get", "Books", headers=headers)]}
-        assert self.client.ask("POST", "/$batch", batch, {**JSON, **headers})[0] == status
-        assert self.client.statuses(*batch["requests"]) == {"a": status}
+        assert self.client.ask("GET", "/library/Books", None, headers)[0] == status
+        assert self.client.statuses(request("a", "get", "Books", headers=headers)) == {"a": status}
+
+    def test_the_version_of_a_batch_is_that_of_its_requests(self):
+        headers = {**CONTINUE, "OData-MaxVersion": "2.0"}
+        assert self.client.statuses(request("a", "get", "Books"), headers=headers) == {"a": 400}
 
     def test_such_a_client_changes_nothing(self):
         before = rows(self.database)
         for headers, status in ({"Accept": "text/html"}, 406), ({"OData-MaxVersion": "3.0"}, 400):
             assert self.client.ask("DELETE", DUNE, None, headers)[0] == status
-            batch = {"requests": [request("a", "delete", "Books('dune')")]}
-            assert self.client.ask("POST", "/$batch", batch, {**JSON, **headers})[0] == status
+            assert self.client.statuses(request("a", "delete", "Books('dune')", headers=headers)) == {"a": status}
         assert rows(self.database) == before

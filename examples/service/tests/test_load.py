@@ -3,17 +3,20 @@
 import json
 import os
 import re
+import sqlite3
 from concurrent.futures import ThreadPoolExecutor
+from contextlib import closing
 from random import Random
 
 import pytest
 
-from common import CONTINUE, JSON, ROOT, ServiceTest, rows, until
-from model import Library, good_batch
+from common import BATCH_URL, CONTINUE, JSON, ROOT, ServiceTest, until
+from model import PROPERTIES, Library, good_batch
 from odb_batch import match
 
 CLIENTS, BATCHES = 8, 200
-LINE = re.compile(r"batch (\d+): (?:(commit) (\S+)|(\S+) (get|post|patch|put|delete) .* (\d+))$")
+# A commit, or a request with its id, which the tests add to its query.
+LINE = re.compile(r" (?:(commit) \S*|[A-Z]+ .*n=([\w.]+)['\"] (\d+))$")
 
 
 class Course:
@@ -65,10 +68,10 @@ class Course:
         differences = []
         for line in log:
             found = LINE.search(line)
-            if found and found[2]:
+            if found and found[1]:
                 self.commit()
             elif found:
-                differences.append(self.take(found[4], int(found[6])))
+                differences.append(self.take(found[2], int(found[3])))
         return [it for it in differences if it]
 
 
@@ -90,6 +93,15 @@ def documents():
     return found + [example(name, f"{name}{k}") for name in ("usual", "references") for k in range(CLIENTS)]
 
 
+def marked(batch):
+    """The batch with the id of each request in its query, which the log of the service shows."""
+
+    def url(request):
+        return f"{request['url']}{'&' if '?' in request['url'] else '?'}n={request['id']}"
+
+    return {"requests": [{**it, "url": url(it)} for it in batch["requests"]]}
+
+
 @pytest.mark.slow
 class TestLoad(ServiceTest):
     batches = documents()
@@ -99,7 +111,8 @@ class TestLoad(ServiceTest):
         found = {}
         with self.service.client() as client:
             for k in numbers:
-                status, value = client.ask("POST", "/$batch", self.batches[k], CONTINUE if k % 4 else JSON)
+                document = marked(self.batches[k])
+                status, value = client.ask("POST", BATCH_URL, document, CONTINUE if k % 4 else JSON)
                 if status != 200:
                     raise AssertionError(f"batch {k} was answered {status}: {value}")
                 found[k] = value
@@ -109,12 +122,11 @@ class TestLoad(ServiceTest):
         shares = [range(first, len(self.batches), CLIENTS) for first in range(CLIENTS)]
         with ThreadPoolExecutor(CLIENTS) as pool:
             found = {k: value for part in pool.map(self.ask, shares) for k, value in part.items()}
-        log = until(lambda: list(self.service.log), lambda it: sum("POST" in line for line in it) == len(self.batches))
+        assert self.service.stop() == 0
         course = Course(self.batches)
-        assert course.follow(log) == []
+        assert course.follow(self.service.lines) == []
         for name in ("Books", "Loans"):
-            kept = [row[:-1] for row in rows(self.database, name)]  # without their versions
-            assert kept == [tuple(it.values()) for it in course.library.listed(name)]
+            assert self.kept(name) == [tuple(it.values()) for it in course.library.listed(name)]
         succeeded = 0
         for k, batch in enumerate(self.batches):
             statuses = match(batch, found[k])
@@ -124,15 +136,23 @@ class TestLoad(ServiceTest):
         assert succeeded > BATCHES
         assert len(course.versions) > BATCHES / 2
 
+    def kept(self, name):
+        """The rows of a table with the properties that the plain program has."""
+        with closing(sqlite3.connect(self.database)) as database:
+            return database.execute(f"SELECT {', '.join(PROPERTIES[name])} FROM {name} ORDER BY 1").fetchall()
+
     def assert_fits(self, course, response):
         """The response is that of the log or 424. A read shows what was committed, or what its group has written."""
         id, status = response["id"], response["status"]
         assert status in (course.statuses.get(id), 424)
         if status == 200 and course.requests[id]["url"] in ("Books", "Loans"):
             name = course.requests[id]["url"]
-            shown = [{key: it[key] for key in it if key != "@etag"} for it in response["body"]["value"]]
+            shown = [{key: it[key] for key in PROPERTIES[name]} for it in response["body"]["value"]]
             if id in course.reads:
-                # The line of a commit may come after that of a read that shows it.
-                assert shown in [it[name] for it in course.versions[: course.reads[id] + 1]]
+                assert shown in [it[name] for it in course.versions[: course.reads[id]]]
             else:
                 assert shown == course.seen[id]
+
+
+class TestLoadInThreads(TestLoad):
+    options = {"width": 4}

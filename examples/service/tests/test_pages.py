@@ -5,15 +5,15 @@ import os
 import re
 import shlex
 import socket
+import sqlite3
 import subprocess
+from contextlib import closing, contextmanager
+from contextvars import ContextVar
 
 import pytest
 
 from common import ROOT, SECONDS
 from support.commands import with_package
-
-SERVICE = os.path.join(ROOT, "examples", "service")
-
 
 def page(*names):
     with open(os.path.join(ROOT, *names), encoding="utf-8") as file:
@@ -33,8 +33,30 @@ def commands_of_readme():
 
 
 def test_the_pages_have_the_same_commands():
-    shown = re.search("```sh\n(.*?)```", page("docs", "service.md"), re.DOTALL)[1]
+    shown = re.search("```sh\n(bin/odb_library .*?)```", page("docs", "service.md"), re.DOTALL)[1]
     assert commands_of_readme() == shown.splitlines()
+
+
+def answers(words, until, ask, **variables):
+    """The statuses of what a service answers to the batch that a command sends; it has to end with 0."""
+    pipes = {"stdout": subprocess.DEVNULL, "stderr": subprocess.PIPE, "text": True}
+    with subprocess.Popen(words, cwd=ROOT, env={**with_package(), **variables}, **pipes) as service:
+        try:
+            assert any(until in line for line in service.stderr)
+            done = subprocess.run(
+                ["bash", "-c", ask], cwd=ROOT, stdout=subprocess.PIPE, stderr=subprocess.DEVNULL, timeout=SECONDS
+            )
+        finally:
+            service.terminate()
+            try:
+                service.communicate(timeout=SECONDS)
+            finally:
+                service.kill()
+    assert service.returncode == 0
+    return {it["id"]: it["status"] for it in json.loads(done.stdout)["responses"]}
+
+
+GOOD = {"book": 200, "mark": 204, "loan": 201, "list": 200}
 
 
 @pytest.mark.needs("curl")
@@ -44,27 +66,38 @@ def test_the_commands_of_the_readme_answer_the_batch():
     assert start.startswith("PYTHONPATH=python ")
     port = free_port()
     words = [*shlex.split(start)[1:], "--port", port]
-    with subprocess.Popen(words, cwd=ROOT, stderr=subprocess.PIPE, env=with_package()) as service:
-        try:
-            assert b"listening" in service.stderr.readline()
-            done = subprocess.run(
-                ["bash", "-c", ask.replace("localhost:8080", f"127.0.0.1:{port}")],
-                cwd=ROOT, stdout=subprocess.PIPE, stderr=subprocess.DEVNULL, timeout=SECONDS,
-            )  # fmt: skip
-        finally:
-            service.terminate()
-            try:
-                service.communicate(timeout=SECONDS)
-            finally:
-                service.kill()
-    found = {it["id"]: it["status"] for it in json.loads(done.stdout)["responses"]}
-    assert found == {"book": 200, "mark": 204, "loan": 201, "list": 200}
-    assert service.returncode == 0
+    assert answers(words, "listening", ask.replace("localhost:8080", f"127.0.0.1:{port}")) == GOOD
 
 
-def test_the_excerpts_are_in_the_source():
-    modules = [page("examples", "service", name) for name in os.listdir(SERVICE) if name.endswith(".py")]
-    excerpts = re.findall("```python\n(.*?)```", page("docs", "service.md"), re.DOTALL)
-    assert len(excerpts) == 2
-    for excerpt in excerpts:
-        assert any(excerpt in module for module in modules), excerpt
+@pytest.mark.needs("curl", "gunicorn")
+def test_gunicorn_by_the_command_of_the_page_answers_the_batch(tmp_path):
+    start = re.search("```sh\nPYTHONPATH=python (gunicorn .*?)\n```", page("docs", "service.md"))[1]
+    port = free_port()
+    words = [*start.split(), "--bind", f"127.0.0.1:{port}", "--workers", "1"]
+    ask = commands_of_readme()[2].replace("localhost:8080", f"127.0.0.1:{port}")
+    assert answers(words, " answers", ask, LIBRARY=str(tmp_path / "library.sqlite")) == GOOD
+
+
+def excerpts():
+    return re.findall("```python\n(.*?)```", page("docs", "service.md"), re.DOTALL)
+
+
+def test_the_transaction_of_the_page_commits_and_rolls_back(tmp_path):
+    path = str(tmp_path / "some.sqlite")
+    names = {"PATH": path, **{it.__name__: it for it in (ContextVar, contextmanager, closing, sqlite3)}}
+    exec(excerpts()[0], names)
+    group, current = names["group"], names["GROUP"]
+    with group("made"):
+        current.get().execute("CREATE TABLE Books (Id)")
+        current.get().execute("INSERT INTO Books VALUES ('kept')")
+    with pytest.raises(KeyError), group("fails"):
+        current.get().execute("INSERT INTO Books VALUES ('lost')")
+        raise KeyError
+    assert current.get() is None
+    with closing(sqlite3.connect(path)) as database:
+        assert database.execute("SELECT * FROM Books").fetchall() == [("kept",)]
+
+
+def test_the_line_of_the_page_is_in_the_source():
+    _, line = excerpts()
+    assert line in page("examples", "service", "app.py")

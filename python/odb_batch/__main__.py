@@ -1,0 +1,34 @@
+"""The commands of the package for Python: `python3 -m odb_batch COMMAND ..`. The others are those of the program."""
+
+import argparse
+import importlib
+import sys
+from typing import Sequence
+
+# Each command: the module whose `main` takes the words after it and returns the exit status, and what it does.
+COMMANDS = {
+    "conformance": ("odb_batch.conformance._tool", "judges whether a service keeps what a batch promises"),
+}
+
+
+def parser() -> argparse.ArgumentParser:
+    lines = "".join(f"\n  {name:14}{shows}" for name, (_, shows) in COMMANDS.items())
+    found = argparse.ArgumentParser(
+        prog="python3 -m odb_batch",
+        usage="%(prog)s COMMAND ..",
+        epilog=f"commands, each with an option --help of its own:{lines}",
+        formatter_class=argparse.RawDescriptionHelpFormatter,
+    )
+    found.add_argument("command", metavar="COMMAND", choices=COMMANDS, help="what to do")
+    return found
+
+
+def main(words: Sequence[str]) -> int:
+    """Does what the words of a command line ask; returns the exit status."""
+    command = parser().parse_args(words[:1]).command
+    status: int = importlib.import_module(COMMANDS[command][0]).main(words[1:])
+    return status
+
+
+if __name__ == "__main__":
+    sys.exit(main(sys.argv[1:]))

@@ -1,0 +1,47 @@
+"""All cases: each writes one batch that shows whether a service keeps a promise."""
+
+import fnmatch
+from typing import List, Sequence
+
+from ._alone import alone
+from ._failures import failing_groups, failing_long_groups, one_failure
+from ._flows import FLOWS, longest
+from ._names import names
+from ._promises import Case
+from ._references import references
+from ._waits import waits
+
+# How many requests the longest batch may have, and how many it has if nobody says.
+MOST_REQUESTS, REQUESTS = 10_000, 100
+
+
+def all_cases(requests: int) -> List[Case]:
+    """All cases, in the order in which they are run; `requests` is how many the longest batch has."""
+    return [
+        *FLOWS,
+        *alone(),
+        *waits(),
+        *names(),
+        *references(),
+        *one_failure("missing"),
+        *failing_groups(),
+        *longest(requests),
+        *failing_long_groups(requests),
+    ]
+
+
+def cases_like(globs: Sequence[str], requests: int) -> List[Case]:
+    """The cases of which the name fits one of some globs, in the order in which they are run."""
+    return [it for it in all_cases(requests) if any(fnmatch.fnmatchcase(it.name, glob) for glob in globs)]
+
+
+def conformance_cases(glob: str = "*") -> List[str]:
+    """Returns the names of the cases that fit a pattern, as ``"group-*"``, in the order in which the tool runs them.
+
+    Raises:
+        ValueError: No case has such a name.
+    """
+    found = [it.name for it in cases_like([glob], REQUESTS)]
+    if not found:
+        raise ValueError(f"no case has a name like {glob!r}")
+    return found

@@ -1,0 +1,303 @@
+"""The entities that are made in the service to judge it by."""
+
+import itertools
+import secrets
+import uuid
+from typing import Any, Callable, Dict, Iterator, List, NamedTuple, Optional, Sequence, Tuple
+from urllib.parse import quote
+
+from ._service import GONE, Answer, Service, Unusable
+
+# How many pages of a set are listed, and how many entities of it. A set with more is not listed.
+MAX_PAGES, MAX_LISTED = 100, 5_000
+
+Listing = Dict[str, Dict[str, Any]]
+
+
+class Entity(NamedTuple):
+    """An entity that was made, or that a body would make.
+
+    Attributes:
+        url: Its URL; empty if the service makes the key and it is not made yet.
+        body: The body that makes it.
+        key: Its key, or None as the URL.
+        mark: What its text property has, by which it differs from all others; None without such a property.
+    """
+
+    url: str
+    body: Dict[str, Any]
+    key: Any = None
+    mark: Any = None
+
+
+class Effect(NamedTuple):
+    """What shows that a request was performed.
+
+    Attributes:
+        url: The URL of its entity; empty if that is found by its mark alone.
+        is_there: Whether the entity is there afterwards.
+        mark: What its text property has then, or None if that says nothing.
+    """
+
+    url: str
+    is_there: bool
+    mark: Any = None
+
+
+# Keys that a service may take, and None for one that makes its own: each is tried in turn.
+KEYS: Tuple[Callable[[], Any], ...] = (
+    lambda: f"conformance-{secrets.token_hex(6)}",
+    lambda: str(uuid.uuid4()),
+    lambda: secrets.randbelow(2_000_000_000),
+    lambda: None,
+)
+
+
+def literals(value: Any) -> Iterator[str]:
+    """How a value may be written in a URL."""
+    if isinstance(value, str):
+        yield quote("'" + value.replace("'", "''") + "'", safe="'")
+    yield quote(str(value), safe="")
+
+
+class Entities:
+    """The entities that are made in one set. All of them are known, so that they can be removed.
+
+    Attributes:
+        made: The URLs of what may be there, by their addresses.
+        left: The URLs of what could not be removed.
+        are_named: Whether the client gives the keys. Otherwise the URL of an entity is known once it is made.
+        text: The property whose value may be any text or number; None if there is none.
+        lacks: What the service does not have, with the reason to print: names of `learning.LACKS`.
+        before: What the set has besides, if it can be listed.
+        spare, lent: What requests read and change, and no request removes; it lasts from case to case.
+    """
+
+    def __init__(self, service: Service, entity_set: str, key: str, body: Dict[str, Any]) -> None:
+        self.service, self.set, self.key, self.body = service, entity_set, key, body
+        self.made: Dict[str, str] = {}
+        self.left: List[str] = []
+        self.new_key: Callable[[], Any] = KEYS[-1]
+        self.are_named, self.are_quoted = False, True
+        self.text: Optional[str] = None
+        self.numbers = itertools.count(secrets.randbelow(8_000) + 1_000)
+        self.lacks: Dict[str, str] = {}
+        self.before: Optional[Listing] = None
+        self.spare: List[Entity] = []
+        self.lent: List[Entity] = []
+
+    def learn_keys(self) -> None:
+        """Makes one entity, to learn how keys are given and written; raises Unusable if none can be made."""
+        refusals = []
+        for new_key in KEYS:
+            key = new_key()
+            answer = self.post(self.body_with(key))
+            if answer.is_success:
+                value = self.key_of(answer)
+                self.are_named = key is not None and value == key
+                self.new_key = new_key if self.are_named else KEYS[-1]
+                self._learn_to_write(value, answer)
+                return
+            refusals.append(answer)
+        raise Unusable(f"{self.set} takes no entity: POST {self.service.root}{self.set} is answered {refusals[-1]}")
+
+    def _learn_to_write(self, value: Any, answer: Answer) -> None:
+        """Finds out how the key of an entity that is there is written in its URL."""
+        for at, literal in enumerate(literals(value)):
+            url = f"{self.set}({literal})"
+            if self.read(url) is not None:
+                self._found(url, answer)
+                self.are_quoted = at == 0
+                return
+        raise Unusable(f"{self.service.root}{self.set}({next(literals(value))}) was created, and cannot be read")
+
+    # Making
+
+    def body_with(self, key: Any, mark: Any = None) -> Dict[str, Any]:
+        """The body of an entity with a key, if there is one, and a mark."""
+        given = {name: it for name, it in self.body.items() if name != self.key}
+        if self.text is not None and mark is not None:
+            given[self.text] = mark
+        return given if key is None else {self.key: key, **given}
+
+    def change(self, act: str, mark: Any) -> Dict[str, Any]:
+        """The body of a PATCH or of a PUT that writes a mark."""
+        return {self.text: mark} if act == "patch" and self.text else self.body_with(None, mark)
+
+    def new_mark(self) -> Any:
+        """A value of the text property that no other entity has; None without such a property."""
+        if self.text is None:
+            return None
+        number = next(self.numbers)
+        return number if isinstance(self.body[self.text], int) else f"c{number}{secrets.token_hex(1)}"
+
+    def fresh(self) -> Entity:
+        """An entity that is not there yet, for a batch to create."""
+        key, mark = self.new_key(), self.new_mark()
+        url = self.url_of(key) if self.are_named else ""
+        if url:
+            self.note(url)
+        return Entity(url, self.body_with(key, mark), key, mark)
+
+    def make(self) -> Entity:
+        """Makes an entity by a plain request."""
+        entity = self.fresh()
+        answer = self.post(entity.body)
+        if not answer.is_success:
+            raise Unusable(f"POST {self.service.root}{self.set} is answered {answer}, and was answered 2xx before")
+        key = entity.key if self.are_named else self.key_of(answer)
+        url = entity.url or self.url_of(key)
+        self._found(url, answer)
+        return entity._replace(url=url, key=key)
+
+    def borrow(self) -> Entity:
+        """An entity that is there, and lasts: requests may read and change it."""
+        if self.before is None:
+            return self.make()
+        self.lent.append(self.spare.pop() if self.spare else self.make())
+        return self.lent[-1]
+
+    def settle(self, listing: Listing) -> None:
+        """Ends a case of which all batches are answered: what was lent lasts, and what the set has not is forgotten."""
+        for entity in self.lent:
+            shown = listing.get(entity.url)
+            if shown is not None:
+                self.spare.append(entity._replace(mark=shown.get(self.text or "")))
+        self.lent = []
+        spare = {it.url for it in self.spare}
+        known = {**listing, **dict.fromkeys(spare, {})}
+        # A URL of another form, as of a Location, may be that of any entity.
+        self.made = {
+            address: url for address, url in self.made.items() if url in known or not url.startswith(f"{self.set}(")
+        }
+
+    def missing(self) -> Entity:
+        """An entity that is not there and that nothing creates."""
+        if self.are_named:
+            key = self.new_key()
+            return Entity(self.url_of(key), self.body_with(key, self.new_mark()), key)
+        entity = self.make()
+        self.service.ask("DELETE", entity.url)
+        return entity
+
+    def post(self, body: Any, headers: Dict[str, str] = {}) -> Answer:
+        """Posts to the set, and notes what that creates."""
+        answer = self.service.ask("POST", self.set, body, headers)
+        if answer.is_success:
+            self.note(answer.headers.get("location", ""))
+        return answer
+
+    # Finding
+
+    def url_of(self, key: Any) -> str:
+        return f"{self.set}({list(literals(key))[0 if self.are_quoted else -1]})"
+
+    def url_of_marked(self, mark: Any) -> str:
+        """The URL of the entities that have a mark, by a query option."""
+        return f"{self.set}?$filter={self.text}%20eq%20{next(literals(mark))}"
+
+    def key_of(self, answer: Answer) -> Any:
+        """The key of an entity that was created, by its representation, or by what its Location shows."""
+        shown = answer.value
+        if not isinstance(shown, dict) and "location" in answer.headers:
+            shown = self.service.ask("GET", answer.headers["location"]).value
+        if not isinstance(shown, dict) or not isinstance(shown.get(self.key), (str, int)):
+            raise Unusable(f"an entity of {self.set} was created, and its answer has no key {self.key}")
+        return shown[self.key]
+
+    def read(self, url: str) -> Optional[Dict[str, Any]]:
+        """The entity at a URL, by a plain request; None if it is not there."""
+        answer = self.service.ask("GET", url)
+        if answer.is_success:
+            return answer.value if isinstance(answer.value, dict) else {}
+        if answer.status in GONE:
+            return None
+        raise Unusable(f"GET {self.service.root}{url} is answered {answer}")
+
+    def listed(self) -> Optional[Listing]:
+        """The whole set by URLs, by plain requests; None if it cannot be listed."""
+        found: Listing = {}
+        url = self.set
+        for _ in range(MAX_PAGES):
+            page = self.service.ask("GET", url).value
+            rows = page.get("value") if isinstance(page, dict) else None
+            if not isinstance(rows, list) or not all(isinstance(it, dict) and self.key in it for it in rows):
+                return None
+            found.update({self.url_of(it[self.key]): it for it in rows})
+            url = page.get("@odata.nextLink") or page.get("@nextLink")
+            if len(found) > MAX_LISTED:
+                return None
+            if not url:
+                return found
+        return None
+
+    def appeared(self) -> Optional[Listing]:
+        """What the set has and had not before, as far as the tool's own body may have made it; all of it is noted."""
+        found = self.listed() if self.before is not None else None
+        if found is None or self.before is None:
+            return None
+        given = {name: it for name, it in self.body.items() if name not in (self.key, self.text)}
+        own = {
+            url: it
+            for url, it in found.items()
+            if url not in self.before
+            and (self.service.address(url) in self.made or all(it.get(name) == value for name, value in given.items()))
+        }
+        for url in own:
+            self.note(url)
+        return own
+
+    def marks(self, listing: Optional[Listing]) -> List[Any]:
+        """The marks of what is listed."""
+        return [it.get(self.text) for it in (listing or {}).values()] if self.text is not None else []
+
+    def is_shown(self, effect: Effect, listing: Optional[Listing]) -> bool:
+        """Whether an effect shows, in a listing or by a plain request."""
+        if not effect.url:
+            return (effect.mark in self.marks(listing)) == effect.is_there
+        entity = self.read(effect.url) if listing is None else listing.get(effect.url)
+        if entity is None or not effect.is_there:
+            return (entity is None) != effect.is_there
+        return effect.mark is None or entity.get(self.text or "") == effect.mark
+
+    # Removing
+
+    def note(self, url: str) -> None:
+        """Notes what may be there, to remove it."""
+        if url:
+            self.made.setdefault(self.service.address(url), url)
+
+    def _found(self, url: str, answer: Answer) -> None:
+        """Notes what was created by its own URL, in place of its Location."""
+        self.made.pop(self.service.address(answer.headers.get("location", "")), None)
+        self.note(url)
+
+    def clear(self, lasting: Sequence[Entity] = ()) -> None:
+        """Removes all that was made, but for what is to last. What is not removed yet stays in made."""
+        here, kept = self.service.address("/"), {it.url for it in lasting}
+        self.lent = []
+        for address, url in [it for it in self.made.items() if it[1] not in kept]:
+            try:
+                # What leads to another server is left there.
+                if not address.startswith(here) or not self._remove(url):
+                    self.left.append(url)
+                    if self.before is not None:
+                        self.before[url] = {}
+                self.made.pop(address, None)
+            except Unusable:
+                self.left += self.made.values()
+                self.made = {}
+                break
+
+    def forget(self) -> List[str]:
+        """Forgets what could not be removed; returns its URLs."""
+        found = [*self.left, *self.made.values()]
+        self.left, self.made = [], {}
+        return found
+
+    def _remove(self, url: str) -> bool:
+        """Removes an entity; returns whether it is gone."""
+        answer = self.service.ask("DELETE", url)
+        if answer.status == 428:
+            answer = self.service.ask("DELETE", url, headers={"If-Match": "*"})
+        return answer.is_success or answer.status in GONE or self.read(url) is None

@@ -1,0 +1,162 @@
+"""Cases in which a request fails."""
+
+from functools import partial
+from typing import Callable, List, Tuple
+
+from ._flows import chain, group
+from ._kinds import KINDS, fail
+from ._promises import Case
+from ._stage import Stage
+
+
+def among_others(stage: Stage, kind: str) -> None:
+    stage.write("a")
+    fail(stage, "bad", kind)
+    stage.write("b")
+    stage.write("c")
+    stage.look("l", "b", needs=["b"])
+
+
+def failing_chain(stage: Stage, kind: str, at: int) -> None:
+    for k in range(5):
+        needs = [f"c{k - 1}"] if k else []
+        if k == at:
+            fail(stage, f"c{k}", kind, needs=needs)
+        else:
+            stage.write(f"c{k}", needs=needs)
+
+
+def fan_in(stage: Stage, kind: str) -> None:
+    for k in range(4):
+        stage.write(f"w{k}")
+    fail(stage, "bad", kind)
+    stage.write("all", needs=["w0", "w1", "w2", "w3", "bad"])
+    stage.write("first", needs=["bad", "w0", "w1"])
+    stage.write("good", needs=["w0", "w1", "w2", "w3"])
+
+
+def fan_out(stage: Stage, kind: str) -> None:
+    fail(stage, "bad", kind)
+    for k in range(4):
+        stage.write(f"w{k}", needs=["bad"])
+    stage.read("r", needs=["bad"])
+    stage.write("w")
+
+
+def reference_failed(stage: Stage, kind: str) -> None:
+    fail(stage, "bad", kind)
+    stage.add("get", "get", "$bad", needs=["bad"])
+
+
+def failing_group(stage: Stage, kind: str, at: int, size: int = 4) -> None:
+    """A group that fails at one member, what needs it, and what does not."""
+    for k in range(size):
+        if k == at:
+            fail(stage, f"g{k}", kind, group="g")
+        else:
+            stage.write(f"g{k}", group="g")
+    stage.write("needs", needs=["g"])
+    stage.write("other")
+
+
+def failing_group_in_order(stage: Stage, kind: str) -> None:
+    """A group in which each member depends on the one before it, and which creates an entity and changes that."""
+    subject = stage.create("g0", group="g")
+    stage.act("g1", "read", subject, "$g0", group="g", needs=["g0"])
+    stage.write("g2", group="g", needs=["g1"])
+    fail(stage, "g3", kind, group="g", needs=["g2"])
+    stage.write("needs", needs=["g"])
+
+
+def group_after_failure(stage: Stage, kind: str) -> None:
+    fail(stage, "bad", kind)
+    group(stage, needs=["bad"])
+    stage.write("w", needs=["g"])
+
+
+def late_failure(stage: Stage, kind: str) -> None:
+    fail(stage, "bad", kind)
+    for k in range(3):
+        stage.write(f"g{k}", group="g", needs=["bad"] if k == 2 else [])
+
+
+def groups_after_failure(stage: Stage, kind: str) -> None:
+    failing_group(stage, kind, 1)
+    group(stage, "h", ["g"])
+    group(stage, "k")
+    stage.write("w", needs=["h"])
+
+
+def at_once(stage: Stage, kind: str) -> None:
+    """Batches at the same time, in each of which a group fails and one does not."""
+    failing_group(stage, kind, 2)
+    group(stage, "h")
+    stage.write("last", needs=["h"])
+
+
+def stop_after_failure(stage: Stage, kind: str) -> None:
+    fail(stage, "bad", kind)
+    chain(stage, 30)
+
+
+def stop_after_group(stage: Stage, kind: str) -> None:
+    for k in range(2):
+        stage.write(f"g{k}", group="g")
+    fail(stage, "g2", kind, group="g")
+    chain(stage, 30)
+
+
+def stop_before_failure(stage: Stage, kind: str) -> None:
+    chain(stage, 4)
+    fail(stage, "bad", kind, needs=["c3"])
+    stage.write("w", needs=["bad"])
+
+
+Failing = Callable[[Stage, str], None]
+FAILING: Tuple[Tuple[str, str, str, Failing, bool], ...] = (
+    ("failure-among-others", "continue", "requests beside one that fails are performed", among_others, False),
+    ("failing-fan-in", "failed", "writes depend on some requests, of which one fails", fan_in, False),
+    ("failing-fan-out", "failed", "five requests depend on one that fails", fan_out, False),
+    ("reference-failed", "failed", "a read of what a failed request should have created", reference_failed, False),
+    ("group-after-failure", "failed", "a group depends on a request that fails", group_after_failure, False),
+    ("group-late-failure", "failed", "one member of a group depends on a failure", late_failure, False),
+    ("groups-after-failure", "failed", "a group depends on one that fails, one does not", groups_after_failure, False),
+    ("group-fails-in-order", "group", "a group in a row fails at its end", failing_group_in_order, False),
+    ("stop-after-failure", "stop", "thirty requests in a row after one that fails", stop_after_failure, True),
+    ("stop-after-group", "stop", "thirty requests in a row after a group that fails", stop_after_group, True),
+    ("stop-before-failure", "stop", "what came before the error is performed", stop_before_failure, True),
+)
+
+
+def one_failure(kind: str) -> List[Case]:
+    """The cases with one failing request in different places."""
+    found = []
+    for at, place in ((0, "first"), (2, "third"), (4, "last")):
+        write = partial(failing_chain, kind=kind, at=at)
+        found.append(Case(f"chain-fails-{place}", "failed", f"of five in a row the {place} fails", write, kind=kind))
+    for name, promise, shows, function, stops in FAILING:
+        found.append(Case(name, promise, shows, partial(function, kind=kind), stops, kind))
+    shows = "four batches at the same time, with a group that fails"
+    return [*found, Case("failing-at-once", "group", shows, partial(at_once, kind=kind), kind=kind, at_once=4)]
+
+
+def failing_groups() -> List[Case]:
+    """A group of four, which fails at each of its members in each way."""
+    found = []
+    for kind, described in KINDS.items():
+        for at, place in enumerate(("first", "second", "third", "fourth")):
+            write = partial(failing_group, kind=kind, at=at)
+            shows = f"a group fails at its {place} member, by {described.text}"
+            found.append(Case(f"group-fails-{kind}-{at + 1}", "group", shows, write, kind=kind))
+    return found
+
+
+def failing_long_groups(requests: int) -> List[Case]:
+    """Groups with as many requests as the service takes, which fail at the first, a middle and the last member."""
+    size = max(requests - 2, 1)
+    found = []
+    for at, place in ((0, "first"), (size // 2, "middle"), (size - 1, "last")):
+        write = partial(failing_group, kind="missing", at=at, size=size)
+        shows = f"a group of {size} requests fails at its {place} member"
+        found.append(Case(f"group-many-{place}", "group", shows, write, kind="missing", may_be_refused=True))
+    return found

@@ -1,0 +1,214 @@
+"""Judges what a service has answered to a batch, by the library and by what shows of the batch afterwards."""
+
+from collections import Counter
+from typing import Any, Dict, Iterator, List, NamedTuple, Optional
+
+from .. import Fault, match
+from ._entities import Listing
+from ._promises import Case
+from ._service import Answer
+from ._stage import ABSENT, DONE, FAILS, OPEN, SKIPPED, UNDONE, Stage, Step
+from ._twin import Taking, Twin, differences, parts_in_batch
+
+# Which promise a fault of a match breaks.
+FAULTS = {"F71": "once", "F72": "once", "F73": "once", "F74": "named", "F75": "failed"}
+
+
+class Check(NamedTuple):
+    """A promise that was looked at in one case, and how it is broken, or None if it is kept."""
+
+    promise: str
+    rule: Optional[str] = None
+
+
+class Judge:
+    """Judges one case.
+
+    Args:
+        case: The case.
+        stage: Its batch.
+        answer: What the service has answered.
+        stops: Whether the batch ends with its first error, since it was sent so or the service has it so.
+    """
+
+    def __init__(self, case: Case, stage: Stage, answer: Answer, stops: bool) -> None:
+        self.case, self.stage, self.answer, self.stops = case, stage, answer, stops
+        self.entities = stage.entities
+        self.expected = stage.expected(stops)
+        self.responses = responses_of(answer)
+        self.clear = clear_responses(self.responses or [])
+        self.statuses = {id: it["status"] for id, it in self.clear.items()}
+
+    def checks(self, listing: Optional[Listing]) -> List[Check]:
+        """Looks at the response, and at the entities, which may be in a listing."""
+        if self.responses is None:
+            return [Check("answered", f"the batch is answered {self.answer}, without a document of responses")]
+        found = [Check("answered"), *self._by_match()]
+        for step, expected in zip(self.stage.steps, self.expected):
+            checks = self._of_step_by(listing, step, expected)
+            if listing is not None and step.effect and step.effect.url and any(it.rule for it in checks):
+                # A list may be behind: what it shows is asked anew before it is called broken.
+                checks = self._of_step_by(None, step, expected)
+            found += checks
+        return found
+
+    def _of_step_by(self, listing: Optional[Listing], step: Step, expected: str) -> List[Check]:
+        performed = self.entities.is_shown(step.effect, listing) if step.effect is not None else None
+        return list(self._of_step(step, expected, self.statuses.get(step.id), performed))
+
+    # By the library
+
+    def _by_match(self) -> Iterator[Check]:
+        """What `match` says. A batch that ends with an error may leave out the responses to what was not performed."""
+        asked = ["once", *(["named"] if "groups" in self.stage.features() else [])]
+        try:
+            match(self.stage.document(), self.answer.text, mode="stop" if self.stops else "continue")
+        except Fault as fault:
+            promise = FAULTS.get(fault.code, "answered")
+            text = " ".join(fault.explanation.split())
+            yield Check(promise, f"{fault}: {text}")
+            asked = asked[: asked.index(promise)] if promise in asked else []
+        yield from map(Check, asked)
+
+    # By what is expected
+
+    def _of_step(self, step: Step, expected: str, status: Optional[int], performed: Optional[bool]) -> Iterator[Check]:
+        """What the status of a request says, and what shows of it afterwards.
+
+        Without one clear status `match` has judged the response, and only what must not show is looked at.
+        """
+        if step.twin is not None and status is not None and expected in (DONE, FAILS):
+            yield from self._beside_alone(step, step.twin)
+        elif expected == DONE:
+            yield from self._done(step, status, performed)
+        elif expected == OPEN:
+            yield from self._stopped(step, status, performed)
+            # Whether there is anything to look at depends on how far the batch came, so it counts if it is broken.
+            yield from (it for it in self._open(step, status, performed) if it.rule is not None)
+        else:
+            promise = "failed" if expected == SKIPPED else step.promise or ("group" if step.group else "alone")
+            if status is not None:
+                yield check(promise, fits(expected, status), wrong_text(step, expected, status))
+            yield from unseen(promise, step, status, performed)
+
+    def _done(self, step: Step, status: Optional[int], performed: Optional[bool]) -> Iterator[Check]:
+        """A request that has to succeed."""
+        if status is None or self._follows_from_another(step):
+            # `match` has judged the response, or another request is judged for it.
+            return
+        has_failed = FAILS in self.expected[: self.stage.steps.index(step)]
+        promise = step.promise or ("group" if step.group else "continue" if has_failed else "alone")
+        yield check(promise, is_success(status), wrong_text(step, DONE, status))
+        if not is_success(status):
+            yield from unseen("alone", step, status, performed)
+        else:
+            yield from self._seen(step, status, performed)
+            yield from self._shown(step, step.promise or "alone")
+            if step.needs and not step.promise:
+                yield Check("order")
+
+    def _beside_alone(self, step: Step, twin: Twin) -> Iterator[Check]:
+        """A request that was also sent alone does the same in the batch."""
+        taking = Taking(self.entities, twin.entity, twin.marks)
+        batch = parts_in_batch(taking, self.clear[step.id])
+        found = differences(twin.alone(), batch)
+        yield from (Check("alone", f"{step.id}: {it}") for it in found)
+        if not found:
+            yield Check("alone")
+
+    def _shown(self, step: Step, promise: str) -> Iterator[Check]:
+        """A read returns the entity that its URL leads to, as it is then."""
+        if step.shows is None:
+            return
+        body, (values, maker) = self.clear[step.id].get("body"), step.shows
+        values = {**self._made_by(maker), **values}
+        for name, value in values.items():
+            shown = body.get(name, ABSENT) if isinstance(body, dict) else ABSENT
+            what = "nothing" if shown is ABSENT else repr(shown)
+            other = "nothing" if value is ABSENT else repr(value)
+            yield check(promise, shown == value, f"{step.id} returns {what} for {name}, and not {other}")
+
+    def _made_by(self, maker: Optional[str]) -> Dict[str, Any]:
+        """The key of what another request has created, as far as its response shows it."""
+        body = self.clear.get(maker or "", {}).get("body")
+        key = self.entities.key
+        return {key: body[key]} if isinstance(body, dict) and key in body else {}
+
+    def _seen(self, step: Step, status: int, performed: Optional[bool]) -> Iterator[Check]:
+        """A request that is answered 2xx shows its effect, if it has one."""
+        if performed is not None:
+            text = f"{step.id} is answered {status}, and shows no effect afterwards"
+            yield check("group" if step.group else "alone", performed, text)
+
+    def _open(self, step: Step, status: Optional[int], performed: Optional[bool]) -> Iterator[Check]:
+        """A request after an error: it may have been performed, if it was on its way."""
+        if status is not None and is_success(status):
+            yield from self._seen(step, status, performed)
+        elif status is not None:
+            yield from unseen("alone", step, status, performed)
+        elif performed:
+            yield Check("once", f"{step.id} was performed, and has no response")
+
+    def _stopped(self, step: Step, status: Optional[int], performed: Optional[bool]) -> Iterator[Check]:
+        """The last of many requests in a row after an error: it cannot have been on its way."""
+        if self.case.promise == "stop" and step is self.stage.steps[-1]:
+            text = f"{step.id}, the last of many requests in a row, is performed after an error"
+            yield check("stop", not (is_success(status) if performed is None else performed), text)
+
+    def _follows_from_another(self, step: Step) -> bool:
+        """Whether a request is answered 424 for the error of another, which is judged by itself."""
+        if self.statuses.get(step.id) != 424:
+            return False
+        others = [it for it in self.stage.steps if it is not step]
+        causes = [it for it in others if it.unit == step.unit or {it.id, it.unit} & set(step.needs)]
+        found = [self.statuses.get(it.id) for it in causes]
+        return any(it is not None and not is_success(it) for it in found)
+
+
+def fits(expected: str, status: int) -> bool:
+    """Whether a status is as expected of a request that must not succeed."""
+    return status == 424 if expected == SKIPPED else not is_success(status)
+
+
+def wrong_text(step: Step, expected: str, status: int) -> str:
+    """What a wrong status shows."""
+    if expected == SKIPPED:
+        return f"{step.id} is answered {status} and not 424, though something that it depends on has failed"
+    if expected == UNDONE:
+        return f"{step.id} is answered {status}, though a member of its group has failed"
+    if step.promise == "order":
+        return f"{step.id} is answered {status}, as if {'it or ' if step.needs else ''}what needs it had not waited"
+    if step.promise == "reference":
+        return f"{step.id} is answered {status}, so its URL does not lead to what {step.needs[0]} has created"
+    if expected == FAILS:
+        return f"{step.id} is answered {status}, and alone it fails"
+    return f"{step.id} is answered {status}, and nothing keeps it from success"
+
+
+def check(promise: str, holds: bool, rule: str) -> Check:
+    return Check(promise, None if holds else rule)
+
+
+def unseen(promise: str, step: Step, status: Optional[int], performed: Optional[bool]) -> Iterator[Check]:
+    """A request without success shows no effect. One that is answered 424 outside of a group was not even performed."""
+    if performed is not None:
+        what = "has no clear response" if status is None else f"is answered {status}"
+        name = "untouched" if status == 424 and not step.group else promise
+        yield check(name, not performed, f"{step.id} {what}, and was performed all the same")
+
+
+def is_success(status: Optional[int]) -> bool:
+    return status is not None and 200 <= status <= 299
+
+
+def responses_of(answer: Answer) -> Optional[List[Dict[str, Any]]]:
+    """The responses in an answer, or None if it has no document of them."""
+    found = answer.value.get("responses") if answer.status == 200 and isinstance(answer.value, dict) else None
+    return found if isinstance(found, list) and all(isinstance(it, dict) for it in found) else None
+
+
+def clear_responses(responses: List[Dict[str, Any]]) -> Dict[str, Dict[str, Any]]:
+    """The responses by the ids that have one response, if that has a status."""
+    ids = Counter(it["id"] for it in responses if isinstance(it.get("id"), str))
+    clear = (it for it in responses if isinstance(it.get("id"), str) and isinstance(it.get("status"), int))
+    return {it["id"]: it for it in clear if ids[it["id"]] == 1}

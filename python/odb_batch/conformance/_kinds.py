@@ -1,0 +1,81 @@
+"""The ways in which a request may fail by itself."""
+
+from typing import Any, Callable, Dict, List, NamedTuple
+
+from ._entities import Effect, Entities
+from ._service import Answer
+from ._stage import Stage, Subject
+
+NO_TAG = '"conformance-no-such-tag"'
+
+
+class Kind(NamedTuple):
+    """A way to fail: what it is, and what adds such a request to a stage."""
+
+    text: str
+    add: Callable[[Stage, str, Dict[str, Any]], None]
+
+
+def _of_missing(act: str) -> Callable[[Stage, str, Dict[str, Any]], None]:
+    """A request on an entity that is missing."""
+
+    def add(stage: Stage, id: str, where: Dict[str, Any]) -> None:
+        entity = stage.entities.missing()
+        if act in ("patch", "put"):
+            # such a request creates the entity in some services
+            stage.entities.note(entity.url)
+        stage.act(id, act, Subject(entity, False), **where)
+
+    return add
+
+
+def _wrong_body(stage: Stage, id: str, where: Dict[str, Any]) -> None:
+    stage.add(id, "post", stage.entities.set, [], fails=True, **where)
+
+
+def _taken_key(stage: Stage, id: str, where: Dict[str, Any]) -> None:
+    stage.act(id, "create", stage.subject(), **where)
+
+
+def _precondition(stage: Stage, id: str, where: Dict[str, Any]) -> None:
+    url = stage.entities.make().url
+    stage.add(id, "delete", url, headers={"If-Match": NO_TAG}, fails=True, effect=Effect(url, False), **where)
+
+
+KINDS = {
+    "missing": Kind("a delete of an entity that is missing", _of_missing("delete")),
+    "read": Kind("a read of an entity that is missing", _of_missing("read")),
+    "patch": Kind("a PATCH of an entity that is missing", _of_missing("patch")),
+    "put": Kind("a PUT of an entity that is missing", _of_missing("put")),
+    "body": Kind("a wrong body", _wrong_body),
+    "key": Kind("a key that is taken", _taken_key),
+    "precondition": Kind("a precondition that does not hold", _precondition),
+}
+
+
+def fail(stage: Stage, id: str, kind: str, **where: Any) -> None:
+    """A request that fails by itself."""
+    KINDS[kind].add(stage, id, where)
+
+
+def ask_alone(entities: Entities, request: Dict[str, Any]) -> Answer:
+    """Sends a request of a batch alone."""
+    method, headers, body = request["method"].upper(), request.get("headers", {}), request.get("body")
+    data = body.encode() if isinstance(body, str) else body
+    answer = entities.service.ask(method, request["url"], data, headers)
+    if answer.is_success and method == "POST":
+        entities.note(answer.headers.get("location", ""))
+    return answer
+
+
+def failing_kinds(entities: Entities) -> List[str]:
+    """The ways to fail that the service has, as plain requests show: it answers them 4xx."""
+    found = []
+    for name, kind in KINDS.items():
+        if name == "key" and not entities.are_named:
+            continue
+        stage = Stage(entities)
+        kind.add(stage, "1", {})
+        if 400 <= ask_alone(entities, stage.steps[0].request).status <= 499:
+            found.append(name)
+    return found

@@ -1,0 +1,88 @@
+"""Cases of what a request may be called, and of the forms of its URL."""
+
+from typing import Callable, List, Sequence
+from urllib.parse import urljoin, urlsplit
+
+from ._promises import Case
+from ._stage import Stage, Subject
+
+CASE = ("A", "a", "Ab", "aB")
+SIGNS = ("A-1", "A.1", "A_1", "A~1", "-", "~", "._~-")
+NUMBERS = ("1", "01", "10", "1.0", "-1")
+LONG = tuple("x" * 60 + it for it in "abc")
+
+
+def ids(names: Sequence[str]) -> Callable[[Stage], None]:
+    """Requests with these ids, each of which depends on the one before it."""
+
+    def write(stage: Stage) -> None:
+        for at, id in enumerate(names):
+            needs = [names[at - 1]] if at else []
+            if at % 2:
+                stage.read(id, needs=needs)
+            else:
+                stage.write(id, needs=needs)
+
+    return write
+
+
+def groups(names: Sequence[str]) -> Callable[[Stage], None]:
+    """Groups with these names, each of which depends on the one before it."""
+
+    def write(stage: Stage) -> None:
+        for at, name in enumerate(names):
+            for k in range(2):
+                stage.write(f"{k}of{at}", group=name, needs=[names[at - 1]] if at else [])
+
+    return write
+
+
+def other_urls(form: Callable[[str], str]) -> Callable[[Stage], None]:
+    """Requests by URLs of another form than relative to the root."""
+
+    def write(stage: Stage) -> None:
+        root = stage.entities.service.root
+
+        def url(subject: Subject) -> str:
+            return form(urljoin(root, subject.entity.url))
+
+        for act in ("read", "delete", *[it for it in ("patch", "put") if it not in stage.entities.lacks]):
+            subject = stage.subject()
+            stage.act(act, act, subject, url(subject))
+        stage.create("create")
+        stage.steps[-1].request["url"] = form(urljoin(root, stage.entities.set))
+        subject = stage.subject()
+        stage.act("drop", "delete", subject, url(subject))
+        stage.act("look", "read", subject, url(subject), needs=["drop"], promise="order")
+
+    return write
+
+
+def path_of(url: str) -> str:
+    return urlsplit(url).path
+
+
+def methods(stage: Stage) -> None:
+    """Methods in upper case."""
+    for k in range(4):
+        stage.write(f"w{k}")
+        stage.read(f"r{k}")
+    for step in stage.steps:
+        step.request["method"] = step.request["method"].upper()
+
+
+CASES = (
+    Case("ids-case", "once", "ids that differ in upper and lower case", ids(CASE)),
+    Case("ids-signs", "once", "ids with each of -._~", ids(SIGNS)),
+    Case("ids-numbers", "once", "ids that are one number, or begin with one another", ids(NUMBERS)),
+    Case("ids-long", "once", "ids that differ in their last of 61 characters", ids(LONG)),
+    Case("groups-case", "named", "names of groups that differ in upper and lower case", groups(CASE)),
+    Case("groups-signs", "named", "names of groups with each of -._~", groups(SIGNS)),
+    Case("methods-upper", "alone", "methods in upper case", methods),
+    Case("urls-absolute", "alone", "absolute URLs", other_urls(lambda url: url), needs=["absolute"]),
+    Case("urls-rooted", "alone", "URLs that begin with /", other_urls(path_of), needs=["rooted"]),
+)
+
+
+def names() -> List[Case]:
+    return list(CASES)

@@ -1,0 +1,140 @@
+"""Cases of references: a URL that begins with $ and an id leads to what that request has created."""
+
+from typing import Callable, Dict, List, Sequence
+
+from ._promises import Case
+from ._stage import ABSENT, Shown, Stage, Subject
+
+FOUR = ("a", "b", "c", "d")
+# Ids that are easily taken for each other.
+CASE, NUMBERS = ("Ab", "aB", "ab", "AB"), ("1", "10", "100", "01", "1.0")
+SIGNS = ("a-b", "a.b", "a_b", "a~b", "-", "~")
+
+
+def create_all(stage: Stage, ids: Sequence[str], **where: str) -> Dict[str, Subject]:
+    """Requests that create an entity each."""
+    return {id: stage.create(id, **where) for id in ids}
+
+
+def refer(stage: Stage, id: str, act: str, subject: Subject, needs: Sequence[str] = (), **where: str) -> None:
+    """A request on what another has created, by a reference."""
+    by = f"${subject.maker}"
+    stage.act(id, act, subject, by, needs=[subject.maker, *needs], promise="reference", **where)
+
+
+def read(stage: Stage) -> None:
+    refer(stage, "get", "read", stage.create("new"))
+
+
+def deleted(stage: Stage) -> None:
+    subject = stage.create("new")
+    refer(stage, "drop", "delete", subject)
+    refer(stage, "get", "read", subject, ["drop"])
+
+
+def in_group(stage: Stage) -> None:
+    refer(stage, "get", "read", stage.create("new", group="g"), group="g")
+    stage.write("w", needs=["g"])
+
+
+def to_group(stage: Stage) -> None:
+    subject = stage.create("new", group="g")
+    stage.write("w", group="g")
+    refer(stage, "get", "read", subject, ["g"])
+
+
+def to_each(act: str) -> Callable[[Stage], None]:
+    """References to some of four entities, not in the order in which they are created."""
+
+    def write(stage: Stage) -> None:
+        made = create_all(stage, FOUR)
+        for id in ("c", "a", "d") if act == "read" else ("c", "b"):
+            refer(stage, f"{act}-{id}", act, made[id])
+        if act != "read":
+            for id in FOUR:
+                needs = [f"{act}-{it}" for it in ("c", "b")]
+                refer(stage, f"look-{id}", "read", made[id], needs)
+
+    return write
+
+
+def to_each_in_groups(stage: Stage) -> None:
+    """Two groups that create two entities each, and read them inside; one read comes after both."""
+    made: Dict[str, Subject] = {}
+    for group in ("g", "h"):
+        ids = [f"{group}1", f"{group}2"]
+        made.update(create_all(stage, ids, group=group))
+        for id in ids:
+            refer(stage, f"get-{id}", "read", made[id], group=group)
+    for id in ("h1", "g2", "g1", "h2"):
+        refer(stage, f"look-{id}", "read", made[id], ["g", "h"])
+
+
+def in_chain(stage: Stage) -> None:
+    """Each request depends on the one before it, and refers to the first two by turns."""
+    made = create_all(stage, ("a", "b"))
+    before = "b"
+    for k in range(6):
+        id = f"get{k}"
+        refer(stage, id, "read", made["ab"[k % 2]], [before])
+        before = id
+
+
+def with_ids(ids: Sequence[str]) -> Callable[[Stage], None]:
+    """References by ids that are easily taken for each other."""
+
+    def write(stage: Stage) -> None:
+        made = create_all(stage, ids)
+        for at, id in enumerate(reversed(ids)):
+            refer(stage, f"look{at}", "read", made[id])
+
+    return write
+
+
+def to_property(stage: Stage) -> None:
+    """References that continue with a property after the id."""
+    made = create_all(stage, FOUR)
+    for id in ("c", "a"):
+        shows, url = Shown({"value": made[id].mark}), f"${id}/{stage.entities.text}"
+        stage.add(f"get-{id}", "get", url, needs=[id], shows=shows, promise="reference")
+
+
+def with_option(stage: Stage) -> None:
+    """References that continue with a query option after the id."""
+    made, entities = create_all(stage, FOUR), stage.entities
+    for id in ("c", "a"):
+        values = {entities.text or "": ABSENT, **({entities.key: made[id].entity.key} if entities.are_named else {})}
+        url = f"${id}?$select={entities.key}"
+        stage.add(f"get-{id}", "get", url, needs=[id], shows=Shown(values, id), promise="reference")
+
+
+def at_once(stage: Stage) -> None:
+    """The same ids in each of some batches."""
+    for k in range(6):
+        subject = stage.create(f"new{k}")
+        refer(stage, f"get{k}", "read", subject)
+        refer(stage, f"drop{k}", "delete", subject, [f"get{k}"])
+
+
+CASES = (
+    Case("reference-read", "reference", "a read of what a request has created", read),
+    Case("reference-deleted", "reference", "a request deletes what another has created", deleted),
+    Case("reference-in-group", "reference", "a member of a group reads what another has created", in_group),
+    Case("reference-to-group", "reference", "a read of what a member of a group has created", to_group),
+    Case("reference-each-read", "reference", "reads of three of four entities that a batch creates", to_each("read")),
+    Case("reference-each-delete", "reference", "deletes of two of four entities", to_each("delete")),
+    Case("reference-each-patch", "reference", "PATCHes of two of four entities", to_each("patch"), needs=["patch"]),
+    Case("reference-each-put", "reference", "PUTs of two of four entities", to_each("put"), needs=["put"]),
+    Case("reference-groups", "reference", "references inside two groups, and to both", to_each_in_groups),
+    Case("reference-chain", "reference", "six reads in a row of two entities by turns", in_chain),
+    Case("reference-case", "reference", "ids that differ in upper and lower case", with_ids(CASE)),
+    Case("reference-numbers", "reference", "ids that begin with one another", with_ids(NUMBERS)),
+    Case("reference-signs", "reference", "ids with each of -._~", with_ids(SIGNS)),
+    Case("reference-property", "reference", "a property after the id", to_property, needs=["property"]),
+    Case("reference-option", "reference", "a query option after the id", with_option, needs=["options"]),
+    Case("reference-at-once", "reference", "four batches with the same ids at the same time", at_once, at_once=4),
+)
+
+
+def references() -> List[Case]:
+    return list(CASES)

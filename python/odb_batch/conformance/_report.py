@@ -1,0 +1,125 @@
+"""What is reported of a run: a table, lines, a document of JSON, and files for each break."""
+
+import json
+import os
+from typing import Any, Dict, List, NamedTuple
+
+from ._promises import PROMISES, SECTIONS, Case
+from ._runner import Result
+from ._twin import shortened
+
+
+# How many characters of a batch or a response a test shows.
+MAX_SHOWN = 10_000
+
+
+class Count(NamedTuple):
+    """How many cases have looked at a promise, and what they have found."""
+
+    cases: int
+    kept: int
+    broken: int
+    not_applicable: int
+
+
+def counts(results: List[Result]) -> Dict[str, Count]:
+    """The counts of each promise. A case that does not apply counts for the promise that it is about."""
+    found = {}
+    for promise in PROMISES:
+        asked = [it for it in results if promise.name in {check.promise for check in it.checks}]
+        broken = sum(promise.name in {check.promise for check in it.breaks} for it in asked)
+        skipped = sum(it.reason is not None and it.case.promise == promise.name for it in results)
+        found[promise.name] = Count(len(asked) + skipped, len(asked) - broken, broken, skipped)
+    return found
+
+
+def table(results: List[Result]) -> str:
+    """The promises with their counts."""
+    lines = [f"{'promise':10} {'cases':>5} {'kept':>5} {'broken':>6} {'n/a':>4}  what it says"]
+    for promise, count in zip(PROMISES, counts(results).values()):
+        numbers = f"{count.cases:5} {count.kept:5} {count.broken:6} {count.not_applicable:4}"
+        lines.append(f"{promise.name:10} {numbers}  {promise.text} ({promise.section})")
+    return "\n".join(lines)
+
+
+def lines_of(results: List[Result], left: List[str], folder: str) -> List[str]:
+    """What is printed below the table."""
+    lines = []
+    reasons: Dict[str, List[str]] = {}
+    for it in results:
+        if it.reason is not None:
+            reasons.setdefault(it.reason, []).append(it.case.name)
+    for reason, names in reasons.items():
+        more = f" and {len(names) - 1} more" if len(names) > 1 else ""
+        lines.append(f"not applicable: {names[0]}{more}: {reason}")
+    broken = [it for it in results if it.breaks]
+    for it in broken:
+        first = (it.breaks[0].rule or "").partition(". ")[0]
+        lines.append(f"broken: {it.case.name}: {it.breaks[0].promise}: {first}")
+    if broken:
+        lines.append(f"batches, responses and rules: {folder}")
+    lines += [f"not removed: {url}" for url in left]
+    lines.append(f"{len(results)} cases, {len(broken)} of them broken")
+    return lines
+
+
+def rules_text(result: Result) -> str:
+    """What is broken in a case, with the sections of the standard."""
+    mode = "without" if result.case.stops else "with"
+    lines = [f"{result.case.name}: {result.case.shows}", f"sent {mode} Prefer: continue-on-error", ""]
+    for promise in PROMISES:
+        rules = [f"  {it.rule}" for it in result.breaks if it.promise == promise.name]
+        if rules:
+            lines += [f"{promise.name}: {promise.text} (OData {promise.section})", *rules]
+    return "\n".join(lines) + "\n"
+
+
+def failure_text(result: Result) -> str:
+    """What a test says of a case that is broken: the rules, the batch and the response."""
+    batch, response = (shortened(it.decode(errors="replace"), MAX_SHOWN) for it in (result.batch, result.response))
+    return f"{rules_text(result)}\nbatch:\n{batch}\nresponse:\n{response}"
+
+
+def write_breaks(results: List[Result], folder: str) -> None:
+    """Writes the batch, the response and the rules of each case that is broken."""
+    for it in results:
+        if it.breaks:
+            place = os.path.join(folder, it.case.name)
+            os.makedirs(place, exist_ok=True)
+            for name, data in (
+                ("batch.json", it.batch),
+                ("response.json", it.response),
+                ("rules.txt", rules_text(it).encode()),
+            ):
+                with open(os.path.join(place, name), "wb") as file:
+                    file.write(data)
+
+
+def document(service: str, results: List[Result], left: List[str]) -> Dict[str, Any]:
+    """The results as a value of JSON."""
+    names = {"not_applicable": "notApplicable"}
+    found = counts(results)
+    return {
+        "service": service,
+        "cases": len(results),
+        "promises": [
+            {**it._asdict(), **{names.get(name, name): n for name, n in found[it.name]._asdict().items()}}
+            for it in PROMISES
+        ],
+        "breaks": [
+            {"case": it.case.name, "promise": check.promise, "section": SECTIONS[check.promise], "rule": check.rule}
+            for it in results
+            for check in it.breaks
+        ],
+        "notApplicable": [{"case": it.case.name, "reason": it.reason} for it in results if it.reason is not None],
+        "left": left,
+    }
+
+
+def listed(cases: List[Case]) -> str:
+    """The cases, each with what it shows and where the standard promises it."""
+    return "\n".join(f"{it.name:26} {it.shows} ({SECTIONS[it.promise]})" for it in cases)
+
+
+def json_text(value: Any) -> str:
+    return json.dumps(value, ensure_ascii=False)

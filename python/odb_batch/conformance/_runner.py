@@ -1,0 +1,198 @@
+"""Runs cases against a service: the batch of each, its judgement, and the removal of what it made."""
+
+from concurrent.futures import ThreadPoolExecutor
+from typing import Callable, List, NamedTuple, Optional, Union
+
+from ._entities import Entities
+from ._judge import Check, Judge, clear_responses, is_success, responses_of
+from ._kinds import KINDS, failing_kinds
+from ._learning import learn, note_created, refusal
+from ._left_over import left_over
+from ._promises import Case
+from ._service import Answer, Service, Unanswered
+from ._stage import DONE, FAILS, Stage
+
+# What a service may answer to one of some batches at the same time.
+BUSY = (429, 503)
+# How often a case is run once more that shows no stop at an error.
+MORE_RUNS = 2
+# After how many batches without an answer in time the run ends.
+MAX_LATE = 3
+
+
+class Result(NamedTuple):
+    """What has become of a case.
+
+    Attributes:
+        case: The case.
+        checks: The promises that were looked at; none if the case does not apply.
+        reason: Why it does not apply, or None.
+        batch: Its batch; of several, the first that is broken.
+        response: What the service has answered.
+    """
+
+    case: Case
+    checks: List[Check]
+    reason: Optional[str] = None
+    batch: bytes = b""
+    response: bytes = b""
+
+    @property
+    def breaks(self) -> List[Check]:
+        return [it for it in self.checks if it.rule is not None]
+
+
+class Runner:
+    """Runs cases one after another.
+
+    Attributes:
+        requests: How many requests a batch may have; one with more is not sent.
+        has_learned: Whether it is known what the service has.
+        kinds: The ways to fail that the service has.
+        continues: Whether it applies the preference continue-on-error, as far as is known.
+        late: How many batches of a run had no answer in time.
+    """
+
+    def __init__(self, service: Service, entities: Entities, requests: int) -> None:
+        self.service, self.entities, self.requests = service, entities, requests
+        self.has_learned = False
+        self.kinds: List[str] = []
+        self.continues = True
+        self.late = 0
+
+    def run(self, cases: List[Case], progress: Callable[[int, str], None] = lambda at, name: None) -> List[Result]:
+        """Runs the cases; raises Unusable if the service cannot be judged any more, or Interrupted.
+
+        Before the first run it learns what the service has, which holds for all later ones.
+        """
+        found = []
+        self.late = 0
+        try:
+            if not self.has_learned:
+                self._learn()
+            self.entities.before = self.entities.listed()
+            for at, case in enumerate(cases):
+                progress(at, case.name)
+                found.append(self._run_to_be_sure(case))
+                self.entities.clear(self.entities.spare)
+            self.entities.appeared()
+        finally:
+            self.service.interruption.allowed = 1
+            self.entities.clear()
+            self.entities.spare = []
+        return found
+
+    def _learn(self) -> None:
+        self.service.require_batches(self.entities.set)
+        learn(self.entities)
+        self.kinds = failing_kinds(self.entities)
+        self.entities.clear()
+        self.has_learned = True
+
+    def _run_to_be_sure(self, case: Case) -> Result:
+        """Runs a case. An error may come so late that all after it is over by then; a service that stops shows that it does
+        in one of some runs."""
+        result = self._run(case)
+        for _ in range(MORE_RUNS):
+            if all(it.promise != "stop" for it in result.breaks):
+                break
+            self.entities.clear(self.entities.spare)
+            result = self._run(case)
+        return result
+
+    def _run(self, case: Case) -> Result:
+        reason = self._lack(case)
+        if reason is not None:
+            return Result(case, [], reason)
+        stages = [Stage(self.entities) for _ in range(case.at_once)]
+        for stage in stages:
+            case.write(stage)
+        if len(stages[0].steps) > self.requests:
+            return Result(case, [], f"its batch has more than {self.requests} requests")
+        refused = sorted(stages[0].features() & self.entities.lacks.keys())
+        if refused:
+            return Result(case, [], self.entities.lacks[refused[0]])
+        answers = self._send(case, stages)
+        reason = next(filter(None, (self._reason(case, it) for it in answers)), None)
+        if reason is not None:
+            return Result(case, [], reason)
+        return self._judge(case, stages, answers)
+
+    def _lack(self, case: Case) -> Optional[str]:
+        """What the service lacks that a case needs."""
+        if case.kind is not None and case.kind not in self.kinds:
+            return f"alone, no request fails by {KINDS[case.kind].text}"
+        return next((self.entities.lacks[it] for it in case.needs if it in self.entities.lacks), None)
+
+    # Sending
+
+    def _send(self, case: Case, stages: List[Stage]) -> List[Union[Answer, Unanswered]]:
+        """Sends the batches of a case at the same time, and notes what they have created."""
+        documents = [it.document() for it in stages]
+        if len(documents) == 1:
+            answers = [self._answer(documents[0], case)]
+        else:
+            with ThreadPoolExecutor(len(documents)) as pool:
+                answers = list(pool.map(lambda it: self._answer(it, case), documents))
+        for answer in answers:
+            if isinstance(answer, Answer):
+                note_created(self.entities, answer)
+        late = [it for it in answers if isinstance(it, Unanswered) and it.is_late]
+        self.late += len(late)
+        lost = next((it for it in answers if isinstance(it, Unanswered)), None)
+        if lost is not None and (self.late >= MAX_LATE or not self.service.is_reachable()):
+            raise lost
+        return answers
+
+    def _answer(self, document: bytes, case: Case) -> Union[Answer, Unanswered]:
+        try:
+            return self.service.batch(document, not case.stops)
+        except Unanswered as error:
+            return error
+
+    # Judging
+
+    def _judge(self, case: Case, stages: List[Stage], answers: List[Union[Answer, Unanswered]]) -> Result:
+        """Judges the batches of a case by their answers, and by what the set has afterwards."""
+        known = set(self.entities.made)
+        listing = self.entities.appeared()
+        checks: List[Check] = []
+        result = Result(case, checks)
+        for stage, answer in zip(stages, answers):
+            if isinstance(answer, Unanswered):
+                found, text = [Check("answered", f"the batch is not answered: {answer.reason}")], b""
+            else:
+                stops = case.stops or not self._applies_preference(stage, answer)
+                if stops and case.promise == "continue":
+                    return Result(case, [], "the service does not apply the preference continue-on-error")
+                found, text = Judge(case, stage, answer, stops).checks(listing), answer.text
+            checks += found
+            if not result.batch or any(it.rule for it in found) and not any(it.rule for it in checks[: -len(found)]):
+                result = result._replace(batch=stage.document(), response=text)
+        if listing is not None:
+            checks += left_over(case, stages, listing, known)
+            if any(step.twin for stage in stages for step in stage.steps):
+                # a request alone came after the batch
+                listing = self.entities.appeared()
+            if listing is not None and all(isinstance(it, Answer) for it in answers):
+                self.entities.settle(listing)
+        return result
+
+    def _reason(self, case: Case, answer: Union[Answer, Unanswered]) -> Optional[str]:
+        """Why a case does not apply: the service refuses the batch, which it may for its size, or beside others."""
+        if isinstance(answer, Unanswered):
+            return None
+        if case.at_once > 1 and answer.status in BUSY:
+            return f"the service refuses batches at the same time with {answer}"
+        status = refusal(answer) if case.may_be_refused else None
+        return status and f"the service refuses the batch with {status}"
+
+    def _applies_preference(self, stage: Stage, answer: Answer) -> bool:
+        """Whether the service continues on errors. One that does not may leave it at that: it is a preference."""
+        if self.continues and "continue-on-error" not in answer.headers.get("preference-applied", "").lower():
+            statuses = {id: it["status"] for id, it in clear_responses(responses_of(answer) or []).items()}
+            expected = stage.expected(False)
+            first = expected.index(FAILS) if FAILS in expected else len(expected)
+            after = [it.id for it, outcome in zip(stage.steps[first:], expected[first:]) if outcome == DONE]
+            self.continues = all(is_success(statuses.get(id)) for id in after)
+        return self.continues

@@ -1,0 +1,225 @@
+"""The service that is judged: requests over HTTP, and their answers."""
+
+import http.client
+import io
+import json
+import socket
+import time
+from typing import Any, Mapping, NamedTuple, Optional
+from urllib.parse import unquote, urljoin, urlsplit
+
+from ._interruption import Interrupted, Interruption
+
+MAX_ANSWER = 67_108_864
+# For how many seconds an answer may be waited for, and for how many it is if nobody says.
+MOST_SECONDS, SECONDS = 3600, 20.0
+# For how many seconds at most a read waits before it looks for an interruption.
+SLICE = 0.25
+JSON = {"Content-Type": "application/json"}
+GONE = (404, 410)
+
+
+# What is said of another URL.
+NO_ROOT = "{!r} is not the root of a service, such as http://localhost:8080/"
+
+
+def is_root(url: str) -> bool:
+    """Whether a URL may be the root of a service: http or https, with a host, and without a query."""
+    try:
+        parts = urlsplit(url)
+        is_good = parts.scheme in ("http", "https") and parts.hostname and parts.port != 0 and url.isprintable()
+    except ValueError:
+        return False
+    return bool(is_good) and not (parts.query or parts.fragment or " " in url)
+
+
+class Unusable(Exception):
+    """Why the service cannot be judged, in one line."""
+
+
+class Unanswered(Unusable):
+    """A request has no answer.
+
+    Attributes:
+        reason: Why, in a few words.
+        is_late: Whether the time for it was up.
+    """
+
+    def __init__(self, request: str, reason: str, is_late: bool) -> None:
+        super().__init__(f"{request}: {reason}")
+        self.reason, self.is_late = reason, is_late
+
+
+class Answer(NamedTuple):
+    """What a request is answered; the names of the headers are in lower case."""
+
+    status: int
+    headers: Mapping[str, str]
+    text: bytes
+
+    @property
+    def is_success(self) -> bool:
+        return 200 <= self.status <= 299
+
+    @property
+    def value(self) -> Any:
+        """The value of the body, or None if it is not JSON."""
+        try:
+            return json.loads(self.text)
+        except (ValueError, RecursionError):
+            return None
+
+    def __str__(self) -> str:
+        """The status, with the message of OData's error object if there is one."""
+        kind = self.headers.get("content-type", "").partition(";")[0].strip()
+        try:
+            message = " ".join(self.value["error"]["message"].split())
+        except (TypeError, KeyError, AttributeError):
+            message = f"in {kind}" if kind and "json" not in kind else ""
+        return f"{self.status} {message[:160]}".rstrip()
+
+
+class Service:
+    """A service by its root URL.
+
+    Args:
+        root: Its URL, http or https, without a query.
+        headers: What every request has besides, such as Authorization.
+        timeout: For how many seconds an answer is waited for.
+        interruption: What ends the run before its time.
+    """
+
+    def __init__(self, root: str, headers: Mapping[str, str], timeout: float, interruption: Interruption) -> None:
+        self.root, self.timeout, self.interruption = root.rstrip("/") + "/", timeout, interruption
+        self.headers = {"OData-MaxVersion": "4.01", "Accept": "application/json", "Connection": "close", **headers}
+        self.parts = urlsplit(self.root)
+
+    def ask(self, method: str, url: str, value: Any = None, headers: Mapping[str, str] = {}) -> Answer:
+        """Sends a request to a URL that is relative to the root; raises Unanswered if no answer can be read."""
+        self.interruption.check()
+        data = value if isinstance(value, (bytes, type(None))) else json.dumps(value).encode()
+        path = urlsplit(urljoin(self.root, url))
+        target = path.path + (f"?{path.query}" if path.query else "")
+        connection = self._connection()
+        try:
+            connection.request(method, target, data, {**self.headers, **(JSON if data else {}), **headers})
+            return _read(connection.getresponse())
+        except (OSError, http.client.HTTPException, ValueError) as error:
+            if self.interruption.is_due:
+                raise Interrupted from None
+            is_late = isinstance(error, socket.timeout) or "timed out" in str(error)
+            reason = f"no answer within {self.timeout:g} seconds" if is_late else reason_of(error)
+            raise Unanswered(f"{method} {self.root}{url}", reason, is_late) from None
+        finally:
+            connection.close()
+
+    def _connection(self) -> http.client.HTTPConnection:
+        kind = http.client.HTTPSConnection if self.parts.scheme == "https" else http.client.HTTPConnection
+        found: http.client.HTTPConnection = kind(self.parts.hostname or "", self.parts.port, timeout=self.timeout)
+        until = time.monotonic() + self.timeout
+        answer = lambda sock, **rest: _Response(_Timed(sock, until, self.interruption), sock, **rest)
+        setattr(found, "response_class", answer)
+        return found
+
+    def batch(self, document: bytes, continues: bool) -> Answer:
+        """Sends a batch, with the preference to continue on errors or without it."""
+        return self.ask("POST", "$batch", document, {"Prefer": "continue-on-error"} if continues else {})
+
+    def require_batches(self, entity_set: str) -> None:
+        """Sends a batch of one request; raises Unusable if the service does not answer it as a batch."""
+        answer = self.probe(f"{entity_set}?$top=1")
+        if answer.status in (*GONE, 405, 501):
+            raise Unusable(f"{self.root} has no $batch: POST {self.root}$batch is answered {answer}")
+        if answer.status in (406, 415):
+            raise Unusable(f"{self.root} takes no batch in JSON: POST {self.root}$batch is answered {answer}")
+        if answer.status != 200:
+            raise Unusable(f"POST {self.root}$batch is answered {answer}")
+        if not isinstance(answer.value, dict) or not isinstance(answer.value.get("responses"), list):
+            kind = answer.headers.get("content-type", "no media type")
+            raise Unusable(f"POST {self.root}$batch is not answered with a batch in JSON, but with {kind}")
+
+    def probe(self, url: str) -> Answer:
+        """Sends a batch of one read; one that is hung up on is sent once more."""
+        request = {"id": "1", "method": "get", "url": url}
+        document = json.dumps({"requests": [request]}).encode()
+        try:
+            return self.batch(document, True)
+        except Unanswered as error:
+            if error.is_late:
+                raise
+        return self.batch(document, True)
+
+    def is_reachable(self) -> bool:
+        """Whether the service answers a plain request, whatever it answers."""
+        try:
+            self.ask("GET", "")
+        except Unusable:
+            return False
+        return True
+
+    def address(self, url: str) -> str:
+        """The URL as all ways to write it are compared: absolute, with each character as itself."""
+        try:
+            return unquote(urljoin(self.root, url))
+        except ValueError:
+            return url
+
+
+class _Timed(io.RawIOBase):
+    """Reads from a connection until a point in time, also if the answer comes drop by drop."""
+
+    def __init__(self, connection: socket.socket, until: float, interruption: Interruption) -> None:
+        self.connection, self.until, self.interruption = connection, until, interruption
+        # http.client closes the connection before the answer is read; it stays open as long as this file.
+        self.file = connection.makefile("rb", 0)
+
+    def readable(self) -> bool:
+        return True
+
+    def readinto(self, buffer: Any) -> Optional[int]:
+        while True:
+            until = min(self.until, self.interruption.until) if self.interruption.is_due else self.until
+            rest = until - time.monotonic()
+            if rest <= 0:
+                raise socket.timeout("timed out")
+            self.connection.settimeout(min(rest, SLICE))
+            try:
+                return self.connection.recv_into(buffer)
+            except socket.timeout:
+                pass
+
+    def close(self) -> None:
+        self.file.close()
+        super().close()
+
+
+class _Response(http.client.HTTPResponse):
+    """A response that is read from a file in place of its connection."""
+
+    def __init__(self, file: _Timed, sock: socket.socket, **rest: Any) -> None:
+        super().__init__(sock, **rest)
+        self.fp.close()
+        self.fp = io.BufferedReader(file)
+
+
+def _read(response: http.client.HTTPResponse) -> Answer:
+    """Reads an answer, which may have MAX_ANSWER bytes."""
+    text = bytearray()
+    while part := response.read(65_536):
+        text += part
+        if len(text) > MAX_ANSWER:
+            raise ValueError(f"the answer has more than {MAX_ANSWER:,} bytes")
+    if response.length:
+        raise http.client.IncompleteRead(bytes(text), response.length)
+    return Answer(response.status, {name.lower(): it for name, it in response.headers.items()}, bytes(text))
+
+
+def reason_of(error: Exception) -> str:
+    """Why there is no answer, in a few words."""
+    if isinstance(error, (http.client.RemoteDisconnected, ConnectionResetError, BrokenPipeError)):
+        return "the service hung up without an answer"
+    if isinstance(error, http.client.IncompleteRead):
+        return "the service hung up in its answer"
+    if isinstance(error, http.client.HTTPException):
+        return "the answer is not HTTP"
+    return " ".join((getattr(error, "strerror", None) or str(error) or type(error).__name__).split())

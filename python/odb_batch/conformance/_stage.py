@@ -1,0 +1,214 @@
+"""A batch as it is written: its requests, what each is expected to be answered, and what shows that it was done."""
+
+import itertools
+import json
+from typing import Any, Dict, List, NamedTuple, Optional, Sequence, Set
+
+from ._entities import Effect, Entities, Entity
+from ._twin import Twin
+
+# What is expected of a request: success; an error of its own; 424 for a dependency that failed; no success, in a
+# group that fails; or anything, since the batch may have ended before it.
+DONE, FAILS, SKIPPED, UNDONE, OPEN = "done", "fails", "skipped", "undone", "open"
+
+METHODS = {"create": "post", "read": "get", "patch": "patch", "put": "put", "delete": "delete"}
+
+
+# The value of a property that a read must not return.
+ABSENT = object()
+
+
+class Shown(NamedTuple):
+    """What a read has to return.
+
+    Attributes:
+        values: The values of properties.
+        maker: The id of the request that creates the entity in the batch, whose key is then that of its response.
+    """
+
+    values: Dict[str, Any]
+    maker: Optional[str] = None
+
+
+class Step(NamedTuple):
+    """A request of a batch.
+
+    Attributes:
+        request: As it is in the document.
+        promise: What is broken if it is not answered as expected, in place of what its place in the batch says.
+        fails: Whether it fails by itself.
+        effect: What shows that it was performed, or None if nothing does.
+        shows: What it returns, or None if that is not looked at.
+        twin: The same request as it was answered alone, or None.
+    """
+
+    request: Dict[str, Any]
+    promise: Optional[str] = None
+    fails: bool = False
+    effect: Optional[Effect] = None
+    shows: Optional[Shown] = None
+    twin: Optional[Twin] = None
+
+    @property
+    def id(self) -> str:
+        return str(self.request["id"])
+
+    @property
+    def group(self) -> Optional[str]:
+        return self.request.get("atomicityGroup")
+
+    @property
+    def unit(self) -> str:
+        return self.group or self.id
+
+    @property
+    def needs(self) -> Sequence[str]:
+        return self.request.get("dependsOn", ())
+
+
+class Subject:
+    """An entity as the requests of a batch leave it, one after another.
+
+    Attributes:
+        entity: As it was made, or is made in the batch.
+        is_there: Whether it is there after the requests so far.
+        mark: What its text property has then.
+        at: The position of the request whose effect shows afterwards, or None.
+        maker: The id of the request that creates it.
+    """
+
+    def __init__(self, entity: Entity, is_there: bool) -> None:
+        self.entity, self.is_there, self.mark = entity, is_there, entity.mark
+        self.at: Optional[int] = None
+        self.maker: Optional[str] = None
+
+
+class Stage:
+    """Writes the batch of a case, and makes what its requests need by plain requests.
+
+    Attributes:
+        writes: The ways to write that take turns.
+    """
+
+    def __init__(self, entities: Entities) -> None:
+        self.entities = entities
+        self.steps: List[Step] = []
+        self.subjects: Dict[str, Subject] = {}
+        ways = ("create", "delete", "patch", "put")
+        self.writes = itertools.cycle([it for it in ways if it not in entities.lacks] or ["delete"])
+
+    def document(self) -> bytes:
+        """The batch, a request on each line."""
+        lines = ",\n  ".join(json.dumps(it.request) for it in self.steps)
+        return f'{{"requests": [\n  {lines}\n]}}\n'.encode()
+
+    def features(self) -> Set[str]:
+        """What the batch has that a service may refuse."""
+        found = {"dependencies" for it in self.steps if it.needs}
+        found |= {"groups" for it in self.steps if it.group}
+        return found | {"references" for it in self.steps if it.request["url"].startswith("$")}
+
+    # The requests
+
+    def add(
+        self,
+        id: str,
+        method: str,
+        url: str,
+        body: Any = None,
+        group: Optional[str] = None,
+        needs: Sequence[str] = (),
+        headers: Optional[Dict[str, str]] = None,
+        **rest: Any,
+    ) -> None:
+        request: Dict[str, Any] = {"id": id}
+        if group:
+            request["atomicityGroup"] = group
+        if needs:
+            request["dependsOn"] = list(needs)
+        request.update(method=method, url=url)
+        if body is not None:
+            headers = {"Content-Type": "application/json", **(headers or {})}
+        if headers:
+            request["headers"] = headers
+        if body is not None:
+            request["body"] = body
+        self.steps.append(Step(request, **rest))
+
+    def subject(self, is_there: bool = True) -> Subject:
+        """An entity that is there already, or that the batch is to create."""
+        return Subject(self.entities.make() if is_there else self.entities.fresh(), is_there)
+
+    def lasting(self) -> Subject:
+        """An entity that is there, and that the batch does not remove."""
+        return Subject(self.entities.borrow(), True)
+
+    def act(self, id: str, act: str, subject: Subject, by: str = "", **where: Any) -> None:
+        """A request on an entity, by its URL or by another way to lead to it."""
+        entity, fails = subject.entity, subject.is_there == (act == "create")
+        self.subjects[id] = subject
+        if act == "read":
+            shows = None if fails else self._shown(subject)
+            self.add(id, "get", by or entity.url, fails=fails, shows=shows, **where)
+            return
+        body, effect = None, Effect(entity.url, False, subject.mark if not entity.url else None)
+        if act != "delete":
+            mark = entity.mark if act == "create" else self.entities.new_mark()
+            body = entity.body if act == "create" else self.entities.change(act, mark)
+            effect = Effect(entity.url, True, mark)
+        if not fails:
+            self._supersede(subject, effect)
+            subject.maker = id if act == "create" else subject.maker
+        url = self.entities.set if act == "create" else by or entity.url
+        is_seen = not fails and bool(entity.url or "create" not in self.entities.lacks)
+        self.add(id, METHODS[act], url, body, fails=fails, effect=effect if is_seen else None, **where)
+
+    def _shown(self, subject: Subject) -> Shown:
+        """What a read of an entity returns, as far as it is known."""
+        values = {self.entities.key: subject.entity.key, self.entities.text or "": subject.mark}
+        return Shown({name: it for name, it in values.items() if it is not None}, subject.maker)
+
+    def _supersede(self, subject: Subject, effect: Effect) -> None:
+        """The next request writes an entity: what an earlier one did to it does not show any more."""
+        if subject.at is not None:
+            self.steps[subject.at] = self.steps[subject.at]._replace(effect=None)
+        subject.at, subject.is_there, subject.mark = len(self.steps), effect.is_there, effect.mark
+
+    def write(self, id: str, **where: Any) -> None:
+        """A request that creates, deletes or changes an entity, by turns."""
+        act = next(self.writes)
+        self.act(id, act, self.lasting() if act in ("patch", "put") else self.subject(act != "create"), **where)
+
+    def create(self, id: str, **where: Any) -> Subject:
+        """A request that creates an entity."""
+        subject = self.subject(False)
+        self.act(id, "create", subject, **where)
+        return subject
+
+    def read(self, id: str, **where: Any) -> None:
+        """A request that reads an entity which is there all the time."""
+        self.act(id, "read", self.lasting(), **where)
+
+    def look(self, id: str, written: str, **where: Any) -> None:
+        """A request that reads what a write has done; it is to see that."""
+        subject = self.subjects[written]
+        by = "" if subject.entity.url else f"${subject.maker}"
+        self.act(id, "read", subject, by, promise="order", **where)
+
+    # What is expected
+
+    def expected(self, stops: bool) -> List[str]:
+        """What is expected of each request; if the batch stops at an error, anything of what may come after it."""
+        unit_of = {name: it.unit for it in self.steps for name in (it.id, it.unit)}
+        failed: Set[str] = set()
+        found = []
+        for _, members in itertools.groupby(self.steps, lambda it: it.unit):
+            steps = list(members)
+            skipped = [bool(failed & {unit_of[name] for name in it.needs}) for it in steps]
+            is_failing = any(skipped) or any(it.fails for it in steps)
+            for step, is_skipped in zip(steps, skipped):
+                outcome = SKIPPED if is_skipped else FAILS if step.fails else UNDONE if is_failing else DONE
+                found.append(OPEN if stops and failed and outcome in (DONE, FAILS) else outcome)
+            if is_failing:
+                failed.add(steps[0].unit)
+        return found

@@ -1,0 +1,130 @@
+"""Judges whether a service keeps what OData promises of batches in JSON. See docs/conformance.md."""
+
+import argparse
+import json
+import re
+import sys
+from typing import Any, Dict, List, Sequence
+
+from . import _report
+from ._cases import MOST_REQUESTS, REQUESTS, cases_like
+from ._entities import Entities
+from ._interruption import Interrupted, Interruption
+from ._promises import Case
+from ._runner import Runner
+from ._service import MOST_SECONDS, NO_ROOT, SECONDS, Service, Unusable, is_root
+
+PROGRAM = "python3 -m odb_batch conformance"
+# Exit statuses; wrong arguments end with 2.
+BROKEN, UNUSABLE = 1, 3
+
+
+def url_of(text: str) -> str:
+    """The root URL of a service."""
+    if not is_root(text):
+        raise argparse.ArgumentTypeError(NO_ROOT.format(text))
+    return text
+
+
+def body_of(text: str) -> Dict[str, Any]:
+    """The body of an entity."""
+    try:
+        value = json.loads(text)
+    except (ValueError, RecursionError):
+        value = None
+    if not isinstance(value, dict):
+        raise argparse.ArgumentTypeError(f"{text!r} is not an object of JSON")
+    return value
+
+
+def header_of(text: str) -> List[str]:
+    """The name and the value of a header."""
+    name, colon, value = text.partition(":")
+    if not colon or not re.fullmatch(r"[\w!#$%&'*+.^`|~-]+", name, re.ASCII) or not value.isprintable():
+        raise argparse.ArgumentTypeError(f"{text!r} is not a header, such as Authorization: Bearer 123")
+    return [name, value.strip()]
+
+
+def seconds_of(text: str) -> float:
+    if not re.fullmatch(r"[0-9]{1,4}(\.[0-9]+)?", text) or not 0 < float(text) <= MOST_SECONDS:
+        raise argparse.ArgumentTypeError(f"{text!r} is not a number of seconds up to {MOST_SECONDS}")
+    return float(text)
+
+
+def number_of(text: str) -> int:
+    if not re.fullmatch(r"[0-9]{1,5}", text) or not 1 <= int(text) <= MOST_REQUESTS:
+        raise argparse.ArgumentTypeError(f"{text!r} is not a whole number from 1 to {MOST_REQUESTS}")
+    return int(text)
+
+
+def name_of(text: str) -> str:
+    if not re.fullmatch(r"\w+", text):
+        raise argparse.ArgumentTypeError(f"{text!r} is not a name")
+    return text
+
+
+def parser() -> argparse.ArgumentParser:
+    found = argparse.ArgumentParser(prog=PROGRAM, description=__doc__)
+    found.add_argument("url", metavar="URL", type=url_of, nargs="?", help="the root of the service, above its $batch")
+    found.add_argument("--set", metavar="NAME", type=name_of, help="an entity set in which entities may be made")
+    found.add_argument("--key", metavar="NAME", type=name_of, help="the key property of its entities")
+    found.add_argument("--body", metavar="JSON", type=body_of, help="a body that creates an entity; the key is added")
+    found.add_argument("--header", metavar="H: V", type=header_of, action="append", default=[], help="of all requests")
+    found.add_argument("--requests", metavar="N", type=number_of, default=REQUESTS, help="how many a batch may have; 100")
+    found.add_argument("--timeout", metavar="S", type=seconds_of, default=SECONDS, help="seconds for an answer; 20")
+    found.add_argument("--case", metavar="GLOB", action="append", help="runs cases of such names alone, as 'group-*'")
+    found.add_argument("--breaks", metavar="FOLDER", default="conformance-breaks", help="where breaks are written")
+    found.add_argument("--json", action="store_true", help="prints one document of JSON in place of the table")
+    found.add_argument("--list", action="store_true", help="lists the cases, and sends nothing")
+    return found
+
+
+def progress(at: int, name: str, count: int) -> None:
+    """Shows on a terminal how far the run is."""
+    if sys.stderr.isatty():
+        print(f"\r\033[K{at + 1}/{count} {name}" if name else "\r\033[K", end="", file=sys.stderr, flush=True)
+
+
+def run(options: argparse.Namespace, cases: List[Case], interruption: Interruption) -> int:
+    """Runs the cases and prints what they show; returns the exit status."""
+    service = Service(options.url, dict(options.header), options.timeout, interruption)
+    entities = Entities(service, options.set, options.key, options.body)
+    runner = Runner(service, entities, options.requests)
+    try:
+        results = runner.run(cases, lambda at, name: progress(at, name, len(cases)))
+    except (Unusable, Interrupted) as error:
+        progress(0, "", 0)
+        for url in entities.forget():
+            print(f"not removed: {url}", file=sys.stderr)
+        print(f"error: {error}", file=sys.stderr)
+        interruption.ignore()
+        return UNUSABLE
+    progress(0, "", 0)
+    if options.json:
+        print(_report.json_text(_report.document(service.root, results, entities.left)))
+    else:
+        print(_report.table(results), *_report.lines_of(results, entities.left, options.breaks), sep="\n")
+    try:
+        _report.write_breaks(results, options.breaks)
+    except OSError as error:
+        print(f"error: {error.filename}: {error.strerror}", file=sys.stderr)
+        return UNUSABLE
+    return BROKEN if any(it.breaks for it in results) else 0
+
+
+def main(words: Sequence[str]) -> int:
+    """Does what the words of a command line ask; returns the exit status."""
+    interruption = Interruption()
+    interruption.catch()
+    arguments = parser()
+    options = arguments.parse_args(words)
+    globs = options.case or ["*"]
+    cases = cases_like(globs, options.requests)
+    if not cases:
+        arguments.error(f"no case has a name like {' or '.join(map(repr, globs))}")
+    if options.list:
+        print(_report.listed(cases))
+        return 0
+    if None in (options.url, options.set, options.key, options.body):
+        arguments.error("needed are URL, --set, --key and --body, or --list")
+    return run(options, cases, interruption)

@@ -1,0 +1,178 @@
+"""Compares what a request of a batch does with what the same request does alone, on entities of their own.
+
+Both are taken apart into parts by name, as the status, a header or a property, in which the keys and marks of the
+entity are replaced. One is sent alone before the batch, and one after it: what differs between these two, as a time
+does, is not compared, but for whether it is there.
+"""
+
+import re
+from typing import Any, Callable, Dict, Iterator, List, Mapping, NamedTuple, Optional, Sequence, Tuple
+from urllib.parse import quote, urlsplit
+
+from ._entities import Entities, Entity
+from ._service import Answer
+
+Parts = Dict[str, Any]
+
+HEADERS = {"location": "Location", "etag": "ETag", "preference-applied": "Preference-Applied"}
+# Control information whose value is a URL, which may be relative.
+LINKS = re.compile(r".*@(odata\.)?(id|editLink|readLink|nextLink)")
+CONTEXT = re.compile(r".*@(odata\.)?context")
+# What is compared only if both have it: a batch may have relative URLs.
+HOST = "the host of its Location"
+ETAGS = ("@odata.etag", "@etag")
+MISSING = "missing"
+
+
+class Twin(NamedTuple):
+    """A request that was also sent alone.
+
+    Attributes:
+        entity: What the request of the batch is about.
+        marks: What it writes to the text property.
+        alone: Returns the parts of two requests alone, and sends the second of them.
+    """
+
+    entity: Entity
+    marks: Sequence[Any]
+    alone: Callable[[], Sequence[Parts]]
+
+
+def etag_of(headers: Mapping[str, str], value: Any) -> Optional[str]:
+    """The ETag of an entity, by a header or in its representation."""
+    shown = value if isinstance(value, dict) else {}
+    return headers.get("etag") or next((shown[name] for name in ETAGS if name in shown), None)
+
+
+def media_type(headers: Mapping[str, str]) -> str:
+    """The media type of a body; a batch may leave out that of JSON."""
+    return headers.get("content-type", "").partition(";")[0].strip().lower() or "application/json"
+
+
+class Taking:
+    """Takes what became of a request apart.
+
+    Args:
+        entities: The entities.
+        entity: What the request is about.
+        marks: What it writes to the text property.
+    """
+
+    def __init__(self, entities: Entities, entity: Entity, marks: Sequence[Any]) -> None:
+        self.entities, self.entity = entities, entity
+        self.names = [(it, "MARK") for it in (entity.mark, *marks) if it is not None]
+
+    def parts(self, status: int, headers: Mapping[str, str], value: Any) -> Parts:
+        """The parts of an answer, and of the entity afterwards."""
+        url = self._know_entity(status, headers, value)
+        found: Parts = {"the status": status}
+        for name, shown in HEADERS.items():
+            if name in headers:
+                found[shown] = self._plain(self._path(headers[name]) if name == "location" else headers[name])
+        if urlsplit(headers.get("location", "")).netloc:
+            found[HOST] = urlsplit(headers["location"]).netloc
+        if value is not None and status < 500:
+            found["Content-Type"] = media_type(headers)
+            if "json" not in found["Content-Type"]:
+                found["the body"] = "not JSON"
+            else:
+                found.update(self._body(value) if status < 400 else error_parts(value))
+        if url:
+            after = self.entities.service.ask("GET", url)
+            found["afterwards the status"] = after.status
+            if after.is_success:
+                found.update({f"afterwards {name}": it for name, it in self._body(after.value).items()})
+                tag = etag_of(headers, value) if status < 300 else None
+                if tag is not None:
+                    found["whether its ETag is the current one"] = tag == etag_of(after.headers, after.value)
+        return found
+
+    def _know_entity(self, status: int, headers: Mapping[str, str], value: Any) -> str:
+        """The URL of the entity; its key is known from the answer where the service makes it."""
+        key, url = self.entity.key, self.entity.url
+        if key is None and 200 <= status <= 299:
+            shown = value if isinstance(value, dict) else {}
+            if self.entities.key not in shown and "location" in headers:
+                shown = self.entities.service.ask("GET", headers["location"]).value or {}
+            key = shown.get(self.entities.key) if isinstance(shown, dict) else None
+            url = self.entities.url_of(key) if key is not None else ""
+        if url:
+            self.entities.note(url)
+        if key is not None:
+            self.names.append((key, "KEY"))
+        return url
+
+    def _path(self, url: str) -> str:
+        """The path of a URL, with each character as itself."""
+        return urlsplit(self.entities.service.address(url)).path
+
+    def _member(self, name: str, value: Any) -> Any:
+        """The value of a member, in the form in which it is compared."""
+        if isinstance(value, str) and CONTEXT.fullmatch(name):
+            return value.partition("#")[2]
+        return self._path(value) if isinstance(value, str) and LINKS.fullmatch(name) else value
+
+    def _plain(self, value: Any) -> Any:
+        """A value with the entity's keys and marks replaced."""
+        for text, name in self.names:
+            if not isinstance(value, str):
+                value = name if value == text and not isinstance(value, bool) else value
+            elif isinstance(text, int):
+                value = re.sub(rf"(?<![0-9]){text}(?![0-9])", name, value)
+            else:
+                value = value.replace(text, name).replace(quote(text), name)
+        return value
+
+    def _body(self, value: Any, path: str = "the body") -> Parts:
+        """The parts of a body, by their paths."""
+        if isinstance(value, dict) and value:
+            items: Iterator[Tuple[str, Any]] = iter(value.items())
+            joint = "."
+        elif isinstance(value, list) and value:
+            items = ((str(at), it) for at, it in enumerate(value))
+            joint = "/"
+        else:
+            return {path: self._plain(value) if value not in ({}, []) else str(value)}
+        found: Parts = {path: type(value).__name__}
+        for name, it in items:
+            found.update(self._body(self._member(name, it), f"{path}{joint}{name}"))
+        return found
+
+
+def error_parts(value: Any) -> Parts:
+    """The parts of an error object; its message is for people."""
+    error = value.get("error") if isinstance(value, dict) else None
+    if not isinstance(error, dict):
+        return {"the body": "without error"}
+    return {"the body": "with error", "the code of the error": error.get("code")}
+
+
+def parts_alone(taking: Taking, answer: Answer) -> Parts:
+    """The parts of a request that was sent alone."""
+    # a text that is not JSON is compared by its media type alone
+    return taking.parts(answer.status, answer.headers, (answer.value or "") if answer.text else None)
+
+
+def parts_in_batch(taking: Taking, response: Dict[str, Any]) -> Parts:
+    """The parts of a response of a batch."""
+    given = response.get("headers")
+    headers = {str(name).lower(): str(it) for name, it in given.items()} if isinstance(given, dict) else {}
+    return taking.parts(response["status"], headers, response.get("body"))
+
+
+def differences(alone: Sequence[Parts], batch: Parts) -> List[str]:
+    """What a request in a batch does otherwise than alone, in lines that continue after its id."""
+    first, others = alone[0], alone[1:]
+    found = []
+    for name in dict.fromkeys([*first, *batch]):
+        expected, value = first.get(name, MISSING), batch.get(name, MISSING)
+        is_fixed = all(it.get(name, MISSING) == expected for it in others)
+        is_open = name == HOST and MISSING in (expected, value)
+        if expected != value and not is_open and (is_fixed or MISSING in (expected, value)):
+            found.append(f"{name} is {shortened(value)}, and alone {shortened(expected)}")
+    return found
+
+
+def shortened(value: Any, most: int = 80) -> str:
+    text = str(value)
+    return text if len(text) <= most else text[: most - 3] + "..."

@@ -1,0 +1,136 @@
+"""Defects in groups."""
+
+import json
+from contextlib import contextmanager
+
+import store
+from odb_batch import Answer
+from patching import Execution, change_responses, is_success
+
+
+def half_group():
+    """A group that fails is committed up to its failure."""
+    begin = store.Store.group
+
+    @contextmanager
+    def group(self, name):
+        failure = None
+        with begin(self, name):
+            try:
+                yield
+            except Exception as error:
+                failure = error
+        if failure is not None:
+            raise failure
+
+    store.Store.group = group
+
+
+def half_of_long_groups():
+    """A group of more than sixteen requests is committed in parts."""
+    begin, session = store.Store.group, store.Store.session
+    counts = {}
+
+    @contextmanager
+    def group(self, name):
+        with begin(self, name):
+            counts[self._group.get()] = 0
+            yield
+
+    @contextmanager
+    def counting(self, is_writing):
+        with session(self, is_writing) as database:
+            if self._group.get() is not None:
+                counts[database] += 1
+                if counts[database] % 16 == 0:
+                    database.execute("COMMIT")
+                    database.execute("BEGIN IMMEDIATE")
+            yield database
+
+    store.Store.group, store.Store.session = group, counting
+
+
+def shown_success():
+    """Members of a failed group keep the success that they had before."""
+    change_responses(
+        lambda responses, _: [
+            it.update(status=204) for it in responses if it["status"] == 424 and "atomicityGroup" in it
+        ]
+    )
+
+
+def failures_ignored(is_ignored):
+    """Has a group go on, and be committed, though a member fails."""
+    answer, respond = Execution.answer, Execution.respond
+
+    def answering(self, request):
+        found = answer(self, request)
+        members = self.members(request.group) if request.group else []
+        if found.is_success or len(members) < 2 or not is_ignored(request, members):
+            return found
+        self.hidden = {**getattr(self, "hidden", {}), request.id: found.status}
+        return Answer(204)
+
+    def responding(self):
+        value = json.loads(respond(self))
+        for it in value["responses"]:
+            it["status"] = getattr(self, "hidden", {}).get(it["id"], it["status"])
+        return json.dumps(value).encode()
+
+    Execution.answer, Execution.respond = answering, responding
+
+
+def failed_reads_ignored():
+    """A read that fails does not fail its group."""
+    failures_ignored(lambda request, members: request.method == "GET")
+
+
+def failed_puts_ignored():
+    """A PUT that fails does not fail its group."""
+    failures_ignored(lambda request, members: request.method == "PUT")
+
+
+def last_failure_ignored():
+    """A group is committed before its last member is performed."""
+    failures_ignored(lambda request, members: request.id == members[-1])
+
+
+def stays(method):
+    """Has what members of a failed group did by a method stay, as if its undoing were forgotten."""
+    answer, respond = Execution.answer, Execution.respond
+
+    def answering(self, request):
+        found = answer(self, request)
+        self.done = {**getattr(self, "done", {}), request.id: (request, found.status)}
+        return found
+
+    def responding(self):
+        document = respond(self)
+        statuses = {it["id"]: it["status"] for it in json.loads(document)["responses"]}
+        for id, (request, status) in getattr(self, "done", {}).items():
+            is_undone = is_success(status) and not is_success(statuses[id])
+            if is_undone and request.method == method and not self.requests[id]["url"].startswith("$"):
+                self.send(request)
+        return document
+
+    Execution.answer, Execution.respond = answering, responding
+
+
+def posts_stay():
+    """What a failed group created stays."""
+    stays("POST")
+
+
+def patches_stay():
+    """What a failed group changed by PATCH stays."""
+    stays("PATCH")
+
+
+def puts_stay():
+    """What a failed group changed by PUT stays."""
+    stays("PUT")
+
+
+def deletes_stay():
+    """What a failed group deleted stays so."""
+    stays("DELETE")

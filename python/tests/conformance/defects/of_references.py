@@ -1,0 +1,109 @@
+"""Defects in references."""
+
+import re
+from urllib.parse import urljoin
+
+from odb_batch import Answer
+from patching import Execution, change_document
+
+# What stands for a reference, so that the library leaves it as it is.
+HIDDEN = re.compile(r".*/reference-([\w.~-]+)(.*)$", re.DOTALL)
+
+
+def resolve(lead, locations=None, keeps_rest=True):
+    """Has references lead elsewhere: by an execution, in which `locations` has what was created, and the id."""
+    prepare, answer = Execution.__init__, Execution.answer
+
+    def hide(requests):
+        for it in requests:
+            found = re.match(r"\$([\w.~-]+)(?=[/?#]|$)", it["url"], re.ASCII)
+            if found and any(found[1] == other["id"] for other in requests):
+                it["url"] = "reference-" + it["url"][1:]
+
+    def preparing(self, *rest):
+        self.locations = {} if locations is None else locations
+        prepare(self, *rest)
+
+    def answering(self, request):
+        found = HIDDEN.match(request.url)
+        if found:
+            url = urljoin(request.url, lead(self, found[1]))
+            request = request._replace(url=url + found[2] if keeps_rest else url)
+        given = answer(self, request)
+        if "location" in given.headers:
+            self.locations[request.id] = given.headers["location"]
+        return given
+
+    Execution.__init__, Execution.answer = preparing, answering
+    change_document(hide)
+
+
+def no_references():
+    """A URL that begins with a reference is taken as it is."""
+    resolve(lambda execution, id: f"/library/${id}")
+
+
+def first_reference():
+    """Each reference leads to what the batch created first."""
+    resolve(lambda execution, id: next(iter(execution.locations.values())))
+
+
+def last_reference():
+    """Each reference leads to what the batch created last."""
+    resolve(lambda execution, id: list(execution.locations.values())[-1])
+
+
+def by_name(is_same):
+    """Has references lead to the first id that is taken for theirs."""
+    resolve(lambda execution, id: next(it for name, it in execution.locations.items() if is_same(name, id)))
+
+
+def references_in_any_case():
+    """Ids of references are compared without their case."""
+    by_name(lambda name, id: name.lower() == id.lower())
+
+
+def references_by_prefix():
+    """A reference leads to the first id that it begins with."""
+    by_name(lambda name, id: id.startswith(name))
+
+
+def references_by_word():
+    """Of the id of a reference the letters and digits count."""
+    by_name(lambda name, id: re.sub("[^A-Za-z0-9]", "", name) == re.sub("[^A-Za-z0-9]", "", id))
+
+
+def shared_references():
+    """Batches share what the ids of their requests lead to."""
+    resolve(lambda execution, id: execution.locations[id], locations={})
+
+
+def references_of_first_group():
+    """Inside a group a reference leads to what its first member created."""
+
+    def lead(execution, id):
+        group = execution.requests[id].get("atomicityGroup")
+        first = execution.members(group)[0] if group else id
+        return execution.locations.get(first, execution.locations[id])
+
+    resolve(lead)
+
+
+def references_without_rest():
+    """What follows the id of a reference is dropped, in a service that shows properties by URLs of their own."""
+    from variants import properties
+
+    properties()
+    resolve(lambda execution, id: execution.locations[id], keeps_rest=False)
+
+
+def changes_by_reference_lost():
+    """A PATCH, PUT or DELETE by a reference is answered 204, and not performed."""
+    answer = Execution.answer
+
+    def answering(self, request):
+        if self.requests[request.id]["url"].startswith("$") and request.method != "GET":
+            return Answer(204)
+        return answer(self, request)
+
+    Execution.answer = answering

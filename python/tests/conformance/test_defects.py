@@ -1,0 +1,183 @@
+"""Each planted defect is found, and a service without one keeps every promise."""
+
+import json
+import os
+from typing import NamedTuple
+
+import pytest
+
+from common import rows
+from odb_batch import check
+from tool import ABOUT, service, tool
+
+
+class Defect(NamedTuple):
+    """What a defect breaks.
+
+    Attributes:
+        name: Its function in defects/.
+        cases: The cases that are run, so that the tests take a fraction of the time.
+        promises: The promises that are broken.
+        is_exact: Whether no others are broken; where requests overtake each other it depends on the threads.
+    """
+
+    name: str
+    cases: str
+    promises: str
+    is_exact: bool = True
+
+
+DEFECTS = (
+    # what a batch is answered
+    Defect("hangs_up", "one-* side-by-side* chain*", "answered"),
+    Defect("one_at_a_time", "at-once", "answered"),
+    Defect("missing", "one-* chain looks", "once"),
+    Defect("twice", "one-* chain", "once"),
+    Defect("lower_case_ids", "ids-*", "once"),
+    Defect("ids_as_names", "ids-*", "once"),
+    Defect("long_ids_cut", "ids-*", "once"),
+    Defect("numbers_as_ids", "ids-*", "once"),
+    Defect("own_keys_posts_twice", "one-* chain group", "once"),
+    Defect("no_group_names", "group group-of-one", "named"),
+    Defect("lower_case_groups", "groups-*", "named"),
+    # what a request of a batch does
+    Defect("no_etags_in_batches", "alone-*", "alone"),
+    Defect("old_etags", "alone-patch*", "alone"),
+    Defect("no_preconditions", "alone-*-stale", "alone"),
+    Defect("no_location", "alone-post*", "alone"),
+    Defect("no_body_of_a_post", "alone-post*", "alone"),
+    Defect("created_is_200", "alone-post*", "alone"),
+    Defect("not_found_is_400", "alone-get*", "alone"),
+    Defect("no_error_objects", "alone-get*", "alone"),
+    Defect("body_as_text", "one-read alone-get", "alone"),
+    Defect("wrong_type", "alone-get", "alone"),
+    Defect("no_request_headers", "alone-post*", "alone"),
+    Defect("no_query", "alone-get*", "alone"),
+    Defect("no_signs", "alone-post* alone-patch*", "alone"),
+    Defect("put_as_patch", "alone-put*", "alone"),
+    Defect("patch_as_put", "alone-patch*", "alone"),
+    Defect("lost_changes", "alone-patch* alone-put*", "alone"),
+    Defect("deletes_nothing", "alone-delete*", "alone"),
+    Defect("other_urls_answered", "urls-*", "alone order"),
+    Defect("mixed_answers", "at-once reference-at-once", "alone order reference", False),
+    # the order
+    Defect("no_waiting", "chain* looks wait-* chain-fails-*", "order failed", False),
+    Defect("reads_do_not_wait", "wait-*", "order"),
+    Defect("deletes_do_not_wait", "wait-*", "order", False),
+    Defect("patches_do_not_wait", "wait-*", "order", False),
+    Defect("puts_do_not_wait", "wait-*", "order", False),
+    Defect("posts_do_not_wait", "wait-* group-waits*", "order", False),
+    Defect("waits_for_the_first", "wait-for-*", "order"),
+    Defect("waits_for_the_last", "wait-for-*", "order"),
+    Defect("no_waiting_for_groups", "wait-for-group group-waits-for-group", "order", False),
+    Defect("groups_do_not_wait", "group-waits*", "order", False),
+    # what depends on a failure
+    Defect("false_success", "chain-fails-* failing-fan-*", "failed"),
+    Defect("false_424", "one-write failing-fan-in chain-fails-*", "untouched alone continue", False),
+    Defect("skipped_as_400", "chain-fails-*", "failed"),
+    Defect("performed_all_the_same", "chain-fails-*", "untouched"),
+    Defect("no_stop", "stop-*", "stop"),
+    Defect("stops_by_itself", "failure-among-others failing-fan-out group-fails-body-*", "continue"),
+    # groups
+    Defect("half_group", "group group-fails-body-*", "group"),
+    Defect("half_of_long_groups", "group-many-*", "group"),
+    Defect("own_keys_half_group", "group-fails-missing-*", "group"),
+    Defect("fixed_titles_half_group", "group-fails-missing-*", "group"),
+    Defect("shown_success", "group-fails-missing-*", "group"),
+    Defect("failed_reads_ignored", "group-fails-*", "group failed"),
+    Defect("failed_puts_ignored", "group-fails-*", "group failed"),
+    Defect("last_failure_ignored", "group-fails-missing-*", "group failed"),
+    Defect("posts_stay", "group-fails-missing-*", "group"),
+    Defect("patches_stay", "group-fails-missing-*", "group"),
+    Defect("puts_stay", "group-many-*", "group"),
+    Defect("deletes_stay", "group-fails-missing-*", "group"),
+    # references
+    Defect("no_references", "reference-read reference-deleted reference-groups", "reference"),
+    Defect("first_reference", "reference-each-* reference-numbers", "reference alone", False),
+    Defect("last_reference", "reference-each-* reference-numbers", "reference", False),
+    Defect("references_in_any_case", "reference-case", "reference"),
+    Defect("references_by_prefix", "reference-numbers", "reference"),
+    Defect("references_by_word", "reference-numbers reference-signs", "reference"),
+    Defect("references_of_first_group", "reference-groups", "reference"),
+    Defect("changes_by_reference_lost", "reference-each-*", "reference alone"),
+    Defect("references_without_rest", "reference-property reference-option", "reference"),
+    Defect("shared_references", "reference-at-once", "reference", False),
+)
+# Of each variant, which breaks nothing, a promise of which nothing is judged, and a reason; None if all is judged.
+VARIANTS = {
+    "refuses_groups": ("group", "the service refuses groups with 501 Groups are not supported"),
+    "refuses_references": ("reference", "the service refuses references with 501 References are not supported"),
+    "always_stops": ("continue", "the service does not apply the preference continue-on-error"),
+    "one_batch_at_a_time": (
+        None,
+        "the service refuses batches at the same time with 503 A batch is being performed; try again",
+    ),
+    "own_keys": (None, "alone, no request fails by a key that is taken"),
+    "hidden_keys": (None, "the service makes the keys itself"),
+    "fixed_titles": (None, "no property of the body takes any text or number"),
+    "no_etags": (None, "the service has no ETags"),
+    "properties": (None, None),
+    None: (None, "alone, $select is not applied"),
+}
+
+pytestmark = pytest.mark.slow
+
+
+def judged(name, cases):
+    """The exit status, the report and the files of a run, which leaves the books as they were."""
+    with service(name) as (running, folder):
+        database = os.path.join(folder, "library.sqlite")
+        before = rows(database)
+        breaks = os.path.join(folder, "breaks")
+        words = [it for glob in cases.split() for it in ("--case", glob)]
+        done = tool(running.url, *ABOUT, *words, "--json", "--breaks", breaks)
+        assert (rows(database), done.error) == (before, "")
+        return done.status, json.loads(done.out), files_of(breaks)
+
+
+def files_of(folder):
+    """The files of each break, by the case."""
+    found = {}
+    for case in os.listdir(folder) if os.path.isdir(folder) else ():
+        found[case] = {}
+        for name in os.listdir(os.path.join(folder, case)):
+            with open(os.path.join(folder, case, name), "rb") as file:
+                found[case][name] = file.read()
+    return found
+
+
+@pytest.mark.parametrize("defect", DEFECTS, ids=lambda it: it.name)
+def test_each_defect_is_found(defect):
+    status, value, files = judged(defect.name, defect.cases)
+    broken = {promise["name"] for promise in value["promises"] if promise["broken"]}
+    promises = set(defect.promises.split())
+    assert status == 1
+    assert (broken if defect.is_exact else broken & promises) == promises
+    assert {found["promise"] for found in value["breaks"]} == broken
+    assert set(files) == {found["case"] for found in value["breaks"]}
+    for found in value["breaks"]:
+        assert_shows(files[found["case"]], found)
+
+
+def assert_shows(files, found):
+    """The files of a break have its batch, its response and its rule."""
+    assert set(files) == {"batch.json", "response.json", "rules.txt"}
+    assert found["rule"] in files["rules.txt"].decode()
+    assert check(files["batch.json"]).requests > 0
+    if found["promise"] != "answered":
+        assert "responses" in json.loads(files["response.json"])
+
+
+@pytest.mark.parametrize("variant", VARIANTS)
+def test_without_a_defect_every_promise_is_kept(variant):
+    promise, reason = VARIANTS[variant]
+    status, value, files = judged(variant, "*")
+    assert (status, value["breaks"], value["left"], files) == (0, [], [], {})
+    assert reason in ({it["reason"] for it in value["notApplicable"]} or {None})
+    for it in value["promises"]:
+        assert it["broken"] == 0
+        assert it["cases"] == it["kept"] + it["notApplicable"]
+        if variant is None:
+            assert it["kept"] > 0
+        elif it["name"] == promise:
+            assert it["notApplicable"] > 0

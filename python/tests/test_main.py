@@ -1,0 +1,44 @@
+"""The commands of the package: python3 -m odb_batch COMMAND."""
+
+import subprocess
+import sys
+
+import pytest
+
+from odb_batch.__main__ import COMMANDS
+from support.commands import with_package
+
+
+def called(*words):
+    """Runs python3 -m with some words; returns its status, and what it prints."""
+    words = [sys.executable, "-m", *words]
+    done = subprocess.run(words, env=with_package(), capture_output=True, text=True)
+    return done.returncode, done.stdout, done.stderr
+
+
+@pytest.mark.parametrize("words", [(), ("canonical",), ("--other",)])
+def test_wrong_commands_end_with_one_line(words):
+    status, out, error = called("odb_batch", *words)
+    usage, line = error.splitlines()
+    assert (status, out, usage) == (2, "", "usage: python3 -m odb_batch COMMAND ..")
+    assert line.startswith("python3 -m odb_batch: error: ")
+
+
+def test_the_commands_are_listed():
+    status, out, error = called("odb_batch", "--help")
+    assert (status, error) == (0, "")
+    for name, (_, shows) in COMMANDS.items():
+        assert f"\n  {name:14}{shows}\n" in out + "\n"
+
+
+@pytest.mark.parametrize("name", COMMANDS)
+def test_each_command_says_how_it_is_called(name):
+    status, out, error = called("odb_batch", name, "--help")
+    assert (status, error) == (0, "")
+    assert out.startswith(f"usage: python3 -m odb_batch {name} ")
+
+
+def test_a_package_may_be_called_by_its_name():
+    wanted = called("odb_batch", "conformance", "--list", "--case", "chain")
+    assert called("odb_batch.conformance", "--list", "--case", "chain") == wanted
+    assert wanted[0] == 0 and wanted[1].startswith("chain ")
