@@ -60,8 +60,8 @@ enum {
     ODB_SMALL_BUFFER = 5   /* the text is longer than the buffer; nothing is written */
 };
 
-/* What `odb_run_start` and `odb_run_report` return if the event may not come: the first cause that
- * applies. The run is as it was. */
+/* What `odb_run_start`, `odb_run_start_unit` and `odb_run_report` return if the event may not come: the first cause
+ * that applies. The run is as it was. */
 enum {
     ODB_ALREADY_STARTED = 11, /* S1: the request has started before */
     ODB_STOPPED = 12,         /* S2: the run is stopped, by an error or by `odb_run_stop` */
@@ -250,9 +250,18 @@ uint32_t odb_run_start(odb_live_run *run, uint32_t position);
  * failed, what its members need of other units has succeeded, the run is not stopped, and fewer requests are running
  * than the width allows. `*count` is set to the number of them, which is 0 if no unit may begin now. Returns ODB_DONE,
  * or ODB_SMALL_BUFFER if they do not fit, and the buffer is as it was. A handle as above, whose run stays as it is:
- * start each of them by `odb_run_start`, once it is ready. All calls of a run take O(requests) time together, beside
- * O(positions) for each. */
+ * start each of them by `odb_run_start`, once it is ready, or all by `odb_run_start_unit`. All calls of a run take
+ * O(requests) time together, beside O(positions) for each. */
 uint32_t odb_run_next_unit(odb_live_run *run, uint32_t *positions, size_t positions_size, size_t *count);
+
+/* Starts all members of the unit of a request together, for who sends a group to a service as a batch of its own: the
+ * group of the request, or the request alone if it has none. They are reported one by one by `odb_run_report`, in any
+ * order, and until the last of them the unit counts as one in the width. Returns ODB_DONE; or, with the run as it was,
+ * ODB_WRONG_OPTION if there is no such position, or the first cause against the unit: ODB_ALREADY_STARTED if a member
+ * has started before, ODB_STOPPED, ODB_UNIT_FAILED, ODB_WAITING if something that a member needs of another unit has
+ * not succeeded, or ODB_WIDTH_REACHED. A unit that `odb_run_next_unit` gives may start so. A handle as above. Takes
+ * O(members and their dependencies) time, and allocates nothing. */
+uint32_t odb_run_start_unit(odb_live_run *run, uint32_t position);
 
 /* Stops a run: from now on no request starts, by ODB_STOPPED. What is running is reported as before, and what has not
  * started is answered 424: then `odb_run_response` writes the response of a finished run. A handle as above. Takes

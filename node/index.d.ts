@@ -276,7 +276,7 @@ export class Run {
    * request without a group. It may begin if none of its members has started, it has not failed, what its members
    * need of other units has succeeded, the run is not stopped, and fewer requests are running than the width
    * allows. For who performs a group as a whole, as in a transaction: start and report its members one after
-   * another, each once it is ready.
+   * another, each once it is ready, or start all by `startUnit`.
    */
   nextUnit(): string[] | null
 
@@ -304,6 +304,14 @@ export class Run {
    * request of the batch has this id.
    */
   start(id: string): void
+
+  /**
+   * Starts all members of a request's unit together: its group, or the request alone if it has none. For who sends a
+   * group to a service as a batch of its own: call it just before that is sent. The members are reported one by one,
+   * in any order, and until the last of them the unit counts as one in the width. Throws {@link Refused} with the
+   * first of the causes S1 to S5 that applies to the unit, and nothing has started; and for an unknown id as `start`.
+   */
+  startUnit(id: string): void
 
   /**
    * Reports what a running request was answered. A request without any answer, as over a connection that

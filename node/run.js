@@ -158,6 +158,10 @@ class Run {
     settleEvent('start', addon.start(this.#open, this.#position(id)), id)
   }
 
+  startUnit(id) {
+    settleEvent('startUnit', addon.startUnit(this.#open, this.#position(id)), id)
+  }
+
   report(id, status, headers, body) {
     if (!Number.isInteger(status)) throw new TypeError(`a status must be a whole number, not ${String(status)}`)
     const position = this.#position(id)

@@ -5,7 +5,8 @@
  *   ready(run, positions), running(run, positions), undone(run, positions), nextUnit(run, positions)
  *     -> [status, count]
  *   state(run, position, numbers) -> status, with the state and its status in `numbers`
- *   start(run, position), report(run, position, status, headers, body), finished(run) -> status
+ *   start(run, position), startUnit(run, position), report(run, position, status, headers, body), finished(run)
+ *     -> status
  *   stop(run)
  *   ids(run, size), response(run, size) -> [status, text]
  *   close(run)
@@ -245,14 +246,27 @@ static napi_value stop(napi_env env, napi_callback_info info)
     return NULL;
 }
 
-static napi_value start(napi_env env, napi_callback_info info)
+typedef uint32_t starting(odb_live_run *run, uint32_t position);
+
+/* Has a function start what is at the position that is passed. */
+static napi_value start_by(napi_env env, napi_callback_info info, starting *started)
 {
     struct live *live;
     uint32_t position;
     napi_value it[2];
     if (!read_arguments(env, info, it, 2) || !read_live(env, it[0], &live) || !read_number(env, it[1], &position))
         return wrong_arguments(env);
-    return number_of(env, odb_run_start(&live->run, position));
+    return number_of(env, started(&live->run, position));
+}
+
+static napi_value start(napi_env env, napi_callback_info info)
+{
+    return start_by(env, info, odb_run_start);
+}
+
+static napi_value start_unit(napi_env env, napi_callback_info info)
+{
+    return start_by(env, info, odb_run_start_unit);
 }
 
 static napi_value report(napi_env env, napi_callback_info info)
@@ -332,7 +346,7 @@ napi_status export_runs(napi_env env, napi_value exports)
         {"start", start},       {"report", report},     {"finished", finished},
         {"undone", undone},     {"ids", ids},           {"response", response},
         {"nextUnit", next_unit}, {"state", state},      {"stop", stop},
-        {"close", close_run},
+        {"startUnit", start_unit}, {"close", close_run},
     };
     for (size_t i = 0; i < sizeof calls / sizeof *calls; i++) {
         napi_property_descriptor it = {calls[i].name, NULL, calls[i].call, NULL, NULL, NULL, napi_enumerable, NULL};

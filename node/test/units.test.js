@@ -49,6 +49,33 @@ test('skips what needs a group that failed, and says what is undone', () => {
   })
 })
 
+test('starts a group as one, which takes one place', () => {
+  withRun({ width: 1 }, (live) => {
+    live.startUnit('book')
+    live.report('book', 200)
+    live.startUnit('loan')
+    assert.deepEqual([live.running, live.ready], [['mark', 'loan'], []])
+    live.report('loan', 201)
+    assert.deepEqual([live.running, live.nextUnit()], [['mark'], null])
+    live.report('mark', 204)
+    assert.deepEqual(live.nextUnit(), ['list'])
+  })
+})
+
+test('refuses to start a group as one', () => {
+  withRun({}, (live) => {
+    const refuses = (id, code) => assert.throws(() => live.startUnit(id), (error) => error instanceof Refused && error.code === code)
+    refuses('loan', 'S4')
+    live.startUnit('book')
+    refuses('book', 'S1')
+    live.report('book', 404)
+    refuses('mark', 'S3')
+    live.stop()
+    refuses('list', 'S2')
+    assert.throws(() => live.startUnit('lend'), { code: 'ERR_ODB_UNKNOWN_ID' })
+  })
+})
+
 test('says what has become of a request', () => {
   withRun({}, (live) => {
     assert.deepEqual(live.state('book'), { state: 'ready', status: null })
@@ -77,7 +104,7 @@ test('starts nothing more in a run that is stopped', () => {
 test('refuses a closed run', () => {
   const live = new Run(BATCH)
   live.close()
-  for (const call of [() => live.stop(), () => live.nextUnit(), () => live.state('book')]) {
+  for (const call of [() => live.stop(), () => live.nextUnit(), () => live.state('book'), () => live.startUnit('book')]) {
     assert.throws(call, { code: 'ERR_ODB_CLOSED' })
   }
 })

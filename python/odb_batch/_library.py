@@ -60,6 +60,7 @@ _PARAMETERS: Dict[str, List[Any]] = {
     "odb_run_stop": [*_RUN],
     "odb_run_ids": [*_RUN, *_TEXT],
     "odb_run_start": [*_RUN, *_NUMBER],
+    "odb_run_start_unit": [*_RUN, *_NUMBER],
     "odb_run_report": [*_RUN, *_NUMBER * 2, *_BYTES, *_BYTES],
     "odb_run_finished": [*_RUN],
     "odb_run_response": [*_RUN, *_TEXT],

@@ -170,7 +170,7 @@ class Run:
         A unit is a group, or one request without a group. It may begin if none of its members has started,
         it has not failed, what its members need of other units has succeeded, the run is not stopped, and fewer
         requests are running than the width allows. For who performs a group as a whole, as in a transaction:
-        start and report its members one after another, each once it is ready.
+        start and report its members one after another, each once it is ready, or all by `start_unit`.
 
         >>> from odb_batch import Run
         >>> batch = {"requests": [{"id": "a", "method": "get", "url": "Books"},
@@ -252,6 +252,24 @@ class Run:
         with self._lock:
             status = self._call("odb_run_start", position)
         _settle("odb_run_start", status, id)
+
+    def start_unit(self, id: str) -> None:
+        """Starts all members of a request's unit together: its group, or the request alone if it has none.
+
+        For who sends a group to a service as a batch of its own: call it just before that is sent. The members
+        are reported one by one, in any order, and until the last of them the unit counts as one in the width.
+
+        Raises:
+            Refused: The unit may not start, by the first of the causes S1 to S5: a member has started before, the
+                run is stopped, the unit has failed, something that a member needs of another unit has not
+                succeeded, or the width limit is reached. Nothing has started.
+            KeyError: No request of the batch has this id.
+            ValueError: The run is closed.
+        """
+        position = self._at[id]
+        with self._lock:
+            status = self._call("odb_run_start_unit", position)
+        _settle("odb_run_start_unit", status, id)
 
     def report(self, id: str, status: int, headers: Optional[Mapping[str, str]] = None, body: Any = None) -> None:
         """Reports what a running request was answered.

@@ -1,4 +1,4 @@
-"""Units that are performed one after another, the states of requests, and runs that are stopped."""
+"""Units that are performed one after another or sent as one, the states of requests, and runs that are stopped."""
 
 import unittest
 
@@ -66,6 +66,51 @@ class Units(unittest.TestCase):
             self.assertIsNone(live.next_unit())
 
 
+class SentAsOne(unittest.TestCase):
+    def test_start_together_and_take_one_place(self):
+        with Run(BATCH, width=1) as live:
+            perform(live, ("book",), {})
+            live.start_unit("loan")
+            self.assertEqual((live.running, live.ready), (("mark", "loan"), ()))
+            live.report("loan", 201)
+            self.assertEqual(live.running, ("mark",))
+            self.assertIsNone(live.next_unit())
+            live.report("mark", 204)
+            self.assertEqual(live.next_unit(), ("list",))
+            live.start_unit("list")
+            live.report("list", 200)
+            self.assertTrue(live.finished)
+            self.assertEqual(live.response().count(b'"status":20'), 4)
+
+    def test_are_all_or_none(self):
+        with Run(BATCH, mode="stop") as live:
+            perform(live, ("book",), {})
+            live.start_unit("mark")
+            live.report("mark", 409)
+            live.stop()
+            live.report("loan", 201)
+            self.assertEqual(states_of(live), [("reported", 200), ("reported", 409), ("undone", 424), ("skipped", 424)])
+            self.assertEqual(live.undone, ("loan",))
+
+    def test_are_refused_as_a_whole(self):
+        with Run(BATCH) as live:
+            refused = {}
+            for cause, before in (("S4", None), ("S1", "book"), ("S2", "stop")):
+                if before == "book":
+                    perform(live, ("book",), {})
+                    live.start("mark")
+                if before == "stop":
+                    live.report("mark", 204)
+                    live.stop()
+                id = "list" if before == "stop" else "loan"
+                with self.assertRaises(Refused) as error:
+                    live.start_unit(id)
+                refused[cause] = (error.exception.code, error.exception.id)
+            self.assertEqual(refused, {"S4": ("S4", "loan"), "S1": ("S1", "loan"), "S2": ("S2", "list")})
+            with self.assertRaises(KeyError):
+                live.start_unit("lend")
+
+
 class States(unittest.TestCase):
     def test_follow_the_run(self):
         with Run(BATCH) as live:
@@ -113,7 +158,7 @@ class Stops(unittest.TestCase):
     def test_are_refused_of_a_closed_run(self):
         live = Run(BATCH)
         live.close()
-        for call in (live.stop, live.next_unit, lambda: live.state("book")):
+        for call in (live.stop, live.next_unit, lambda: live.state("book"), lambda: live.start_unit("book")):
             with self.assertRaises(ValueError):
                 call()
 

@@ -96,6 +96,27 @@ static void try_failure(void)
     odb_run_close(run);
 }
 
+/* Starts the group as one, at width 1: it takes one place, and its members are reported in any order. */
+static void try_whole(void)
+{
+    odb_live_run run = open_batch(ODB_CONTINUE, 1);
+    count("a group that waits", 0, odb_run_start_unit(&run, 2) == ODB_WAITING && state_is(&run, 2, ODB_STATE_WAITING, 0));
+    count("no position", 0, odb_run_start_unit(&run, MOST) == ODB_WRONG_OPTION && odb_run_start_unit(&run, UINT32_MAX) == ODB_WRONG_OPTION);
+    count("a request alone", 0, odb_run_start_unit(&run, 0) == ODB_DONE && odb_run_start_unit(&run, 0) == ODB_ALREADY_STARTED && report(&run, 0, 200));
+    count("the whole group", 0, odb_run_start_unit(&run, 2) == ODB_DONE && state_is(&run, 1, ODB_STATE_RUNNING, 0) && state_is(&run, 2, ODB_STATE_RUNNING, 0));
+    count("another start", 0, odb_run_start_unit(&run, 1) == ODB_ALREADY_STARTED && odb_run_start(&run, 1) == ODB_ALREADY_STARTED);
+    count("its second member", 0, report(&run, 2, 204) && next_is(&run, 0, 0));
+    count("its first member", 0, report(&run, 1, 201) && next_is(&run, 3, 1));
+    odb_run_stop(&run);
+    count("after a stop", 0, odb_run_start_unit(&run, 3) == ODB_STOPPED && state_is(&run, 1, ODB_STATE_REPORTED, 201));
+    odb_run_close(run);
+    run = open_batch(ODB_CONTINUE, 10000);
+    count("a group that fails", 0, perform(&run, 0, 200) && odb_run_start_unit(&run, 1) == ODB_DONE && report(&run, 1, 409));
+    count("its other member", 0, report(&run, 2, 204) && odb_run_start_unit(&run, 3) == ODB_UNIT_FAILED && odb_run_finished(&run) == 1);
+    count("all or none", 0, state_is(&run, 1, ODB_STATE_REPORTED, 409) && state_is(&run, 2, ODB_STATE_UNDONE, 424));
+    odb_run_close(run);
+}
+
 /* Stops runs before and after an event. */
 static void try_stops(uint32_t mode)
 {
@@ -136,10 +157,10 @@ static void try_memory(void)
     size_t found = 77;
     refuse_after(0, 1);
     int right = odb_run_next_unit(&run, positions, MOST, &found) == ODB_DONE && found == 1 && positions[0] == 0;
-    right = right && state_is(&run, 0, ODB_STATE_READY, 0);
+    right = right && state_is(&run, 0, ODB_STATE_READY, 0) && odb_run_start_unit(&run, 0) == ODB_DONE;
     odb_run_stop(&run);
     right = right && !allow_all();
-    count("the calls without memory", 0, right && odb_run_finished(&run) == 1);
+    count("the calls without memory", 0, right && report(&run, 0, 200) && odb_run_finished(&run) == 1);
     odb_run_close(run);
 }
 
@@ -147,6 +168,7 @@ int main(void)
 {
     try_units();
     try_failure();
+    try_whole();
     try_stops(ODB_CONTINUE);
     try_stops(ODB_STOP);
     try_no_request();

@@ -1,14 +1,17 @@
--- What a call returns that asks for the next unit of a live run, or for the state of a request.
-use Rattle.std.specs.Prelude.{◌≡◌, ◌<◌, ◌≤◌, ◌+◌, ◌-◌, ◌&&◌, ℕ, List, Some, None, length, slice_index_or, if◌then◌else◌}
+-- What a call returns that asks for the next unit of a live run, starts a unit as one, or asks for the state of a request.
+use Rattle.std.specs.Prelude.{◌≡◌, ◌<◌, ◌≤◌, ◌+◌, ◌-◌, ◌&&◌, ℕ, true, List, Some, None, length, slice_index_or, if◌then◌else◌}
 use Rattle.odb_check.specs.Firsts.{first_below}
-use Rattle.odb_check.specs.PlanGraph.{IsSpan}
+use Rattle.odb_check.specs.PlanGraph.{IsSpan, unit_of}
+use Rattle.odb_engine.specs.declared.live.LiveRun.{LiveRun}
+use Rattle.odb_engine.specs.Live.{with_run}
+use Rattle.odb_sched.specs.declared.refusal.StartRefusal.{StartRefusal}
 use Rattle.odb_sched.specs.declared.states.RequestState.{RequestState}
 use Rattle.odb_sched.specs.declared.states.RequestState.TheVariants.{Waiting, Ready, Running, Reported, Skipped}
 use Rattle.odb_sched.specs.run.Answers.{answer, is_undone, status_of}
-use Rattle.odb_sched.specs.run.State.{State, size}
+use Rattle.odb_sched.specs.run.State.{State, size, started_unit}
 use Rattle.odb_sched.specs.run.States.{request_state}
-use Rattle.odb_sched.specs.run.Steps.{is_finished}
-use Rattle.odb_sched.specs.run.Units.{may_begin}
+use Rattle.odb_sched.specs.run.Steps.{is_finished, start_number}
+use Rattle.odb_sched.specs.run.Units.{may_begin, IsUnitCause}
 
 -- the buffer begins with the numbers from one on, and the rest of it is as it was
 pub record HasNumbers (from count : ℕ) (old new : List ℕ) : Type 0 where
@@ -26,6 +29,13 @@ pub data GivesSpan (from to status count : ℕ) (old new : List ℕ) : Type 0 wh
 pub data GivesUnit (run : State) (status count : ℕ) (old new : List ℕ) : Type 0 where
   Begins : (u from to : ℕ) → first_below run.plan_graph.unit_count (may_begin run) ≡ Some u → IsSpan run.plan_graph u from to → count ≡ to - from → GivesSpan from to status count old new → GivesUnit run status count old new
   NoneNow : first_below run.plan_graph.unit_count (may_begin run) ≡ None → status ≡ 0 → count ≡ 0 → new ≡ old → GivesUnit run status count old new
+
+-- What a call returns that starts the unit of the request at a position as one: 0 if it may begin, and the run has gone on;
+-- the first cause against it, or that there is no such request, and nothing has changed.
+pub data StartsUnit (old new : LiveRun) (i status : ℕ) : Type 0 where
+  Started : i < size old.run → may_begin old.run (unit_of old.run.plan_graph i) ≡ true → status ≡ 0 → new ≡ with_run old (started_unit old.run (unit_of old.run.plan_graph i)) → StartsUnit old new i status
+  Refused : (cause : StartRefusal) → i < size old.run → IsUnitCause old.run (unit_of old.run.plan_graph i) cause → status ≡ 10 + start_number cause → new ≡ old → StartsUnit old new i status
+  NoRequest : size old.run ≤ i → status ≡ 2 → new ≡ old → StartsUnit old new i status
 
 -- the number of a state
 abbrev pub state_number : RequestState → ℕ

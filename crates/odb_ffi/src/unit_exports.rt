@@ -30,6 +30,21 @@ pub extern "C" fn odb_run_next_unit(
     units::next_unit(run.live(), positions, count)
 }
 
+/// Starts all members of the unit of the request at a position together, for a caller that sends a group to a
+/// service as a batch of its own: of the request's group, or the request alone if it has none. They are
+/// reported one by one, in any order, and until the last of them the unit counts as one in the width.
+///
+/// Returns 0; or, with the run as it was, 2 if there is no such position, and else from 11 to 15 for the
+/// first of the causes S1 to S5 that applies to the unit: a member has started before, the run is stopped,
+/// the unit has failed, a dependency of a member on another unit is not satisfied, or the width limit is
+/// reached. Takes O(members and their dependencies).
+#[unsafe(no_mangle)]
+pub extern "C" fn odb_run_start_unit(run: &mut Handle, position: u32) -> u32
+    ensures { calls.StartsUnit run.old.value run.new.value position result }
+{
+    units::start_unit(run.live(), position)
+}
+
 /// Stops a run: from now on no request starts (S2). What is running is reported as before, and what has
 /// not started is answered 424.
 #[unsafe(no_mangle)]

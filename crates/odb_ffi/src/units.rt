@@ -27,6 +27,20 @@ pub fn next_unit(live: &mut LiveRun, positions: &mut [u32], count: &mut usize) -
     }
 }
 
+/// Starts the unit of the request at a position as one.
+pub fn start_unit(live: &mut LiveRun, position: u32) -> u32
+    ensures { calls.StartsUnit live.old live.new position result }
+{
+    if position >= live.run().len() {
+        return status::WRONG_OPTION;
+    }
+    let u = live.run().unit_of(position);
+    match live.start_unit(u) {
+        Ok(()) => status::DONE,
+        Err(cause) => status::of_start(cause),
+    }
+}
+
 /// Returns the number of a state, and the status that was reported, or 0.
 fn numbers_of(state: RequestState) -> (u32, u32)
     ensures state { result.0 ≡ calls.state_number state }
