@@ -21,9 +21,8 @@ class Kept extends Duplex {
 
   constructor(outer, most) {
     super()
+    this.outer = outer
     this.#most = most
-    for (const name of OF_CONNECTION) this[name] = outer[name]
-    for (const name of CALLS_WITHOUT_EFFECT) this[name] = () => this
     if (outer.getPeerCertificate) this.getPeerCertificate = (...given) => outer.getPeerCertificate(...given)
   }
 
@@ -42,6 +41,20 @@ class Kept extends Duplex {
 
   get bytes() {
     return Buffer.concat(this.#parts)
+  }
+}
+
+// On the prototype, since a connection is made for each request.
+for (const name of OF_CONNECTION) {
+  Object.defineProperty(Kept.prototype, name, {
+    get() {
+      return this.outer[name]
+    },
+  })
+}
+for (const name of CALLS_WITHOUT_EFFECT) {
+  Kept.prototype[name] = function call() {
+    return this
   }
 }
 
@@ -77,9 +90,11 @@ function dispatch(handler, client, request, most) {
     res.on('finish', () => {
       const { body, ...head } = parsed(socket.bytes)
       resolve(socket.isCut || body.length > most ? head : { ...head, body })
-      socket.destroy() // so that the response is closed, too: what a handler holds may wait for that
+      process.nextTick(() => socket.destroy()) // so that the response is closed, too: what a handler holds may wait for that
     })
-    res.on('close', () => reject(Object.assign(new Error('the handler ended the connection'), { code: 'ECONNRESET' })))
+    res.on('close', () => {
+      if (!res.writableFinished) reject(Object.assign(new Error('the handler ended the connection'), { code: 'ECONNRESET' }))
+    })
     for (const it of [res, socket]) it.on('error', reject)
     request.signal?.addEventListener('abort', () => socket.destroy())
     Promise.resolve(handler(req, res)).catch(reject)
