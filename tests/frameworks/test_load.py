@@ -55,11 +55,16 @@ def test_a_group_in_a_pool_of_threads_is_not_starved(serve):
     """All threads would wait for the lock that a group holds, whose next request waits for a thread."""
     server = serve("fastapi_app")
     server.ask("GET", "/odata/Books")
+    assert any(seconds_of_eight(server) < 2 for _ in range(3))  # a busy machine may be slow once; if they starve, it is 5
+
+
+def seconds_of_eight(server):
+    """How long eight batches at once take, each of sixteen writes and a group."""
     begin = time.monotonic()
     with ThreadPoolExecutor(8) as clients:
         found = list(clients.map(lambda k: server.statuses(*writes(secrets.token_hex(4), 16, 4)), range(8)))
     assert set(sum(found, [])) == {201}
-    assert time.monotonic() - begin < 2
+    return time.monotonic() - begin
 
 
 def load(server, end, asked, answered):
