@@ -18,7 +18,7 @@
  *              fails, the status says so.
  *   Threads    Nothing is kept between calls but in a live run: any number of threads may call at once. Do not call
  *              from a signal handler, nor in the forked child of a process with threads.
- *   Stack      A thread with a stack of ODB_STACK_BYTES can make any call: it recurses no deeper than documents may
+ *   Stack      A thread with a stack of ODB_STACK_BYTES can make any call: none recurses deeper than documents may
  *              nest, 127 levels. This is measured, and a test makes each call on such a stack; it is not proved.
  *   Cost       O(n log n) time for n bytes of documents and text, whatever the names in them.
  *   Seed       The tables of names start from `seed`. Draw it once per process by `odb_seed` and keep
@@ -55,7 +55,7 @@ extern "C" {
 enum {
     ODB_DONE = 0,          /* the text is the result */
     ODB_REFUSED = 1,       /* a document is refused; the text is the line of its fault */
-    ODB_WRONG_OPTION = 2,  /* an option is none of its values; no text */
+    ODB_WRONG_OPTION = 2,  /* an option is none of its values, or no request has the position or id; no text */
     ODB_OUT_OF_MEMORY = 4, /* an allocation failed; no text */
     ODB_SMALL_BUFFER = 5   /* the text is longer than the buffer; nothing is written */
 };
@@ -208,10 +208,10 @@ typedef struct odb_live_run {
 } odb_live_run;
 
 /* Opens the run of a batch after recorded events, which may be none: the document {"events":[]}.
- * Returns ODB_DONE, and `*run` is a handle, with no text; what was there before is forgotten. Else `*run` is as
- * it was. ODB_REFUSED if a document is refused, an event names no request or may not come: the text is the line
- * of the fault. ODB_SMALL_BUFFER if the line does not fit. `mode` and `width` are those of `odb_run`, or it is
- * ODB_WRONG_OPTION. ODB_OUT_OF_MEMORY. Takes O(n log n) time for n bytes of documents. */
+ * Returns ODB_DONE, and `*run` is a handle, with no text; what was there before is forgotten. Otherwise `*run` is as
+ * it was: returns ODB_REFUSED if a document is refused, or if an event names no request or may not come, and the text
+ * is the line of the fault; ODB_SMALL_BUFFER if the line does not fit; ODB_WRONG_OPTION unless `mode` and `width` are
+ * as in `odb_run`; or ODB_OUT_OF_MEMORY. Takes O(n log n) time for n bytes of documents. */
 uint32_t odb_run_open(const uint8_t *batch, size_t batch_size,
                       const uint8_t *events, size_t events_size,
                       uint32_t mode, uint32_t width, odb_live_run *run,
@@ -228,7 +228,7 @@ uint32_t odb_run_running(odb_live_run *run, uint32_t *positions, size_t position
 /* Copies the positions of the undone requests of a finished run to a buffer of `positions_size` numbers, from the
  * last to the first: those that reported a status from 200 to 299 but are answered 424, since another request of
  * their group did not succeed. `*count` is set to the number of them. Returns ODB_DONE, or ODB_SMALL_BUFFER if they
- * do not fit. ODB_REFUSED if the run is not finished, or ODB_OUT_OF_MEMORY: then `*count` is 0. Unless it is
+ * do not fit; or with 0 in `*count` ODB_REFUSED if the run is not finished, or ODB_OUT_OF_MEMORY. Unless it returns
  * ODB_DONE, the buffer is as it was. A handle as above. Takes O(requests) time. */
 uint32_t odb_run_undone(odb_live_run *run, uint32_t *positions, size_t positions_size, size_t *count);
 
@@ -254,7 +254,7 @@ uint32_t odb_run_start(odb_live_run *run, uint32_t position);
  * O(requests) time together, beside O(positions) for each. */
 uint32_t odb_run_next_unit(odb_live_run *run, uint32_t *positions, size_t positions_size, size_t *count);
 
-/* Starts all members of the unit of a request together, for who sends a group to a service as a batch of its own: the
+/* Starts all members of the unit of a request together, to send a group to a service as a batch of its own: the
  * group of the request, or the request alone if it has none. They are reported one by one by `odb_run_report`, in any
  * order, and until the last of them the unit counts as one in the width. Returns ODB_DONE; or, with the run as it was,
  * ODB_WRONG_OPTION if there is no such position, or the first cause against the unit: ODB_ALREADY_STARTED if a member
