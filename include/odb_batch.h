@@ -16,9 +16,9 @@
  *   Memory     A call allocates by `malloc` and `realloc`, O(n) bytes for n bytes of documents and text,
  *              and frees all of it before it returns, but for what a live run keeps. If an allocation
  *              fails, the status says so.
- *   Threads    Nothing is kept between calls but in a live run: any number of threads may call at once. Do not call from
- *              a signal handler, nor in the forked child of a process with threads.
- *   Stack      A thread with a stack of ODB_STACK_BYTES can make any call: it recurses no deeper than documents may
+ *   Threads    Nothing is kept between calls but in a live run: any number of threads may call at once. Do not call
+ *              from a signal handler, nor in the forked child of a process with threads.
+ *   Stack      A thread with a stack of ODB_STACK_BYTES can make any call: none recurses deeper than documents may
  *              nest, 127 levels. This is measured, and a test makes each call on such a stack; it is not proved.
  *   Cost       O(n log n) time for n bytes of documents and text, whatever the names in them.
  *   Seed       The tables of names start from `seed`. Draw it once per process by `odb_seed` and keep
@@ -55,7 +55,7 @@ extern "C" {
 enum {
     ODB_DONE = 0,          /* the text is the result */
     ODB_REFUSED = 1,       /* a document is refused; the text is the line of its fault */
-    ODB_WRONG_OPTION = 2,  /* an option is none of its values; no text */
+    ODB_WRONG_OPTION = 2,  /* an option is none of its values, or no request has the position or id; no text */
     ODB_OUT_OF_MEMORY = 4, /* an allocation failed; no text */
     ODB_SMALL_BUFFER = 5   /* the text is longer than the buffer; nothing is written */
 };
@@ -174,18 +174,18 @@ typedef struct odb_request {
     odb_part method;  /* in upper case, as POST */
     odb_part url;     /* as the batch has it */
     odb_part rest;    /* of the URL after the id that it refers to: /Lines of $a/Lines; else the whole URL */
-    odb_part headers; /* a JSON object of strings, names in lower case; empty if there are none */
-    odb_part group;   /* the atomicity group, or ODB_NONE */
-    odb_part body;    /* in the document, or ODB_NONE; the bytes as they were written */
+    odb_part headers; /* a JSON object of strings, names in lower case; an empty one if there are none */
+    odb_part group;   /* the atomicity group; ODB_NONE if it has none */
+    odb_part body;    /* in the document, the bytes as they were written; ODB_NONE if it has none */
     size_t reference; /* the position of the request that the URL refers to, or ODB_NONE */
 } odb_request;
 
 /* Gives what is to be sent of each request of a batch, in the order of the batch. The text has all parts but the bodies,
  * which lie in the document. `requests` is a buffer of `requests_size` structs; it may be NULL, which is one of size 0.
  * `*count` is set to the number of requests; it must not be NULL. Returns ODB_DONE; or, with both buffers as they were,
- * ODB_SMALL_BUFFER if one of them has too little room. Of a batch that is refused `*count` is 0 and `requests` is as it
- * was, and it returns what `odb_check` does: the text is the line of the fault. Costs
- * O(n log n) time for n bytes of the document, and copies no body. */
+ * ODB_SMALL_BUFFER if one of them has too little room: `*text_length` and `*count` say how much is needed. If the batch is
+ * refused or an allocation fails, `*count` is 0, `requests` is as it was, and it returns what `odb_check` does: the text is
+ * the line of the fault. Takes O(n log n) time for n bytes of the document, and copies no body. */
 uint32_t odb_requests(const uint8_t *batch, size_t batch_size,
                       uint8_t *text, size_t text_size, size_t *text_length,
                       odb_request *requests, size_t requests_size, size_t *count, uint64_t seed);
@@ -208,10 +208,10 @@ typedef struct odb_live_run {
 } odb_live_run;
 
 /* Opens the run of a batch after recorded events, which may be none: the document {"events":[]}.
- * Returns ODB_DONE, and `*run` is a handle, with no text; what was there before is forgotten. Else `*run` is as
- * it was. ODB_REFUSED if a document is refused, an event names no request or may not come: the text is the line
- * of the fault. ODB_SMALL_BUFFER if the line does not fit. `mode` and `width` are those of `odb_run`, or it is
- * ODB_WRONG_OPTION. ODB_OUT_OF_MEMORY. Takes O(n log n) time for n bytes of documents. */
+ * Returns ODB_DONE, and `*run` is a handle, with no text; what was there before is forgotten. Otherwise `*run` is as
+ * it was: returns ODB_REFUSED if a document is refused, or if an event names no request or may not come, and the text
+ * is the line of the fault; ODB_SMALL_BUFFER if the line does not fit; ODB_WRONG_OPTION unless `mode` and `width` are
+ * as in `odb_run`; or ODB_OUT_OF_MEMORY. Takes O(n log n) time for n bytes of documents. */
 uint32_t odb_run_open(const uint8_t *batch, size_t batch_size,
                       const uint8_t *events, size_t events_size,
                       uint32_t mode, uint32_t width, odb_live_run *run,
@@ -228,7 +228,7 @@ uint32_t odb_run_running(odb_live_run *run, uint32_t *positions, size_t position
 /* Copies the positions of the undone requests of a finished run to a buffer of `positions_size` numbers, from the
  * last to the first: those that reported a status from 200 to 299 but are answered 424, since another request of
  * their group did not succeed. `*count` is set to the number of them. Returns ODB_DONE, or ODB_SMALL_BUFFER if they
- * do not fit. ODB_REFUSED if the run is not finished, or ODB_OUT_OF_MEMORY: then `*count` is 0. Unless it is
+ * do not fit; or with 0 in `*count` ODB_REFUSED if the run is not finished, or ODB_OUT_OF_MEMORY. Unless it returns
  * ODB_DONE, the buffer is as it was. A handle as above. Takes O(requests) time. */
 uint32_t odb_run_undone(odb_live_run *run, uint32_t *positions, size_t positions_size, size_t *count);
 
@@ -254,7 +254,7 @@ uint32_t odb_run_start(odb_live_run *run, uint32_t position);
  * O(requests) time together, beside O(positions) for each. */
 uint32_t odb_run_next_unit(odb_live_run *run, uint32_t *positions, size_t positions_size, size_t *count);
 
-/* Starts all members of the unit of a request together, for who sends a group to a service as a batch of its own: the
+/* Starts all members of the unit of a request together, to send a group to a service as a batch of its own: the
  * group of the request, or the request alone if it has none. They are reported one by one by `odb_run_report`, in any
  * order, and until the last of them the unit counts as one in the width. Returns ODB_DONE; or, with the run as it was,
  * ODB_WRONG_OPTION if there is no such position, or the first cause against the unit: ODB_ALREADY_STARTED if a member
@@ -268,7 +268,7 @@ uint32_t odb_run_start_unit(odb_live_run *run, uint32_t position);
  * constant time. */
 void odb_run_stop(odb_live_run *run);
 
-/* What `odb_run_state` says of a request. */
+/* The states of a request, as `odb_run_state` gives them. */
 enum {
     ODB_STATE_WAITING = 0,  /* it may not start yet */
     ODB_STATE_READY = 1,    /* it may start now */
@@ -284,14 +284,14 @@ enum {
  * overlap. A handle as above. Takes constant time. */
 uint32_t odb_run_state(odb_live_run *run, uint32_t position, uint32_t *state, uint32_t *status);
 
-/* Takes the outcome of a request: an HTTP status, headers and a body. The headers are a JSON object of strings
- * whose names differ in lower case. The body is JSON that nests at most 124 deep, so that `odb_match` reads the
- * response, which repeats its bytes as they are, whatever numbers it has. Each may be empty or NULL, as the JSON
- * null, for none.
+/* Takes the outcome of a running request: an HTTP status, headers and a body. The headers are a JSON object of strings
+ * whose names differ in lower case. The body is JSON that nests at most 124 deep, so that `odb_match` can read the
+ * response, which repeats the bytes of the body, whatever numbers it has. Headers and body may each be empty, NULL or
+ * the JSON null, for none. Each has at most 16,777,216 bytes.
  * Returns ODB_DONE; or, with the run as it was, ODB_WRONG_OPTION if there is no such position,
  * ODB_REFUSED if the headers or the body are not of this form, ODB_OUT_OF_MEMORY, or the cause, ODB_NOT_RUNNING or
  * ODB_BAD_STATUS. A handle as above. All reports of a run take O(requests + dependencies) time together, beside
- * O(n log n) for n bytes of headers and bodies. */
+ * O(n) for n bytes of bodies and O(m log m) for m bytes of headers. */
 uint32_t odb_run_report(odb_live_run *run, uint32_t position, uint32_t status,
                         const uint8_t *headers, size_t headers_size,
                         const uint8_t *body, size_t body_size);
