@@ -122,9 +122,19 @@ class _Tasks:
             self.is_cancelled = True
             for task in self._out:
                 task.cancel()
-            if self._out:
-                self._work.stop()
+            await self._rest()
+
+    async def _rest(self) -> None:
+        """Waits for what is out, however often this is cancelled meanwhile: a transaction is rolled back by its end."""
+        cancelled: Optional[asyncio.CancelledError] = None
+        while self._out:
+            self._work.stop()
+            try:
                 await asyncio.wait(self._out)
+            except asyncio.CancelledError as error:
+                cancelled = error
+        if cancelled is not None:
+            raise cancelled
 
     def _begin(self) -> None:
         """Begins what may begin now."""
@@ -166,6 +176,11 @@ class _Tasks:
             else:
                 async with _asynchronous(transaction(unit.group)):
                     answer = await self._perform_members(unit)
+        except asyncio.CancelledError as error:
+            if self.is_cancelled or _is_cancelling():
+                raise
+            # As in _sent: not this task is cancelled.
+            answer = self._work.failure(unit, error)
         except Exception as error:
             answer = self._work.failure(unit, error)
         self._work.finish(unit, answer)
