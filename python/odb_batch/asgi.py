@@ -150,8 +150,9 @@ class _Inner:
         try:
             await self._middleware.app(scope, exchange.receive, exchange.send)
         except Exception:
-            # Starlette answers 500, and raises the exception again for the log of the server.
-            if not exchange.is_complete:
+            # Starlette answers 500, and raises the exception again for the log of the server. After a success it is
+            # that of a commit.
+            if not exchange.is_complete or exchange.answer().is_success:
                 raise
         return self._room.fit(request.method, exchange.answer())
 
@@ -187,12 +188,17 @@ class _Exchange:
         self._begun: Dict[str, Any] = {}
         self._body = bytearray()
         self._room = room
-        self.is_complete = False
+        self._completed = asyncio.Event()
+
+    @property
+    def is_complete(self) -> bool:
+        return self._completed.is_set()
 
     async def receive(self) -> _Message:
         if not self._incoming:
-            # A disconnect would end an answer that is streamed, so nothing more comes until the application returns.
-            await asyncio.Event().wait()
+            # A disconnect would end an answer that is streamed, so nothing more comes until the answer is complete.
+            await self._completed.wait()
+            return {"type": "http.disconnect"}
         return self._incoming.pop()
 
     async def send(self, message: _Message) -> None:
@@ -202,7 +208,8 @@ class _Exchange:
             # What is too long is not kept.
             if len(self._body) <= self._room.left:
                 self._body += message.get("body", b"")
-            self.is_complete = not message.get("more_body", False)
+            if not message.get("more_body", False):
+                self._completed.set()
 
     def answer(self) -> Answer:
         """Returns the answer; raises RuntimeError if the application has not completed it."""

@@ -133,6 +133,8 @@ class BatchMiddleware:
     def _read(self, environ: _Environ) -> bytes:
         """Reads the batch."""
         text = environ.get("CONTENT_LENGTH") or ""
+        if len(text) > 20:  # of thousands of digits int() makes no number
+            raise too_long(self.max_size)
         length = int(text) if text.isascii() and text.isdigit() else None
         if length is None and not environ.get("wsgi.input_terminated"):
             raise Refusal(411, "LengthRequired", "A batch has to have a Content-Length")

@@ -386,7 +386,8 @@ class TestWsgi:
 
     @pytest.mark.parametrize("more, status", [
         ({"CONTENT_LENGTH": ""}, 411), ({"CONTENT_LENGTH": "", "wsgi.input_terminated": True}, 200), ({"CONTENT_LENGTH": "-1"}, 411),
-        ({"CONTENT_LENGTH": "99"}, 400), ({"CONTENT_LENGTH": "99999999999"}, 413), ({"CONTENT_LENGTH": "١"}, 411),
+        ({"CONTENT_LENGTH": "99"}, 400), ({"CONTENT_LENGTH": "99999999999"}, 413), ({"CONTENT_LENGTH": "9" * 5000}, 413),
+        ({"CONTENT_LENGTH": "١"}, 411),
     ])  # fmt: skip
     def test_lengths(self, more, status):
         found, _, _ = OverWsgi("/odata/$batch").ask("POST", "/odata/$batch", JSON, b'{"requests":[]}', more=more)
@@ -481,6 +482,26 @@ class TestAsgi:
 
         assert batch(self.over(app), {"url": "a"})["r0"]["status"] == status
         assert ("as planned" in caplog.text) == (not is_complete)
+
+    def test_an_exception_after_a_success_fails_the_request(self):
+        """It may be that of a commit, so nothing that needs the request is sent."""
+
+        async def app(scope, receive, send):
+            await send({"type": "http.response.start", "status": 201})
+            await send({"type": "http.response.body"})
+            raise RuntimeError("as planned")
+
+        found = batch(self.over(app), {"url": "a"}, {"url": "b", "dependsOn": ["r0"]})
+        assert (found["r0"]["status"], found["r1"]["status"]) == (500, 424)
+
+    def test_receive_says_after_the_answer_that_the_client_has_gone(self):
+        async def app(scope, receive, send):
+            await receive()
+            await send({"type": "http.response.start", "status": 200})
+            await send({"type": "http.response.body"})
+            assert (await receive())["type"] == "http.disconnect"
+
+        assert batch(self.over(app, timeout=5), {"url": "a"})["r0"]["status"] == 200
 
     def test_an_application_that_answers_half(self):
         async def app(scope, receive, send):
