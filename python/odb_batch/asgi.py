@@ -161,11 +161,14 @@ class _Inner:
         if request.body:
             headers["content-length"] = str(len(request.body))
         url = urlsplit(request.url)
+        path, front = unquote(url.path)[len(self._cut) :], quote(self._cut)
+        # A client may encode what is cut as it likes.
+        raw_path = url.path[len(front) :] if url.path.startswith(front) else quote(path)
         scope: _Scope = {
             **self._scope,
             "method": request.method,
-            "path": unquote(url.path)[len(self._cut) :],
-            "raw_path": url.path[len(quote(self._cut)) :].encode(),
+            "path": path,
+            "raw_path": raw_path.encode(),
             "query_string": url.query.encode(),
             "headers": [(name.encode(), value.encode("latin-1")) for name, value in headers.items()],
         }

@@ -172,14 +172,18 @@ class _Inner:
         def start_response(
             status: str, headers: Iterable[Tuple[str, str]], exc_info: Any = None
         ) -> Callable[[bytes], None]:
+            if exc_info and body:
+                raise exc_info[1].with_traceback(exc_info[2])  # as a server that has sent the headers
             begun[:] = [(status, headers)]
             return body.extend
 
         parts = self._middleware.app(environ, start_response)
         try:
             for part in parts:
-                body += part
-                if len(body) > self._room.left:
+                # What is too long is not kept. Only a GET need not come to its end.
+                if len(body) <= self._room.left:
+                    body += part
+                if request.method == "GET" and len(body) > self._room.left:
                     break
         finally:
             if hasattr(parts, "close"):

@@ -7,7 +7,9 @@ import base64
 import contextlib
 import io
 import json
+import sys
 import threading
+from urllib.parse import unquote
 
 import pytest
 
@@ -237,6 +239,12 @@ class TestRefused:
             "application/json" if status == 415 else None,
         )
 
+    @pytest.mark.parametrize("host", ["[:::::]", "[.]", "[...]:80"])
+    def test_a_host_that_is_no_address(self, service, host):
+        status, _, text = service.ask("POST", "/odata/$batch", {**JSON, "Host": host}, b'{"requests":[]}')
+        assert (status, json.loads(text)["error"]["code"]) == (400, "BadHost")
+        assert batch(service, {"url": "a"}, headers={**JSON, "X-Forwarded-Host": host})["r0"]["status"] == 200
+
     def test_says_where(self, service):
         _, _, text = service.ask(
             "POST", "/odata/$batch", JSON, b'{"requests":[{"id":"1","method":"post","url":"/odata/$batch"}]}'
@@ -409,6 +417,36 @@ class TestWsgi:
         service.middleware.app = app
         assert batch(service, {"url": "a"})["r0"]["body"] == "first second" and closed == [True]
 
+    def test_a_request_that_changes_something_comes_to_its_end_however_long_its_answer_is(self):
+        ended = []
+
+        def app(environ, start_response):
+            start_response("201 Created", [("Content-Type", "text/plain")])
+            yield b"x" * 300
+            yield b"x" * 300
+            ended.append(environ["REQUEST_METHOD"])
+
+        service = OverWsgi("/odata/$batch", max_size=400)
+        service.middleware.app = app
+        found = batch(service, {"url": "a"}, {"url": "b", "method": "post"})
+        assert (found["r0"]["status"], found["r1"]["status"], ended) == (507, 201, ["POST"])
+        assert "body" not in found["r1"]
+
+    def test_an_answer_that_begins_anew_after_a_part_of_its_body_is_none(self):
+        def app(environ, start_response):
+            start_response("200 OK", [("Content-Type", "text/plain")])
+            yield b"half"
+            try:
+                raise LookupError("as planned")
+            except LookupError:
+                start_response("503 Busy", [("Content-Type", "text/plain")], sys.exc_info())
+            yield b"an error"
+
+        service = OverWsgi("/odata/$batch")
+        service.middleware.app = app
+        found = batch(service, {"url": "a"})["r0"]
+        assert (found["status"], found["body"]["error"]["code"]) == (500, "InternalError")
+
     @pytest.mark.parametrize(
         "app", [lambda environ, start_response: [b"nothing begun"], lambda environ, start_response: None]
     )
@@ -444,6 +482,15 @@ class TestAsgi:
             assert (
                 scope["path"] == front + "/odata/a/b" and "extensions" not in scope and scope["state"] == {"shared": []}
             )
+
+    @pytest.mark.parametrize("prefix, url", [
+        ("/a(b)", "x"), ("/app", "/%61pp/odata/x"), ("/app", "/app%2Fodata%2Fx"), ("/ü", "x"),
+    ])  # fmt: skip
+    def test_the_raw_path_is_that_of_the_path(self, prefix, url):
+        for kind in (OverAsgi, OverNewAsgi):
+            service = kind("/odata/$batch")
+            assert batch(service, {"url": url}, prefix=prefix)["r0"]["status"] == 200
+            assert unquote(service.seen[0]["raw_path"].decode()) == service.seen[0]["path"]
 
     def test_a_request_is_over_when_the_application_returns(self):
         """What comes after the answer may be the commit of a dependency."""
