@@ -627,6 +627,15 @@ class TestReferences:
         found = shown(driver({"requests": batch}, send))
         assert (seen[1:], found["b"]) == ([wanted], 200) if wanted else ([], 424)
 
+    def test_read_an_answer_once_however_many_refer_to_it(self, driver, monkeypatch):
+        """The body may be long, and of one that has no tag it is the whole body that is read."""
+        read = []
+        monkeypatch.setattr("odb_batch._answers.members", lambda answer: read.append(answer) or {})
+        more = {"method": "patch", "url": "$a", "dependsOn": ["a"], "headers": {"If-Match": "$a"}}
+        found = shown(driver({"requests": [*gets("a")["requests"], *({"id": id, **more} for id in "bcd")]}, answering({})))
+        assert found == {"a": 200, **dict.fromkeys("bcd", 424)}
+        assert len(read) == 2  # for its URL and for its tag
+
     def test_to_the_tag_of_what_is_not_in_depends_on(self, driver):
         batch = [
             {"id": "b", "method": "delete", "url": "A", "headers": {"If-Match": "$a"}},
