@@ -177,13 +177,16 @@ class _Tasks:
                 async with _asynchronous(transaction(unit.group)):
                     answer = await self._perform_members(unit)
         except asyncio.CancelledError as error:
-            if self.is_cancelled or _is_cancelling():
+            if self._is_to_end():
                 raise
-            # As in _sent: not this task is cancelled.
             answer = self._work.failure(unit, error)
         except Exception as error:
             answer = self._work.failure(unit, error)
         self._work.finish(unit, answer)
+
+    def _is_to_end(self) -> bool:
+        """Whether the running task is cancelled, not something that it waited for."""
+        return self.is_cancelled or _is_cancelling()
 
     async def _perform_members(self, unit: Unit) -> Answer:
         for id in unit.ids:
@@ -196,9 +199,9 @@ class _Tasks:
         try:
             return checked(await asyncio.wait_for(self._how.send(self._work.prepared(unit)), self._how.timeout))
         except asyncio.CancelledError as error:
-            if self.is_cancelled or _is_cancelling():
+            if self._is_to_end():
                 raise
-            # Not this task is cancelled, but something that it waited for: an answer like any other exception.
+            # Something else is cancelled: an answer like any other exception.
             return answer_to(error, f"the request {unit.open}")
         except Exception as error:
             return answer_to(error, f"the request {unit.open}")
