@@ -10,6 +10,7 @@ import weakref
 from typing import Any, Awaitable, Callable, Dict, Iterable, List, MutableMapping, Optional
 from urllib.parse import quote, unquote, urlsplit
 
+from ._commands import policy
 from ._endpoint import Outer, Room, folder_of, message_of, names_of, performed, refused, root_of, too_long
 from ._faults import Fault
 from ._messages import Answer, PreparedRequest, Refusal, header_dict
@@ -69,6 +70,7 @@ class BatchMiddleware:
     ) -> None:
         if at_once < 1:
             raise ValueError(f"at_once must be at least 1, not {at_once!r}")
+        policy("stop", width)  # refuses a width that no run may have
         self.app, self.path, self.transaction, self.width, self.stop = app, path, transaction, width, stop
         self.at_once, self.timeout, self.limit, self.max_size = at_once, timeout, limit, max_size
         self.allowed, self.root = names_of(allowed), root_of(root, path)

@@ -12,6 +12,7 @@ from http import HTTPStatus
 from typing import Any, Callable, Dict, Iterable, List, Optional, Tuple
 from urllib.parse import unquote_to_bytes, urlsplit
 
+from ._commands import policy
 from ._endpoint import Outer, Room, folder_of, message_of, names_of, performed, refused, root_of, too_long
 from ._faults import Fault
 from ._messages import Answer, PreparedRequest, Refusal, header_dict
@@ -84,6 +85,7 @@ class BatchMiddleware:
         root: Optional[str] = None,
         stop: Optional[Callable[[], bool]] = None,
     ) -> None:
+        policy("stop", width)  # refuses a width that no run may have
         self.app, self.path, self.transaction, self.width, self.stop = app, path, transaction, width, stop
         self.limit, self.max_size = limit, max_size
         self.allowed, self.root = names_of(allowed), root_of(root, path)

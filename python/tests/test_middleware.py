@@ -271,6 +271,12 @@ class TestRefused:
         with pytest.raises(ValueError):
             over(options[0], **dict(*options[1:]))
 
+    @pytest.mark.parametrize("middleware", [wsgi.BatchMiddleware, asgi.BatchMiddleware])
+    @pytest.mark.parametrize("width", [0, 10_001, True])
+    def test_a_wrong_width(self, middleware, width):
+        with pytest.raises(ValueError):
+            middleware(None, width=width)
+
 
 class TestHeaders:
     outer = {
