@@ -648,6 +648,7 @@ class TestReferences:
         ("Books", "http://h/odata/Books"), ("/odata/Books", "http://h/odata/Books"), ("http://H/odata/Books", "http://H/odata/Books"),
         ("", "http://h/odata/"), ("Bücher('a b')?$filter=a eq 'ü'#x", "http://h/odata/B%C3%BCcher('a%20b')?$filter=a%20eq%20'%C3%BC'"),
         ("%zz", "http://h/odata/%zz"), ("A/B", "http://h/odata/A/B"), ("A('%2F')", "http://h/odata/A('%2F')"),
+        ("A('b//c')", "http://h/odata/A('b//c')"), ("A//", "http://h/odata/A//"),
         ("/admin", None), ("../admin", None), ("%2e%2e/admin", None), ("..%2fadmin", None), ("..%5cadmin", None), ("a/..;x/admin", None),
         ("//169.254.169.254/odata/", None), ("http://169.254.169.254/", None), ("http://h@evil/odata/", None), ("https://h/odata/A", None),
         ("http://h:81/odata/A", None), ("/ODATA/A", None), ("/odata", None), ("A%0d%0aB", None), ("file:///etc/passwd", None), ("http://[x", None),
