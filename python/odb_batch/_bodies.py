@@ -4,15 +4,27 @@ A body of JSON is in a batch as it is, one of text as a string, and any other in
 """
 
 import base64
+import codecs
 import json
 from typing import Mapping
 
 from ._documents import body_of
 from ._messages import Answer, Refusal, charset, media_type
 
+# Encodings of names of hosts, which are no character sets: they take time by the square of a text.
+_OF_HOSTS = frozenset({"idna", "punycode"})
+
 
 def _is_json(kind: str) -> bool:
     return kind in ("", "application/json") or kind.endswith("+json")
+
+
+def _encoding(headers: Mapping[str, str]) -> str:
+    """Returns the character set of a message; raises LookupError if it is none."""
+    name = charset(headers)
+    if codecs.lookup(name).name in _OF_HOSTS:
+        raise LookupError(f"{name} is no character set")
+    return name
 
 
 def to_wire(text: bytes, headers: Mapping[str, str]) -> bytes:
@@ -31,7 +43,7 @@ def to_wire(text: bytes, headers: Mapping[str, str]) -> bytes:
         digits = value.rstrip("=")
         return base64.urlsafe_b64decode(digits + "=" * (-len(digits) % 4))
     try:
-        return value.encode(charset(headers))
+        return value.encode(_encoding(headers))
     except (LookupError, ValueError):
         raise Refusal(400, "BadCharset", f"The body cannot be written in {charset(headers)}", "content-type") from None
 
@@ -62,7 +74,7 @@ def as_text(wire: bytes, headers: Mapping[str, str]) -> bytes:
     """Returns bytes as a string of JSON, whatever they are: where they are not of their character set, each byte is a
     character."""
     try:
-        text = wire.decode(charset(headers))
+        text = wire.decode(_encoding(headers))
     except (LookupError, ValueError):
         text = wire.decode("latin-1")
     return json.dumps(text, ensure_ascii=False).encode("utf-8", "surrogatepass")

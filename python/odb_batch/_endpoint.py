@@ -3,6 +3,7 @@
 import json
 import re
 import threading
+from ipaddress import IPv6Address
 from typing import Dict, Iterable, List, Mapping, NamedTuple, Optional, Tuple
 from urllib.parse import quote
 
@@ -146,6 +147,11 @@ def _is_inherited(name: str) -> bool:
 
 def _is_authority(host: str) -> bool:
     name, _, port = host.rpartition(":") if re.search(r":[0-9]*$", host) and not host.endswith("]") else (host, "", "")
+    try:
+        if name.startswith("["):
+            IPv6Address(name[1:-1])
+    except ValueError:
+        return False
     return _IS_HOST(name) is not None
 
 

@@ -120,9 +120,8 @@ def _perform_in(pool: Executor, work: Work, width: int, send: Send, transaction:
     finally:
         if out:
             work.stop()
-            for future in out:
-                future.cancel()
-            wait(out)
+            # One that is cancelled never runs, and a pool that is shut down does not say so.
+            wait([future for future in out if not future.cancel()])
 
 
 def _perform_unit(work: Work, unit: Unit, send: Send, transaction: Optional[Transaction]) -> None:

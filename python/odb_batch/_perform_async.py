@@ -122,9 +122,19 @@ class _Tasks:
             self.is_cancelled = True
             for task in self._out:
                 task.cancel()
-            if self._out:
-                self._work.stop()
+            await self._rest()
+
+    async def _rest(self) -> None:
+        """Waits for what is out, however often this is cancelled meanwhile: a transaction is rolled back by its end."""
+        cancelled: Optional[asyncio.CancelledError] = None
+        while self._out:
+            self._work.stop()
+            try:
                 await asyncio.wait(self._out)
+            except asyncio.CancelledError as error:
+                cancelled = error
+        if cancelled is not None:
+            raise cancelled
 
     def _begin(self) -> None:
         """Begins what may begin now."""
@@ -166,9 +176,17 @@ class _Tasks:
             else:
                 async with _asynchronous(transaction(unit.group)):
                     answer = await self._perform_members(unit)
+        except asyncio.CancelledError as error:
+            if self._is_to_end():
+                raise
+            answer = self._work.failure(unit, error)
         except Exception as error:
             answer = self._work.failure(unit, error)
         self._work.finish(unit, answer)
+
+    def _is_to_end(self) -> bool:
+        """Whether the running task is cancelled, not something that it waited for."""
+        return self.is_cancelled or _is_cancelling()
 
     async def _perform_members(self, unit: Unit) -> Answer:
         for id in unit.ids:
@@ -181,9 +199,9 @@ class _Tasks:
         try:
             return checked(await asyncio.wait_for(self._how.send(self._work.prepared(unit)), self._how.timeout))
         except asyncio.CancelledError as error:
-            if self.is_cancelled or _is_cancelling():
+            if self._is_to_end():
                 raise
-            # Not this task is cancelled, but something that it waited for: an answer like any other exception.
+            # Something else is cancelled: an answer like any other exception.
             return answer_to(error, f"the request {unit.open}")
         except Exception as error:
             return answer_to(error, f"the request {unit.open}")

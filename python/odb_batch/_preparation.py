@@ -1,6 +1,6 @@
 """What is sent of a request: its URL and its headers without references, and its body as bytes on the wire."""
 
-from typing import Dict, Iterable, Iterator
+from typing import Dict, Iterable, Iterator, Optional, Tuple
 
 from ._answers import place_of, tag_of
 from ._bodies import to_wire
@@ -29,6 +29,9 @@ class Preparation:
         # Of the others no answer is kept.
         self._referred = {id for request in self._requests.values() for id in self._references(request)}
         self._answers: Dict[str, Answer] = {}
+        # What was read in them, since bodies may be long and referred to often.
+        self._places: Dict[str, Tuple[Optional[str], Optional[str]]] = {}
+        self._tags: Dict[str, Optional[str]] = {}
 
     def _references(self, request: Request) -> Iterator[str]:
         if request.reference is not None:
@@ -70,7 +73,9 @@ class Preparation:
 
     def _place_of(self, id: str) -> str:
         """The URL of what a request has created or returned; without another one that is its own URL."""
-        place, context = place_of(self._answers[id])
+        if id not in self._places:
+            self._places[id] = place_of(self._answers[id])
+        place, context = self._places[id]
         if place is None and self._requests[id].method == "POST":
             raise Refusal(424, "NoLocation", f"{id} was answered without the URL of what it has created", id)
         url = self._urls[id]
@@ -81,7 +86,9 @@ class Preparation:
     def _tag_of(self, id: str) -> str:
         if id not in self._answers:
             raise Refusal(400, "NoETag", f"{id} is not answered yet; it has to be in dependsOn", id)
-        tag = tag_of(self._answers[id])
+        if id not in self._tags:
+            self._tags[id] = tag_of(self._answers[id])
+        tag = self._tags[id]
         if tag is None:
             raise Refusal(424, "NoETag", f"{id} was answered without an ETag", id)
         return tag

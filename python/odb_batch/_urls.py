@@ -6,8 +6,8 @@ from urllib.parse import quote, unquote, urljoin, urlsplit, urlunsplit
 
 from ._messages import Refusal
 
-# A path that is appended to its base as it is, since urljoin takes its time.
-_IS_RELATIVE = re.compile(r"[^/:?#.\\]+(/[^/:?#.\\]+)*(\?[^#]*)?").fullmatch
+# A path that is appended to its base as it is, since urljoin takes its time, and drops empty segments.
+_IS_RELATIVE = re.compile(r"[^/:?#.\\]+(/[^/:?#.\\]*)*(\?[^#]*)?").fullmatch
 # What stays as it is in a URL, apart from letters, digits, - . _ and ~.
 _PLAIN = "!$%&'()*+,/:;=@"
 

@@ -34,6 +34,15 @@ class Unit:
         return self.ids[0] if self.group is None else f"the group {self.group}"
 
 
+def _written(id: str, answer: Answer) -> Tuple[Answer, bytes]:
+    """Returns an answer to a request and the text of its body; that of a failure if the body cannot be written."""
+    try:
+        return answer, to_json(answer, answer.headers)
+    except Exception as error:
+        LOG.error("the body of the answer to %s cannot be written", id, exc_info=error)
+        return FAILED, to_json(FAILED, {})
+
+
 class Work:
     """A batch on its way from its document to its response.
 
@@ -114,16 +123,19 @@ class Work:
 
     def take(self, unit: Unit, answer: Answer) -> None:
         """Reports the open request of a group. If it is the last one and has succeeded, this does nothing: it is
-        reported after the commit. Raises GroupFailed if it has not succeeded."""
-        if answer.is_success and unit.open == unit.ids[-1]:
-            return
+        reported after the commit. Raises GroupFailed if it has not succeeded, or the body of the last one cannot be
+        written."""
+        if unit.open == unit.ids[-1]:
+            answer, _ = _written(unit.ids[-1], answer)
+            if answer.is_success:
+                return
         self.finish(unit, answer)
         if not answer.is_success:
             raise GroupFailed(unit.group)
 
     # The end of a unit
 
-    def failure(self, unit: Unit, error: Exception) -> Optional[Answer]:
+    def failure(self, unit: Unit, error: BaseException) -> Optional[Answer]:
         """Returns what the open request of a unit is answered, since its transaction has ended by an exception; None if
         none is open: the group has failed before."""
         if unit.open is not None:
@@ -139,11 +151,7 @@ class Work:
             self._report(id, answer or FAILED)
 
     def _report(self, id: str, answer: Answer) -> None:
-        try:
-            text = to_json(answer, answer.headers)
-        except Exception as error:
-            LOG.error("the body of the answer to %s cannot be written", id, exc_info=error)
-            answer, text = FAILED, to_json(FAILED, {})
+        answer, text = _written(id, answer)
         self._preparation.keep(id, answer)
         headers = shown(answer)
         try:

@@ -10,6 +10,7 @@ import weakref
 from typing import Any, Awaitable, Callable, Dict, Iterable, List, MutableMapping, Optional
 from urllib.parse import quote, unquote, urlsplit
 
+from ._commands import policy
 from ._endpoint import Outer, Room, folder_of, message_of, names_of, performed, refused, root_of, too_long
 from ._faults import Fault
 from ._messages import Answer, PreparedRequest, Refusal, header_dict
@@ -69,6 +70,7 @@ class BatchMiddleware:
     ) -> None:
         if at_once < 1:
             raise ValueError(f"at_once must be at least 1, not {at_once!r}")
+        policy("stop", width)  # refuses a width that no run may have
         self.app, self.path, self.transaction, self.width, self.stop = app, path, transaction, width, stop
         self.at_once, self.timeout, self.limit, self.max_size = at_once, timeout, limit, max_size
         self.allowed, self.root = names_of(allowed), root_of(root, path)
@@ -150,8 +152,9 @@ class _Inner:
         try:
             await self._middleware.app(scope, exchange.receive, exchange.send)
         except Exception:
-            # Starlette answers 500, and raises the exception again for the log of the server.
-            if not exchange.is_complete:
+            # Starlette answers 500, and raises the exception again for the log of the server. After a success it is
+            # that of a commit.
+            if not exchange.is_complete or exchange.answer().is_success:
                 raise
         return self._room.fit(request.method, exchange.answer())
 
@@ -160,11 +163,14 @@ class _Inner:
         if request.body:
             headers["content-length"] = str(len(request.body))
         url = urlsplit(request.url)
+        path, front = unquote(url.path)[len(self._cut) :], quote(self._cut)
+        # A client may encode what is cut as it likes.
+        raw_path = url.path[len(front) :] if url.path.startswith(front) else quote(path)
         scope: _Scope = {
             **self._scope,
             "method": request.method,
-            "path": unquote(url.path)[len(self._cut) :],
-            "raw_path": url.path[len(quote(self._cut)) :].encode(),
+            "path": path,
+            "raw_path": raw_path.encode(),
             "query_string": url.query.encode(),
             "headers": [(name.encode(), value.encode("latin-1")) for name, value in headers.items()],
         }
@@ -187,12 +193,17 @@ class _Exchange:
         self._begun: Dict[str, Any] = {}
         self._body = bytearray()
         self._room = room
-        self.is_complete = False
+        self._completed = asyncio.Event()
+
+    @property
+    def is_complete(self) -> bool:
+        return self._completed.is_set()
 
     async def receive(self) -> _Message:
         if not self._incoming:
-            # A disconnect would end an answer that is streamed, so nothing more comes until the application returns.
-            await asyncio.Event().wait()
+            # A disconnect would end an answer that is streamed, so nothing more comes until the answer is complete.
+            await self._completed.wait()
+            return {"type": "http.disconnect"}
         return self._incoming.pop()
 
     async def send(self, message: _Message) -> None:
@@ -202,7 +213,8 @@ class _Exchange:
             # What is too long is not kept.
             if len(self._body) <= self._room.left:
                 self._body += message.get("body", b"")
-            self.is_complete = not message.get("more_body", False)
+            if not message.get("more_body", False):
+                self._completed.set()
 
     def answer(self) -> Answer:
         """Returns the answer; raises RuntimeError if the application has not completed it."""

@@ -12,6 +12,7 @@ from http import HTTPStatus
 from typing import Any, Callable, Dict, Iterable, List, Optional, Tuple
 from urllib.parse import unquote_to_bytes, urlsplit
 
+from ._commands import policy
 from ._endpoint import Outer, Room, folder_of, message_of, names_of, performed, refused, root_of, too_long
 from ._faults import Fault
 from ._messages import Answer, PreparedRequest, Refusal, header_dict
@@ -84,6 +85,7 @@ class BatchMiddleware:
         root: Optional[str] = None,
         stop: Optional[Callable[[], bool]] = None,
     ) -> None:
+        policy("stop", width)  # refuses a width that no run may have
         self.app, self.path, self.transaction, self.width, self.stop = app, path, transaction, width, stop
         self.limit, self.max_size = limit, max_size
         self.allowed, self.root = names_of(allowed), root_of(root, path)
@@ -133,6 +135,8 @@ class BatchMiddleware:
     def _read(self, environ: _Environ) -> bytes:
         """Reads the batch."""
         text = environ.get("CONTENT_LENGTH") or ""
+        if len(text) > 20:  # of thousands of digits int() makes no number
+            raise too_long(self.max_size)
         length = int(text) if text.isascii() and text.isdigit() else None
         if length is None and not environ.get("wsgi.input_terminated"):
             raise Refusal(411, "LengthRequired", "A batch has to have a Content-Length")
@@ -170,14 +174,18 @@ class _Inner:
         def start_response(
             status: str, headers: Iterable[Tuple[str, str]], exc_info: Any = None
         ) -> Callable[[bytes], None]:
+            if exc_info and body:
+                raise exc_info[1].with_traceback(exc_info[2])  # as a server that has sent the headers
             begun[:] = [(status, headers)]
             return body.extend
 
         parts = self._middleware.app(environ, start_response)
         try:
             for part in parts:
-                body += part
-                if len(body) > self._room.left:
+                # What is too long is not kept. Only a GET need not come to its end.
+                if len(body) <= self._room.left:
+                    body += part
+                if request.method == "GET" and len(body) > self._room.left:
                     break
         finally:
             if hasattr(parts, "close"):

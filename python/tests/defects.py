@@ -10,8 +10,9 @@ DEFECTS = {
         "wsgi", ' and not name.startswith("HTTP_")\n        }\n        if', "\n        }\n        if", MIDDLEWARE, "inherited",
     ),
     "success-before-the-commit": (
-        "_work", "if answer.is_success and unit.open == unit.ids[-1]:", "if False:", PERFORM, "commit",
+        "_work", "if answer.is_success:\n                return", "", PERFORM, "commit",
     ),
+    "a-commit-without-a-body": ("_work", "answer, _ = _written(unit.ids[-1], answer)", "pass", PERFORM, "cannot_be_written"),
     "success-without-an-answer": (
         "_perform", "answer = _perform_members(work, unit, send)", "answer = Answer(200); answer = _perform_members(work, unit, send)",
         PERFORM, "swallows_all",
@@ -19,8 +20,9 @@ DEFECTS = {
     "no-gate": ("asgi", "gate=self._gate()", "gate=None", MIDDLEWARE, "at_once"),
     "a-gate-of-one-loop": ("asgi", "if loop not in self._gates:", "if not self._gates:", MIDDLEWARE, "at_once"),
     "a-disconnect-after-the-body": (
-        "asgi", "await asyncio.Event().wait()", 'return {"type": "http.disconnect"}', MIDDLEWARE, "receive_blocks",
+        "asgi", "await self._completed.wait()\n", "pass\n", MIDDLEWARE, "receive_blocks",
     ),
+    "a-success-without-its-commit": ("asgi", " or exchange.answer().is_success", "", MIDDLEWARE, "after_a_success"),
     "a-cut-answer-is-one": ("asgi", "if not self._begun or not self.is_complete:", "if not self._begun:", MIDDLEWARE, "answers_half"),
     "an-answer-ends-a-request": (
         "asgi", "await self._middleware.app(scope, exchange.receive, exchange.send)",
@@ -39,9 +41,11 @@ DEFECTS = {
     "broken-json-ends-all": ("_work", "except Fault:", "except KeyError:", PERFORM, "of_answers"),
     "a-place-that-stays-free": ("_perform_async", "self._begin()\n        except", "self._out or self._begin()\n        except", PERFORM, "place"),
     "any-number-of-requests": ("_work", "if len(given) > limit:", "if False:", PERFORM, "that_is_refused"),
-    "a-cancelled-batch-goes-on": ("_perform_async", "if self.is_cancelled or _is_cancelling():", "if False:", PERFORM, "cancellation"),
-    "a-request-that-is-lost": ("_perform_async", "if self.is_cancelled or _is_cancelling():", "if True:", PERFORM, "something_else"),
-    "an-interruption-goes-on": ("_perform", "work.stop()\n            for", "for", PERFORM, "nothing_more_start"),
+    "a-cancelled-batch-goes-on": ("_perform_async", "return self.is_cancelled or _is_cancelling()", "return False", PERFORM, "cancellation"),
+    "a-request-that-is-lost": ("_perform_async", "return self.is_cancelled or _is_cancelling()", "return True", PERFORM, "something_else"),
+    "a-cancellation-leaves-tasks": ("_perform_async", "while self._out:", "if self._out:", PERFORM, "however_often"),
+    "an-interruption-goes-on": ("_perform", "work.stop()\n            #", "#", PERFORM, "nothing_more_start"),
+    "a-pool-blocks": ("_perform", " if not future.cancel()", "", PERFORM, "is_shut_down"),
     "another-context": ("_perform", "copy_context().run\n", "lambda it, *more: it(*more)\n", PERFORM, "context_of_the_caller"),
     "long-answers": ("_endpoint", "len(answer.body) <= self._left", "True", MIDDLEWARE, "too_long_together"),
     "any-header": ("_endpoint", "if name not in self._allowed:", "if False:", MIDDLEWARE, "of_a_request"),

@@ -7,7 +7,9 @@ import base64
 import contextlib
 import io
 import json
+import sys
 import threading
+from urllib.parse import unquote
 
 import pytest
 
@@ -237,6 +239,12 @@ class TestRefused:
             "application/json" if status == 415 else None,
         )
 
+    @pytest.mark.parametrize("host", ["[:::::]", "[.]", "[...]:80"])
+    def test_a_host_that_is_no_address(self, service, host):
+        status, _, text = service.ask("POST", "/odata/$batch", {**JSON, "Host": host}, b'{"requests":[]}')
+        assert (status, json.loads(text)["error"]["code"]) == (400, "BadHost")
+        assert batch(service, {"url": "a"}, headers={**JSON, "X-Forwarded-Host": host})["r0"]["status"] == 200
+
     def test_says_where(self, service):
         _, _, text = service.ask(
             "POST", "/odata/$batch", JSON, b'{"requests":[{"id":"1","method":"post","url":"/odata/$batch"}]}'
@@ -262,6 +270,12 @@ class TestRefused:
     def test_wrong_options(self, over, options):
         with pytest.raises(ValueError):
             over(options[0], **dict(*options[1:]))
+
+    @pytest.mark.parametrize("middleware", [wsgi.BatchMiddleware, asgi.BatchMiddleware])
+    @pytest.mark.parametrize("width", [0, 10_001, True])
+    def test_a_wrong_width(self, middleware, width):
+        with pytest.raises(ValueError):
+            middleware(None, width=width)
 
 
 class TestHeaders:
@@ -386,7 +400,8 @@ class TestWsgi:
 
     @pytest.mark.parametrize("more, status", [
         ({"CONTENT_LENGTH": ""}, 411), ({"CONTENT_LENGTH": "", "wsgi.input_terminated": True}, 200), ({"CONTENT_LENGTH": "-1"}, 411),
-        ({"CONTENT_LENGTH": "99"}, 400), ({"CONTENT_LENGTH": "99999999999"}, 413), ({"CONTENT_LENGTH": "١"}, 411),
+        ({"CONTENT_LENGTH": "99"}, 400), ({"CONTENT_LENGTH": "99999999999"}, 413), ({"CONTENT_LENGTH": "9" * 5000}, 413),
+        ({"CONTENT_LENGTH": "١"}, 411),
     ])  # fmt: skip
     def test_lengths(self, more, status):
         found, _, _ = OverWsgi("/odata/$batch").ask("POST", "/odata/$batch", JSON, b'{"requests":[]}', more=more)
@@ -407,6 +422,36 @@ class TestWsgi:
         service = OverWsgi("/odata/$batch")
         service.middleware.app = app
         assert batch(service, {"url": "a"})["r0"]["body"] == "first second" and closed == [True]
+
+    def test_a_request_that_changes_something_comes_to_its_end_however_long_its_answer_is(self):
+        ended = []
+
+        def app(environ, start_response):
+            start_response("201 Created", [("Content-Type", "text/plain")])
+            yield b"x" * 300
+            yield b"x" * 300
+            ended.append(environ["REQUEST_METHOD"])
+
+        service = OverWsgi("/odata/$batch", max_size=400)
+        service.middleware.app = app
+        found = batch(service, {"url": "a"}, {"url": "b", "method": "post"})
+        assert (found["r0"]["status"], found["r1"]["status"], ended) == (507, 201, ["POST"])
+        assert "body" not in found["r1"]
+
+    def test_an_answer_that_begins_anew_after_a_part_of_its_body_is_none(self):
+        def app(environ, start_response):
+            start_response("200 OK", [("Content-Type", "text/plain")])
+            yield b"half"
+            try:
+                raise LookupError("as planned")
+            except LookupError:
+                start_response("503 Busy", [("Content-Type", "text/plain")], sys.exc_info())
+            yield b"an error"
+
+        service = OverWsgi("/odata/$batch")
+        service.middleware.app = app
+        found = batch(service, {"url": "a"})["r0"]
+        assert (found["status"], found["body"]["error"]["code"]) == (500, "InternalError")
 
     @pytest.mark.parametrize(
         "app", [lambda environ, start_response: [b"nothing begun"], lambda environ, start_response: None]
@@ -443,6 +488,15 @@ class TestAsgi:
             assert (
                 scope["path"] == front + "/odata/a/b" and "extensions" not in scope and scope["state"] == {"shared": []}
             )
+
+    @pytest.mark.parametrize("prefix, url", [
+        ("/a(b)", "x"), ("/app", "/%61pp/odata/x"), ("/app", "/app%2Fodata%2Fx"), ("/ü", "x"),
+    ])  # fmt: skip
+    def test_the_raw_path_is_that_of_the_path(self, prefix, url):
+        for kind in (OverAsgi, OverNewAsgi):
+            service = kind("/odata/$batch")
+            assert batch(service, {"url": url}, prefix=prefix)["r0"]["status"] == 200
+            assert unquote(service.seen[0]["raw_path"].decode()) == service.seen[0]["path"]
 
     def test_a_request_is_over_when_the_application_returns(self):
         """What comes after the answer may be the commit of a dependency."""
@@ -481,6 +535,26 @@ class TestAsgi:
 
         assert batch(self.over(app), {"url": "a"})["r0"]["status"] == status
         assert ("as planned" in caplog.text) == (not is_complete)
+
+    def test_an_exception_after_a_success_fails_the_request(self):
+        """It may be that of a commit, so nothing that needs the request is sent."""
+
+        async def app(scope, receive, send):
+            await send({"type": "http.response.start", "status": 201})
+            await send({"type": "http.response.body"})
+            raise RuntimeError("as planned")
+
+        found = batch(self.over(app), {"url": "a"}, {"url": "b", "dependsOn": ["r0"]})
+        assert (found["r0"]["status"], found["r1"]["status"]) == (500, 424)
+
+    def test_receive_says_after_the_answer_that_the_client_has_gone(self):
+        async def app(scope, receive, send):
+            await receive()
+            await send({"type": "http.response.start", "status": 200})
+            await send({"type": "http.response.body"})
+            assert (await receive())["type"] == "http.disconnect"
+
+        assert batch(self.over(app, timeout=5), {"url": "a"})["r0"]["status"] == 200
 
     def test_an_application_that_answers_half(self):
         async def app(scope, receive, send):

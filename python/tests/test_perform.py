@@ -7,6 +7,7 @@ import contextlib
 import json
 import threading
 import time
+from concurrent.futures import CancelledError, ThreadPoolExecutor
 from contextvars import ContextVar
 
 import pytest
@@ -131,6 +132,17 @@ class TestTransactions:
         found = shown(driver(GROUP, answering({}), transaction=ledger.transaction))
         assert found == {"x": 200, "a": 424, "b": 500, "c": 424}
 
+    @pytest.mark.parametrize("id, wanted", [("a", (500, 424)), ("b", (424, 500))])
+    def test_a_body_that_cannot_be_written_fails_the_group_before_its_commit(self, driver, id, wanted):
+        ledger = Ledger()
+
+        def send(request):
+            return 200, {}, float("nan") if request.id == id else None
+
+        found = shown(driver(GROUP, send, transaction=ledger.transaction))
+        assert (found["a"], found["b"], found["c"]) == (*wanted, 424)
+        assert (ledger.committed, ledger.rolled_back) == ([], ["g"])
+
     def test_a_begin_that_is_refused_is_the_answer_of_the_first_request(self, driver):
         @contextlib.contextmanager
         def busy(group):
@@ -236,6 +248,24 @@ class TestTransactions:
 
         asyncio.run(perform_async(GROUP, send, transaction=transaction))
         assert steps == ["x", "begin", "a", "b", "commit", "c"]
+
+
+    @pytest.mark.parametrize("is_begin, wanted", [(True, (500, 424)), (False, (424, 500))])
+    def test_something_else_that_is_cancelled_in_a_transaction_is_an_answer(self, is_begin, wanted):
+        @contextlib.asynccontextmanager
+        async def transaction(group):
+            if not is_begin:
+                yield
+            lost = asyncio.get_running_loop().create_future()
+            lost.cancel()
+            await lost
+            yield
+
+        async def send(request):
+            return (200,)
+
+        found = shown(asyncio.run(perform_async(GROUP, send, transaction=transaction)))
+        assert (found["a"], found["b"], found["c"]) == (*wanted, 424)
 
 
 class TestFailures:
@@ -373,7 +403,61 @@ class TestThreads:
                 assert set(shown(perform(gets(*"abcdef"), answering({}), width=4, pool=pool)).values()) == {200}
 
 
+    def test_a_pool_that_is_shut_down_does_not_block(self):
+        pool, begun, ended = ThreadPoolExecutor(1), threading.Event(), threading.Event()
+
+        def send(request):
+            begun.set()
+            ended.wait(5)
+            return (200,)
+
+        def performed():
+            with contextlib.suppress(CancelledError):
+                perform(gets(*"abc"), send, width=3, pool=pool)
+
+        caller = threading.Thread(target=performed, daemon=True)
+        caller.start()
+        assert begun.wait(5)
+        time.sleep(0.1)  # until the others are queued
+        pool.shutdown(wait=False, cancel_futures=True)
+        ended.set()
+        caller.join(5)
+        assert not caller.is_alive()
+
+
 class TestTasks:
+    def test_is_not_over_before_what_is_out_however_often_it_is_cancelled(self):
+        steps = []
+
+        @contextlib.asynccontextmanager
+        async def transaction(group):
+            try:
+                yield
+            finally:
+                await asyncio.sleep(0.05)
+                steps.append("rolled back")
+
+        async def main():
+            out = asyncio.Event()
+
+            async def send(request):
+                if request.group is not None:
+                    out.set()
+                    await asyncio.sleep(5)
+                return (200,)
+
+            task = asyncio.ensure_future(perform_async(GROUP, send, transaction=transaction))
+            await out.wait()
+            for _ in range(3):
+                task.cancel()
+                await asyncio.sleep(0.01)
+            with pytest.raises(asyncio.CancelledError):
+                await task
+            steps.append("over")
+
+        asyncio.run(main())
+        assert steps == ["rolled back", "over"]
+
     def test_a_timeout_cancels_and_is_answered(self):
         ended = []
 
@@ -543,6 +627,15 @@ class TestReferences:
         found = shown(driver({"requests": batch}, send))
         assert (seen[1:], found["b"]) == ([wanted], 200) if wanted else ([], 424)
 
+    def test_read_an_answer_once_however_many_refer_to_it(self, driver, monkeypatch):
+        """The body may be long, and of one that has no tag it is the whole body that is read."""
+        read = []
+        monkeypatch.setattr("odb_batch._answers.members", lambda answer: read.append(answer) or {})
+        more = {"method": "patch", "url": "$a", "dependsOn": ["a"], "headers": {"If-Match": "$a"}}
+        found = shown(driver({"requests": [*gets("a")["requests"], *({"id": id, **more} for id in "bcd")]}, answering({})))
+        assert found == {"a": 200, **dict.fromkeys("bcd", 424)}
+        assert len(read) == 2  # for its URL and for its tag
+
     def test_to_the_tag_of_what_is_not_in_depends_on(self, driver):
         batch = [
             {"id": "b", "method": "delete", "url": "A", "headers": {"If-Match": "$a"}},
@@ -555,6 +648,7 @@ class TestReferences:
         ("Books", "http://h/odata/Books"), ("/odata/Books", "http://h/odata/Books"), ("http://H/odata/Books", "http://H/odata/Books"),
         ("", "http://h/odata/"), ("Bücher('a b')?$filter=a eq 'ü'#x", "http://h/odata/B%C3%BCcher('a%20b')?$filter=a%20eq%20'%C3%BC'"),
         ("%zz", "http://h/odata/%zz"), ("A/B", "http://h/odata/A/B"), ("A('%2F')", "http://h/odata/A('%2F')"),
+        ("A('b//c')", "http://h/odata/A('b//c')"), ("A//", "http://h/odata/A//"),
         ("/admin", None), ("../admin", None), ("%2e%2e/admin", None), ("..%2fadmin", None), ("..%5cadmin", None), ("a/..;x/admin", None),
         ("//169.254.169.254/odata/", None), ("http://169.254.169.254/", None), ("http://h@evil/odata/", None), ("https://h/odata/A", None),
         ("http://h:81/odata/A", None), ("/ODATA/A", None), ("/odata", None), ("A%0d%0aB", None), ("file:///etc/passwd", None), ("http://[x", None),
@@ -622,6 +716,14 @@ class TestBodies:
     def test_of_answers(self, driver, headers, body, wanted):
         [found] = json.loads(driver(gets("a"), lambda it: (200, headers, body)))["responses"]
         assert found.get("body") == wanted
+
+    @pytest.mark.parametrize("name", ["punycode", "PunyCode", "idna"])
+    def test_encodings_of_host_names_are_no_character_sets(self, driver, name):
+        """Their time grows with the square of the text, so a small batch would take hours."""
+        headers = {"content-type": f"text/plain; charset={name}"}
+        batch = [{"id": "a", "method": "post", "url": "A", "headers": headers, "body": "\xfc"}, *gets("b")["requests"]]
+        found = json.loads(driver({"requests": batch}, lambda it: (200, headers, b"tda")))["responses"]
+        assert (found[0]["status"], found[1]["body"]) == (400, "tda")
 
     def test_headers_of_a_connection_are_not_shown(self, driver):
         headers = {
