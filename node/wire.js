@@ -11,7 +11,7 @@ function headOf(text) {
   for (const line of lines) {
     const at = line.indexOf(':')
     const [name, value] = [line.slice(0, at).toLowerCase(), line.slice(at + 1).trim()]
-    headers[name] = name in headers ? `${headers[name]}, ${value}` : value
+    headers[name] = Object.hasOwn(headers, name) ? `${headers[name]}, ${value}` : value
   }
   return { status: Number(first.split(' ')[1]), headers }
 }
