@@ -34,7 +34,7 @@ function parsed(bytes) {
   const { status, headers } = headOf(bytes.toString('latin1', 0, end))
   const rest = bytes.subarray(end + END_OF_HEAD.length)
   if (status < 200) return parsed(rest) // such as 103, which is followed by the final one
-  return { status, headers, body: headers['transfer-encoding'] === 'chunked' ? joinedChunks(rest) : rest }
+  return { status, headers, body: /\bchunked$/i.test(headers['transfer-encoding']) ? joinedChunks(rest) : rest }
 }
 
 module.exports = { parsed }

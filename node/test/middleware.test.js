@@ -46,6 +46,10 @@ const ROUTES = {
     res.write('first, ')
     res.end('second')
   },
+  coded: (req, res) => {
+    res.writeHead(200, { 'Content-Type': 'text/plain', 'Transfer-Encoding': 'Chunked' })
+    res.end('by its name')
+  },
   hints: (req, res) => {
     res.writeEarlyHints({ link: '</a.css>; rel=preload' })
     res.writeHead(200, { 'Content-Type': 'text/plain' }).end('final')
@@ -275,9 +279,10 @@ everywhere('has no batch in a batch, at a path of another name either', { path: 
 })
 
 everywhere('shows answers however they are written', {}, async ({ responses }) => {
-  const names = ['text', 'image', 'stream', 'chunked', 'hints', 'twice', 'late']
+  const names = ['text', 'image', 'stream', 'chunked', 'coded', 'hints', 'twice', 'late']
   const found = await responses(batch(...names.map((name) => [name, 'get', name]), ['none', 'get', 'status?is=204']))
-  assert.deepEqual(names.map((name) => found[name].body), ['é', '_-8', 'abc', 'first, second', 'final', undefined, 'over'])
+  const bodies = ['é', '_-8', 'abc', 'first, second', 'by its name', 'final', undefined, 'over']
+  assert.deepEqual(names.map((name) => found[name].body), bodies)
   assert.deepEqual([found.twice.headers.vary, found.twice.headers['set-cookie']], ['a, b', undefined])
   assert.deepEqual(new Set(Object.values(statusesOf(found))), new Set([200, 204]))
 })
