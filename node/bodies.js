@@ -6,13 +6,15 @@
 const { arrayOf, jsonOf } = require('./documents.js')
 const { Refusal, charsetOf, mediaTypeOf } = require('./messages.js')
 
+// How long the text of a body may be in a response.
+const MOST_BYTES = 16777216
 const MARK = Buffer.from([0xef, 0xbb, 0xbf])
 
 // The names of Node for character sets in which a text can be written.
 const ENCODINGS = new Map([
   ['utf-8', 'utf8'],
   ['utf8', 'utf8'],
-  ['us-ascii', 'latin1'],
+  ['us-ascii', 'ascii'],
   ['iso-8859-1', 'latin1'],
   ['latin1', 'latin1'],
   ['utf-16le', 'utf16le'],
@@ -77,4 +79,4 @@ function entityOf(text) {
   }
 }
 
-module.exports = { asText, entityOf, toJson, toWire }
+module.exports = { MOST_BYTES, asText, entityOf, toJson, toWire }

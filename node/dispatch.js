@@ -20,7 +20,7 @@ class Kept extends Duplex {
   #most
 
   constructor(outer, most) {
-    super()
+    super({ writableHighWaterMark: Number.MAX_SAFE_INTEGER }) // no write waits: a server would say when it may go on
     this.outer = outer
     this.#most = most
     if (outer.getPeerCertificate) this.getPeerCertificate = (...given) => outer.getPeerCertificate(...given)
@@ -32,6 +32,12 @@ class Kept extends Duplex {
     if (!this.isCut) this.#parts.push(part)
     this.#size += part.length
     done()
+  }
+
+  /** Is closed when the handler ends it, as that of a client is. */
+  _final(done) {
+    done()
+    this.destroy()
   }
 
   /** Whether more was written than is kept. */
@@ -49,6 +55,9 @@ for (const name of OF_CONNECTION) {
   Object.defineProperty(Kept.prototype, name, {
     get() {
       return this.outer[name]
+    },
+    set(value) {
+      Object.defineProperty(this, name, { value, writable: true })
     },
   })
 }
@@ -80,24 +89,31 @@ function outgoing(req, socket) {
 
 /**
  * Has a handler answer a request, and is fulfilled with the answer, without its body if that has more than `most` bytes. It is
- * rejected if the handler throws, or ends the connection in place of an answer; an aborted signal ends it, too.
+ * rejected if the handler throws before it has answered, or ends the connection in place of an answer; an aborted signal ends
+ * it, too. What a handler holds may wait until its request and its response are closed, so both are in the end.
  */
 function dispatch(handler, client, request, most) {
   return new Promise((resolve, reject) => {
     const socket = new Kept(client, most + MOST_OF_HEAD)
     const req = incoming(socket, request)
     const res = outgoing(req, socket)
+    const cut = () => {
+      req.destroy()
+      reject(Object.assign(new Error('the handler ended the connection'), { code: 'ECONNRESET' }))
+    }
+    res.on('close', cut)
     res.on('finish', () => {
+      res.off('close', cut)
       const { body, ...head } = parsed(socket.bytes)
       resolve(socket.isCut || body.length > most ? head : { ...head, body })
-      process.nextTick(() => socket.destroy()) // so that the response is closed, too: what a handler holds may wait for that
-    })
-    res.on('close', () => {
-      if (!res.writableFinished) reject(Object.assign(new Error('the handler ended the connection'), { code: 'ECONNRESET' }))
+      if (req.readableFlowing === null) req.resume() // nobody reads the body
+      process.nextTick(() => socket.destroy())
     })
     for (const it of [res, socket]) it.on('error', reject)
     request.signal?.addEventListener('abort', () => socket.destroy())
-    Promise.resolve(handler(req, res)).catch(reject)
+    new Promise((done) => done(handler(req, res))).catch((error) => {
+      if (!res.writableEnded) reject(error)
+    })
   })
 }
 

@@ -33,10 +33,12 @@ class Group {
   perform() {
     if (this.#isOver || this.#members !== undefined) {
       this.#failure ??= new Error(`the transaction of ${this.#name} must call its body once, before it ends`)
-      return Promise.reject(this.#failure)
+      const refused = Promise.reject(this.#failure)
+      refused.catch(() => {}) // also where the transaction does not look at it, here and below
+      return refused
     }
     this.#members = this.#performed()
-    this.#members.catch((error) => (this.#failure = error)) // also where the transaction does not look at it
+    this.#members.catch((error) => (this.#failure = error))
     return this.#members
   }
 

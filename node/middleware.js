@@ -3,6 +3,7 @@
 // A $batch for Express, or any handler of node:http: `app.use(batch(app, { path: '/odata/$batch' }))`.
 // middleware.d.ts says what it takes and returns.
 
+const { MOST_BYTES } = require('./bodies.js')
 const { optionsOf } = require('./commands.js')
 const { dispatch } = require('./dispatch.js')
 const { Fault } = require('./faults.js')
@@ -11,7 +12,6 @@ const { Outer, folderOf } = require('./outer.js')
 const { logged, perform } = require('./perform.js')
 const { unquoted } = require('./urls.js')
 
-const MOST_BYTES = 16777216
 const OF_BATCH = ['path', 'root', 'allowed', 'maxSize', 'limit', 'width', 'transaction', 'timeout', 'stop', 'log']
 
 /** The options with their defaults, or a TypeError. */

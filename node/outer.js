@@ -7,8 +7,9 @@ const { Refusal, mediaTypeOf } = require('./messages.js')
 const { unquoted } = require('./urls.js')
 
 const NOT_INHERITED = new Set([
-  'accept', 'accept-encoding', 'connection', 'digest', 'expect', 'idempotency-key', 'keep-alive', 'prefer', 'range',
-  'signature', 'signature-input', 'te', 'trailer', 'transfer-encoding', 'upgrade',
+  'accept', 'accept-encoding', 'connection', 'digest', 'expect', 'http2-settings', 'idempotency-key', 'keep-alive', 'prefer',
+  'proxy-connection', 'range', 'signature', 'signature-input', 'te', 'trailer', 'transfer-encoding', 'upgrade', 'x-http-method',
+  'x-http-method-override', 'x-method-override',
 ])
 const PREFIXES_NOT_INHERITED = ['content-', 'if-', 'repeatability-']
 // Others could be those by which a proxy tells the service who the client is.
@@ -30,16 +31,25 @@ function folderOf(path) {
   return path.slice(0, path.lastIndexOf('/') + 1)
 }
 
+/** Whether a URL may have a host. */
+function isHost(host) {
+  try {
+    return HOST.test(host) && new URL(`http://${host}`).host !== ''
+  } catch {
+    return false
+  }
+}
+
 /** A URL with a decoded path, or a refusal if the host is none. */
 function urlOf(scheme, host, path) {
-  if (!HOST.test(host)) throw new Refusal(400, 'BadHost', 'The host is not a name with a port', { target: 'host' })
+  if (!isHost(host)) throw new Refusal(400, 'BadHost', 'The host is not a name with a port', { target: 'host' })
   return `${scheme}://${host}${encodeURI(path)}`
 }
 
 /** The hosts that a client has asked, by what proxies say. */
 function forwardedHosts({ 'x-forwarded-host': names = '', forwarded = '' }) {
   const named = [...names.split(','), ...Array.from(forwarded.matchAll(FORWARDED), ([, host]) => host)]
-  return named.map((host) => host.trim()).filter((host) => HOST.test(host))
+  return named.map((host) => host.trim()).filter(isHost)
 }
 
 /** The preferences of a request (RFC 7240), each with its name, its value and its text. */

@@ -31,7 +31,8 @@ export interface Answer {
   /**
    * The body: bytes as they are on the wire, by `Content-Type` JSON, a text or other bytes; or a value that
    * `JSON.stringify` writes, a string too. null, undefined and no bytes are no body. Bytes that claim to be JSON and are not,
-   * or nest more than 124 deep, are shown as a string.
+   * or nest more than 124 deep, are shown as a string. One of more than 16,777,216 bytes in the response is not shown: a GET is
+   * answered 507 then, and any other request keeps its status and its headers.
    */
   body?: unknown
 }

@@ -104,7 +104,7 @@ class Performance {
       const { status, headers, body } = await within(this.#settings.timeout, async (signal) => {
         return readAnswer(await this.#send({ ...this.#work.request(id), signal }))
       })
-      return { status, headers, text: toJson(body, headers) }
+      return { status, headers, text: this.#work.fitting(id, toJson(body, headers)) }
     } catch (error) {
       return this.#failed(error, `the request ${id}`)
     }
@@ -133,14 +133,10 @@ async function perform(batch, send, options = {}) {
   const requests = requestsOf(document)
   requirePerformable(requests, settings)
   const work = new Work(document, requests, service, settings)
-  const stop = () => work.stop()
   try {
-    settings.stop?.addEventListener('abort', stop)
-    if (settings.stop?.aborted) stop()
     await new Performance(work, send, settings).all()
     return work.response()
   } finally {
-    settings.stop?.removeEventListener('abort', stop)
     work.close()
   }
 }

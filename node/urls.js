@@ -85,11 +85,11 @@ class Service {
 }
 
 /** Whether a URL is below another one, however its path is encoded. */
-function isBelow({ protocol, host, pathname }, root) {
-  const path = unquoted(pathname)
+function isBelow(url, root) {
+  const path = unquoted(url.pathname)
   // Servers take \ for /, and drop what follows a ; in a segment.
   const climbs = path.split(/[\\/]/).some((segment) => segment.split(';', 1)[0] === '..')
-  const isSame = protocol === root.protocol && host === root.host
+  const isSame = ['protocol', 'username', 'password', 'host'].every((part) => url[part] === root[part])
   return isSame && path.startsWith(unquoted(root.pathname)) && !climbs && !NOT_PRINTABLE.test(path)
 }
 

@@ -11,7 +11,7 @@ function headOf(text) {
   for (const line of lines) {
     const at = line.indexOf(':')
     const [name, value] = [line.slice(0, at).toLowerCase(), line.slice(at + 1).trim()]
-    headers[name] = name in headers ? `${headers[name]}, ${value}` : value
+    headers[name] = Object.hasOwn(headers, name) ? `${headers[name]}, ${value}` : value
   }
   return { status: Number(first.split(' ')[1]), headers }
 }
@@ -34,7 +34,7 @@ function parsed(bytes) {
   const { status, headers } = headOf(bytes.toString('latin1', 0, end))
   const rest = bytes.subarray(end + END_OF_HEAD.length)
   if (status < 200) return parsed(rest) // such as 103, which is followed by the final one
-  return { status, headers, body: headers['transfer-encoding'] === 'chunked' ? joinedChunks(rest) : rest }
+  return { status, headers, body: /\bchunked$/i.test(headers['transfer-encoding']) ? joinedChunks(rest) : rest }
 }
 
 module.exports = { parsed }

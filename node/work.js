@@ -2,7 +2,7 @@
 
 // A batch on its way from its document to its response: what is sent, with references resolved, and what is reported.
 
-const { asText, entityOf, toWire } = require('./bodies.js')
+const { MOST_BYTES, asText, entityOf, toWire } = require('./bodies.js')
 const { Fault } = require('./faults.js')
 const { Refusal, finalStatus, isSuccess } = require('./messages.js')
 const { Run } = require('./run.js')
@@ -44,23 +44,27 @@ class Work {
   #named
   #sent = new Map()
   #isStopped = false
+  #signal
   #stopsAtErrors
 
-  constructor(batch, requests, service, { mode, width }) {
+  constructor(batch, requests, service, { mode, width, stop }) {
     this.#run = new Run(batch, { mode, width })
     this.#requests = new Map(requests.map((request) => [request.id, request]))
     this.#named = new Set(requests.flatMap((request) => [request.reference, ...this.#tagged(request).map(([, id]) => id)]))
     this.#service = service
+    this.#signal = stop
     this.#stopsAtErrors = mode === 'stop'
   }
 
   /** Whether nothing starts any more. */
   get isStopped() {
+    this.#heed()
     return this.#isStopped
   }
 
   /** The ids of the first unit that may begin, or null. */
   next() {
+    this.#heed()
     return this.#run.nextUnit()
   }
 
@@ -70,10 +74,13 @@ class Work {
 
   /** Starts a request: call it before it is sent. */
   start(id) {
+    this.#heed()
     this.#run.start(id)
   }
 
-  stop() {
+  /** Stops once the signal is aborted. It is asked, since one that many batches share would warn of their listeners. */
+  #heed() {
+    if (this.#isStopped || !this.#signal?.aborted) return
     this.#isStopped = true
     this.#run.stop()
   }
@@ -134,13 +141,21 @@ class Work {
     return isSuccess({ status })
   }
 
-  /** Reports a body as JSON; one that is not JSON, though its answer claims it, as a string. */
+  /** The text of a body that is answered. If it is too long for a response a GET is refused, and any other request loses it. */
+  fitting(id, text) {
+    if (text === undefined || text.length <= MOST_BYTES) return text
+    if (this.#requests.get(id).method === 'GET') throw new Refusal(507, 'TooLong', 'The answer is too long for a batch')
+    return undefined
+  }
+
+  /** Reports a body as JSON; one that is not JSON, though its answer claims it, as a string, unless that is too long. */
   #put(id, status, headers, text) {
     try {
       this.#run.report(id, status, shown(headers), text)
     } catch (error) {
       if (!(error instanceof Fault)) throw error
-      this.#run.report(id, status, plain(shown(headers)), text && asText(text, {}))
+      const string = text && asText(text, {})
+      this.#run.report(id, status, plain(shown(headers)), string?.length > MOST_BYTES ? undefined : string)
     }
   }
 

@@ -6,6 +6,7 @@ const assert = require('node:assert/strict')
 const { AsyncLocalStorage } = require('node:async_hooks')
 const net = require('node:net')
 const { once } = require('node:events')
+const { Readable } = require('node:stream')
 const { test } = require('node:test')
 const { batch: mounted } = require('../middleware.js')
 const { batch } = require('./performing.js')
@@ -45,6 +46,10 @@ const ROUTES = {
     res.write('first, ')
     res.end('second')
   },
+  coded: (req, res) => {
+    res.writeHead(200, { 'Content-Type': 'text/plain', 'Transfer-Encoding': 'Chunked' })
+    res.end('by its name')
+  },
   hints: (req, res) => {
     res.writeEarlyHints({ link: '</a.css>; rel=preload' })
     res.writeHead(200, { 'Content-Type': 'text/plain' }).end('final')
@@ -56,6 +61,22 @@ const ROUTES = {
   },
   closing: (req, res) => {
     res.on('close', () => closed.push(req.url))
+    res.end()
+  },
+  letting: (req, res) => {
+    req.on('close', () => closed.push(`${req.url} ${req.aborted}`))
+    res.end()
+  },
+  piped: (req, res) => {
+    res.setHeader('Content-Type', 'text/plain')
+    Readable.from(['a', 'b', 'c'].map((it) => Buffer.from(it.repeat(70000)))).pipe(res)
+  },
+  secure: (req, res) => {
+    req.socket.encrypted = true
+    res.end(String(req.socket.encrypted))
+  },
+  named: (req, res) => {
+    res.setHeader('Constructor', 'x')
     res.end()
   },
   long: (req, res) => {
@@ -71,6 +92,27 @@ const ROUTES = {
   },
   hangs: () => {},
   cuts: (req) => req.socket.destroy(),
+  leaves: (req) => {
+    req.on('close', () => closed.push(req.url))
+    req.socket.end()
+  },
+  cutsFirst: (req, res) => {
+    req.socket.destroy()
+    res.end('over')
+  },
+  cutsLast: (req, res) => {
+    res.end('over')
+    req.socket.destroy()
+  },
+  throwsLast: (req, res) => {
+    res.end('over')
+    throw new Error('as planned')
+  },
+  rejectsLast: async (req, res) => {
+    await textOf(req)
+    res.end('over')
+    throw new Error('as planned')
+  },
   late: (req, res) => {
     res.end('over')
     res.write('more')
@@ -136,14 +178,16 @@ everywhere('answers what is not a batch by an error object', { maxSize: 200, lim
   await refused(chunked, 413, 'TooLong', { connection: 'close' })
 })
 
-everywhere('answers a host that is none', {}, async ({ port }) => {
-  const socket = net.connect(port, '127.0.0.1')
-  const document = JSON.stringify(batch(['a']))
-  const head = [`POST ${PATH} HTTP/1.1`, 'Host: a b', 'Content-Type: application/json', `Content-Length: ${document.length}`]
-  socket.end([...head, '', document].join('\r\n'))
-  const [answer] = await once(socket, 'data')
-  assert.match(answer.toString(), /^HTTP\/1.1 400 [^]*BadHost/)
-})
+for (const host of ['a b', 'a:99999', '1.2.3.256', '[::::]']) {
+  everywhere(`answers the host ${host}, which is none`, {}, async ({ port }) => {
+    const socket = net.connect(port, '127.0.0.1')
+    const document = JSON.stringify(batch(['a']))
+    const head = [`POST ${PATH} HTTP/1.1`, `Host: ${host}`, 'Content-Type: application/json']
+    socket.end([...head, `Content-Length: ${document.length}`, '', document].join('\r\n'))
+    const [answer] = await once(socket, 'data')
+    assert.match(answer.toString(), /^HTTP\/1.1 400 [^]*BadHost/)
+  })
+}
 
 // What a client prefers, and what a request after a failure is answered.
 const PREFERENCES = [
@@ -182,6 +226,7 @@ everywhere('hands requests to the handler with what they inherit', {}, async ({ 
   const document = batch(['a', 'patch', 'echo?x=a b', { headers: own, body: { p: 1 } }])
   const outer = {
     ...JSON_TYPE, authorization: 'Bearer 1', cookie: 'c=1', traceparent: '00', accept: 'application/json', 'if-match': '"1"',
+    'x-http-method-override': 'DELETE', 'x-method-override': 'DELETE',
     prefer: 'continue-on-error, odata.maxpagesize=5', 'content-language': 'de', 'repeatability-request-id': 'r',
     'user-agent': 'outer',
   }
@@ -218,7 +263,7 @@ everywhere('keeps requests below the root', { root: '/odata/' }, async ({ origin
 everywhere('takes URLs with the scheme and the host of a proxy for its own', {}, async ({ origin, responses }) => {
   const origins = ['https://public', 'http://a.b:81', origin.replace('http', 'https')]
   const document = batch(...origins.map((it, k) => [`r${k}`, 'get', `${it}/odata/status?is=204`]))
-  const headers = { ...CONTINUES, 'x-forwarded-host': 'public, b@d', forwarded: 'for=x;host="a.b:81"' }
+  const headers = { ...CONTINUES, 'x-forwarded-host': 'public, b@d, a:99999', forwarded: 'for=x;host="a.b:81"' }
   assert.deepEqual(statusesOf(await responses(document, headers)), { r0: 204, r1: 204, r2: 204 })
   assert.deepEqual(statusesOf(await responses(document)), { r0: 404, r1: 404, r2: 204 })
 })
@@ -234,9 +279,10 @@ everywhere('has no batch in a batch, at a path of another name either', { path: 
 })
 
 everywhere('shows answers however they are written', {}, async ({ responses }) => {
-  const names = ['text', 'image', 'stream', 'chunked', 'hints', 'twice', 'late']
+  const names = ['text', 'image', 'stream', 'chunked', 'coded', 'hints', 'twice', 'late']
   const found = await responses(batch(...names.map((name) => [name, 'get', name]), ['none', 'get', 'status?is=204']))
-  assert.deepEqual(names.map((name) => found[name].body), ['é', '_-8', 'abc', 'first, second', 'final', undefined, 'over'])
+  const bodies = ['é', '_-8', 'abc', 'first, second', 'by its name', 'final', undefined, 'over']
+  assert.deepEqual(names.map((name) => found[name].body), bodies)
   assert.deepEqual([found.twice.headers.vary, found.twice.headers['set-cookie']], ['a, b', undefined])
   assert.deepEqual(new Set(Object.values(statusesOf(found))), new Set([200, 204]))
 })
@@ -245,6 +291,41 @@ everywhere('closes a response, so that a handler lets go what it holds', {}, asy
   closed.length = 0
   await responses(batch(['a', 'get', 'closing?1'], ['b', 'get', 'closing?2']))
   assert.deepEqual(closed, ['/odata/closing?1', '/odata/closing?2'])
+})
+
+everywhere('closes a request whose body nobody reads', {}, async ({ responses }) => {
+  closed.length = 0
+  await responses(batch(['a', 'put', 'letting', { body: 7 }], ['b', 'get', 'letting']))
+  await new Promise((resolve) => setImmediate(resolve))
+  assert.deepEqual(closed, ['/odata/letting false', '/odata/letting false'])
+})
+
+everywhere('takes a long answer that is piped', { timeout: 2000 }, async ({ responses }) => {
+  const { a } = await responses(batch(['a', 'get', 'piped']))
+  assert.deepEqual([a.status, a.body.length], [200, 210000])
+})
+
+everywhere('has a handler say that its connection is secure', {}, async ({ responses }) => {
+  const { a } = await responses(batch(['a', 'get', 'secure']))
+  assert.deepEqual([a.status, a.body], [200, true])
+})
+
+everywhere('shows a header of any name', {}, async ({ responses }) => {
+  assert.equal((await responses(batch(['a', 'get', 'named']))).a.headers.constructor, 'x')
+})
+
+everywhere('keeps an answer whatever comes after it', { width: 8 }, async ({ responses }, mount) => {
+  const ofPromises = mount === 'express' ? [] : ['rejectsLast'] // Express 4 does not look at promises
+  const names = ['cutsLast', 'throwsLast', ...ofPromises]
+  const found = await responses(batch(...names.map((name) => [name, 'get', name])))
+  assert.deepEqual(names.map((name) => [found[name].status, found[name].body]), names.map(() => [200, 'over']))
+})
+
+everywhere('answers for a handler that ends its connection', { timeout: 2000, width: 8 }, async ({ responses }) => {
+  closed.length = 0
+  const found = await responses(batch(...['leaves', 'cutsFirst'].map((name) => [name, 'get', name])))
+  assert.deepEqual(statusesOf(found), { leaves: 502, cutsFirst: 502 })
+  assert.deepEqual(closed, ['/odata/leaves'])
 })
 
 everywhere('answers what handlers do wrong', { timeout: 50, width: 8 }, async ({ responses, errors }, mount) => {

@@ -136,3 +136,13 @@ test('performs ten thousand requests in a row', async () => {
   assert.deepEqual(new Set(responses.map(({ status }) => status)), new Set([200]))
   assert(process.cpuUsage(begun).user < 5e6)
 })
+
+test('leaves nothing behind at a signal that many batches share', async () => {
+  const [{ signal }, warnings] = [new AbortController(), []]
+  const warn = (warning) => warnings.push(warning.name)
+  process.on('warning', warn)
+  const send = () => after(5, { status: 200 })
+  await Promise.all(Array.from({ length: 12 }, () => perform(batch(['a']), send, { stop: signal })))
+  process.off('warning', warn)
+  assert.deepEqual(warnings, [])
+})

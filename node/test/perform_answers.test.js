@@ -95,8 +95,8 @@ for (const [type, body, wire] of SENT_BODIES) {
 }
 
 test('refuses a text that its character set does not have', async () => {
-  for (const charset of ['iso-8859-1', 'klingon']) {
-    const document = batch(['a', 'put', 'A', { headers: { 'Content-Type': `text/plain;charset=${charset}` }, body: '→' }])
+  for (const [charset, body] of [['iso-8859-1', '→'], ['us-ascii', 'é'], ['klingon', '→']]) {
+    const document = batch(['a', 'put', 'A', { headers: { 'Content-Type': `text/plain;charset=${charset}` }, body }])
     assert.deepEqual(await statusesOf(document, () => assert.fail('sent')), { a: 400 })
   }
 })
@@ -170,4 +170,18 @@ test('sends by fetch', async () => {
     server.close()
   }
   assert.deepEqual(await statusesOf(document, send, { base }), { a: 502, b: 424 })
+})
+
+test('answers for a body that is too long for a response', async () => {
+  const document = batch(['a', 'get', 'A'], ['b', 'post', 'B'], ['c', 'put', 'C'], ['d', 'get', 'D'])
+  const long = Buffer.alloc(13000000, '7')
+  const bodies = { a: ['image/png', long], b: ['image/png', long], c: ['application/json', Buffer.alloc(16777217, 'x')] }
+  const send = ({ id }) => {
+    const [type, body] = bodies[id] ?? ['text/plain', '']
+    return { status: 200, headers: { 'Content-Type': type, Location: '7' }, body }
+  }
+  const [a, b, c, d] = responsesOf(await perform(document, send))
+  assert.deepEqual([a.status, a.body.error.code], [507, 'TooLong'])
+  assert.deepEqual([b.status, b.body, b.headers.location], [200, undefined, '7'])
+  assert.deepEqual([c.status, c.body, d.status], [200, undefined, 200])
 })

@@ -111,6 +111,7 @@ const WRONG = [
   ['it does not wait for its body', async (_, body) => void body(), LAST_FAILED, 'xa'],
   ['it gives up its body', (_, body) => Promise.race([body(), lateError()]), LAST_FAILED, 'xa'],
   ['it calls its body again', (_, body) => body().then(body), LAST_FAILED, 'xab'],
+  ['it calls its body again, and does not look', async (_, body) => void (await body(), body()), LAST_FAILED, 'xab'],
   ['it calls its body again, and ignores how that ends', (_, body) => body().then(body).catch(() => {}), LAST_FAILED, 'xab'],
 ]
 
