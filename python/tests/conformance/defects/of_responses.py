@@ -289,12 +289,12 @@ def one_at_a_time():
     refuse_beside(Refusal(500, "Busy", "The state of a batch is in use"))
 
 
-def with_mode(mode):
+def with_mode(mode, **options):
     """Has each batch performed in a mode, whatever the client prefers."""
     respond = Execution.respond
 
     def responding(self):
-        self.options["mode"] = mode
+        self.options.update(options, mode=mode)
         return respond(self)
 
     Execution.respond = responding
@@ -306,5 +306,8 @@ def no_stop():
 
 
 def stops_by_itself():
-    """A batch ends with its first error, and the client is told that its preference to continue applies."""
-    with_mode("stop")
+    """A batch ends with its first error, and the client is told that its preference to continue applies.
+
+    Requests are performed one after another: of those that have started with the error, all are performed.
+    """
+    with_mode("stop", width=1)
