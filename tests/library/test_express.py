@@ -48,6 +48,7 @@ def serving(environment, width):
         process.stdout.close()
 
 
+@pytest.mark.slow
 @pytest.mark.parametrize("width", WIDTHS)
 def test_conformance(width, environment_of_node, tmp_path):
     with serving(environment_of_node, width) as url:

@@ -80,6 +80,7 @@ class TestRefusals(ClientTest):
         assert all(line.isprintable() for line in self.service.lines)
 
 
+@pytest.mark.slow
 class TestConnections(ClientTest):
     @pytest.mark.parametrize("path", [BATCH_URL, "/library/Books"])
     def test_answers_a_body_that_is_cut(self, path):

@@ -13,6 +13,7 @@ from exchanges import everything, head, post
 COUNT = 400
 
 
+@pytest.mark.slow
 class TestEnding:
     @pytest.fixture(autouse=True)
     def start(self, tmp_path):

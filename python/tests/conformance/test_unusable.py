@@ -18,6 +18,9 @@ from odb_batch.conformance._tool import PROGRAM
 from support.commands import with_package
 from tool import ABOUT, TOOL, service, tool
 
+# Each starts a service of its own, and all together take a minute of processor time.
+pytestmark = pytest.mark.slow
+
 PAGE = b"<html><body>Welcome</body></html>"
 HTML = b"HTTP/1.1 200 OK\r\nContent-Type: text/html\r\nContent-Length: %d\r\n\r\n%s" % (len(PAGE), PAGE)
 NOT_FOUND = b"HTTP/1.1 404 Not Found\r\nContent-Type: text/html\r\nContent-Length: 0\r\n\r\n"
@@ -155,26 +158,20 @@ def test_what_was_made_is_removed_after_a_signal(number, words, least, interrupt
         assert [it[0] for it in rows(os.path.join(folder, "library.sqlite"))] == ["dune", "emma"]
 
 
-def interrupted_twice():
-    """What the tool says if a second signal comes while it removes what it made, and the books that are left."""
-    with service() as (running, folder), judging(running.url, "--case", "group-many") as process:
+def test_a_second_signal_ends_the_removal(interruptible):
+    with service("slow_deletes") as (running, folder), judging(running.url, "--case", "group-many") as process:
         counted = lambda word: sum(word in it for it in running.lines)
         until(lambda: counted("POST"), lambda count: count > 40)
         before = counted("DELETE")
         process.send_signal(signal.SIGINT)
-        until(lambda: counted("DELETE"), lambda count: count > before + 5)
+        until(lambda: counted("DELETE"), lambda count: count > before + 2)
         process.send_signal(signal.SIGINT)
         out, error = process.communicate(timeout=SECONDS)
-        assert (process.returncode, out) == (3, "")
-        return error.splitlines(), {it[0] for it in rows(os.path.join(folder, "library.sqlite"))} - {"dune", "emma"}
-
-
-def test_a_second_signal_ends_the_removal(interruptible):
-    # On a busy machine the second one may come when all is removed.
-    error, there = next(filter(lambda found: found[1], (interrupted_twice() for _ in range(5))))
-    *left, last = error
-    assert last == "error: interrupted"
-    assert {f"not removed: Books('{it}')" for it in there} <= set(left)
+        *left, last = error.splitlines()
+        there = {it[0] for it in rows(os.path.join(folder, "library.sqlite"))} - {"dune", "emma"}
+        assert (process.returncode, out, last) == (3, "", "error: interrupted")
+        assert there
+        assert {f"not removed: Books('{it}')" for it in there} <= set(left)
 
 
 def test_a_signal_raises_nothing_where_it_comes():

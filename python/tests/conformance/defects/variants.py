@@ -46,6 +46,17 @@ def always_stops():
     change_responses(leave_out)
 
 
+def slow_deletes():
+    """Each delete takes a fifth of a second."""
+    delete = entities._delete
+
+    def delayed(*given):
+        time.sleep(0.2)
+        return delete(*given)
+
+    entities._OF_ENTITY["DELETE"] = delayed
+
+
 def own_keys():
     """The service makes the keys of books by itself."""
     given = entities._given
