@@ -34,13 +34,9 @@ class Unit:
         return self.ids[0] if self.group is None else f"the group {self.group}"
 
 
-def _written(id: str, answer: Answer) -> Tuple[Answer, bytes]:
-    """Returns an answer to a request and the text of its body; that of a failure if the body cannot be written."""
-    try:
-        return answer, to_json(answer, answer.headers)
-    except Exception as error:
-        LOG.error("the body of the answer to %s cannot be written", id, exc_info=error)
-        return FAILED, to_json(FAILED, {})
+# How many bytes of a body a live run takes.
+MOST_BYTES = 16_777_216
+TOO_LONG = Refusal(507, "TooLong", "The answer is too long for a batch").answer
 
 
 class Work:
@@ -82,6 +78,7 @@ class Work:
         if not has_transactions and any(request.group is not None for request in given):
             raise Refusal(501, "NoGroups", "Atomicity groups are not supported here")
         self._groups = {request.id: request.group for request in given}
+        self._methods = {request.id: request.method for request in given}
         self._preparation, self._stop = Preparation(given, service), stop
         self._run = Run(document, mode=mode, width=width)
 
@@ -126,7 +123,7 @@ class Work:
         reported after the commit. Raises GroupFailed if it has not succeeded, or the body of the last one cannot be
         written."""
         if unit.open == unit.ids[-1]:
-            answer, _ = _written(unit.ids[-1], answer)
+            answer, _ = self._written(unit.ids[-1], answer)
             if answer.is_success:
                 return
         self.finish(unit, answer)
@@ -150,8 +147,23 @@ class Work:
             id, unit.open = unit.open, None
             self._report(id, answer or FAILED)
 
+    def _written(self, id: str, answer: Answer) -> Tuple[Answer, bytes]:
+        """Returns an answer to a request and the text of its body; that of a failure if the body cannot be written. If it is
+        too long for a response a GET is refused; any other request was performed, so its answer loses the body."""
+        try:
+            text = to_json(answer, answer.headers)
+        except Exception as error:
+            LOG.error("the body of the answer to %s cannot be written", id, exc_info=error)
+            return FAILED, to_json(FAILED, {})
+        if len(text) <= MOST_BYTES:
+            return answer, text
+        LOG.error("the body of the answer to %s has more than %d bytes", id, MOST_BYTES)
+        if self._methods[id] == "GET":
+            return TOO_LONG, to_json(TOO_LONG, TOO_LONG.headers)
+        return Answer(answer.status, answer.headers), b""
+
     def _report(self, id: str, answer: Answer) -> None:
-        answer, text = _written(id, answer)
+        answer, text = self._written(id, answer)
         self._preparation.keep(id, answer)
         headers = shown(answer)
         try:
@@ -164,7 +176,8 @@ class Work:
         LOG.warning("the answer to %s has a body that is not JSON, or a header that is not Unicode", id)
         wire = bytes(answer.body) if isinstance(answer.body, (bytes, bytearray, memoryview)) else text
         kept = {name: value for name, value in headers.items() if name.isascii() and value.isascii()}
-        self._run.report(id, answer.status, kept or None, as_text(wire, {}) if wire else b"")
+        string = as_text(wire, {}) if wire else b""
+        self._run.report(id, answer.status, kept or None, string if len(string) <= MOST_BYTES else b"")
 
     def response(self) -> bytes:
         """Returns the response document of the finished run.

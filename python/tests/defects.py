@@ -12,7 +12,7 @@ DEFECTS = {
     "success-before-the-commit": (
         "_work", "if answer.is_success:\n                return", "", PERFORM, "commit",
     ),
-    "a-commit-without-a-body": ("_work", "answer, _ = _written(unit.ids[-1], answer)", "pass", PERFORM, "cannot_be_written"),
+    "a-commit-without-a-body": ("_work", "answer, _ = self._written(unit.ids[-1], answer)", "pass", PERFORM, "cannot_be_written"),
     "success-without-an-answer": (
         "_perform", "answer = _perform_members(work, unit, send)", "answer = Answer(200); answer = _perform_members(work, unit, send)",
         PERFORM, "swallows_all",

@@ -674,6 +674,15 @@ class TestReferences:
 
 
 class TestBodies:
+    def test_a_body_that_is_too_long_for_a_response(self, driver):
+        long = Answer(200, {"Content-Type": "application/json"}, b'"%s"' % (b"x" * 16_777_216))
+        requests = [{"id": "a", "method": "get", "url": "A"}, {"id": "b", "method": "post", "url": "B"}]
+        batch = {"requests": [*requests, {"id": "c", "method": "get", "url": "C", "dependsOn": ["b"]}]}
+        response = driver(batch, lambda request: Answer(204) if request.id == "c" else long)
+        found = {it["id"]: it for it in json.loads(response)["responses"]}
+        assert {id: it["status"] for id, it in found.items()} == {"a": 507, "b": 200, "c": 204}
+        assert "body" not in found["b"] and found["a"]["body"]["error"]["code"] == "TooLong"
+
     def test_numbers_and_bytes_are_not_touched(self, driver):
         batch = """{"requests":[
             {"id":"a","method":"post","url":"A","body":{"p":9.990,"n":12345678901234567890123.25,"e":1E3}},
