@@ -77,8 +77,7 @@ class Work:
             raise Refusal(413, "TooManyRequests", f"A batch may have {limit} requests")
         if not has_transactions and any(request.group is not None for request in given):
             raise Refusal(501, "NoGroups", "Atomicity groups are not supported here")
-        self._groups = {request.id: request.group for request in given}
-        self._methods = {request.id: request.method for request in given}
+        self._requests = {request.id: request for request in given}
         self._preparation, self._stop = Preparation(given, service), stop
         self._run = Run(document, mode=mode, width=width)
 
@@ -99,7 +98,7 @@ class Work:
                 self._run.start(ids[0])
             except Refused:
                 continue  # meanwhile another thread has reported an error that stops the run
-            return Unit(ids, self._groups[ids[0]])
+            return Unit(ids, self._requests[ids[0]].group)
         return None
 
     def stop(self) -> None:
@@ -158,7 +157,7 @@ class Work:
         if len(text) <= MOST_BYTES:
             return answer, text
         LOG.error("the body of the answer to %s has more than %d bytes", id, MOST_BYTES)
-        if self._methods[id] == "GET":
+        if self._requests[id].method == "GET":
             return TOO_LONG, to_json(TOO_LONG, TOO_LONG.headers)
         return Answer(answer.status, answer.headers), b""
 
