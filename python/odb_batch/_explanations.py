@@ -225,8 +225,8 @@ EXPLANATIONS = {
         "The request was started before, and a request is sent once. Look for the event that was recorded twice."
     ),
     "S2": (
-        "The run has stopped: with --stop, nothing starts after a request has reported 400 to 599 (OData\n"
-        "Protocol 4.01, section 8.2.8.3). What is running may still report."
+        "The run has stopped: with --stop once a request has reported 400 to 599 (OData Protocol 4.01,\n"
+        "section 8.2.8.3), or because the caller of a live run has stopped it. Nothing more starts. What is running may still report."
     ),
     "S3": (
         "The request, a member of its group, or something that it depends on has failed, so it must not be sent;\n"

@@ -22,8 +22,8 @@ The request was started before, and a request is sent once. Look for the event t
 refused: {"events":[{"start":"1"},{"start":"1"}]}
 accepted: {"events":[{"start":"1"},{"report":"1","status":404}]}"#,
     r#"S2 Stopped /events/N
-The run has stopped: with --stop, nothing starts after a request has reported 400 to 599 (OData
-Protocol 4.01, section 8.2.8.3). What is running may still report.
+The run has stopped: with --stop once a request has reported 400 to 599 (OData Protocol 4.01,
+section 8.2.8.3), or because the caller of a live run has stopped it. Nothing more starts. What is running may still report.
 refused: {"events":[{"start":"1"},{"report":"1","status":404},{"start":"2"}]}
 accepted: {"events":[{"start":"1"},{"report":"1","status":404}]}"#,
     r#"S3 UnitFailed /events/N
