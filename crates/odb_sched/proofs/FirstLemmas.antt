@@ -124,7 +124,7 @@ none_running (suc n) = ap (λ (bs : List Bool). false ∷ bs) (none_running n)
 
 -- the counts of needs and members are right before any event
 pub first_counts : (plan : PlanGraph) (t : Counts) → IsPlan plan → t.unmet.items ≡ need_counts plan → t.pending.items ≡ member_counts plan → All (λ count. 0 < count) t.pending.items → t.failed ≡ replicate plan.unit_count Unvisited
-    → length t.ready ≡ length plan.units → ((i : ℕ) → i < length plan.units → get_or t.ready i false ≡ (needs_in plan i == 0)) → t.running ≡ replicate (length plan.units) false
+    → length t.ready ≡ length plan.units → ((i : ℕ) → i < length plan.units → get_or t.ready i false ≡ (get_or t.unmet.items i 0 == 0)) → t.running ≡ replicate (length plan.units) false
     → AreCounts plan (fresh plan) t
 first_counts plan t laws unmet pending some units each exact running = record {
   ready = record {
@@ -135,7 +135,7 @@ first_counts plan t laws unmet pending some units each exact running = record {
       units = ap length units ∙ length-replicate plan.unit_count Unvisited;
       ready = each;
     };
-    exact = λ i within. exact i within ∙ rw (units, unmet, ap is_unstarted (fresh_at plan i), not_skipped plan i, get_or-list_below (length plan.units) (needs_in plan) i 0 within) refl;
+    exact = λ i within. exact i within ∙ rw (units, ap is_unstarted (fresh_at plan i), not_skipped plan i) refl;
   };
   unmet = λ i within. ap (λ ns. get_or ns i 0) unmet ∙ get_or-list_below (length plan.units) (needs_in plan) i 0 within ∙ unmet_first plan i laws populated within;
   pending = λ u inside. member_count u inside ∙ sym (pending_first plan u);

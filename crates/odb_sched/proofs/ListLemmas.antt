@@ -35,6 +35,9 @@ none_from None e = refl
 none_from (Some x) e = absurd (true≢false (sym e))
 
 -- all elements pass
+pub find_none : {X : Type 0} (test : X → Bool) (xs : List X) → list_all test xs ≡ true → None ≡ find (λ x. not (test x)) xs
+find_none test xs all = none_from _ (find-all test xs ∙ all)
+
 pub find_nothing : {X : Type 0} (test : X → Bool) (xs : List X) (k : ℕ) → length xs ≤ k → list_all test (take k xs) ≡ true → None ≡ find (λ x. not (test x)) xs
 find_nothing test xs k done before = none_from _ (find-all test xs ∙ subst (λ ys. list_all test ys ≡ true) (take_all k xs done) before)
 

@@ -1,13 +1,14 @@
 -- What the members of a unit need of other units: one by one, and how often it has a key.
-use Rattle.std.proofs.Common.{◌≡◌, ◌≢◌, ℕ, zero, suc, ◌<◌, ◌≤◌, ◌+◌, ◌==◌, ◌∙◌, sym, ap, refl, subst, arith, Bool, true, false, not, cond, ◌&&◌, ◌||◌, if◌then◌else◌, nat_lt, lt-ltb, le-ltb, eq-eqb, eqb-true, ne_eqb, List, [], ◌∷◌, length, get_or, inl, inr, All, Contains, count_by, filter, append-nil, find, Some, None}
+use Rattle.std.proofs.Common.{◌≡◌, ◌≢◌, ℕ, zero, suc, ◌<◌, ◌≤◌, ◌+◌, ◌-◌, ◌++◌, ◌==◌, ◌∙◌, sym, ap, refl, subst, arith, Bool, true, false, not, cond, ◌&&◌, ◌||◌, if◌then◌else◌, nat_lt, lt-ltb, le-ltb, eq-eqb, eqb-true, ne_eqb, List, [], ◌∷◌, length, get_or, inl, inr, All, Contains, count_by, filter, append-nil, find, Some, None}
 use Rattle.std.specs.List.{list_all}
 use Rattle.std.proofs.lemmas.Bool.{cases_eq, cases_lt, or_right, true≢false}
 use Rattle.std.proofs.lemmas.List.Folds.{list_all-append, find-append}
 use Rattle.std.proofs.lemmas.List.Sums.{sum_by-cons, sum_by-append}
 use Rattle.std.proofs.lemmas.List.Elements.{All-nil, All-append, All-filter, Contains-get_or}
 use Rattle.odb_check.specs.declared.need.Need.{Need}
+use Rattle.odb_check.specs.declared.need.Need.TheVariants.{One, Group}
 use Rattle.odb_check.specs.Firsts.{all_below, joined_below}
-use Rattle.odb_check.specs.PlanGraph.{PlanGraph, IsPlan, IsSpan, unit_of, needs_of, IsNeed}
+use Rattle.odb_check.specs.PlanGraph.{PlanGraph, IsPlan, IsSpan, IsEarlier, unit_of, needs_of, IsNeed}
 use Rattle.odb_sched.specs.run.Failing.{unit_needed}
 use Rattle.odb_sched.specs.run.Units.{is_outer, outer_needs_at, outer_needs}
 use Rattle.odb_sched.specs.invariants.Dependents.{AreDependents, key_of}
@@ -207,6 +208,26 @@ outer_to_span plan u from to end list span begun most least are = let within = s
 -- one need more is on another unit, or not
 pub outer_more : (plan : PlanGraph) (u i : ℕ) → unit_of plan i ≡ u → filter (is_outer plan u) (needs_of plan i) ≡ outer_needs_at plan u i
 outer_more plan u i here = rw (eq-eqb (unit_of plan i) u here) refl
+
+-- a list of which each element passes is kept whole
+filter_all : {X : Type 0} (test : X → Bool) (xs : List X) → ((k : ℕ) (d : X) → k < length xs → test (get_or xs k d) ≡ true) → filter test xs ≡ xs
+filter_all test [] all = refl
+filter_all test (x ∷ xs) all = rw (all 0 x (omega arith), filter_all test xs (λ k d within. all (suc k) d (omega arith))) refl
+
+-- what the only member of a unit needs is on another unit
+alone_outer : (plan : PlanGraph) (u from to : ℕ) (need : Need) → IsSpan plan u from to → unit_of plan from ≡ u → IsEarlier plan from need → is_outer plan u need ≡ true
+alone_outer plan u from to (One r) span here earlier = let begins = span.begins in let within = span.within in
+    ap not (ne_eqb (unit_of plan r) u (λ same. let inside = (span.exact r (omega arith)).0 same in omega (arith, inside.0)))
+alone_outer plan u from to (Group v) span here earlier = ap not (ne_eqb v u (λ same. omega arith))
+
+-- a unit of one request needs of other units what the request needs
+pub outer_alone : (plan : PlanGraph) (u from to : ℕ) → IsPlan plan → IsSpan plan u from to → to - from ≡ 1 → needs_of plan from ≡ outer_needs plan u
+outer_alone plan u from to laws span one = let begins = span.begins in let within = span.within in
+    let here : unit_of plan from ≡ u = (span.exact from (omega arith)).1 (omega arith, begins) in
+    let none : [] ≡ joined_below from (outer_needs_at plan u) = outer_before_span plan u from to [] span refl in
+    outer_to_span plan u from to (suc from) (needs_of plan from) span (omega arith) (omega arith) (omega arith)
+    (sym (filter_all (is_outer plan u) (needs_of plan from) (λ k d inner. alone_outer plan u from to (get_or (needs_of plan from) k d) span here (laws.earlier from (get_or (needs_of plan from) k d) (omega arith) (Contains-get_or (needs_of plan from) k d inner))))
+    ∙ outer_more plan u from here ∙ ap (λ list. list ++ outer_needs_at plan u from) none)
 
 -- the row of a request has each other unit as often as its members need the request
 pub request_entries : (plan : PlanGraph) (rows : List (List ℕ)) (row : List ℕ) (i w u : ℕ) → IsPlan plan → AreDependents plan rows → i < length plan.units → unit_of plan i ≡ w → row ≡ get_or rows i [] → count_by (is_entry plan w u) row ≡ outer_need_count plan i u

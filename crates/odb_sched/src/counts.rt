@@ -60,15 +60,20 @@ fn member_counts(alloc: Global, graph: &Graph) -> Result<Vec<u32>, AllocError>
     Ok(counts)
 }
 
-/// Returns the requests without dependencies.
-fn without_needs(alloc: Global, graph: &Graph) -> Result<MinMaxSet, AllocError>
-    ensures each { IfOk result (λ free. length free ≡ length graph.now.plan_graph.units) }
-    ensures exact { IfOk result (λ free. (i : ℕ) → i < length graph.now.plan_graph.units
-        → slice_index_or free i false ≡ (counted.needs_in graph.now.plan_graph i == 0)) }
+/// Returns the requests or units whose count is 0.
+pub(crate) fn without_any(
+    alloc: Global,
+    len: u32,
+    counts: &[usize],
+) -> Result<MinMaxSet, AllocError>
+    requires { length counts.now ≡ len }
+    ensures each { IfOk result (λ free. length free ≡ len) }
+    ensures exact { IfOk result (λ free. (i : ℕ) → i < len
+        → slice_index_or free i false ≡ (slice_index_or counts.now i 0 == 0)) }
 {
-    let mut free = MinMaxSet::new(alloc, graph.len())?;
-    for i in 0..graph.len() {
-        if graph.needs(i).is_empty() {
+    let mut free = MinMaxSet::new(alloc, len)?;
+    for i in 0..len {
+        if counts[i as usize] == 0 {
             free.insert(i);
         }
     }
@@ -87,11 +92,12 @@ impl Counts {
             (replicate (length graph.now.plan_graph.units) Unstarted)) }
     {
         graph.laws();
+        let unmet = need_counts(alloc, graph)?;
         Ok(Counts {
-            unmet: need_counts(alloc, graph)?,
+            ready: without_any(alloc, graph.len(), &unmet)?,
+            unmet,
             pending: member_counts(alloc, graph)?,
             failed: Worklist::new(alloc, graph.unit_count())?,
-            ready: without_needs(alloc, graph)?,
             running: MinMaxSet::new(alloc, graph.len())?,
         })
     }
@@ -174,6 +180,9 @@ impl Progress {
             ≡ find (λ need. not (satisfied_in graph.now.plan_graph self.now.phases.items need))
             (plan_graphs.needs_of graph.now.plan_graph i) }
     {
+        if self.counts.unmet[i as usize] == 0 {
+            return None;
+        }
         let needs = graph.needs(i);
         for need in needs {
             if !self.is_satisfied(graph, *need) {

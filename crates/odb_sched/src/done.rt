@@ -91,8 +91,8 @@ impl<'p> Done<'p> {
         self.plan
     }
 
-    /// What holds of the answers of every finished run, the first two unless its caller stopped it, as [`crate::laws::every_result`] states it of
-    /// lists of events. It changes nothing.
+    /// What holds of the answers of every finished run, the first two unless its caller stopped it, as
+    /// [`crate::laws::every_result`] states it of lists of events. It changes nothing.
     pub fn laws(&self)
         ensures finished { steps.is_finished self.now ≡ true }
         ensures one_result { self.now.closed ≡ false → self.now.policy.mode ≡ Continue

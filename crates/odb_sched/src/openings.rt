@@ -7,12 +7,13 @@ ghost use Rattle.odb_dense.specs.declared.worklist.Mark.TheVariants.{Unvisited};
 ghost use Rattle.odb_dense.specs.Marks.{is_visited};
 ghost use Rattle.odb_sched.specs.declared.phase.Phase.TheVariants.{Unstarted, Running};
 ghost use Rattle.odb_sched.specs.invariants.Counts.{AreCounts, members_in};
-ghost use Rattle.odb_sched.specs.invariants.Openings.{outer_count, outer_satisfied_by, is_entry, is_passed, HaveUnits, AreFree, AreOpenings, IsFirstFree};
+ghost use Rattle.odb_sched.specs.invariants.Openings.{outer_satisfied_by, is_entry, is_passed, HaveUnits, AreFree, AreOpenings, IsFirstFree};
+ghost use Rattle.odb_sched.specs.invariants.Openings as openings;
 ghost use Rattle.odb_sched.specs.run.Failing as failing;
 ghost use Rattle.odb_sched.specs.run.State as state;
 ghost use Rattle.odb_sched.specs.run.Units as units;
 
-use crate::counts::Counts;
+use crate::counts::{Counts, without_any};
 use crate::graph::Graph;
 use crate::phase::Phase;
 use odb_check::Need;
@@ -41,62 +42,49 @@ pub(crate) fn unit_needed(graph: &Graph, need: Need) -> u32
     }
 }
 
-/// Appends what a member of a unit needs of other units.
-fn push_outer(graph: &Graph, u: u32, i: u32, list: &mut Vec<Need>) -> Result<(), AllocError>
+/// Returns how many needs of a member of a unit are on other units.
+fn outer_count_at(graph: &Graph, u: u32, i: u32) -> usize
     requires request { i < length graph.now.plan_graph.units }
     requires member { unit_of graph.now.plan_graph i ≡ u }
-    ensures { OnOk result (list.new.items ≡ list.old.items ++ units.outer_needs_at graph.now.plan_graph u i) }
+    ensures { result ≡ length (units.outer_needs_at graph.now.plan_graph u i) }
 {
+    let mut count = 0;
     for need in graph.needs(i) {
         if unit_needed(graph, *need) != u {
-            list.push(*need)?;
+            count += 1;
         }
     }
-    Ok(())
+    count
 }
 
-/// Returns what the members of a unit need of other units.
-fn outer_needs(alloc: Global, graph: &Graph, u: u32) -> Result<Vec<Need>, AllocError>
+/// Returns how many needs of the members of a unit are on other units: all of a request that is alone.
+fn outer_count(graph: &Graph, u: u32) -> Result<usize, AllocError>
     requires { u < graph.now.plan_graph.unit_count }
-    ensures needs { IfOk result (λ list. list.items ≡ units.outer_needs graph.now.plan_graph u) }
-    ensures some { IfOk result (λ _. 0 < members_in graph.now.plan_graph u) }
+    ensures { IfOk result (λ count. count ≡ openings.outer_count graph.now.plan_graph u) }
 {
-    let mut list = Vec::new(alloc);
+    graph.laws();
     let members = graph.members(u);
-    for i in members.start..members.end {
-        push_outer(graph, u, i, &mut list)?;
+    if members.end - members.start == 1 {
+        return Ok(graph.needs(members.start).len());
     }
-    Ok(list)
+    let mut count = 0_usize;
+    for i in members.start..members.end {
+        let more = outer_count_at(graph, u, i);
+        count = count.checked_add(more).ok_or(AllocError)?;
+    }
+    Ok(count)
 }
 
 /// Returns for each unit the number of its needs on other units.
 fn outer_counts(alloc: Global, graph: &Graph) -> Result<Vec<usize>, AllocError>
-    ensures counts { IfOk result (λ counts. counts.items
-        ≡ list_below graph.now.plan_graph.unit_count (outer_count graph.now.plan_graph)) }
-    ensures some { IfOk result (λ _. (u : ℕ) → u < graph.now.plan_graph.unit_count
-        → 0 < members_in graph.now.plan_graph u) }
+    ensures { IfOk result (λ counts. counts.items
+        ≡ list_below graph.now.plan_graph.unit_count (openings.outer_count graph.now.plan_graph)) }
 {
     let mut counts = Vec::with_capacity(alloc, graph.unit_count() as usize)?;
     for u in 0..graph.unit_count() {
-        counts.push(outer_needs(alloc, graph, u)?.len())?;
+        counts.push(outer_count(graph, u)?)?;
     }
     Ok(counts)
-}
-
-/// Returns the units whose count is 0.
-fn free_units(alloc: Global, count: u32, counts: &[usize]) -> Result<MinMaxSet, AllocError>
-    requires { length counts.now ≡ count }
-    ensures each { IfOk result (λ free. length free ≡ count) }
-    ensures exact { IfOk result (λ free. (u : ℕ) → u < count
-        → slice_index_or free u false ≡ (slice_index_or counts.now u 0 == 0)) }
-{
-    let mut free = MinMaxSet::new(alloc, count)?;
-    for u in 0..count {
-        if counts[u as usize] == 0 {
-            free.insert(u);
-        }
-    }
-    Ok(free)
 }
 
 impl Openings {
@@ -111,7 +99,7 @@ impl Openings {
     {
         graph.laws();
         let unmet = outer_counts(alloc, graph)?;
-        let free = free_units(alloc, graph.unit_count(), &unmet)?;
+        let free = without_any(alloc, graph.unit_count(), &unmet)?;
         let begun = vec![in alloc; false; graph.unit_count() as usize]?;
         Ok(Openings { unmet, begun, free })
     }
