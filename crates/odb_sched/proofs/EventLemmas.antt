@@ -36,7 +36,7 @@ reported_by state (Report j other) i outcome e = elim (get_or-set_cases state.ph
 ]
 
 -- what has succeeded after an event had before it, or is reported so by it
-success_by : (state : State) (event : Event) (r : ℕ) → has_succeeded (phase_at (after state event) r) ≡ true
+pub success_by : (state : State) (event : Event) (r : ℕ) → has_succeeded (phase_at (after state event) r) ≡ true
     → (has_succeeded (phase_at state r) ≡ true) ⊎ ((outcome : Outcome) × (event ≡ Report r outcome) × (is_success outcome.status ≡ true))
 success_by state event r e =
     let (outcome, is, good) = Reported-from (phase_at (after state event) r) e in

@@ -19,6 +19,9 @@ pub mod EventLemmas
 pub mod NameLemmas
 pub mod ResultLemmas
 pub mod WholeLemmas
+pub mod LiveLemmas
+pub mod LiveWidthLemmas
+pub mod LivePromiseLemmas
 pub mod ListLemmas
 pub mod CountLemmas
 pub mod PropagateLemmas
