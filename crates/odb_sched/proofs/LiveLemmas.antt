@@ -1,23 +1,21 @@
 -- Live runs by their parts: what holds of a state along a live run.
-use Rattle.std.proofs.Common.{◌≡◌, ℕ, zero, suc, ◌<◌, ◌≤◌, ◌∙◌, ◌⊎◌, ◌≢◌, sym, refl, ap, subst, arith, Bool, true, false, cond, List, [], ◌∷◌, ◌++◌, length, get_or, inl, inr, eq-eqb, ◌==◌, Contains}
+use Rattle.std.proofs.Common.{◌≡◌, ℕ, zero, suc, ◌<◌, ◌≤◌, ◌∙◌, ◌⊎◌, sym, refl, ap, subst, arith, Bool, true, false, cond, List, [], ◌∷◌, ◌++◌, length, get_or, inl, inr, eq-eqb, ◌==◌, Contains}
 use Rattle.std.proofs.lemmas.Bool.{cases_Bool, cases_eq, cases_lt, both_ways, true≢false}
 use Rattle.std.proofs.lemmas.List.{get_or_past}
 use Rattle.std.proofs.lemmas.List.Elements.{Contains-append_left, Contains-append_right}
 use Rattle.odb_doc.specs.batch.Records.{Record}
 use Rattle.odb_doc.specs.declared.recorded.outcome.Outcome.{Outcome}
-use Rattle.odb_doc.specs.Statuses.{is_success}
 use Rattle.odb_doc.proofs.ElementLemmas.{Contains-cases}
 use Rattle.odb_check.specs.Firsts.{count_below}
-use Rattle.odb_check.specs.PlanGraph.{PlanGraph, IsPlan, IsPlanGraphOf, unit_of}
-use Rattle.odb_check.specs.Units.{begins_unit, unit_at, unit_count, units_before}
+use Rattle.odb_check.specs.PlanGraph.{PlanGraph, IsPlanGraphOf, unit_of}
+use Rattle.odb_check.specs.Units.{begins_unit}
 use Rattle.odb_check.proofs.BelowLemmas.{length-list_below}
 use Rattle.odb_check.proofs.UnitLemmas.{unit_at_begin}
 use Rattle.odb_sched.specs.declared.event.Event.{Event}
 use Rattle.odb_sched.specs.declared.event.Event.TheVariants.{Start, Report}
 use Rattle.odb_sched.specs.declared.phase.Phase.{Phase}
-use Rattle.odb_sched.specs.declared.phase.Phase.TheVariants.{Unstarted, Running, Reported}
-use Rattle.odb_sched.specs.declared.policy.Policy.{Policy}
-use Rattle.odb_sched.specs.run.State.{State, after, has_succeeded, is_reported, is_unstarted, members_in, phase_at, running_members, size, started_unit}
+use Rattle.odb_sched.specs.declared.phase.Phase.TheVariants.{Unstarted, Reported}
+use Rattle.odb_sched.specs.run.State.{State, after, has_succeeded, is_reported, is_unstarted, members_in, phase_at, running_members, size}
 use Rattle.odb_sched.specs.run.Laws.{HasSuccess}
 use Rattle.odb_sched.specs.run.LiveEvents.{LiveEvent, Single, StartUnit, Stop, after_live, after_lives, IsKnownTo, IsLiveFrom, may_take, singles}
 use Rattle.odb_sched.specs.invariants.Kept.{IsReached}
@@ -152,7 +150,7 @@ pub reported_among : (state : State) (events : List LiveEvent) (r : ℕ) (outcom
 reported_among state [] r outcome some reached run (k, less, is) = absurd (omega (arith, less))
 reported_among state (e ∷ es) r outcome some reached run has =
     let further : Contains (singles es) (Report r outcome) → phase_at (after_lives (after_live state e) es) r ≡ Reported outcome =
-        reported_among (after_live state e) es r outcome (still_populated state e some) (reached_after_live state e some reached run.0 run.1) run.2 in
+    reported_among (after_live state e) es r outcome (still_populated state e some) (reached_after_live state e some reached run.0 run.1) run.2 in
     at e run.0 run.1 (all_stay_reported (after_live state e) es r outcome (still_populated state e some) (reached_after_live state e some reached run.0 run.1) run.2) further has
   where
     at : (e : LiveEvent) → IsKnownTo state e → may_take state e ≡ true
@@ -197,3 +195,14 @@ success_live state (e ∷ es) r done = at e (success_live (after_live state e) e
     at (StartUnit u) (inr later) = inr later
     at Stop (inl early) = inl early
     at Stop (inr later) = inr later
+
+-- ---- one event more
+
+pub lives-append : (state : State) (events more : List LiveEvent) → after_lives state (events ++ more) ≡ after_lives (after_lives state events) more
+lives-append state [] more = refl
+lives-append state (e ∷ es) more = lives-append (after_live state e) es more
+
+-- a live run continues with live events that may come after it
+pub live-append : (state : State) (events more : List LiveEvent) → IsLiveFrom state events → IsLiveFrom (after_lives state events) more → IsLiveFrom state (events ++ more)
+live-append state [] more one other = other
+live-append state (e ∷ es) more one other = (one.0, one.1, live-append (after_live state e) es more one.2 other)

@@ -1,8 +1,7 @@
 -- What every live run keeps of its requests.
-use Rattle.std.proofs.Common.{◌≡◌, ℕ, ◌<◌, ◌≤◌, ◌+◌, ◌∙◌, ◌⊎◌, ◌≢◌, sym, refl, ap, subst, arith, Bool, true, false, ◌||◌, List, [], ◌∷◌, ◌++◌, length, get_or, inl, inr, Some, Contains, replicate}
+use Rattle.std.proofs.Common.{◌≡◌, ℕ, ◌<◌, ◌≤◌, ◌+◌, ◌∙◌, ◌⊎◌, ◌↔◌, ◌≢◌, sym, refl, ap, subst, arith, Bool, true, false, ◌||◌, List, [], ◌∷◌, length, inl, inr, Contains}
 use Rattle.std.specs.List.{list_any}
-use Rattle.std.proofs.lemmas.Bool.{cases_eq, cases_lt, both_ways, true≢false, or_parts, false_from_ne_true}
-use Rattle.std.proofs.lemmas.List.{get_or_past}
+use Rattle.std.proofs.lemmas.Bool.{cases_eq, both_ways, true≢false, false_from_ne_true}
 use Rattle.std.proofs.lemmas.List.Elements.{Contains-get_or}
 use Rattle.odb_doc.specs.batch.Records.{Record}
 use Rattle.odb_doc.specs.declared.recorded.outcome.Outcome.{Outcome}
@@ -12,25 +11,24 @@ use Rattle.odb_check.specs.declared.need.Need.{Need}
 use Rattle.odb_check.specs.declared.need.Need.TheVariants.{One, Group}
 use Rattle.odb_check.specs.Plans.{batch_plan_graph}
 use Rattle.odb_check.specs.PlanGraph.{PlanGraph, HasNamesAsNeeds, IsPlan, IsPlanGraphOf, unit_of, needs_of}
-use Rattle.odb_check.specs.Positions.{id_at, group_at, names_at, reference_at}
 use Rattle.odb_check.specs.Units.{unit_at}
 use Rattle.odb_check.proofs.PositionLemmas.{id_within, group_within}
-use Rattle.odb_sched.specs.declared.event.Event.{Event}
 use Rattle.odb_sched.specs.declared.event.Event.TheVariants.{Start, Report}
 use Rattle.odb_sched.specs.declared.phase.Phase.TheVariants.{Unstarted, Reported}
 use Rattle.odb_sched.specs.declared.policy.Mode.TheVariants as modes
 use Rattle.odb_sched.specs.declared.policy.Policy.{Policy}
-use Rattle.odb_sched.specs.run.State.{State, has_erred, has_succeeded, is_reported, phase_at, size}
+use Rattle.odb_sched.specs.run.State.{State, has_erred, has_succeeded, is_reported, is_unstarted, phase_at}
 use Rattle.odb_sched.specs.run.Failing.{unit_needed}
-use Rattle.odb_sched.specs.run.Steps.{all_satisfied, is_satisfied, is_stopped, stopped_in, stops}
+use Rattle.odb_sched.specs.run.Steps.{all_satisfied, is_satisfied, is_stopped}
 use Rattle.odb_sched.specs.run.Units.{outer_satisfied}
 use Rattle.odb_sched.specs.run.Laws.{HasSuccess, HoldsOfNamed}
-use Rattle.odb_sched.specs.run.LiveEvents.{LiveEvent, Single, StartUnit, Stop, after_live, after_lives, first_live, IsKnownTo, IsLive, IsLiveFrom, may_take, singles, state_live}
+use Rattle.odb_sched.specs.run.LiveEvents.{LiveEvent, Single, StartUnit, Stop, after_live, after_lives, first_live, IsLive, IsLiveFrom, may_take, singles, state_live}
 use Rattle.odb_sched.specs.run.LiveLaws.{sent_count, single_count, SendsAsOne, StartsIt, StartsAfterNamed, StartsNothingOnceStopped}
-use Rattle.odb_sched.specs.invariants.Kept.{first_of, IsReached}
+use Rattle.odb_sched.specs.invariants.Kept.{IsReached}
 use Rattle.odb_sched.proofs.BeginLemmas.{may_begin-parts}
 use Rattle.odb_sched.proofs.BelowLemmas.{list_all-each, list_any-from}
-use Rattle.odb_sched.proofs.LiveLemmas.{IsPopulated, cut_live, plan_graph-after_live, plan_graph-after_lives, policy-after_lives, populated, reached_after_lives, reported_among, reported_within, success_live}
+use Rattle.odb_sched.proofs.LiveLemmas.{IsPopulated, cut_live, plan_graph-after_lives, policy-after_lives, populated, reached_after_lives, reported_among, reported_within, success_live}
+use Rattle.odb_sched.proofs.LivePhaseLemmas.{reported_in, started_among, started_in}
 use Rattle.odb_sched.proofs.LiveWidthLemmas.{width_live}
 use Rattle.odb_sched.proofs.OuterLemmas.{outer-each}
 use Rattle.odb_sched.proofs.PhaseLemmas.{get_or-replicate_Unstarted}
@@ -47,7 +45,7 @@ by_needs requests plan i holds graph named one group = record {
   references = λ name r refers at. one r (id_within requests r name at) (named.refers i name r refers at);
 }
 
-also : (requests : List Record) (i : ℕ) (holds other : ℕ → Type 0) → ((r : ℕ) → holds r → other r) → HoldsOfNamed requests i holds → HoldsOfNamed requests i other
+pub also : (requests : List Record) (i : ℕ) (holds other : ℕ → Type 0) → ((r : ℕ) → holds r → other r) → HoldsOfNamed requests i holds → HoldsOfNamed requests i other
 also requests i holds other more of = record {
   ids = λ name r has at. more r (of.ids name r has at);
   groups = λ name j has at. more j (of.groups name j has at);
@@ -56,7 +54,7 @@ also requests i holds other more of = record {
 
 module _ (requests : List Record) (state : State) (graph : IsPlanGraphOf requests state.plan_graph) (named : HasNamesAsNeeds requests state.plan_graph) where
   -- what a request names whose needs are satisfied has succeeded
-  named_single : (i : ℕ) → all_satisfied state i ≡ true → HoldsOfNamed requests i (λ r. has_succeeded (phase_at state r) ≡ true)
+  pub named_single : (i : ℕ) → all_satisfied state i ≡ true → HoldsOfNamed requests i (λ r. has_succeeded (phase_at state r) ≡ true)
   named_single i all = by_needs requests state.plan_graph i (λ r. has_succeeded (phase_at state r) ≡ true) graph named
       (λ r within has. list_all-each (is_satisfied state) (needs_of state.plan_graph i) (One r) all has)
       (λ j within has. member_succeeded state.plan_graph state.phases (unit_of state.plan_graph j) j (list_all-each (is_satisfied state) (needs_of state.plan_graph i) (Group (unit_of state.plan_graph j)) all has) (subst (λ n. j < n) (sym graph.size) within) refl)
@@ -161,3 +159,22 @@ module _ (requests : List Record) (policy : Policy) (laws : IsPlan (batch_plan_g
   pub within_width : (events : List LiveEvent) → IsLive requests policy events → single_count (state_live requests policy events) events + sent_count (state_live requests policy events) events ≤ policy.width
   within_width events run = subst (λ (p : Policy). single_count (state_live requests policy events) events + sent_count (state_live requests policy events) events ≤ p.width) (policy-after_lives first events)
       (width_live (batch_plan_graph requests) policy events laws some run (reached_live events run))
+
+  pub started_by_events : (events : List LiveEvent) → IsLive requests policy events → (i : ℕ) → i < length requests
+      → (is_unstarted (phase_at (state_live requests policy events) i) ≡ false) ↔ ((event : LiveEvent) × Contains events event × StartsIt requests event i)
+  started_by_events events run i within = (
+    (λ begun. elim (started_in requests i within first events graph run begun) [
+      | inl early ↦ absurd (both_ways _ early (ap is_unstarted (get_or-replicate_Unstarted (length (batch_plan_graph requests).units) i)))
+      | inr among ↦ among
+    ]),
+    (λ among. started_among requests i within first events among.0 graph some reached run among.1 among.2),
+  )
+
+  pub reported_by_events : (events : List LiveEvent) → IsLive requests policy events → (i : ℕ) (outcome : Outcome) → (phase_at (state_live requests policy events) i ≡ Reported outcome) ↔ Contains (singles events) (Report i outcome)
+  reported_by_events events run i outcome = (
+    (λ is. elim (reported_in first events i outcome is) [
+      | inl early ↦ absurd (true≢false (sym (ap is_reported early) ∙ ap is_reported (get_or-replicate_Unstarted (length (batch_plan_graph requests).units) i)))
+      | inr among ↦ among
+    ]),
+    reported_among first events i outcome some reached run,
+  )

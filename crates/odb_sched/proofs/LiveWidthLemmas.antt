@@ -1,5 +1,5 @@
 -- How many run at once in a live run, where a unit that was sent as one counts as one.
-use Rattle.std.proofs.Common.{◌≡◌, ◌≢◌, ℕ, zero, suc, ◌<◌, ◌≤◌, ◌+◌, ◌-◌, ◌==◌, ◌∙◌, sym, refl, ap, subst, arith, ◌⊎◌, Bool, true, false, not, cond, if◌then◌else◌, ◌&&◌, ◌||◌, eq-eqb, ne_eqb, List, [], ◌∷◌, ◌++◌, length, get_or, get_or-set_same, get_or-set_other, set, inl, inr, count_by, replicate}
+use Rattle.std.proofs.Common.{◌≡◌, ◌≢◌, ℕ, zero, suc, ◌<◌, ◌≤◌, ◌+◌, ◌-◌, ◌==◌, ◌∙◌, sym, refl, ap, subst, arith, ◌⊎◌, Bool, true, false, not, cond, if◌then◌else◌, ◌&&◌, ◌||◌, eq-eqb, ne_eqb, List, [], ◌∷◌, length, get_or, get_or-set_same, get_or-set_other, set, inl, inr}
 use Rattle.std.specs.List.{sum_by}
 use Rattle.std.proofs.lemmas.Bool.{cases_Bool, cases_eq, and_from, and_parts, both_ways, true≢false, false_from_ne_true}
 use Rattle.std.proofs.lemmas.List.{ext_get_or, get_or-replicate}
@@ -15,13 +15,12 @@ use Rattle.odb_sched.specs.declared.phase.Phase.TheVariants.{Unstarted, Running,
 use Rattle.odb_sched.specs.declared.policy.Policy.{Policy}
 use Rattle.odb_sched.specs.run.State.{State, is_running, is_unstarted, members_in, phase_at, reported, running_members, size, started, started_unit}
 use Rattle.odb_sched.specs.run.Steps.{may_report, may_start, running_count, spare_in}
-use Rattle.odb_sched.specs.run.LiveEvents.{LiveEvent, Single, StartUnit, Stop, after_live, after_lives, IsKnownTo, IsLiveFrom, is_sent, may_take}
+use Rattle.odb_sched.specs.run.LiveEvents.{LiveEvent, Single, StartUnit, Stop, after_live, after_lives, IsLiveFrom, is_sent}
 use Rattle.odb_sched.specs.run.LiveLaws.{single_count, sent_count}
 use Rattle.odb_sched.specs.invariants.Kept.{first_of, IsReached}
-use Rattle.odb_sched.proofs.BeginLemmas.{may_begin-parts}
 use Rattle.odb_sched.proofs.BelowLemmas.{any_below-Decides}
 use Rattle.odb_sched.proofs.CountLemmas.{count_either, count_less, count_none, count_same}
-use Rattle.odb_sched.proofs.LiveLemmas.{IsPopulated, counted, reached_after_live, still_populated}
+use Rattle.odb_sched.proofs.LiveLemmas.{IsPopulated, counted, reached_after_live}
 use Rattle.odb_sched.proofs.MemberLemmas.{member_runs, other_stays}
 use Rattle.odb_sched.proofs.PhaseLemmas.{Running-from, get_or-set_cases}
 use Rattle.odb_sched.proofs.ReachedLemmas.{reached_first}
@@ -155,9 +154,11 @@ sent_report state j outcome was_sent reached are known may = record {
   where
     inner : ℕ
     inner = unit_of state.plan_graph j
+
     at : (b : Bool) (before after left : ℕ) → left ≡ cond b before 0 → before ≡ suc after → left - 1 ≡ cond b after 0
     at true before after left is more = omega (arith, is, more)
     at false before after left is more = omega (arith, is)
+
     own : get_or (set state.awaited (unit_of state.plan_graph j) (get_or state.awaited (unit_of state.plan_graph j) 0 - 1)) (unit_of state.plan_graph j) 0 ≡ cond (was_sent (unit_of state.plan_graph j)) (running_in state.plan_graph (set state.phases j (Reported outcome)) (unit_of state.plan_graph j)) 0
     own =
         let counts : unit_of state.plan_graph j < state.plan_graph.unit_count = reached.laws.counted j known in
@@ -222,13 +223,13 @@ module _ (state : State) (was_sent : ℕ → Bool) (reached : IsReached state) (
   of_unit : (u : ℕ) → u < state.plan_graph.unit_count → count_below (size state) (λ i. (runs i && was_sent (unit i)) && (unit i == u)) ≡ get_or state.awaited u 0
   of_unit u inside = elim (cases_Bool (was_sent u)) [
     | inl was ↦ count_same (size state) (λ i. (runs i && was_sent (unit i)) && (unit i == u)) (λ i. runs i && (unit i == u)) (λ i within. elim (cases_eq (unit i) u) [
-        | inl here ↦ rw (here, was) (keeps (runs i) (u == u))
-        | inr elsewhere ↦ rw (ne_eqb _ _ elsewhere, and_false (runs i), and_false (runs i && was_sent (unit i))) refl
-      ]) ∙ sym (are.awaited u inside ∙ ap (λ b. cond b (running_in state.plan_graph state.phases u) 0) was)
+      | inl here ↦ rw (here, was) (keeps (runs i) (u == u))
+      | inr elsewhere ↦ rw (ne_eqb _ _ elsewhere, and_false (runs i), and_false (runs i && was_sent (unit i))) refl
+    ]) ∙ sym (are.awaited u inside ∙ ap (λ b. cond b (running_in state.plan_graph state.phases u) 0) was)
     | inr unsent ↦ count_none (size state) (λ i. (runs i && was_sent (unit i)) && (unit i == u)) (λ i within. elim (cases_eq (unit i) u) [
-        | inl here ↦ rw (here, unsent, and_false (runs i)) refl
-        | inr elsewhere ↦ rw (ne_eqb _ _ elsewhere) (and_false (runs i && was_sent (unit i)))
-      ]) ∙ sym (are.awaited u inside ∙ ap (λ b. cond b (running_in state.plan_graph state.phases u) 0) unsent)
+      | inl here ↦ rw (here, unsent, and_false (runs i)) refl
+      | inr elsewhere ↦ rw (ne_eqb _ _ elsewhere) (and_false (runs i && was_sent (unit i)))
+    ]) ∙ sym (are.awaited u inside ∙ ap (λ b. cond b (running_in state.plan_graph state.phases u) 0) unsent)
   ]
     where
       keeps : (r q : Bool) → ((r && true) && q) ≡ (r && q)
@@ -248,8 +249,8 @@ module _ (state : State) (was_sent : ℕ → Bool) (reached : IsReached state) (
               rw (was, any) (omega (arith, awaited, some))
           | inr none ↦
               let empty : running_in state.plan_graph state.phases u ≡ 0 = count_none (size state) (λ k. runs k && (unit k == u)) (λ i within. false_from_ne_true _ (λ both.
-                  let parts = and_parts (runs i) (unit i == u) both in
-                  both_ways (any_runs u) none ((any_below-Decides (size state) (λ k. (unit k == u) && runs k)).1 (i, within, and_from _ _ parts.1 parts.0)))) in
+              let parts = and_parts (runs i) (unit i == u) both in
+              both_ways (any_runs u) none ((any_below-Decides (size state) (λ k. (unit k == u) && runs k)).1 (i, within, and_from _ _ parts.1 parts.0)))) in
               rw (was, none) (omega (arith, awaited, empty))
         ]
     | inr unsent ↦
@@ -262,13 +263,13 @@ module _ (state : State) (was_sent : ℕ → Bool) (reached : IsReached state) (
       let singly = count_below (size state) (λ i. runs i && not (was_sent (unit i))) in
       let places = count_below state.plan_graph.unit_count (λ u. was_sent u && any_runs u) in
       let all : running_count state ≡ singly + count_below (size state) (λ i. runs i && was_sent (unit i)) =
-          count_phases state.phases (size state) reached.each
-          ∙ count_either (size state) (λ i. runs i && not (was_sent (unit i))) (λ i. runs i && was_sent (unit i)) runs (λ i within. apart (runs i) (was_sent (unit i))) (λ i within. either (runs i) (was_sent (unit i))) in
+      count_phases state.phases (size state) reached.each
+      ∙ count_either (size state) (λ i. runs i && not (was_sent (unit i))) (λ i. runs i && was_sent (unit i)) runs (λ i within. apart (runs i) (was_sent (unit i))) (λ i within. either (runs i) (was_sent (unit i))) in
       let grouped : count_below (size state) (λ i. runs i && was_sent (unit i)) ≡ places + spare_in state.awaited =
-          by_groups (size state) state.plan_graph.unit_count unit (λ i. runs i && was_sent (unit i)) (λ i within. reached.laws.counted i within)
-          ∙ sum_same state.plan_graph.unit_count (λ u. count_below (size state) (λ i. (runs i && was_sent (unit i)) && (unit i == u))) (λ u. cond (was_sent u && any_runs u) 1 0 + (get_or state.awaited u 0 - 1)) (λ u inside. of_unit u inside ∙ place_of u inside)
-          ∙ sum_plus state.plan_graph.unit_count (λ u. cond (was_sent u && any_runs u) 1 0) (λ u. get_or state.awaited u 0 - 1)
-          ∙ rw (← sum_count state.plan_graph.unit_count (λ u. was_sent u && any_runs u), ← sum_of_list (λ n. n - 1) state.awaited state.plan_graph.unit_count reached.by_unit) refl in
+      by_groups (size state) state.plan_graph.unit_count unit (λ i. runs i && was_sent (unit i)) (λ i within. reached.laws.counted i within)
+      ∙ sum_same state.plan_graph.unit_count (λ u. count_below (size state) (λ i. (runs i && was_sent (unit i)) && (unit i == u))) (λ u. cond (was_sent u && any_runs u) 1 0 + (get_or state.awaited u 0 - 1)) (λ u inside. of_unit u inside ∙ place_of u inside)
+      ∙ sum_plus state.plan_graph.unit_count (λ u. cond (was_sent u && any_runs u) 1 0) (λ u. get_or state.awaited u 0 - 1)
+      ∙ rw (← sum_count state.plan_graph.unit_count (λ u. was_sent u && any_runs u), ← sum_of_list (λ n. n - 1) state.awaited state.plan_graph.unit_count reached.by_unit) refl in
       let narrow : running_count state ≤ state.policy.width + spare_in state.awaited = reached.narrow in
       omega (arith, all, grouped, narrow)
     where
@@ -276,6 +277,7 @@ module _ (state : State) (was_sent : ℕ → Bool) (reached : IsReached state) (
       apart true true e = refl
       apart true false e = absurd (true≢false (sym e))
       apart false s e = refl
+
       either : (r s : Bool) → r ≡ (if r && s then true else (r && not s))
       either true true = refl
       either true false = refl

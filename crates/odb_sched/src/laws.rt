@@ -30,7 +30,6 @@ ghost use Rattle.odb_sched.specs.run.Answers.{HasStatuses};
 mod live;
 
 pub use live::every_live_run;
-
 use odb_check::Plan;
 use odb_check::laws::every_plan;
 

@@ -1,6 +1,6 @@
 -- What is true of every live run, whatever its caller starts, reports and stops (OData JSON Format 4.01, sections 19.1, 19.4
 -- and 19.5; OData Protocol 4.01, section 11.7).
-use Rattle.std.specs.Prelude.{◌≡◌, ◌⊎◌, ℕ, ◌<◌, ◌≤◌, ◌+◌, ◌==◌, ◌&&◌, Bool, true, false, not, List, ◌∷◌, ◌++◌, length, Contains}
+use Rattle.std.specs.Prelude.{◌≡◌, ◌⊎◌, ◌↔◌, ℕ, ◌<◌, ◌≤◌, ◌+◌, ◌==◌, ◌&&◌, false, not, List, ◌∷◌, ◌++◌, length, Contains}
 use Rattle.odb_doc.specs.batch.Records.{Record}
 use Rattle.odb_doc.specs.declared.recorded.outcome.Outcome.{Outcome}
 use Rattle.odb_doc.specs.Statuses.{is_error}
@@ -8,9 +8,10 @@ use Rattle.odb_check.specs.Firsts.{any_below, count_below}
 use Rattle.odb_check.specs.PlanGraph.{unit_of}
 use Rattle.odb_check.specs.Units.{unit_at}
 use Rattle.odb_sched.specs.declared.event.Event.TheVariants.{Start, Report}
+use Rattle.odb_sched.specs.declared.phase.Phase.TheVariants.{Reported}
 use Rattle.odb_sched.specs.declared.policy.Mode.TheVariants as modes
 use Rattle.odb_sched.specs.declared.policy.Policy.{Policy}
-use Rattle.odb_sched.specs.run.State.{State, is_running, size, phase_at}
+use Rattle.odb_sched.specs.run.State.{State, is_running, is_unstarted, size, phase_at}
 use Rattle.odb_sched.specs.run.Answers.{HasStatuses}
 use Rattle.odb_sched.specs.run.Laws.{HasSuccess, HoldsOfNamed, IsAllOrNone, IsNeverStuck, RestsOnSuccesses}
 use Rattle.odb_sched.specs.run.LiveEvents.{LiveEvent, Single, StartUnit, Stop, singles, is_sent, state_live}
@@ -50,6 +51,9 @@ sent_count state events = count_below state.plan_graph.unit_count (λ u. is_sent
 
 -- What every live run keeps of its requests, under its policy, at each moment: the events may be those up to any moment.
 pub record KeepsPromises (requests : List Record) (policy : Policy) (events : List LiveEvent) : Type 0 where
+  -- a request has started if and only if one of the events starts it, and has reported an outcome if and only if that is reported
+  pub started : (i : ℕ) → i < length requests → (is_unstarted (phase_at (state_live requests policy events) i) ≡ false) ↔ ((event : LiveEvent) × Contains events event × StartsIt requests event i)
+  pub reported : (i : ℕ) (outcome : Outcome) → (phase_at (state_live requests policy events) i ≡ Reported outcome) ↔ Contains (singles events) (Report i outcome)
   pub dependencies_first : StartsAfterNamed requests events
   pub stops : StartsNothingOnceStopped requests policy events
   -- no more run at once than the width allows, where a unit that was sent as one counts as one
