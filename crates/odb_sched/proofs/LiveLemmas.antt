@@ -17,7 +17,7 @@ use Rattle.odb_sched.specs.declared.phase.Phase.{Phase}
 use Rattle.odb_sched.specs.declared.phase.Phase.TheVariants.{Unstarted, Reported}
 use Rattle.odb_sched.specs.run.State.{State, after, has_succeeded, is_reported, is_unstarted, members_in, phase_at, running_members, size}
 use Rattle.odb_sched.specs.run.Laws.{HasSuccess}
-use Rattle.odb_sched.specs.run.LiveEvents.{LiveEvent, Single, StartUnit, Stop, after_live, after_lives, IsKnownTo, IsLiveFrom, may_take, singles}
+use Rattle.odb_sched.specs.run.LiveEvents.{LiveEvent, Single, StartUnit, Stop, after_live, after_all_live, IsKnownTo, IsLiveRunFrom, may_take, singles}
 use Rattle.odb_sched.specs.invariants.Kept.{IsReached}
 use Rattle.odb_sched.proofs.BeginLemmas.{may_begin-parts, member_unstarted}
 use Rattle.odb_sched.proofs.EventLemmas.{move_report, move_start, success_by}
@@ -68,9 +68,9 @@ plan_graph-after_live state (Single event) = plan_graph-after state event
 plan_graph-after_live state (StartUnit u) = refl
 plan_graph-after_live state Stop = refl
 
-pub plan_graph-after_lives : (state : State) (events : List LiveEvent) → (after_lives state events).plan_graph ≡ state.plan_graph
-plan_graph-after_lives state [] = refl
-plan_graph-after_lives state (e ∷ es) = plan_graph-after_lives (after_live state e) es ∙ plan_graph-after_live state e
+pub plan_graph-after_all_live : (state : State) (events : List LiveEvent) → (after_all_live state events).plan_graph ≡ state.plan_graph
+plan_graph-after_all_live state [] = refl
+plan_graph-after_all_live state (e ∷ es) = plan_graph-after_all_live (after_live state e) es ∙ plan_graph-after_live state e
 
 policy-after_live : (state : State) (event : LiveEvent) → (after_live state event).policy ≡ state.policy
 policy-after_live state (Single (Start i)) = refl
@@ -78,9 +78,9 @@ policy-after_live state (Single (Report i outcome)) = refl
 policy-after_live state (StartUnit u) = refl
 policy-after_live state Stop = refl
 
-pub policy-after_lives : (state : State) (events : List LiveEvent) → (after_lives state events).policy ≡ state.policy
-policy-after_lives state [] = refl
-policy-after_lives state (e ∷ es) = policy-after_lives (after_live state e) es ∙ policy-after_live state e
+pub policy-after_all_live : (state : State) (events : List LiveEvent) → (after_all_live state events).policy ≡ state.policy
+policy-after_all_live state [] = refl
+policy-after_all_live state (e ∷ es) = policy-after_all_live (after_live state e) es ∙ policy-after_live state e
 
 pub still_populated : (state : State) (event : LiveEvent) → IsPopulated state.plan_graph → IsPopulated (after_live state event).plan_graph
 still_populated state event some = subst IsPopulated (sym (plan_graph-after_live state event)) some
@@ -90,18 +90,18 @@ reached_after_live state (Single event) some reached known may = reached_after s
 reached_after_live state (StartUnit u) some reached known may = sent state u reached (may_begin-parts state u may) known (some u known)
 reached_after_live state Stop some reached known may = reached_closed state true reached
 
-pub reached_after_lives : (state : State) (events : List LiveEvent) → IsPopulated state.plan_graph → IsReached state → IsLiveFrom state events → IsReached (after_lives state events)
-reached_after_lives state [] some reached run = reached
-reached_after_lives state (e ∷ es) some reached run =
-    reached_after_lives (after_live state e) es (still_populated state e some) (reached_after_live state e some reached run.0 run.1) run.2
+pub reached_after_all_live : (state : State) (events : List LiveEvent) → IsPopulated state.plan_graph → IsReached state → IsLiveRunFrom state events → IsReached (after_all_live state events)
+reached_after_all_live state [] some reached run = reached
+reached_after_all_live state (e ∷ es) some reached run =
+    reached_after_all_live (after_live state e) es (still_populated state e some) (reached_after_live state e some reached run.0 run.1) run.2
 
 -- a live run that an event is in, cut there
 pub record IsLiveCut (state : State) (before : List LiveEvent) (event : LiveEvent) : Type 0 where
-  pub run : IsLiveFrom state before
-  pub known : IsKnownTo (after_lives state before) event
-  pub may : may_take (after_lives state before) event ≡ true
+  pub run : IsLiveRunFrom state before
+  pub known : IsKnownTo (after_all_live state before) event
+  pub may : may_take (after_all_live state before) event ≡ true
 
-pub cut_live : (state : State) (before later : List LiveEvent) (event : LiveEvent) → IsLiveFrom state (before ++ event ∷ later) → IsLiveCut state before event
+pub cut_live : (state : State) (before later : List LiveEvent) (event : LiveEvent) → IsLiveRunFrom state (before ++ event ∷ later) → IsLiveCut state before event
 cut_live state [] later event run = record { run = tt; known = run.0; may = run.1 }
 cut_live state (e ∷ es) later event run =
     let inner = cut_live (after_live state e) es later event run.2 in
@@ -140,23 +140,23 @@ stays_reported state (StartUnit u) r outcome reached known may is =
     ]
 stays_reported state Stop r outcome reached known may is = is
 
-all_stay_reported : (state : State) (events : List LiveEvent) (r : ℕ) (outcome : Outcome) → IsPopulated state.plan_graph → IsReached state → IsLiveFrom state events → phase_at state r ≡ Reported outcome → phase_at (after_lives state events) r ≡ Reported outcome
+all_stay_reported : (state : State) (events : List LiveEvent) (r : ℕ) (outcome : Outcome) → IsPopulated state.plan_graph → IsReached state → IsLiveRunFrom state events → phase_at state r ≡ Reported outcome → phase_at (after_all_live state events) r ≡ Reported outcome
 all_stay_reported state [] r outcome some reached run is = is
 all_stay_reported state (e ∷ es) r outcome some reached run is =
     all_stay_reported (after_live state e) es r outcome (still_populated state e some) (reached_after_live state e some reached run.0 run.1) run.2 (stays_reported state e r outcome reached run.0 run.1 is)
 
 -- a request has the outcome that is reported of it among the events
-pub reported_among : (state : State) (events : List LiveEvent) (r : ℕ) (outcome : Outcome) → IsPopulated state.plan_graph → IsReached state → IsLiveFrom state events → Contains (singles events) (Report r outcome) → phase_at (after_lives state events) r ≡ Reported outcome
+pub reported_among : (state : State) (events : List LiveEvent) (r : ℕ) (outcome : Outcome) → IsPopulated state.plan_graph → IsReached state → IsLiveRunFrom state events → Contains (singles events) (Report r outcome) → phase_at (after_all_live state events) r ≡ Reported outcome
 reported_among state [] r outcome some reached run (k, less, is) = absurd (omega (arith, less))
 reported_among state (e ∷ es) r outcome some reached run has =
-    let further : Contains (singles es) (Report r outcome) → phase_at (after_lives (after_live state e) es) r ≡ Reported outcome =
+    let further : Contains (singles es) (Report r outcome) → phase_at (after_all_live (after_live state e) es) r ≡ Reported outcome =
     reported_among (after_live state e) es r outcome (still_populated state e some) (reached_after_live state e some reached run.0 run.1) run.2 in
     at e run.0 run.1 (all_stay_reported (after_live state e) es r outcome (still_populated state e some) (reached_after_live state e some reached run.0 run.1) run.2) further has
   where
     at : (e : LiveEvent) → IsKnownTo state e → may_take state e ≡ true
-        → (phase_at (after_live state e) r ≡ Reported outcome → phase_at (after_lives (after_live state e) es) r ≡ Reported outcome)
-        → (Contains (singles es) (Report r outcome) → phase_at (after_lives (after_live state e) es) r ≡ Reported outcome)
-        → Contains (singles (e ∷ es)) (Report r outcome) → phase_at (after_lives (after_live state e) es) r ≡ Reported outcome
+        → (phase_at (after_live state e) r ≡ Reported outcome → phase_at (after_all_live (after_live state e) es) r ≡ Reported outcome)
+        → (Contains (singles es) (Report r outcome) → phase_at (after_all_live (after_live state e) es) r ≡ Reported outcome)
+        → Contains (singles (e ∷ es)) (Report r outcome) → phase_at (after_all_live (after_live state e) es) r ≡ Reported outcome
     at (Single event) known may stays further has = elim (Contains-cases event (Report r outcome) (singles es) has) [
       | inl now ↦ stays (here event now known may)
       | inr later ↦ further later
@@ -181,7 +181,7 @@ unit_success plan phases u r done = elim (cases_lt r (length plan.units)) [
 ]
 
 -- what has succeeded after live events had before them, or is reported so among them
-pub success_live : (state : State) (events : List LiveEvent) (r : ℕ) → has_succeeded (phase_at (after_lives state events) r) ≡ true → (has_succeeded (phase_at state r) ≡ true) ⊎ HasSuccess (singles events) r
+pub success_live : (state : State) (events : List LiveEvent) (r : ℕ) → has_succeeded (phase_at (after_all_live state events) r) ≡ true → (has_succeeded (phase_at state r) ≡ true) ⊎ HasSuccess (singles events) r
 success_live state [] r done = inl done
 success_live state (e ∷ es) r done = at e (success_live (after_live state e) es r done)
   where
@@ -198,11 +198,11 @@ success_live state (e ∷ es) r done = at e (success_live (after_live state e) e
 
 -- ---- one event more
 
-pub lives-append : (state : State) (events more : List LiveEvent) → after_lives state (events ++ more) ≡ after_lives (after_lives state events) more
-lives-append state [] more = refl
-lives-append state (e ∷ es) more = lives-append (after_live state e) es more
+pub after_all_live-append : (state : State) (events more : List LiveEvent) → after_all_live state (events ++ more) ≡ after_all_live (after_all_live state events) more
+after_all_live-append state [] more = refl
+after_all_live-append state (e ∷ es) more = after_all_live-append (after_live state e) es more
 
 -- a live run continues with live events that may come after it
-pub live-append : (state : State) (events more : List LiveEvent) → IsLiveFrom state events → IsLiveFrom (after_lives state events) more → IsLiveFrom state (events ++ more)
-live-append state [] more one other = other
-live-append state (e ∷ es) more one other = (one.0, one.1, live-append (after_live state e) es more one.2 other)
+pub live_run-append : (state : State) (events more : List LiveEvent) → IsLiveRunFrom state events → IsLiveRunFrom (after_all_live state events) more → IsLiveRunFrom state (events ++ more)
+live_run-append state [] more one other = other
+live_run-append state (e ∷ es) more one other = (one.0, one.1, live_run-append (after_live state e) es more one.2 other)

@@ -12,7 +12,7 @@ use Rattle.odb_sched.specs.declared.event.Event.TheVariants.{Start, Report}
 use Rattle.odb_sched.specs.declared.phase.Phase.{Phase}
 use Rattle.odb_sched.specs.declared.phase.Phase.TheVariants.{Unstarted, Running, Reported}
 use Rattle.odb_sched.specs.run.State.{State, is_reported, is_running, is_unstarted, phase_at, running_members}
-use Rattle.odb_sched.specs.run.LiveEvents.{LiveEvent, Single, StartUnit, Stop, after_live, after_lives, IsKnownTo, IsLiveFrom, may_take, singles}
+use Rattle.odb_sched.specs.run.LiveEvents.{LiveEvent, Single, StartUnit, Stop, after_live, after_all_live, IsKnownTo, IsLiveRunFrom, may_take, singles}
 use Rattle.odb_sched.specs.run.LiveLaws.{StartsIt}
 use Rattle.odb_sched.specs.invariants.Kept.{IsReached}
 use Rattle.odb_sched.proofs.EventLemmas.{move_start, reported_by}
@@ -31,7 +31,7 @@ reported_before plan phases u r outcome is = elim (cases_lt r (length plan.units
   | inr past ↦ absurd (true≢false (sym (ap is_reported is) ∙ ap is_reported (get_or_past (running_members plan phases u) r Unstarted (subst (λ n. n ≤ r) (sym (length-list_below (length plan.units) _)) past))))
 ]
 
-pub reported_in : (state : State) (events : List LiveEvent) (r : ℕ) (outcome : Outcome) → phase_at (after_lives state events) r ≡ Reported outcome → (phase_at state r ≡ Reported outcome) ⊎ Contains (singles events) (Report r outcome)
+pub reported_in : (state : State) (events : List LiveEvent) (r : ℕ) (outcome : Outcome) → phase_at (after_all_live state events) r ≡ Reported outcome → (phase_at state r ≡ Reported outcome) ⊎ Contains (singles events) (Report r outcome)
 reported_in state [] r outcome is = inl is
 reported_in state (e ∷ es) r outcome is = at e (reported_in (after_live state e) es r outcome is)
   where
@@ -65,7 +65,7 @@ module _ (requests : List Record) (i : ℕ) (within : i < length requests) where
   ]
   started_by state Stop graph may begun = inl begun
 
-  pub started_in : (state : State) (events : List LiveEvent) → IsPlanGraphOf requests state.plan_graph → IsLiveFrom state events → is_unstarted (phase_at (after_lives state events) i) ≡ false
+  pub started_in : (state : State) (events : List LiveEvent) → IsPlanGraphOf requests state.plan_graph → IsLiveRunFrom state events → is_unstarted (phase_at (after_all_live state events) i) ≡ false
       → (is_unstarted (phase_at state i) ≡ false) ⊎ ((event : LiveEvent) × Contains events event × StartsIt requests event i)
   started_in state [] graph run begun = inl begun
   started_in state (e ∷ es) graph run begun = elim (started_in (after_live state e) es (subst (IsPlanGraphOf requests) (sym (plan_graph-after_live state e)) graph) run.2 begun) [
@@ -91,7 +91,7 @@ module _ (requests : List Record) (i : ℕ) (within : i < length requests) where
   ]
   stays_started state Stop graph begun = begun
 
-  all_stay_started : (state : State) (events : List LiveEvent) → IsPlanGraphOf requests state.plan_graph → is_unstarted (phase_at state i) ≡ false → is_unstarted (phase_at (after_lives state events) i) ≡ false
+  all_stay_started : (state : State) (events : List LiveEvent) → IsPlanGraphOf requests state.plan_graph → is_unstarted (phase_at state i) ≡ false → is_unstarted (phase_at (after_all_live state events) i) ≡ false
   all_stay_started state [] graph begun = begun
   all_stay_started state (e ∷ es) graph begun = all_stay_started (after_live state e) es (subst (IsPlanGraphOf requests) (sym (plan_graph-after_live state e)) graph) (stays_started state e graph begun)
 
@@ -103,8 +103,8 @@ module _ (requests : List Record) (i : ℕ) (within : i < length requests) where
   starts_now state (StartUnit u) graph reached known may starts = ap is_unstarted (member_runs state.plan_graph state.phases u i (subst (λ n. i < n) (sym graph.size) within) (graph.units i within ∙ starts.1))
   starts_now state Stop graph reached known may starts = absurd starts
 
-  pub started_among : (state : State) (events : List LiveEvent) (event : LiveEvent) → IsPlanGraphOf requests state.plan_graph → IsPopulated state.plan_graph → IsReached state → IsLiveFrom state events → Contains events event → StartsIt requests event i
-      → is_unstarted (phase_at (after_lives state events) i) ≡ false
+  pub started_among : (state : State) (events : List LiveEvent) (event : LiveEvent) → IsPlanGraphOf requests state.plan_graph → IsPopulated state.plan_graph → IsReached state → IsLiveRunFrom state events → Contains events event → StartsIt requests event i
+      → is_unstarted (phase_at (after_all_live state events) i) ≡ false
   started_among state [] event graph some reached run (k, less, is) starts = absurd (omega (arith, less))
   started_among state (e ∷ es) event graph some reached run has starts =
       let more = subst (IsPlanGraphOf requests) (sym (plan_graph-after_live state e)) graph in

@@ -22,12 +22,12 @@ use Rattle.odb_sched.specs.run.Failing.{unit_needed}
 use Rattle.odb_sched.specs.run.Steps.{all_satisfied, is_satisfied, is_stopped}
 use Rattle.odb_sched.specs.run.Units.{outer_satisfied}
 use Rattle.odb_sched.specs.run.Laws.{HasSuccess, HoldsOfNamed}
-use Rattle.odb_sched.specs.run.LiveEvents.{LiveEvent, Single, StartUnit, Stop, after_live, after_lives, first_live, IsLive, IsLiveFrom, may_take, singles, state_live}
+use Rattle.odb_sched.specs.run.LiveEvents.{LiveEvent, Single, StartUnit, Stop, after_live, after_all_live, first_live, IsLiveRun, IsLiveRunFrom, may_take, singles, live_state}
 use Rattle.odb_sched.specs.run.LiveLaws.{sent_count, single_count, SendsAsOne, StartsIt, StartsAfterNamed, StartsNothingOnceStopped}
 use Rattle.odb_sched.specs.invariants.Kept.{IsReached}
 use Rattle.odb_sched.proofs.BeginLemmas.{may_begin-parts}
 use Rattle.odb_sched.proofs.BelowLemmas.{list_all-each, list_any-from}
-use Rattle.odb_sched.proofs.LiveLemmas.{IsPopulated, cut_live, plan_graph-after_lives, policy-after_lives, populated, reached_after_lives, reported_among, reported_within, success_live}
+use Rattle.odb_sched.proofs.LiveLemmas.{IsPopulated, cut_live, plan_graph-after_all_live, policy-after_all_live, populated, reached_after_all_live, reported_among, reported_within, success_live}
 use Rattle.odb_sched.proofs.LivePhaseLemmas.{reported_in, started_among, started_in}
 use Rattle.odb_sched.proofs.LiveWidthLemmas.{width_live}
 use Rattle.odb_sched.proofs.OuterLemmas.{outer-each}
@@ -84,7 +84,7 @@ module _ (requests : List Record) (state : State) (graph : IsPlanGraphOf request
 
 -- ---- what stops a run
 
-closed_stays : (state : State) (events : List LiveEvent) → state.closed ≡ true → (after_lives state events).closed ≡ true
+closed_stays : (state : State) (events : List LiveEvent) → state.closed ≡ true → (after_all_live state events).closed ≡ true
 closed_stays state [] closed = closed
 closed_stays state (e ∷ es) closed = closed_stays (after_live state e) es (at e)
   where
@@ -94,7 +94,7 @@ closed_stays state (e ∷ es) closed = closed_stays (after_live state e) es (at 
     at (StartUnit u) = closed
     at Stop = refl
 
-closed_by : (state : State) (events : List LiveEvent) → Contains events Stop → (after_lives state events).closed ≡ true
+closed_by : (state : State) (events : List LiveEvent) → Contains events Stop → (after_all_live state events).closed ≡ true
 closed_by state [] (k, less, is) = absurd (omega (arith, less))
 closed_by state (e ∷ es) has = elim (Contains-cases e Stop es has) [
   | inl now ↦ closed_stays (after_live state e) es (ap (λ (event : LiveEvent). (after_live state event).closed) now)
@@ -129,39 +129,39 @@ module _ (requests : List Record) (policy : Policy) (laws : IsPlan (batch_plan_g
   reached : IsReached first
   reached = reached_first (batch_plan_graph requests) policy laws
 
-  pub reached_live : (events : List LiveEvent) → IsLive requests policy events → IsReached (state_live requests policy events)
-  reached_live events run = reached_after_lives first events some reached run
+  pub reached_live : (events : List LiveEvent) → IsLiveRun requests policy events → IsReached (live_state requests policy events)
+  reached_live events run = reached_after_all_live first events some reached run
 
-  success_so_far : (before : List LiveEvent) (r : ℕ) → has_succeeded (phase_at (after_lives first before) r) ≡ true → HasSuccess (singles before) r
+  success_so_far : (before : List LiveEvent) (r : ℕ) → has_succeeded (phase_at (after_all_live first before) r) ≡ true → HasSuccess (singles before) r
   success_so_far before r done = elim (success_live first before r done) [
     | inl early ↦ absurd (both_ways _ (ap has_succeeded (get_or-replicate_Unstarted (length (batch_plan_graph requests).units) r)) early)
     | inr among ↦ among
   ]
 
-  pub starts_after_named : (events : List LiveEvent) → IsLive requests policy events → StartsAfterNamed requests events
+  pub starts_after_named : (events : List LiveEvent) → IsLiveRun requests policy events → StartsAfterNamed requests events
   starts_after_named events run before later event i whole starts =
-      let parts = cut_live first before later event (subst (IsLiveFrom first) whole run) in
-      let same = plan_graph-after_lives first before in
-      also requests i (λ r. SendsAsOne requests event r ⊎ (has_succeeded (phase_at (after_lives first before) r) ≡ true)) (λ r. SendsAsOne requests event r ⊎ HasSuccess (singles before) r)
+      let parts = cut_live first before later event (subst (IsLiveRunFrom first) whole run) in
+      let same = plan_graph-after_all_live first before in
+      also requests i (λ r. SendsAsOne requests event r ⊎ (has_succeeded (phase_at (after_all_live first before) r) ≡ true)) (λ r. SendsAsOne requests event r ⊎ HasSuccess (singles before) r)
       (λ r either. elim either [ inl with ↦ inl with | inr done ↦ inr (success_so_far before r done) ])
-      (named_by requests (after_lives first before) (subst (IsPlanGraphOf requests) (sym same) graph) (subst (HasNamesAsNeeds requests) (sym same) named) event i parts.may starts)
+      (named_by requests (after_all_live first before) (subst (IsPlanGraphOf requests) (sym same) graph) (subst (HasNamesAsNeeds requests) (sym same) named) event i parts.may starts)
 
-  pub starts_nothing : (events : List LiveEvent) → IsLive requests policy events → StartsNothingOnceStopped requests policy events
+  pub starts_nothing : (events : List LiveEvent) → IsLiveRun requests policy events → StartsNothingOnceStopped requests policy events
   starts_nothing events run before later event i whole starts =
-      let parts = cut_live first before later event (subst (IsLiveFrom first) whole run) in
-      let last = after_lives first before in
+      let parts = cut_live first before later event (subst (IsLiveRunFrom first) whole run) in
+      let last = after_all_live first before in
       let unstopped = going requests last event i parts.may starts in (
         (λ stop. both_ways (is_stopped last) unstopped (rw (closed_by first before stop) refl)),
         (λ mode r outcome has. false_from_ne_true (is_error outcome.status) (λ error.
-            both_ways (is_stopped last) unstopped (stopped_by_error last r outcome (ap (λ (p : Policy). p.mode) (policy-after_lives first before) ∙ mode) (reported_among first before r outcome some reached parts.run has) error))),
+            both_ways (is_stopped last) unstopped (stopped_by_error last r outcome (ap (λ (p : Policy). p.mode) (policy-after_all_live first before) ∙ mode) (reported_among first before r outcome some reached parts.run has) error))),
       )
 
-  pub within_width : (events : List LiveEvent) → IsLive requests policy events → single_count (state_live requests policy events) events + sent_count (state_live requests policy events) events ≤ policy.width
-  within_width events run = subst (λ (p : Policy). single_count (state_live requests policy events) events + sent_count (state_live requests policy events) events ≤ p.width) (policy-after_lives first events)
+  pub within_width : (events : List LiveEvent) → IsLiveRun requests policy events → single_count (live_state requests policy events) events + sent_count (live_state requests policy events) events ≤ policy.width
+  within_width events run = subst (λ (p : Policy). single_count (live_state requests policy events) events + sent_count (live_state requests policy events) events ≤ p.width) (policy-after_all_live first events)
       (width_live (batch_plan_graph requests) policy events laws some run (reached_live events run))
 
-  pub started_by_events : (events : List LiveEvent) → IsLive requests policy events → (i : ℕ) → i < length requests
-      → (is_unstarted (phase_at (state_live requests policy events) i) ≡ false) ↔ ((event : LiveEvent) × Contains events event × StartsIt requests event i)
+  pub started_by_events : (events : List LiveEvent) → IsLiveRun requests policy events → (i : ℕ) → i < length requests
+      → (is_unstarted (phase_at (live_state requests policy events) i) ≡ false) ↔ ((event : LiveEvent) × Contains events event × StartsIt requests event i)
   started_by_events events run i within = (
     (λ begun. elim (started_in requests i within first events graph run begun) [
       | inl early ↦ absurd (both_ways _ early (ap is_unstarted (get_or-replicate_Unstarted (length (batch_plan_graph requests).units) i)))
@@ -170,7 +170,7 @@ module _ (requests : List Record) (policy : Policy) (laws : IsPlan (batch_plan_g
     (λ among. started_among requests i within first events among.0 graph some reached run among.1 among.2),
   )
 
-  pub reported_by_events : (events : List LiveEvent) → IsLive requests policy events → (i : ℕ) (outcome : Outcome) → (phase_at (state_live requests policy events) i ≡ Reported outcome) ↔ Contains (singles events) (Report i outcome)
+  pub reported_by_events : (events : List LiveEvent) → IsLiveRun requests policy events → (i : ℕ) (outcome : Outcome) → (phase_at (live_state requests policy events) i ≡ Reported outcome) ↔ Contains (singles events) (Report i outcome)
   reported_by_events events run i outcome = (
     (λ is. elim (reported_in first events i outcome is) [
       | inl early ↦ absurd (true≢false (sym (ap is_reported early) ∙ ap is_reported (get_or-replicate_Unstarted (length (batch_plan_graph requests).units) i)))

@@ -15,7 +15,7 @@ use Rattle.odb_sched.specs.declared.phase.Phase.TheVariants.{Unstarted, Running,
 use Rattle.odb_sched.specs.declared.policy.Policy.{Policy}
 use Rattle.odb_sched.specs.run.State.{State, is_running, is_unstarted, members_in, phase_at, reported, running_members, size, started, started_unit}
 use Rattle.odb_sched.specs.run.Steps.{may_report, may_start, running_count, spare_in}
-use Rattle.odb_sched.specs.run.LiveEvents.{LiveEvent, Single, StartUnit, Stop, after_live, after_lives, IsLiveFrom, is_sent}
+use Rattle.odb_sched.specs.run.LiveEvents.{LiveEvent, Single, StartUnit, Stop, after_live, after_all_live, IsLiveRunFrom, is_sent}
 use Rattle.odb_sched.specs.run.LiveLaws.{single_count, sent_count}
 use Rattle.odb_sched.specs.invariants.Kept.{first_of, IsReached}
 use Rattle.odb_sched.proofs.BelowLemmas.{any_below-Decides}
@@ -195,14 +195,14 @@ or_turned true false c = refl
 or_turned false true c = refl
 or_turned false false c = refl
 
-sent_along : (state : State) (events : List LiveEvent) (was_sent : ℕ → Bool) → IsPopulated state.plan_graph → IsReached state → IsLiveFrom state events → AreSent state was_sent → AreSent (after_lives state events) (λ u. is_sent events u || was_sent u)
+sent_along : (state : State) (events : List LiveEvent) (was_sent : ℕ → Bool) → IsPopulated state.plan_graph → IsReached state → IsLiveRunFrom state events → AreSent state was_sent → AreSent (after_all_live state events) (λ u. is_sent events u || was_sent u)
 sent_along state [] was_sent some reached run are = are
 sent_along state (Single (Start j) ∷ es) was_sent some reached run are =
     sent_along (started state j) es was_sent some (reached_after_live state (Single (Start j)) some reached run.0 run.1) run.2 (sent_start state j was_sent are run.0 run.1)
 sent_along state (Single (Report j outcome) ∷ es) was_sent some reached run are =
     sent_along (reported state j outcome) es was_sent some (reached_after_live state (Single (Report j outcome)) some reached run.0 run.1) run.2 (sent_report state j outcome was_sent reached are run.0 run.1)
 sent_along state (StartUnit v ∷ es) was_sent some reached run are =
-    sent_as (after_lives (started_unit state v) es) (λ u. is_sent es u || ((v == u) || was_sent u)) (λ u. ((v == u) || is_sent es u) || was_sent u) (λ u. or_turned (v == u) (is_sent es u) (was_sent u))
+    sent_as (after_all_live (started_unit state v) es) (λ u. is_sent es u || ((v == u) || was_sent u)) (λ u. ((v == u) || is_sent es u) || was_sent u) (λ u. or_turned (v == u) (is_sent es u) (was_sent u))
     (sent_along (started_unit state v) es (λ u. (v == u) || was_sent u) some (reached_after_live state (StartUnit v) some reached run.0 run.1) run.2 (sent_unit state v was_sent reached are run.0))
 sent_along state (Stop ∷ es) was_sent some reached run are =
     sent_along (after_live state Stop) es was_sent some (reached_after_live state Stop some reached run.0 run.1) run.2 (record { awaited = are.awaited; begun = are.begun })
@@ -288,11 +288,11 @@ or_false true = refl
 or_false false = refl
 
 -- from the first event on
-pub width_live : (plan : PlanGraph) (policy : Policy) (events : List LiveEvent) → IsPlan plan → IsPopulated plan → IsLiveFrom (first_of plan policy) events → IsReached (after_lives (first_of plan policy) events)
-    → single_count (after_lives (first_of plan policy) events) events + sent_count (after_lives (first_of plan policy) events) events ≤ (after_lives (first_of plan policy) events).policy.width
+pub width_live : (plan : PlanGraph) (policy : Policy) (events : List LiveEvent) → IsPlan plan → IsPopulated plan → IsLiveRunFrom (first_of plan policy) events → IsReached (after_all_live (first_of plan policy) events)
+    → single_count (after_all_live (first_of plan policy) events) events + sent_count (after_all_live (first_of plan policy) events) events ≤ (after_all_live (first_of plan policy) events).policy.width
 width_live plan policy events laws some run reached =
-    taken (after_lives (first_of plan policy) events) (is_sent events) reached
-    (sent_as (after_lives (first_of plan policy) events) (λ u. is_sent events u || false) (is_sent events) (λ u. or_false (is_sent events u))
+    taken (after_all_live (first_of plan policy) events) (is_sent events) reached
+    (sent_as (after_all_live (first_of plan policy) events) (λ u. is_sent events u || false) (is_sent events) (λ u. or_false (is_sent events u))
     (sent_along (first_of plan policy) events (λ u. false) some (reached_first plan policy laws) run (record {
       awaited = λ u inside. get_or-replicate plan.unit_count u 0 0 inside;
       begun = λ i within was. absurd (true≢false (sym was));

@@ -33,26 +33,26 @@ may_take state (StartUnit u) = may_begin state u
 may_take state Stop = true
 
 -- the state after live events
-abbrev pub after_lives : State → List LiveEvent → State
-after_lives state [] = state
-after_lives state (e ∷ es) = after_lives (after_live state e) es
+abbrev pub after_all_live : State → List LiveEvent → State
+after_all_live state [] = state
+after_all_live state (e ∷ es) = after_all_live (after_live state e) es
 
 -- each may come after those before it
-abbrev pub IsLiveFrom : State → List LiveEvent → Type 0
-IsLiveFrom state [] = Unit {0}
-IsLiveFrom state (e ∷ es) = IsKnownTo state e × (may_take state e ≡ true) × IsLiveFrom (after_live state e) es
+abbrev pub IsLiveRunFrom : State → List LiveEvent → Type 0
+IsLiveRunFrom state [] = Unit {0}
+IsLiveRunFrom state (e ∷ es) = IsKnownTo state e × (may_take state e ≡ true) × IsLiveRunFrom (after_live state e) es
 
 -- a live run before its first event
 abbrev pub first_live : List Record → Policy → State
 first_live requests policy = without_requests (first_state requests policy)
 
 -- the events are a live run of these requests
-abbrev pub IsLive : List Record → Policy → List LiveEvent → Type 0
-IsLive requests policy events = IsLiveFrom (first_live requests policy) events
+abbrev pub IsLiveRun : List Record → Policy → List LiveEvent → Type 0
+IsLiveRun requests policy events = IsLiveRunFrom (first_live requests policy) events
 
 -- the state after a live run
-abbrev pub state_live : List Record → Policy → List LiveEvent → State
-state_live requests policy events = after_lives (first_live requests policy) events
+abbrev pub live_state : List Record → Policy → List LiveEvent → State
+live_state requests policy events = after_all_live (first_live requests policy) events
 
 -- the starts and reports that came one by one
 abbrev pub singles : List LiveEvent → List Event

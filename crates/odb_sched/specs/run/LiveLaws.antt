@@ -14,7 +14,7 @@ use Rattle.odb_sched.specs.declared.policy.Policy.{Policy}
 use Rattle.odb_sched.specs.run.State.{State, is_running, is_unstarted, size, phase_at}
 use Rattle.odb_sched.specs.run.Answers.{HasStatuses}
 use Rattle.odb_sched.specs.run.Laws.{HasSuccess, HoldsOfNamed, IsAllOrNone, IsNeverStuck, RestsOnSuccesses}
-use Rattle.odb_sched.specs.run.LiveEvents.{LiveEvent, Single, StartUnit, Stop, singles, is_sent, state_live}
+use Rattle.odb_sched.specs.run.LiveEvents.{LiveEvent, Single, StartUnit, Stop, singles, is_sent, live_state}
 
 -- a live event starts the request: alone, or with its unit
 abbrev pub StartsIt : List Record → LiveEvent → ℕ → Type 0
@@ -52,17 +52,17 @@ sent_count state events = count_below state.plan_graph.unit_count (λ u. is_sent
 -- What every live run keeps of its requests, under its policy, at each moment: the events may be those up to any moment.
 pub record KeepsPromises (requests : List Record) (policy : Policy) (events : List LiveEvent) : Type 0 where
   -- a request has started if and only if one of the events starts it, and has reported an outcome if and only if that is reported
-  pub started : (i : ℕ) → i < length requests → (is_unstarted (phase_at (state_live requests policy events) i) ≡ false) ↔ ((event : LiveEvent) × Contains events event × StartsIt requests event i)
-  pub reported : (i : ℕ) (outcome : Outcome) → (phase_at (state_live requests policy events) i ≡ Reported outcome) ↔ Contains (singles events) (Report i outcome)
+  pub started : (i : ℕ) → i < length requests → (is_unstarted (phase_at (live_state requests policy events) i) ≡ false) ↔ ((event : LiveEvent) × Contains events event × StartsIt requests event i)
+  pub reported : (i : ℕ) (outcome : Outcome) → (phase_at (live_state requests policy events) i ≡ Reported outcome) ↔ Contains (singles events) (Report i outcome)
   pub dependencies_first : StartsAfterNamed requests events
   pub stops : StartsNothingOnceStopped requests policy events
   -- no more run at once than the width allows, where a unit that was sent as one counts as one
-  pub width : single_count (state_live requests policy events) events + sent_count (state_live requests policy events) events ≤ policy.width
+  pub width : single_count (live_state requests policy events) events + sent_count (live_state requests policy events) events ≤ policy.width
   -- a run that is not finished has a request that runs or one that may start
-  pub never_stuck : IsNeverStuck (state_live requests policy events)
+  pub never_stuck : IsNeverStuck (live_state requests policy events)
   -- the requests of a group are all answered with a success, or none is (section 19.5 of JSON Format)
-  pub all_or_none : IsAllOrNone (state_live requests policy events)
+  pub all_or_none : IsAllOrNone (live_state requests policy events)
   -- what is answered with a success needs only what is answered with a success
-  pub rests_on_successes : RestsOnSuccesses (state_live requests policy events)
+  pub rests_on_successes : RestsOnSuccesses (live_state requests policy events)
   -- what is reported has a status from 200 to 599
-  pub statuses : HasStatuses (state_live requests policy events)
+  pub statuses : HasStatuses (live_state requests policy events)
