@@ -2,7 +2,6 @@
 use Rattle.std.proofs.Common.{subst, ◌≡◌, ◌≢◌, ℕ, ◌<◌, ◌≤◌, ◌+◌, ◌==◌, ◌∙◌, sym, refl, ap, arith, Bool, true, false, cond, ◌||◌, eq-eqb, List, [], ◌∷◌, length, inl, inr, ◌⊎◌, Option, None, count_by, get_or-set_same, get_or-set_other, unwrap_or}
 use Rattle.std.specs.List.{list_any}
 use Rattle.std.proofs.lemmas.Bool.{cases_eq, true≢false, and_parts, ne_eqb}
-use Rattle.std.proofs.lemmas.List.Elements.{Contains-append_left, Contains-append_right}
 use Rattle.std.proofs.lemmas.List.Sums.{sum_by-cons}
 use Rattle.odb_doc.specs.declared.recorded.outcome.Outcome.{Outcome}
 use Rattle.odb_check.specs.declared.plan.Plan.{Plan}
@@ -15,7 +14,7 @@ use Rattle.odb_doc.specs.Statuses.{is_success, is_status}
 use Rattle.odb_sched.specs.run.State.{is_running, has_succeeded, State, size, phase_at, plan_graph, initial, after, is_reported}
 use Rattle.odb_sched.specs.run.Steps.{may_come}
 use Rattle.odb_sched.specs.run.Runs.{event_position, after_all, IsRunFrom, starts, report_of, or_later, first_report, phase_by, phase_of, IsRun, state_after}
-use Rattle.odb_sched.specs.run.Laws.{HasSuccess, HasFewEvents}
+use Rattle.odb_sched.specs.run.Laws.{HasFewEvents}
 use Rattle.odb_sched.specs.invariants.Kept.{IsReached}
 use Rattle.odb_sched.proofs.PhaseLemmas.{get_or-set_cases, get_or-replicate_Unstarted, Unstarted-from, Running-from, Reported-from}
 use Rattle.odb_sched.proofs.StartLemmas.{may_start-parts}
@@ -36,22 +35,11 @@ reported_by state (Report j other) i outcome e = elim (get_or-set_cases state.ph
 ]
 
 -- what has succeeded after an event had before it, or is reported so by it
-success_by : (state : State) (event : Event) (r : ℕ) → has_succeeded (phase_at (after state event) r) ≡ true
+pub success_by : (state : State) (event : Event) (r : ℕ) → has_succeeded (phase_at (after state event) r) ≡ true
     → (has_succeeded (phase_at state r) ≡ true) ⊎ ((outcome : Outcome) × (event ≡ Report r outcome) × (is_success outcome.status ≡ true))
 success_by state event r e =
     let (outcome, is, good) = Reported-from (phase_at (after state event) r) e in
     elim (reported_by state event r outcome is) [ inl before ↦ inl (rw before good) | inr now ↦ inr (outcome, now, good) ]
-
--- what has succeeded after events had before them, or is reported so among them
-pub success_among : (state : State) (events : List Event) (r : ℕ) → has_succeeded (phase_at (after_all state events) r) ≡ true → (has_succeeded (phase_at state r) ≡ true) ⊎ HasSuccess events r
-success_among state [] r e = inl e
-success_among state (event ∷ es) r e = elim (success_among (after state event) es r e) [
-  | inl early ↦ elim (success_by state event r early) [
-    | inl before ↦ inl before
-    | inr now ↦ inr (now.0, Contains-append_left (event ∷ []) es (Report r now.0) (0, omega arith, now.1), now.2)
-  ]
-  | inr later ↦ inr (later.0, Contains-append_right (event ∷ []) es (Report r later.0) later.1, later.2)
-]
 
 -- the phase of an event's request before the event and after it, and that the others keep theirs
 pub record IsMove (state : State) (event : Event) (before new : Phase) : Type 0 where

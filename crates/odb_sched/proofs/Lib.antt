@@ -16,9 +16,13 @@ pub mod LaneLemmas
 pub mod ReachedLemmas
 pub mod RunLemmas
 pub mod EventLemmas
-pub mod NameLemmas
 pub mod ResultLemmas
 pub mod WholeLemmas
+pub mod LiveLemmas
+pub mod LiveWidthLemmas
+pub mod LivePhaseLemmas
+pub mod LivePromiseLemmas
+pub mod NameLemmas
 pub mod ListLemmas
 pub mod CountLemmas
 pub mod PropagateLemmas

@@ -35,19 +35,6 @@ pub plan_graph-after_all : (state : State) (events : List Event) → (after_all 
 plan_graph-after_all state [] = refl
 plan_graph-after_all state (e ∷ es) = plan_graph-after_all (after state e) es ∙ plan_graph-after state e
 
--- a run that an event is in, cut there
-pub record IsCut (state : State) (before : List Event) (event : Event) (later : List Event) : Type 0 where
-  pub run : IsRunFrom state before
-  pub within : event_position event < size (after_all state before)
-  pub may : may_come (after_all state before) event ≡ true
-  pub rest : IsRunFrom (after (after_all state before) event) later
-
-pub cut : (state : State) (before : List Event) (event : Event) (later : List Event) → IsRunFrom state (before ++ event ∷ later) → IsCut state before event later
-cut state [] event later run = record { run = tt; within = run.0; may = run.1; rest = run.2 }
-cut state (e ∷ es) event later run =
-    let inner = cut (after state e) es event later run.2 in
-    record { run = (run.0, run.1, inner.run); within = inner.within; may = inner.may; rest = inner.rest }
-
 -- a run continues with an event that may come
 pub joined : (state : State) (before : List Event) (event : Event) → IsRunFrom state before → event_position event < size (after_all state before) → may_come (after_all state before) event ≡ true → IsRunFrom state (before ++ event ∷ [])
 joined state [] event run within may = (within, may, tt)

@@ -35,7 +35,7 @@ count_listed (suc n) value = sum_by_push (λ phase. cond (is_running phase) 1 0)
     at false m = omega arith
 
 -- the running ones by position
-count_phases : (phases : List Phase) (n : ℕ) → length phases ≡ n → count_by is_running phases ≡ count_below n (λ i. is_running (get_or phases i Unstarted))
+pub count_phases : (phases : List Phase) (n : ℕ) → length phases ≡ n → count_by is_running phases ≡ count_below n (λ i. is_running (get_or phases i Unstarted))
 count_phases phases n each =
     ap (count_by is_running) (ext_get_or Unstarted phases (list_below n (λ i. get_or phases i Unstarted)) (each ∙ sym (length-list_below n (λ i. get_or phases i Unstarted)))
     (λ i within. sym (get_or-list_below n (λ j. get_or phases j Unstarted) i Unstarted (subst (λ m. i < m) each within))))
@@ -61,7 +61,7 @@ module _ (state : State) (u : ℕ) (reached : IsReached state) (begin : MayBegin
   more : count_by is_running (running_members state.plan_graph state.phases u) ≡ count_by is_running state.phases + members_in state.plan_graph u
   more = members_run state.plan_graph state.phases u reached.each begin.fresh
 
-  sent : IsReached (started_unit state u)
+  pub sent : IsReached (started_unit state u)
   sent = reached_unit state u reached begin known some apart more
 
   same_graph : (events : List Event) → (after_all (started_unit state u) events).plan_graph ≡ state.plan_graph

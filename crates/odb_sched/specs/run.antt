@@ -8,6 +8,8 @@ pub mod Units
 pub mod Answers
 pub mod Laws
 pub mod Whole
+pub mod LiveEvents
+pub mod LiveLaws
 pub mod Choosing
 pub mod Resolving
 pub mod Refusals

@@ -27,6 +27,9 @@ ghost use Rattle.odb_sched.specs.run.Units.{FirstNeedsNothing, HasNextUnit, Unit
 ghost use Rattle.odb_doc.specs.batch.Records.{Record};
 ghost use Rattle.odb_sched.specs.run.Answers.{HasStatuses};
 
+mod live;
+
+pub use live::every_live_run;
 use odb_check::Plan;
 use odb_check::laws::every_plan;
 
