@@ -6,7 +6,7 @@ ghost use Rattle.odb_engine.specs.declared.halt.Halt.TheVariants as halts;
 ghost use Rattle.odb_text.specs.Lines.{response_line};
 
 use crate::halt::Halt;
-use odb_reply::push_response_text;
+use odb_reply::push_whole_response;
 use odb_sched::Done;
 use std::alloc::Global;
 
@@ -16,8 +16,6 @@ pub fn push_response(alloc: Global, text: &mut String, done: &Done<'_>) -> Resul
     ensures text { OnOk result (string_bytes text.new ≡ string_bytes text.old ++ response_line done.now) }
     ensures memory { IfErr result (λ halt. halt ≡ halts.OutOfMemory) }
 {
-    match push_response_text(alloc, text, done) {
-        Ok(()) => Ok(text.push('\n')?),
-        Err(_) => Err(Halt::OutOfMemory),
-    }
+    push_whole_response(alloc, text, done)?;
+    Ok(text.push('\n')?)
 }

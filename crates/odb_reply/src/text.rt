@@ -11,7 +11,7 @@ ghost use Rattle.odb_sched.specs.run.State.{size};
 ghost use Rattle.odb_sched.specs.run.Steps.{is_finished};
 ghost use Rattle.odb_reply.specs.BodyTexts.{HasNoText, text_with, value_with};
 ghost use Rattle.odb_reply.specs.Fits.{ListsFit};
-ghost use Rattle.odb_reply.specs.NotWhole.{HasWholeValues, IsFirstNotWhole, IsFirstNotWholeValue};
+ghost use Rattle.odb_reply.specs.NotWhole.{HasWholeBodies, HasWholeValues, IsFirstNotWhole, IsFirstNotWholeValue};
 ghost use Rattle.odb_reply.specs.OnePerId.{HasOnePerId};
 ghost use Rattle.odb_reply.specs.Readable.{HasShallowBodies, HasShallowValues};
 ghost use Rattle.odb_reply.specs.ResponseDocuments.{IsResponseDocument};
@@ -180,4 +180,22 @@ pub fn push_response_text(
         → read (responses.response_text done.now) ≡ Some (responses.response_value done.now)) }
 {
     push_response_of(alloc, text, done.plan(), &[], done.run())
+}
+
+/// Appends the text of the response that [`response_text`] returns, to a run whose bodies are known to hold
+/// only whole numbers: they are not looked at again.
+///
+/// # Errors
+///
+/// If an allocation fails. `text` may have received a part of the response.
+pub fn push_whole_response(
+    alloc: Global,
+    text: &mut String,
+    done: &Done<'_>,
+) -> Result<(), AllocError>
+    requires { HasWholeBodies done.now }
+    ensures { OnOk result (string_bytes text.new
+        ≡ string_bytes text.old ++ responses.response_text done.now) }
+{
+    push_whole(alloc, text, done.plan(), &[], done.run())
 }
