@@ -35,4 +35,4 @@ pub use reply::{ReplyFault, write_responses};
 pub use response_fault::ResponseFault;
 pub use responses::{Response, Responses};
 pub use table::Table;
-pub use text::{push_response_text, push_whole_response, response_of, response_text};
+pub use text::{push_whole_response, response_of, response_text};

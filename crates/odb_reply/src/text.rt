@@ -52,39 +52,6 @@ fn push_whole<L: Labels>(
     text.push_str("]}")
 }
 
-/// Appends the text that [`response_of`] returns. If the call is refused, `text` is unchanged.
-///
-/// # Errors
-///
-/// As those of [`response_of`]. If an allocation fails, `text` has received a prefix of the response.
-fn push_response_of<L: Labels>(
-    alloc: Global,
-    text: &mut String,
-    labels: &L,
-    texts: &[Option<JsonText>],
-    run: &OwnedRun,
-) -> Result<(), TextFault>
-    requires labels { length (L.labels labels.now) ≡ size run.now }
-    requires finished { is_finished run.now ≡ true }
-    ensures text { OnOk result (string_bytes text.new ≡ string_bytes text.old
-        ++ text_with (L.labels labels.now) texts.now (answer run.now)) }
-    ensures not_whole { (at : ℕ)
-        → (result ≡ Err (faults.NotWhole at)) ↔ IsFirstNotWholeValue texts.now run.now at }
-    ensures unchanged { (at : ℕ) → result ≡ Err (faults.NotWhole at) → text.new ≡ text.old }
-    ensures reads_back { OnOk result (HasShallowValues texts.now run.now
-        → read (text_with (L.labels labels.now) texts.now (answer run.now))
-        ≡ Some (value_with (L.labels labels.now) texts.now (answer run.now))) }
-    ensures line { OnOk result (HasShallowValues texts.now run.now
-        → read (text_with (L.labels labels.now) texts.now (answer run.now) ++ codes "\n")
-        ≡ Some (value_with (L.labels labels.now) texts.now (answer run.now))) }
-{
-    every_texted(labels, texts, run);
-    if let Some(at) = first_not_whole(texts, run) {
-        return Err(TextFault::NotWhole { at: at as usize });
-    }
-    Ok(push_whole(alloc, text, labels, texts, run)?)
-}
-
 /// Returns the text of the response to a batch whose requests have these ids and groups, and whose run
 /// has finished (OData JSON Format 4.01, section 19.5): compact JSON, with one response per request in
 /// the order of the requests. It needs nothing else of the batch, so that a caller may keep a run
@@ -136,8 +103,11 @@ pub fn response_of<L: Labels>(
         ≡ Some (value_with (L.labels labels.now) texts.now (answer run.now))) }
 {
     every_texted(labels, texts, run);
+    if let Some(at) = first_not_whole(texts, run) {
+        return Err(TextFault::NotWhole { at: at as usize });
+    }
     let mut text = String::new(alloc);
-    push_response_of(alloc, &mut text, labels, texts, run)?;
+    push_whole(alloc, &mut text, labels, texts, run)?;
     Ok(text)
 }
 
@@ -161,28 +131,7 @@ pub fn response_text(alloc: Global, done: &Done<'_>) -> Result<String, TextFault
     response_of(alloc, done.plan(), &[], done.run())
 }
 
-/// Appends the text of the response that [`response_text`] returns.
-///
-/// # Errors
-///
-/// As those of [`response_of`]. `text` is unchanged after `NotWhole`, and may have received a part of
-/// the response if an allocation fails.
-pub fn push_response_text(
-    alloc: Global,
-    text: &mut String,
-    done: &Done<'_>,
-) -> Result<(), TextFault>
-    ensures text { OnOk result (string_bytes text.new
-        ≡ string_bytes text.old ++ responses.response_text done.now) }
-    ensures not_whole { (at : ℕ) → (result ≡ Err (faults.NotWhole at)) ↔ IsFirstNotWhole done.now at }
-    ensures unchanged { (at : ℕ) → result ≡ Err (faults.NotWhole at) → text.new ≡ text.old }
-    ensures reads_back { OnOk result (HasShallowBodies done.now
-        → read (responses.response_text done.now) ≡ Some (responses.response_value done.now)) }
-{
-    push_response_of(alloc, text, done.plan(), &[], done.run())
-}
-
-/// Appends the text of the response that [`response_text`] returns, to a run whose bodies are known to hold
+/// Appends the text of the response that [`response_text`] returns, of a run whose bodies are known to hold
 /// only whole numbers: they are not looked at again.
 ///
 /// # Errors

@@ -9,7 +9,7 @@ use odb_check::Plan;
 use odb_doc::{Outcome, Request, TextFault};
 use odb_exec::{ExecFault, Service, ServiceFault, Trace, execute};
 use odb_io::Output;
-use odb_reply::{ReplyFault, push_response_text, response_of, response_text, write_responses};
+use odb_reply::{ReplyFault, response_of, response_text, write_responses};
 use odb_sched::{Done, Mode, Order, Policy};
 use serde_json::Value;
 use std::alloc::{AllocError, Global};
@@ -118,19 +118,10 @@ fn is_text(found: &Result<String, TextFault>, wanted: Result<&str, usize>) -> bo
     }
 }
 
-/// Appends the response to a finished run to an empty text.
-fn pushed(alloc: Global, done: &Done<'_>) -> Result<String, TextFault> {
-    let mut text = String::new(alloc);
-    push_response_text(alloc, &mut text, done)?;
-    Ok(text)
-}
-
-/// Whether the response to a finished run has this text, also if it is made of the plan and the run, or
-/// appended.
+/// Whether the response to a finished run has this text, also if it is made of the plan and the run.
 fn has_text(alloc: Global, done: &Done<'_>, wanted: Result<&str, usize>) -> bool {
     is_text(&response_text(alloc, done), wanted)
         && is_text(&response_of(alloc, done.plan(), &[], done.run()), wanted)
-        && is_text(&pushed(alloc, done), wanted)
 }
 
 /// Whether the text is written, in pieces of which none is longer than this; nothing is written if the
