@@ -79,12 +79,13 @@ def in_tasks(batch, service, mode, width):
 
 
 def placed(outcomes):
-    """Outcomes in which each success has a Location, to which others may refer."""
+    """Outcomes in which each success has a Location and an ETag, to which others may refer."""
     found = []
     for it in outcomes:
         headers = dict(it.get("headers") or {})
         if 200 <= it["status"] <= 299:
             headers["Location"] = f"Made('{it['id']}')"
+            headers.setdefault("ETag", "1")
         found.append({**it, "headers": headers})
     return found
 
