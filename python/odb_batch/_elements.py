@@ -2,8 +2,9 @@
 
 from typing import Any, Dict, Iterable, List, Optional, Sequence, Set
 
-from ._commands import PlannedRequest
+from ._commands import PlannedRequest, check
 from ._documents import json_of
+from ._faults import Fault
 from ._requests import Request
 
 
@@ -29,6 +30,15 @@ def element_text(request: Request, needs: Sequence[str]) -> bytes:
 def batch_text(elements: Iterable[bytes]) -> bytes:
     """Returns the text of the batch with these requests."""
     return b'{"requests":[%s]}' % b",".join(elements)
+
+
+def is_plain(url: str) -> bool:
+    """Returns whether a URL may be that of a request that refers to no other: it neither begins with ``$`` and an id, nor
+    leads to a ``$batch``. What takes the place of a reference comes from a service, which may send anything."""
+    try:
+        return check({"requests": [{"id": "a", "method": "get", "url": url}]}).requests == 1
+    except Fault:
+        return False
 
 
 class Unit:

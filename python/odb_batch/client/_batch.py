@@ -197,7 +197,7 @@ class Batch:
             raise ValueError(f"no URL can refer to a request with the id {id!r}")
         url, name = str(url), self._free("", len(self)) if id is None else id
         given = header_dict((key, str(value)) for key, value in (headers or {}).items())
-        text = None if body is None else _body_text(body, given)
+        text = _body_text(body, given)
         needs = self._needs(after, url, given)
         group = None if self._group is None else self._group.id
         self._append(Request(name, method.upper(), url, None, url, given, group, text), needs)
@@ -351,11 +351,14 @@ def _results_of(end: StopIteration) -> Results:
     return results
 
 
-def _body_text(body: Any, given: Dict[str, str]) -> bytes:
-    """The text of a body in a document. Headers without a media type get one."""
+def _body_text(body: Any, given: Dict[str, str]) -> Optional[bytes]:
+    """The text of a body in a document, or None. Headers without a media type get one, if there is a body."""
+    is_wire = isinstance(body, (bytes, bytearray, memoryview))
+    if body is None or (is_wire and not len(body)):
+        return None
     given.setdefault("content-type", "application/json")
     text = to_json(Answer(200, given, body), given)
-    if isinstance(body, (bytes, bytearray, memoryview)) and is_json(media_type(given)):
+    if is_wire and is_json(media_type(given)):
         try:
             json.loads(text, parse_constant=_refuse)
         except (ValueError, RecursionError):

@@ -4,9 +4,9 @@ import contextlib
 from typing import Any, Dict, List, Mapping, Optional, Set
 
 from .._answers import BROKEN, LOG, TIMED_OUT, TIMEOUTS, checked
-from .._commands import Mode, match, plan
+from .._commands import MAX_WIDTH, Mode, match, plan, policy
 from .._documents import bytes_of, json_of
-from .._elements import Unit, batch_text, element_text, units_of
+from .._elements import Unit, batch_text, element_text, is_plain, units_of
 from .._faults import Fault
 from .._messages import Answer, Answered, Refusal
 from .._preparation import Preparation
@@ -35,18 +35,18 @@ class Parts:
 
     Raises:
         Fault: The batch is refused.
-        ValueError: The limit cannot be kept.
+        ValueError: An option has a value that it may not have, or a group has more requests than the limit.
     """
 
     def __init__(self, document: bytes, limit: int, mode: Mode) -> None:
         if isinstance(limit, bool) or not isinstance(limit, int) or not 1 <= limit <= MOST:
             raise ValueError(f"limit must be a whole number from 1 to {MOST}, not {limit!r}")
-        if mode not in ("continue", "stop"):
-            raise ValueError(f"mode must be 'continue' or 'stop', not {mode!r}")
+        policy(mode, MAX_WIDTH)
         given, planned = requests(document), plan(document)
         self.document, self._limit, self._mode = document, limit, mode
         self._needs = {it.id: it.needs for it in planned}
         self._groups = {it.id: it.group for it in planned}
+        self._requests = {it.id: it for it in given}
         self._units = units_of(planned)
         for unit in self._units:
             if len(unit.ids) > limit:
@@ -92,10 +92,11 @@ class Parts:
         """The texts of the requests of a unit, and adds its names to those of the part. What the part does not have is
         not depended on, since it has succeeded; references to it are replaced. Raises Refusal if one stands for nothing."""
         names.update(unit.ids, () if unit.group is None else (unit.group,))
-        return [
-            element_text(self._preparation.member(id, names), [name for name in self._needs[id] if name in names])
-            for id in unit.ids
-        ]
+        members = [self._preparation.member(id, names) for id in unit.ids]
+        for given, member in zip(map(self._requests.__getitem__, unit.ids), members):
+            if given.reference is not None and member.reference is None and not is_plain(member.url):
+                raise Refusal(424, "NoLocation", f"{given.reference} was answered with a URL that cannot be used", given.reference)
+        return [element_text(it, [name for name in self._needs[it.id] if name in names]) for it in members]
 
     def take(self, answered: Answered) -> None:
         """Takes what the part that is out was answered.
@@ -132,14 +133,24 @@ class Parts:
 
     def _settle(self, number: int, answers: Mapping[str, Answer]) -> None:
         """Notes what the requests of a unit were answered; one without an answer was skipped."""
-        for id in self._units[number].ids:
+        unit = self._units[number]
+        for id in unit.ids:
             answer = self.answers[id] = answers.get(id, _SKIPPED)
             if not answer.is_success:
                 self._sound.discard(number)
             elif self._preparation.keep(id, answer):
                 self._referred.append(id)
-            if self._mode == "stop" and 400 <= answer.status <= 599:
-                self._is_stopped = True
+        if self._mode == "stop" and self._is_error(unit):
+            self._is_stopped = True
+
+    def _is_error(self, unit: Unit) -> bool:
+        """Whether a request of a unit has ended with a status from 400 to 599. A 424 may also stand for one that was skipped
+        or undone, after a failure of what it needs, or of its group by a status that is no error, as 304."""
+        statuses = {self.answers[id].status for id in unit.ids}
+        if any(400 <= status <= 599 and status != 424 for status in statuses):
+            return True
+        is_due = any(number not in self._sound for number in unit.needs) or any(300 <= status <= 399 for status in statuses)
+        return 424 in statuses and not is_due
 
     def responses(self) -> bytes:
         """Returns the responses to the whole batch, as :func:`~odb_batch.match` accepts them: their statuses, and of

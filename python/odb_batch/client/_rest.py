@@ -4,7 +4,7 @@ import json
 from typing import Collection, Dict, List, Mapping, Set
 
 from .._commands import match, plan
-from .._elements import Unit, batch_text, element_text, units_of
+from .._elements import Unit, batch_text, element_text, is_plain, units_of
 from .._preparation import CONDITIONS
 from .._requests import Request, requests
 
@@ -25,7 +25,8 @@ def rest(batch: bytes, responses: bytes) -> bytes:
 
     Raises:
         Fault: A document is refused, or the responses do not fit the batch.
-        ValueError: A request refers to one that was answered without a Location or an ETag.
+        ValueError: A request refers to one that was answered without an ETag, or without a Location that the URL of a
+            request may have.
         MemoryError: An allocation failed.
     """
     statuses = match(batch, responses)
@@ -76,6 +77,8 @@ def _replaced(request: Request, names: Collection[str], headers: Mapping[str, Ma
     reference, url, own = request.reference, request.url, dict(request.headers)
     if reference is not None and reference not in names:
         url = _recorded(request, reference, "location", headers) + request.rest
+        if not is_plain(url):
+            raise ValueError(f"{request.id} refers to {reference}, which was answered with a Location that cannot be used")
     for name in CONDITIONS:
         referred = own.get(name, "$")[1:]
         if own.get(name, "").startswith("$") and referred in headers and referred not in names:

@@ -128,8 +128,8 @@ class Results:
         The references that the batch has returned hold for the rest and its results.
 
         Raises:
-            ValueError: A request refers to one that was answered without the URL of what it has created, or without an
-                ETag. The message says which.
+            ValueError: A request refers to one that was answered without an ETag, or without a URL of what it has created
+                that can be used. The message says which.
             MemoryError: An allocation failed.
         """
         return self._batch._rest(rest(self._parts.document, self._parts.responses()))
