@@ -85,9 +85,11 @@ def names_of(draw: Any, batch: List[Json], group: Optional[str]) -> List[str]:
 
 
 def covered(batch: List[Json], request: Json) -> List[str]:
-    """The ids that a URL of a request may refer to, by the names that it lists."""
+    """The ids that a URL of a request may refer to, by the names that it lists. What is at a $batch is not referred to: the
+    URL in place of the reference would be that of a batch in a batch."""
     around = {*(request.get("dependsOn") or []), request.get("atomicityGroup")} - {None}
-    return [it["id"] for it in batch if it["id"] in around or it.get("atomicityGroup") in around]
+    found = [it for it in batch if it["id"] in around or it.get("atomicityGroup") in around]
+    return [it["id"] for it in found if it["url"] != "$batch/"]
 
 
 def add_body(draw: Any, request: Json, choices: Choices) -> None:

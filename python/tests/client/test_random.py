@@ -19,9 +19,6 @@ REPEATABLE = {"GET": {408, 502, 504}, "PUT": {408, 502, 504}, "DELETE": {408, 50
 def scripted(draw):
     """A batch, a script for it, and a limit that leaves its groups whole."""
     batch = draw(batches())
-    for it in batch["requests"]:
-        if it["url"] == "$batch/":  # what refers to it would be a batch in a batch
-            it["url"] = "Books"
     script = {it["id"]: draw(STATUSES) for it in batch["requests"]}
     groups = [it.get("atomicityGroup") for it in batch["requests"]]
     least = max((groups.count(it) for it in groups if it is not None), default=1)
