@@ -13,6 +13,8 @@ from odb_batch.testing import Scripted, batches, events, faulty_batches, outcome
 from odb_batch.testing._faults import CHANGES
 from support.profiles import share
 
+PRICE = Decimal("9.990")
+PRICES = st.just(PRICE)
 MODES, WIDTHS = st.sampled_from(["continue", "stop"]), st.sampled_from([1, 2, 10_000])
 
 
@@ -65,14 +67,12 @@ class TestStrategies:
         assert {code for _, code, _ in drawn(faulty_batches(max_requests=4), 600)} == set(CHANGES)
 
     @share(40)
-    @given(
-        batches(min_requests=2, max_requests=3, groups=False, references=False, headers=False, bodies=st.just(Decimal("9.990")))
-    )
+    @given(batches(min_requests=2, max_requests=3, groups=False, references=False, headers=False, bodies=PRICES))
     def test_options(self, batch):
         check(batch)
         assert 2 <= len(batch["requests"]) <= 3
         for request in batch["requests"]:
-            assert {"atomicityGroup", "headers"}.isdisjoint(request) and request.get("body", Decimal("9.990")) == Decimal("9.990")
+            assert {"atomicityGroup", "headers"}.isdisjoint(request) and request.get("body", PRICE) is PRICE
             assert not request["url"].startswith(tuple(f"${it['id']}/P" for it in batch["requests"]))
 
     @share(40)

@@ -167,9 +167,8 @@ def second(draw, name, elements):
 
 @st.composite
 def outcomes(draw, ids):
-    found = [
-        good.with_rest(draw, {"id": name, "status": good.status(draw)}, RECORDED_BODIES) for name in ids if not draw(chance(3))
-    ]
+    known = [name for name in ids if not draw(chance(3))]
+    found = [good.with_rest(draw, {"id": name, "status": good.status(draw)}, RECORDED_BODIES) for name in known]
     more = draw(of([], [], [{"id": "not an id", "status": 200}]))
     return second(draw, "outcomes", draw(st.permutations(found)) + more)
 

@@ -278,9 +278,9 @@ class Batch:
         424. In a later part ``$a`` is replaced by the URL of what ``a`` has created or returned, and ``If-Match: $a``
         by its ETag.
 
-        Where a part is answered as a whole, by a status that is not 2xx, each of its requests has that answer; and where
+        Where a part is answered as a whole, by a status that is not 2xx, each of its requests has that answer. Where
         ``post`` raises an exception, or what it returns is not the response to the part, each has 504 for a timeout,
-        else 502. Then nothing more is sent, and the other requests are 424.
+        else 502. After both nothing more is sent, and the other requests are 424.
 
         Args:
             post: Posts the bytes of a document, with the headers that :func:`headers` returns, and returns the status,

@@ -89,13 +89,14 @@ class Parts:
         return self._part if elements else None
 
     def _elements(self, unit: Unit, names: Set[str]) -> List[bytes]:
-        """The texts of the requests of a unit, and adds its names to those of the part. What the part does not have is
-        not depended on, since it has succeeded; references to it are replaced. Raises Refusal if one stands for nothing."""
+        """The texts of the requests of a unit; adds its names to those of the part. Dependencies on other parts, which
+        have succeeded, are left out, and references to them replaced. Raises Refusal if one stands for nothing."""
         names.update(unit.ids, () if unit.group is None else (unit.group,))
         members = [self._preparation.member(id, names) for id in unit.ids]
-        for given, member in zip(map(self._requests.__getitem__, unit.ids), members):
-            if given.reference is not None and member.reference is None and not is_plain(member.url):
-                raise Refusal(424, "NoLocation", f"{given.reference} was answered with a URL that cannot be used", given.reference)
+        for member in members:
+            referred = self._requests[member.id].reference
+            if referred is not None and member.reference is None and not is_plain(member.url):
+                raise Refusal(424, "NoLocation", f"{referred} was answered with a URL that cannot be used", referred)
         return [element_text(it, [name for name in self._needs[it.id] if name in names]) for it in members]
 
     def take(self, answered: Answered) -> None:
@@ -144,13 +145,13 @@ class Parts:
             self._is_stopped = True
 
     def _is_error(self, unit: Unit) -> bool:
-        """Whether a request of a unit has ended with a status from 400 to 599. A 424 may also stand for one that was skipped
-        or undone, after a failure of what it needs, or of its group by a status that is no error, as 304."""
+        """Whether a request of a unit has ended with a status from 400 to 599. A 424 may also be that of one that was
+        skipped or undone, since what it needs has failed, or its group by a status that is no error, as 304."""
         statuses = {self.answers[id].status for id in unit.ids}
         if any(400 <= status <= 599 and status != 424 for status in statuses):
             return True
-        is_due = any(number not in self._sound for number in unit.needs) or any(300 <= status <= 399 for status in statuses)
-        return 424 in statuses and not is_due
+        is_skipped = any(number not in self._sound for number in unit.needs)
+        return 424 in statuses and not is_skipped and not any(300 <= status <= 399 for status in statuses)
 
     def responses(self) -> bytes:
         """Returns the responses to the whole batch, as :func:`~odb_batch.match` accepts them: their statuses, and of

@@ -78,7 +78,7 @@ def _replaced(request: Request, names: Collection[str], headers: Mapping[str, Ma
     if reference is not None and reference not in names:
         url = _recorded(request, reference, "location", headers) + request.rest
         if not is_plain(url):
-            raise ValueError(f"{request.id} refers to {reference}, which was answered with a Location that cannot be used")
+            raise ValueError(f"{request.id} refers to {reference}, whose Location cannot be used: {url}")
     for name in CONDITIONS:
         referred = own.get(name, "$")[1:]
         if own.get(name, "").startswith("$") and referred in headers and referred not in names:

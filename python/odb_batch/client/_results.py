@@ -112,24 +112,24 @@ class Results:
 
     @property
     def retry_after(self) -> float:
-        """How many seconds the service asks to wait before the rest is sent: the greatest ``Retry-After`` of what did not
-        succeed (RFC 9110, section 10.2.3), from now on if that is a date; 0 if it asks for nothing."""
+        """For how many seconds the service asks to wait before the rest is sent: the greatest ``Retry-After`` of what
+        did not succeed (RFC 9110, section 10.2.3), up to then if it is a date; 0 if it asks for nothing."""
         waits = {it.headers["retry-after"] for it in self if not it.is_success and "retry-after" in it.headers}
         return max(map(_seconds, waits), default=0.0)
 
     def rest(self) -> "Batch":
-        """Returns the batch of what failed for now or was skipped, and may be sent again; an empty one if there is none.
+        """Returns the batch of what failed for now or was skipped, and may be sent again; an empty one if nothing may.
 
         A request may be sent again if it was answered 424, 429 or 503, since nothing was performed then; or 408, 502 or
         504, if it is a GET, a PUT or a DELETE, since nobody knows. A group is in the rest as a whole: if it has failed,
-        what succeeded in it was undone. What is in the rest needs only what has succeeded or is in the rest, too.
+        what succeeded in it was undone. What is in the rest depends only on what has succeeded or is in the rest, too.
         References to what has succeeded are replaced as in :meth:`Batch.send`.
 
         The references that the batch has returned hold for the rest and its results.
 
         Raises:
-            ValueError: A request refers to one that was answered without an ETag, or without a URL of what it has created
-                that can be used. The message says which.
+            ValueError: A request refers to one that was answered without an ETag, or without a usable URL of what it
+                has created. The message says which.
             MemoryError: An allocation failed.
         """
         return self._batch._rest(rest(self._parts.document, self._parts.responses()))

@@ -11,8 +11,8 @@
 >>> results.rest().send(service.post)[line].status
 201
 
-:func:`batches`, :func:`faulty_batches`, :func:`outcomes` and :func:`events` are strategies of hypothesis, which the extra
-``testing`` of the package installs.
+:func:`batches`, :func:`faulty_batches`, :func:`outcomes` and :func:`events` are strategies of hypothesis, which this
+module needs: the extra ``testing`` of the package.
 """
 
 from ._faults import faulty_batches

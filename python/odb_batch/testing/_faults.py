@@ -88,8 +88,8 @@ def _refers(requests: Requests, at: int, is_later: bool) -> Optional[int]:
     return 0
 
 
-#: The changes that break a rule, by the code of the fault. Each takes the requests of a batch and the position of one, and
-#: returns the position of the fault; None if the batch has not what the change needs.
+#: The changes that break a rule, by the code of the fault. Each takes the requests of a batch and the position of one,
+#: and returns the position of the fault; None if the batch has not what the change needs.
 CHANGES: Dict[str, Callable[[Requests, int], Optional[int]]] = {
     "F10": _replaces,
     "F11": _sets(**{"if": "true"}),

@@ -20,8 +20,8 @@ def events(
     statuses: Optional[SearchStrategy[int]] = None,
     finished: bool = True,
 ) -> Json:
-    """Returns a strategy for the events of a run of a batch, as :func:`odb_batch.run` and :class:`odb_batch.Run` take them,
-    in any order in which they may come.
+    """Returns a strategy for the events of a run of a batch, in any order in which they may come, as
+    :func:`odb_batch.run` and :class:`odb_batch.Run` take them.
 
     Args:
         batch: The batch, as a value.

@@ -24,13 +24,13 @@ class Scripted:
     What depends on a failure, and what is in a group with one, is answered as a service has to: by a
     :class:`~odb_batch.Run`, which is proved.
 
-    A status stands for an answer. With 2xx it has the ETag ``"1"``, and for a POST the Location ``/Made('ID')``; with 429
-    and 503 it has Retry-After. An :class:`~odb_batch.Answer` is what it is.
+    A status stands for an answer. With 2xx it has the ETag ``"1"``, and for a POST the Location ``/Made('ID')``; with
+    429 and 503 it has Retry-After. An :class:`~odb_batch.Answer` is what it is.
 
     Args:
-        script: What a request is answered, by its id: a status or an Answer; or a list of them, of which each time that the
-            request is performed takes the next one, and the last one stays. Others are answered 201 for a POST, 200 for a
-            GET and 204 for the other methods.
+        script: What a request is answered, by its id: a status or an Answer; or a list of them, one for each time that
+            the request is performed, of which the last one stays. Other requests are answered 201 for a POST, 200 for
+            a GET and 204 for the other methods.
         limit: How many requests a batch may have; a longer one is answered 413.
         mode: ``"stop"`` for a service that stops at the first error.
         retry_after: The seconds of Retry-After.

@@ -85,8 +85,8 @@ def names_of(draw: Any, batch: List[Json], group: Optional[str]) -> List[str]:
 
 
 def covered(batch: List[Json], request: Json) -> List[str]:
-    """The ids that a URL of a request may refer to, by the names that it lists. What is at a $batch is not referred to: the
-    URL in place of the reference would be that of a batch in a batch."""
+    """The ids that a URL of a request may refer to, by the names that it lists. What is at a $batch is not referred to:
+    the URL in place of the reference would be that of a batch in a batch."""
     around = {*(request.get("dependsOn") or []), request.get("atomicityGroup")} - {None}
     found = [it for it in batch if it["id"] in around or it.get("atomicityGroup") in around]
     return [it["id"] for it in found if it["url"] != "$batch/"]
@@ -133,16 +133,16 @@ def batches(
 ) -> Json:
     """Returns a strategy for batches that are accepted, as values that ``json`` writes.
 
-    They have dependencies, names that differ in case alone, URLs of all kinds, methods in any case, and bodies of several
-    media types. They shrink to fewer requests that have fewer members.
+    They have dependencies, names that differ in case alone, URLs of all kinds, methods in any case, and bodies of
+    several media types. They shrink to fewer requests that have fewer members.
 
     Args:
         min_requests, max_requests: How many requests a batch has.
         groups: Whether there are atomicity groups.
         references: Whether URLs and, with headers, ``If-Match`` refer to earlier requests.
         headers: Whether there are headers; without them all bodies are JSON.
-        bodies: What bodies of JSON are drawn from; without it they are whole numbers, texts and small objects, which all
-            commands take. None if there are no bodies.
+        bodies: What bodies of JSON are drawn from; without it they are whole numbers, texts and small objects, which
+            all commands take. None if there are no bodies.
     """
     choices = Choices(references, headers, bodies)
     count = draw(st.sampled_from(range(min_requests, max_requests + 1)))

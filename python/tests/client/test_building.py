@@ -26,14 +26,15 @@ def test_a_document():
     batch.get(f"{order}/Lines?$top=1", after=paid)
     assert batch.document() == (
         b'{"requests":['
-        b'{"id":"1","method":"post","url":"Orders","headers":{"content-type":"application/json"},"body":{"Customer":"ada"}},'
+        b'{"id":"1","method":"post","url":"Orders","headers":{"content-type":"application/json"},'
+        b'"body":{"Customer":"ada"}},'
         b'{"id":"2","atomicityGroup":"g1","dependsOn":["1"],"method":"patch","url":"$1",'
         b'"headers":{"if-match":"$1","content-type":"application/json"},"body":{"Paid":true}},'
         b'{"id":"basket","atomicityGroup":"g1","method":"delete","url":"Baskets(7)"},'
         b'{"id":"4","dependsOn":["g1","1"],"method":"get","url":"$1/Lines?$top=1"}]}'
     )
     assert batch.check() == Counts(4, 1)
-    assert (len(batch), repr(batch), repr(order), repr(paid)) == (4, "<Batch of 4 requests>", "<Reference $1>", "<Group g1>")
+    assert list(map(repr, (batch, order, paid))) == ["<Batch of 4 requests>", "<Reference $1>", "<Group g1>"]
 
 
 def small():
@@ -81,7 +82,7 @@ def test_dependencies_in_a_group():
 
 @pytest.mark.parametrize("body, given, text", [
     (Decimal("9.990"), {}, b"9.990"),
-    ({"Price": [Decimal("1E+2"), 2**70, {1: Decimal("-0.0")}]}, {}, b'{"Price":[1E+2,1180591620717411303424,{"1":-0.0}]}'),
+    ({"a": [Decimal("1E+2"), 2**70, {1: Decimal("-0.0")}]}, {}, b'{"a":[1E+2,1180591620717411303424,{"1":-0.0}]}'),
     (b'{"Price": 9.990}', {}, b'{"Price": 9.990}'),
     (bytearray(b"7"), {"Content-Type": "application/x+json"}, b"7"),
     ("dune", {}, b'"dune"'),

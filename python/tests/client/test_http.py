@@ -1,5 +1,5 @@
-"""Batches that are sent over HTTP by requests and by httpx: to a service that is scripted, to the lending library, and to
-one that hangs up."""
+"""Batches that are sent over HTTP by requests and by httpx: to a service that is scripted, to the lending library, and
+to one that hangs up."""
 
 import asyncio
 import contextlib

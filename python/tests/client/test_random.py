@@ -1,4 +1,4 @@
-"""Random batches with random outcomes: a split batch is answered as the whole one, and the rest is what it has to be."""
+"""Random batches with random outcomes: a split batch is answered as the whole one, and the rest is what it must be."""
 
 import json
 

@@ -45,13 +45,14 @@ def raising(error):
 
 class TestResults:
     def test_by_request_and_in_order(self):
-        batch, service = Batch(), Scripted({"b": Answer(409, {"X-A": "1"}, {"error": {"code": "Sold", "message": "gone"}})})
+        sold = {"error": {"code": "Sold", "message": "gone"}}
+        batch, service = Batch(), Scripted({"b": Answer(409, {"X-A": "1"}, sold)})
         a, b = batch.post("A", {}), batch.post("B", {}, id="b")
         results = batch.send(service.post)
         assert [it.id for it in results] == ["1", "b"] and len(results) == 2 and results.error is None
         assert results[a] == results["1"] and results[a].status == 201 and results[a].is_success
         assert results[a].raise_for_status() is results[a]
-        assert results[b].headers["x-a"] == "1" and results[b].json() == {"error": {"code": "Sold", "message": "gone"}}
+        assert results[b].headers["x-a"] == "1" and results[b].json() == sold
         assert repr(results) == "<Results: 1 201, b 409>"
         with pytest.raises(RequestFailed, match="^b 409 Sold: gone$") as raised:
             results[b].raise_for_status()
@@ -166,7 +167,7 @@ class TestParts:
         batch.get("$a", after="b", id="c")
         results = batch.send(Scripted({**script, "b": 200}).post, limit=1)
         assert statuses_of(results) == [201, 200, 424] and results["c"].json()["error"]["code"] == "NoLocation"
-        with pytest.raises(ValueError, match="c refers to a, which was answered with a Location that cannot be used"):
+        with pytest.raises(ValueError, match="c refers to a, whose Location cannot be used"):
             batch.send(Scripted(script).post).rest()
 
     def test_what_depends_on_a_failure_is_not_sent(self):
@@ -184,7 +185,8 @@ class TestParts:
     def test_nothing_after_an_error_in_mode_stop(self, status):
         service = Scripted({"b": 304, "c": status}, mode="stop")
         results = gets(*"abcdef").send(service.post, limit=2, mode="stop")
-        assert parts_of(service) == [["a", "b"], ["c", "d"]] and statuses_of(results) == [200, 304, status, 424, 424, 424]
+        assert parts_of(service) == [["a", "b"], ["c", "d"]]
+        assert statuses_of(results) == [200, 304, status, 424, 424, 424]
 
     def test_a_424_that_is_no_error_in_mode_stop(self):
         batch, service = gets("a"), Scripted({"a": 304, "h": 304}, mode="stop")
@@ -194,7 +196,8 @@ class TestParts:
             batch.post("D", id="h")
         batch.get("E", id="e")
         results = batch.send(service.post, limit=2, mode="stop")
-        assert parts_of(service) == [["a", "b"], ["g", "h"], ["e"]] and statuses_of(results) == [304, 424, 424, 304, 200]
+        assert parts_of(service) == [["a", "b"], ["g", "h"], ["e"]]
+        assert statuses_of(results) == [304, 424, 424, 304, 200]
 
     @pytest.mark.parametrize("options, message", [
         ({"limit": 1}, "the group g has 2 requests, and a batch may have 1"),
@@ -269,8 +272,9 @@ def test_retry_after():
     answers = {"a": "5", "b": "7", "c": "soon", "d": formatdate(time.time() - 99), "e": "1.5", "f": "\u0663"}
     script = {id: Answer(503, {"Retry-After": value}) for id, value in answers.items()}
     assert gets(*answers).send(Scripted(script).post).retry_after == 7.0
-    late = Scripted({"a": Answer(429, {"Retry-After": formatdate(time.time() + 100, usegmt=True)}), "b": Answer(200, {"Retry-After": "999"})})
-    assert 95 < gets("a", "b").send(late.post).retry_after <= 100
+    date = formatdate(time.time() + 100, usegmt=True)
+    late = {"a": Answer(429, {"Retry-After": date}), "b": Answer(200, {"Retry-After": "999"})}
+    assert 90 < gets("a", "b").send(Scripted(late).post).retry_after <= 100
 
 
 def test_tasks():
