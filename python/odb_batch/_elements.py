@@ -33,8 +33,8 @@ def batch_text(elements: Iterable[bytes]) -> bytes:
 
 
 def is_plain(url: str) -> bool:
-    """Returns whether a URL may be that of a request without a reference: it does not begin with ``$`` and an id, and does
-    not lead to a ``$batch``. What takes the place of a reference comes from a service, which may send anything."""
+    """Returns whether a URL may be that of a request without a reference: it does not begin with ``$`` and an id, and
+    does not lead to a ``$batch``. What takes the place of a reference comes from a service, which may send anything."""
     try:
         return check({"requests": [{"id": "a", "method": "get", "url": url}]}).requests == 1
     except Fault:

@@ -60,25 +60,16 @@ class Preparation:
                 a reference stands for nothing (424; 400 if the request with the ETag is not in dependsOn).
         """
         given = self._requests[id]
-        url, headers, body = self.url(id), self._headers_of(given), b""
+        url, headers, body = self.url(id), self.headers(id), b""
         if given.body is not None:
             headers.setdefault("content-type", "application/json")
             body = to_wire(given.body, headers)
         return PreparedRequest(id, given.method, url, headers, body, given.group)
 
-    def member(self, id: str, group: Collection[str]) -> Request:
-        """Returns a request that is sent with others in a batch, with the references to requests that are not in it
-        replaced; raises Refusal as `prepared` does."""
-        given = self._requests[id]
-        headers = self._headers_of(given, group)
-        if given.reference in group:
-            return given._replace(headers=headers)
-        url = self.url(id)
-        return given._replace(url=url, reference=None, rest=url, headers=headers)
-
-    def _headers_of(self, given: Request, kept: Collection[str] = ()) -> Dict[str, str]:
-        """The headers of a request with ETags in place of references, but for those to the requests that are kept."""
-        headers = dict(given.headers)
+    def headers(self, id: str, kept: Collection[str] = ()) -> Dict[str, str]:
+        """Returns the headers of a request with ETags in place of references, but for those to requests that are kept;
+        raises Refusal as `prepared` does."""
+        headers = dict(self._requests[id].headers)
         for name in CONDITIONS:
             value = headers.get(name, "")
             if value.startswith("$") and value[1:] in self._requests and value[1:] not in kept:

@@ -7,10 +7,9 @@ from .._answers import BROKEN, LOG, TIMED_OUT, TIMEOUTS, checked
 from .._commands import MAX_WIDTH, Mode, match, plan, policy
 from .._documents import bytes_of, json_of
 from .._elements import Unit, batch_text, element_text, is_plain, units_of
-from .._faults import Fault
 from .._messages import Answer, Answered, Refusal
 from .._preparation import Preparation
-from .._requests import requests
+from .._requests import Request, requests
 from .._responses import answers_of
 from .._urls import Service
 
@@ -92,29 +91,39 @@ class Parts:
         """The texts of the requests of a unit; adds its names to those of the part. Dependencies on other parts, which
         have succeeded, are left out, and references to them replaced. Raises Refusal if one stands for nothing."""
         names.update(unit.ids, () if unit.group is None else (unit.group,))
-        members = [self._preparation.member(id, names) for id in unit.ids]
-        for member in members:
-            referred = self._requests[member.id].reference
-            if referred is not None and member.reference is None and not is_plain(member.url):
-                raise Refusal(424, "NoLocation", f"{referred} was answered with a URL that cannot be used", referred)
-        return [element_text(it, [name for name in self._needs[it.id] if name in names]) for it in members]
+        found = []
+        for id in unit.ids:
+            given, headers = self._requests[id], self._preparation.headers(id, names)
+            request = given._replace(url=self._url(given, names), headers=headers)
+            found.append(element_text(request, [name for name in self._needs[id] if name in names]))
+        return found
+
+    def _url(self, given: Request, names: Set[str]) -> str:
+        """The URL of a request in a part, without a reference to another part."""
+        if given.reference is None or given.reference in names:
+            return given.url
+        url = self._preparation.url(given.id)
+        if not is_plain(url):
+            raise Refusal(424, "NoLocation", f"{given.reference} was answered with a URL of no use", given.reference)
+        return url
 
     def take(self, answered: Answered) -> None:
         """Takes what the part that is out was answered.
 
         Raises:
-            TypeError: It is not a status with headers and a body.
+            TypeError: It is not a status with headers and the bytes of a body.
         """
-        answer = checked(answered)
+        status, headers, body = checked(answered)
+        text = b"" if body is None else bytes_of(body)
+        answer = Answer(status, headers, text)
         if not answer.is_success:
             self._end(answer)
             return
         try:
-            text = bytes_of(answer.body)
             text = text[3:] if text.startswith(b"\xef\xbb\xbf") else text
             match(self._part, text, mode=self._mode)
             found = answers_of(text)
-        except (Fault, TypeError, ValueError) as error:
+        except ValueError as error:
             self.fail(error)
             return
         for number in self._out:

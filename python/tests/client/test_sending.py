@@ -124,6 +124,13 @@ class TestParts:
         assert statuses_of(batch.send(service.post, limit=1)) == [answer.status, 200]
         assert json.loads(service.documents[1])["requests"][0]["url"] == url
 
+    @pytest.mark.parametrize("url", ["B\xfccher?x=\xfc#y", "http://[x", "/v1/Books%zz", ""])
+    def test_other_urls_stay_as_they_are(self, url):
+        batch, service = gets("a", "b"), Scripted()
+        batch.get(url, after="a", id="c")
+        batch.send(service.post, limit=2)
+        assert json.loads(service.documents[1])["requests"] == [{"id": "c", "method": "get", "url": url}]
+
     def test_what_was_read_or_changed_has_its_own_url(self):
         batch, service = Batch(), Scripted()
         shelf = batch.get("Shelves(1)?$top=1")
@@ -169,6 +176,13 @@ class TestParts:
         assert statuses_of(results) == [201, 200, 424] and results["c"].json()["error"]["code"] == "NoLocation"
         with pytest.raises(ValueError, match="c refers to a, whose Location cannot be used"):
             batch.send(Scripted(script).post).rest()
+
+    @pytest.mark.parametrize("url", ["A", ""])
+    def test_a_location_that_cannot_be_read(self, url):
+        batch = Batch()
+        batch.get(batch.put(url, {}))
+        results = batch.send(Scripted({"1": Answer(200, {"Location": "http://["})}).post, limit=1)
+        assert statuses_of(results) == [200, 400] and results["2"].json()["error"]["code"] == "BadUrl"
 
     def test_what_depends_on_a_failure_is_not_sent(self):
         batch, service = Batch(), Scripted({"a": 404})
@@ -262,7 +276,7 @@ class TestErrorsOfParts:
         with pytest.raises(KeyboardInterrupt):
             gets("a").send(raising(KeyboardInterrupt()))
 
-    @pytest.mark.parametrize("answered", [None, 200, ("200", {}, b""), (200, {"a": 1}, b"")])
+    @pytest.mark.parametrize("answered", [None, 200, ("200", {}, b""), (200, {"a": 1}, b""), (200, {}, 7)])
     def test_what_is_no_answer(self, answered):
         with pytest.raises(TypeError):
             gets("a").send(lambda document: answered)
