@@ -132,6 +132,14 @@ class TestDocuments:
         responses = b'{"responses":[{"id":"a","status":201},{"id":"b","status":200}]}'
         assert rest(self.BATCH, responses) == b'{"requests":[]}'
 
+    def test_what_succeeded_in_a_group_that_failed_was_undone(self):
+        batch = b'{"requests":[%s]}' % b",".join(
+            b'{"id":"%s","atomicityGroup":"g","method":"post","url":"A"}' % id for id in (b"a", b"b")
+        )
+        answers = b'{"responses":[{"id":"a","atomicityGroup":"g","status":201},{"id":"b","atomicityGroup":"g","status":%d}]}'
+        assert rest(batch, answers % 503) == batch
+        assert rest(batch, answers % 409) == b'{"requests":[]}'
+
     def test_responses_that_do_not_fit(self):
         with pytest.raises(Fault, match="F73 ResponseMissing /requests/1"):
             rest(self.BATCH, b'{"responses":[{"id":"a","status":201}]}')

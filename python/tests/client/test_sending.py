@@ -150,13 +150,14 @@ class TestParts:
         assert fourth["headers"] == {"if-none-match": "W/7", "if-match": "$other"}
 
     @pytest.mark.parametrize("mode, parts, statuses", [
-        ("continue", [["a", "x"], ["c"]], [201, 200, 424, 424, 200]),
-        ("stop", [["a", "x"]], [201, 200, 424, 424, 424]),
+        ("continue", [["a", "x"], ["y"], ["c"]], [201, 200, 200, 424, 424, 200]),
+        ("stop", [["a", "x"], ["y"]], [201, 200, 200, 424, 424, 424]),
     ])  # fmt: skip
     def test_a_reference_that_stands_for_nothing(self, mode, parts, statuses):
         batch, service = Batch(), Scripted({"a": Answer(201)})
         batch.post("A", {}, id="a")
         batch.get("X", id="x")
+        batch.get("Y", id="y")
         batch.get("$a/B", id="b")
         batch.get("D", after="b", id="d")
         batch.get("C", id="c")
