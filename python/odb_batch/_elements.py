@@ -1,6 +1,8 @@
 """The text of a batch that is made of requests (OData JSON Format 4.01, section 19.1)."""
 
+import re
 from typing import Any, Dict, Iterable, List, Optional, Sequence, Set
+from urllib.parse import unquote
 
 from ._commands import PlannedRequest, check
 from ._documents import json_of
@@ -33,8 +35,10 @@ def batch_text(elements: Iterable[bytes]) -> bytes:
 
 
 def is_plain(url: str) -> bool:
-    """Returns whether a URL may be that of a request without a reference: it does not begin with ``$`` and an id, and
-    does not lead to a ``$batch``. What takes the place of a reference comes from a service, which may send anything."""
+    """Returns whether a URL may take the place of a reference: it does not begin with ``$``, and does not lead to a
+    ``$batch``. It comes from a service, which may send anything."""
+    if unquote(re.split("[/?#]", url, maxsplit=1)[0]).startswith("$"):
+        return False
     try:
         return check({"requests": [{"id": "a", "method": "get", "url": url}]}).requests == 1
     except Fault:

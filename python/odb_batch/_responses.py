@@ -11,6 +11,7 @@ from ._messages import Answer, Refusal, header_dict, media_type
 _DECODER = json.JSONDecoder()
 _SPACE = re.compile(r"[ \t\r\n]*").match
 _BODILESS = b"null"
+_BASE64 = re.compile(r"[A-Za-z0-9_+/-]*={0,2}").fullmatch
 
 
 def answers_of(responses: bytes) -> Dict[str, Answer]:
@@ -42,9 +43,16 @@ def _wire(text: bytes, headers: Dict[str, str]) -> bytes:
     value = json.loads(text)
     if not isinstance(value, str):
         return text
-    with contextlib.suppress(Refusal, ValueError):
-        return to_wire(text, headers)
+    if media_type(headers).startswith("text/") or _is_base64(value):
+        with contextlib.suppress(Refusal):
+            return to_wire(text, headers)
     return value.encode("utf-8", "surrogatepass")
+
+
+def _is_base64(text: str) -> bool:
+    """Whether a text is base64url, or base64, with its ``=`` or without."""
+    digits = text.rstrip("=")
+    return _BASE64(text) is not None and len(digits) % 4 != 1
 
 
 def _members(text: str, at: int) -> Dict[str, Tuple[int, int]]:

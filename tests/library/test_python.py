@@ -14,7 +14,7 @@ from support.embedding import IN_PYTHON, block
 from support.program import ROOT, SHARED
 
 
-@pytest.mark.parametrize("name", ["", "._messages", "._perform", "._perform_async", "._runs", ".wsgi"])
+@pytest.mark.parametrize("name", ["", "._messages", "._perform", "._perform_async", "._runs", ".client", ".testing", ".wsgi"])
 def test_its_examples(name, package):
     found = doctest.testmod(importlib.import_module(f"odb_batch{name}"))
     assert found.failed == 0 < found.attempted
@@ -29,7 +29,7 @@ def test_its_extras_are_all_that_it_needs(tmp_path, monkeypatch):
     needed = re.findall("(?m)^Requires-Dist: (.*)$", head)
     extras = {"django": "Django>=3.2", "fastapi": "fastapi", "flask": "Flask", "testing": "hypothesis"}
     assert needed == [f'{name}; extra == "{extra}"' for extra, name in extras.items()]
-    assert re.findall("(?m)^Provides-Extra: (.*)$", head) == ["django", "fastapi", "flask"]
+    assert re.findall("(?m)^Provides-Extra: (.*)$", head) == list(extras)
 
 
 @pytest.mark.needs("mypy")

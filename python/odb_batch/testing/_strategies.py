@@ -28,9 +28,10 @@ ID_NAMES = ("a", "b", "c", "d", "e", "f", "1", "2", "A", "x-1", "~", "metadata",
 GROUP_NAMES = ("g", "h", "G")
 # How many requests a group has; 0 is a request without one.
 SIZES = of(0, 0, 0, 1, 2, 3)
+SPECIAL_URLS = ("$crossjoin(A,B)", "$metadata", "$all%ffx", "$batch/", "$root/Books#$")
 URLS = of(
-    "Books", "/service/Books('dune')", "", "https://host/s/X", "$crossjoin(A,B)", "$metadata", "$all%ffx",
-    "%zz", "/$a/Pages", "/service/%2524batch", "$batch/", "Books?x=/$batch", "$root/Books#$", "%", "Bücher",
+    "Books", "/service/Books('dune')", "", "https://host/s/X", "%zz", "/$a/Pages", "/service/%2524batch",
+    "Books?x=/$batch", "%", "Bücher", *SPECIAL_URLS,
 )  # fmt: skip
 # Ids that no URL refers to, since $ and the name mean something else.
 RESERVED = frozenset({"all", "batch", "crossjoin", "entity", "id", "metadata", "root"})
@@ -85,11 +86,11 @@ def names_of(draw: Any, batch: List[Json], group: Optional[str]) -> List[str]:
 
 
 def covered(batch: List[Json], request: Json) -> List[str]:
-    """The ids that a URL of a request may refer to, by the names that it lists. What is at a $batch is not referred to:
-    the URL in place of the reference would be that of a batch in a batch."""
+    """The ids that a URL of a request may refer to, by the names that it lists. What has a reserved URL is not referred
+    to: that URL cannot take the place of a reference."""
     around = {*(request.get("dependsOn") or []), request.get("atomicityGroup")} - {None}
     found = [it for it in batch if it["id"] in around or it.get("atomicityGroup") in around]
-    return [it["id"] for it in found if it["url"] != "$batch/"]
+    return [it["id"] for it in found if it["url"] not in SPECIAL_URLS]
 
 
 def add_body(draw: Any, request: Json, choices: Choices) -> None:

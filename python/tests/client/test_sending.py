@@ -74,6 +74,7 @@ class TestResults:
         ('"headers": {"content-type": "image/png"}, "body": "__4="', b"\xff\xfe"),
         ('"headers": {"content-type": "image/png"}, "body": "//4="', b"\xff\xfe"),
         ('"headers": {"content-type": "image/png"}, "body": "A"', b"A"),
+        ('"headers": {"content-type": "image/svg"}, "body": "<svg/>"', b"<svg/>"),
         ('"headers": {"content-type": "image/png"}, "body": {"a": 1}', b'{"a": 1}'),
         ('"headers": {"content-type": "text/plain; charset=none"}, "body": "a"', b"a"),
         ('"headers": {"content-type": null, "age": 7}, "body": 7', b"7"),
@@ -167,7 +168,7 @@ class TestParts:
         with pytest.raises(ValueError, match="b refers to a, which was answered without a Location"):
             results.rest()
 
-    @pytest.mark.parametrize("location", ["$b", "%24b", "$batch", "/v1/$batch"])
+    @pytest.mark.parametrize("location", ["$b", "%24b", "$batch", "/v1/$batch", "$root"])
     def test_a_location_that_no_url_may_have(self, location):
         batch, script = Batch(), {"a": Answer(201, {"Location": location, "ETag": "7"}), "b": [503, 200]}
         batch.post("A", {}, id="a")
