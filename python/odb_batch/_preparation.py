@@ -1,6 +1,7 @@
 """What is sent of a request: its URL and its headers without references, and its body as bytes on the wire."""
 
-from typing import Dict, Iterable, Iterator, Optional, Tuple
+import contextlib
+from typing import Collection, Dict, Iterable, Iterator, Optional, Tuple
 
 from ._answers import place_of, tag_of
 from ._bodies import to_wire
@@ -42,9 +43,11 @@ class Preparation:
                 yield value[1:]
 
     def keep(self, id: str, answer: Answer) -> None:
-        """Keeps what a request was answered, if others refer to it."""
+        """Keeps what a request was answered, if others refer to it, and its URL, if it was not sent from here."""
         if id in self._referred:
             self._answers[id] = answer
+            with contextlib.suppress(Refusal):
+                self._url_of(id)
 
     def prepared(self, id: str) -> PreparedRequest:
         """Returns a request as it is sent.
@@ -54,22 +57,39 @@ class Preparation:
                 a reference stands for nothing (424; 400 if the request with the ETag is not in dependsOn).
         """
         given = self._requests[id]
-        url = self._urls[id] = self._service.target(self._url_of(given))
-        headers = dict(given.headers)
-        for name in _CONDITIONS:
-            value = headers.get(name, "")
-            if value.startswith("$") and value[1:] in self._requests:
-                headers[name] = self._tag_of(value[1:])
-        body = b""
+        url, headers, body = self._url_of(id), self._headers_of(given), b""
         if given.body is not None:
             headers.setdefault("content-type", "application/json")
             body = to_wire(given.body, headers)
         return PreparedRequest(id, given.method, url, headers, body, given.group)
 
-    def _url_of(self, given: Request) -> str:
-        if given.reference is None:
-            return joined(self._service.base, given.url)
-        return self._place_of(given.reference) + given.rest
+    def member(self, id: str, group: Collection[str]) -> Request:
+        """Returns a request of a group that is sent as one, with the references to requests that are not in the group
+        replaced; raises Refusal as `prepared` does."""
+        given = self._requests[id]
+        headers = self._headers_of(given, group)
+        if given.reference in group:
+            return given._replace(headers=headers)
+        url = self._url_of(id)
+        return given._replace(url=url, reference=None, rest=url, headers=headers)
+
+    def _headers_of(self, given: Request, kept: Collection[str] = ()) -> Dict[str, str]:
+        """The headers of a request with ETags in place of references, but for those to the requests that are kept."""
+        headers = dict(given.headers)
+        for name in _CONDITIONS:
+            value = headers.get(name, "")
+            if value.startswith("$") and value[1:] in self._requests and value[1:] not in kept:
+                headers[name] = self._tag_of(value[1:])
+        return headers
+
+    def _url_of(self, id: str) -> str:
+        """The URL of a request."""
+        if id not in self._urls:
+            given = self._requests[id]
+            refers = given.reference is not None
+            url = self._place_of(str(given.reference)) + given.rest if refers else joined(self._service.base, given.url)
+            self._urls[id] = self._service.target(url)
+        return self._urls[id]
 
     def _place_of(self, id: str) -> str:
         """The URL of what a request has created or returned; without another one that is its own URL."""
@@ -78,7 +98,7 @@ class Preparation:
         place, context = self._places[id]
         if place is None and self._requests[id].method == "POST":
             raise Refusal(424, "NoLocation", f"{id} was answered without the URL of what it has created", id)
-        url = self._urls[id]
+        url = self._url_of(id)
         if place is None:
             return entity_url(url)
         return entity_url(joined(url if context is None else joined(url, context), place))
