@@ -6,9 +6,7 @@ from typing import Any, Dict, Iterator, List, Mapping, NamedTuple, Tuple
 
 from ._answers import checked
 from ._bodies import is_json
-from ._commands import match
 from ._documents import json_of
-from ._faults import Fault
 from ._messages import Answer, Answered, Refusal, header_dict, media_type
 from ._requests import Request
 
@@ -71,9 +69,9 @@ class PreparedGroup(NamedTuple):
     def answers(self, answered: Answered) -> List[Answer]:
         """Returns what each request is answered, in order, by what the service has answered to the batch of the group.
 
-        Bodies of JSON are the bytes of the response. A request that the service leaves out after an error is answered
-        424. With another status than 200 each request is answered what the batch was. What is not the response to the
-        batch, as :func:`odb_batch.match` says, is 502 ``BadResponse`` for each request.
+        Bodies of JSON are the bytes of the response. A request that the service leaves out is answered 424 after an error,
+        else 502. With another status than 200 each request is answered what the batch was. What is no response document,
+        or answers a request twice, is 502 ``BadResponse`` for each request.
 
         Raises:
             TypeError: It is not a status with headers and a body.
@@ -82,26 +80,30 @@ class PreparedGroup(NamedTuple):
         if answer.status != 200:
             return [answer if not answer.is_success else _BAD_RESPONSE] * len(self.requests)
         try:
-            match(self.batch(), answer.body, mode="stop")
-            found = dict(_responses(bytes(answer.body).decode("utf-8-sig")))
-            return [found.get(request.id, SKIPPED) for request in self.requests]
-        except (Fault, TypeError, ValueError, RecursionError):
+            found = _responses(bytes(answer.body).decode("utf-8-sig"))
+            missing = _BAD_RESPONSE if all(it.is_success for it in found.values()) else SKIPPED
+            return [found.get(request.id, missing) for request in self.requests]
+        except (IndexError, KeyError, TypeError, ValueError, RecursionError, AttributeError):
             return [_BAD_RESPONSE] * len(self.requests)
 
 
-def _responses(text: str) -> Iterator[Tuple[str, Answer]]:
-    """The answers of a response document by the ids of their requests; raises ValueError if it is none."""
+def _responses(text: str) -> Dict[str, Answer]:
+    """The answers of a response document by the ids of their requests; raises an exception if it is none."""
+    found: Dict[str, Answer] = {}
     for at in _elements(text, _members(text, 0)["responses"][0]):
         spans = _members(text, at)
         value = {name: json.loads(text[slice(*spans[name])]) for name in ("id", "status", "headers") if name in spans}
+        if value["id"] in found:
+            raise ValueError("a request is answered twice")
         headers = header_dict((value.get("headers") or {}).items())
         body = text[slice(*spans["body"])] if "body" in spans else "null"
         if body == "null":
-            yield value["id"], Answer(value["status"], headers)
-        elif is_json(media_type(headers)):
-            yield value["id"], Answer(value["status"], headers, body.encode())
+            answer = Answer(value["status"], headers)
         else:
-            yield value["id"], Answer(value["status"], headers, json.loads(body))
+            kept = is_json(media_type(headers))
+            answer = Answer(value["status"], headers, body.encode() if kept else json.loads(body))
+        found[value["id"]] = checked(answer)
+    return found
 
 
 def _members(text: str, at: int) -> Dict[str, Tuple[int, int]]:
