@@ -1,5 +1,6 @@
 """One batch on its way through the gateway: its requests and its groups, as they are sent to services."""
 
+import re
 import time
 from typing import Dict, List, Optional, Tuple
 from urllib.parse import urlsplit
@@ -17,6 +18,8 @@ from ._upstreams import Outgoing, Upstreams
 
 # The headers of an answer that have a URL.
 _PLACES = ("location", "content-location", "odata-entityid")
+# What is no relative URL of a path, but a reference, a query, a path or a scheme.
+_IS_READ_OTHERWISE = re.compile(r"[$?/]|[A-Za-z][A-Za-z0-9+.-]*:|$").match
 
 
 class Tally:
@@ -146,9 +149,7 @@ class Performance:
             return request._replace(headers=headers), "", ""
         route, url = self._routes.target(request.url)
         inside = url[len(folder_of(route.service)) :]
-        # A path of its own where the first segment would be read as a reference or as a scheme.
-        first = inside.partition("/")[0]
-        if first == "" or first[0] in "$%" or ":" in first:
+        if _IS_READ_OTHERWISE(inside):
             parts = urlsplit(url)
             inside = parts.path + (f"?{parts.query}" if parts.query else "")
         return request._replace(url=inside, headers=headers), route.service, url
