@@ -9,12 +9,15 @@ import threading
 from contextlib import suppress
 from typing import NamedTuple
 
+import aiohttp
 from aiohttp import web
+from yarl import URL
 
 from .commands import with_package
 from .servers import SECONDS, Asked
 
 BIG = 300_000
+OF_CONNECTION = ("connection", "content-length", "date", "keep-alive", "server", "transfer-encoding")
 
 
 class Loop:
@@ -43,9 +46,16 @@ class Loop:
     def stop(self):
         for runner in self.runners:
             self.run(runner.cleanup())
+        self.run(self._cancel_rest())
         self.loop.call_soon_threadsafe(self.loop.stop)
         self.thread.join(SECONDS)
         self.loop.close()
+
+    async def _cancel_rest(self):
+        rest = asyncio.all_tasks() - {asyncio.current_task()}
+        for task in rest:
+            task.cancel()
+        await asyncio.gather(*rest, return_exceptions=True)
 
 
 class Seen(NamedTuple):
@@ -76,7 +86,10 @@ class Upstream(Asked):
         seen = Seen(request.method, request.raw_path, headers, await request.read())
         self.seen.append(seen)
         kind = request.path.rpartition("/")[2]
-        return await ODD[kind](request) if kind in ODD else self.answer(seen)
+        if kind in ODD:
+            return await ODD[kind](request)
+        found = self.answer(seen)
+        return await found if asyncio.iscoroutine(found) else found
 
 
 def usual(seen):
@@ -148,6 +161,30 @@ class Front(Asked):
 
     def metrics(self):
         return self.gateway._metrics.text()
+
+
+class Proxy(Asked):
+    """What stands before a gateway and its service: batches go to the first, all else to the second."""
+
+    def __init__(self, loop, gateway, service):
+        self.gateway, self.service = gateway, service
+        app = web.Application(client_max_size=2**25)
+        app.router.add_route("*", "/{path:.*}", self._answer)
+        app.cleanup_ctx.append(self._opened)
+        self.port = loop.serve(app)
+        self.url = f"http://127.0.0.1:{self.port}/odata/"
+
+    async def _opened(self, app):
+        async with aiohttp.ClientSession(auto_decompress=False, cookie_jar=aiohttp.DummyCookieJar()) as self.session:
+            yield
+
+    async def _answer(self, request):
+        port = self.gateway.port if request.path.endswith("/$batch") else self.service.port
+        url = URL(f"http://127.0.0.1:{port}{request.raw_path}", encoded=True)
+        options = {"headers": request.headers, "data": await request.read(), "allow_redirects": False}
+        async with self.session.request(request.method, url, **options) as answer:
+            kept = [(name, value) for name, value in answer.headers.items() if name.lower() not in OF_CONNECTION]
+            return web.Response(status=answer.status, headers=kept, body=await answer.read())
 
 
 class Running(Asked):
