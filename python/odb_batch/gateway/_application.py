@@ -208,4 +208,4 @@ def _headers(request: web.Request) -> Dict[str, str]:
 
 def _response(answer: Answer) -> web.Response:
     headers, body = message_of(answer)
-    return web.Response(status=answer.status, headers=headers, body=body)
+    return web.Response(status=answer.status, headers={**headers, "server": "odb_batch"}, body=body)
