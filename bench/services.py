@@ -4,8 +4,8 @@
 FOLDER is what `bin/odb_library` has written, `dist/library` unless it is given. Each service of examples/frameworks is
 started on the loopback. One client asks it over one kept connection, in turns: 20 GETs of one book, and a batch of
 them. What counts is the processor time of all processes of the service, the best of each. A service whose framework is
-not installed is left out. So is the gateway, which is asked for 20 batches of one request and one of 20, and passes them on
-to the service in Flask; what counts is its own processor time.
+not installed is left out. The gateway is asked for 20 batches of one request, and for one of 20, which it passes on to
+the service in Flask; what counts is its own processor time.
 """
 
 import http.client

@@ -43,8 +43,8 @@ class PreparedGroup(NamedTuple):
 
     Attributes:
         name: The name of the group.
-        requests: Its requests in order. The URL of one that refers to another one of the group is as in the document; any
-            other is joined to the base and in ASCII, with the URL of the other resource in place of a reference.
+        requests: Its requests in order. The URL of one that refers to another one of the group is as in the document;
+            any other is joined to the base and in ASCII, with the URL of the other resource in place of a reference.
         needs: The ids of the group that a request depends on, by its id.
     """
 
@@ -53,7 +53,8 @@ class PreparedGroup(NamedTuple):
     needs: Mapping[str, Tuple[str, ...]]
 
     def batch(self) -> bytes:
-        """Returns the batch of the group (OData JSON Format 4.01, section 19.1). Bodies are the bytes of the document."""
+        """Returns the batch of the group (OData JSON Format 4.01, section 19.1). Bodies are the bytes of the
+        document."""
         return b'{"requests":[%s]}' % b",".join(map(self._element, self.requests))
 
     def _element(self, request: Request) -> bytes:
@@ -69,9 +70,9 @@ class PreparedGroup(NamedTuple):
     def answers(self, answered: Answered) -> List[Answer]:
         """Returns what each request is answered, in order, by what the service has answered to the batch of the group.
 
-        Bodies of JSON are the bytes of the response. A request that the service leaves out is answered 424 after an error,
-        else 502. With another status than 200 each request is answered what the batch was. What is no response document,
-        or answers a request twice, is 502 ``BadResponse`` for each request.
+        Bodies of JSON are the bytes of the response. A request that the service leaves out is answered 424 after an
+        error, else 502. With another status than 200 each request is answered what the batch was. What is no response
+        document, or answers a request twice, is 502 ``BadResponse`` for each request.
 
         Raises:
             TypeError: It is not a status with headers and a body.

@@ -72,9 +72,9 @@ async def perform_async(
     one whose URL leads out of ``base``, it is answered so, and the others 424; ``groups`` raises :class:`MemberRefused`
     for that.
 
-    With a ``journal`` a batch goes on after the end of a process: call this again with the same batch and mode, and with a
-    journal that has the events so far. A GET that was out is sent again. Anything else that was out, also each request of
-    a group that was sent as one, is answered 500 ``Lost``. A batch that was finished gets the same response.
+    With a ``journal`` a batch goes on after the end of a process: call this again with the same batch and mode, and
+    with a journal that has the events so far. A GET that was out is sent again. Anything else that was out, also each
+    request of a group that was sent as one, is answered 500 ``Lost``. A batch that was finished gets the same response.
 
     Args:
         batch, mode, base, roots, limit, stop: As of :func:`odb_batch.perform`.

@@ -110,8 +110,8 @@ class Work:
         self._run.close()
 
     def _resume(self, events: Sequence[JournalEvent]) -> List[Unit]:
-        """Takes what has happened before; returns the units that were out and are sent again, which are GETs. The others
-        that were out are lost."""
+        """Takes what has happened before; returns the units that were out and are sent again, which are GETs. The
+        others that were out are lost."""
         out: Dict[str, None] = {}
         for event in events:
             if isinstance(event, Report):
@@ -141,8 +141,8 @@ class Work:
             self._journal.write(event)
 
     def begin(self) -> Optional[Unit]:
-        """Starts the first request of the first unit that may begin, or all of them if it is a group that is sent as one;
-        None if no unit may begin now."""
+        """Starts the first request of the first unit that may begin, or all of them if it is a group that is sent as
+        one; None if no unit may begin now."""
         if self._stop is not None and not self._is_stopped and self._stop():
             self._is_stopped = True
             self.stop()
@@ -254,8 +254,8 @@ class Work:
     def _report_unread(
         self, id: str, answer: Answer, headers: Dict[str, str], text: bytes
     ) -> Tuple[Dict[str, str], bytes]:
-        """Reports an answer that the run cannot read: a body that is not JSON as a string, headers in ASCII alone. Returns
-        what it has reported."""
+        """Reports an answer that the run cannot read: a body that is not JSON as a string, headers in ASCII alone.
+        Returns what it has reported."""
         LOG.warning("the answer to %s has a body that is not JSON, or a header that is not Unicode", id)
         wire = bytes(answer.body) if isinstance(answer.body, (bytes, bytearray, memoryview)) else text
         kept = {name: value for name, value in headers.items() if name.isascii() and value.isascii()}

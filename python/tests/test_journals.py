@@ -116,7 +116,9 @@ def test_what_a_reference_stands_for_is_found_again():
 
 
 def test_a_chain_of_references_is_found_again_without_recursion():
-    chain = [{"id": f"r{k}", "method": "get", "url": f"$r{k - 1}/x", "dependsOn": [f"r{k - 1}"]} for k in range(1, 3_000)]
+    chain = [
+        {"id": f"r{k}", "method": "get", "url": f"$r{k - 1}/x", "dependsOn": [f"r{k - 1}"]} for k in range(1, 3_000)
+    ]
     batch = {"requests": [{"id": "r0", "method": "get", "url": "x"}, *chain]}
     events = [it for k in range(2_999) for it in (Start(f"r{k}"), Report(f"r{k}", 200))]
     urls = []

@@ -18,12 +18,14 @@ BATCH = """{"requests": [
     {"id": "a", "atomicityGroup": "g", "method": "post", "url": "$x/A?y=1", "body": {"n": 9.990}, "dependsOn": ["x"]},
     {"id": "b", "atomicityGroup": "g", "method": "patch", "url": "$a", "headers": {"If-Match": "$a"}, "body": [1.0],
      "dependsOn": ["x", "a"]},
-    {"id": "t", "atomicityGroup": "g", "method": "put", "url": "T", "headers": {"Content-Type": "text/plain"}, "body": "\\u00fc"},
+    {"id": "t", "atomicityGroup": "g", "method": "put", "url": "T", "headers": {"Content-Type": "text/plain"},
+     "body": "\\u00fc"},
     {"id": "c", "method": "get", "url": "$a/Lines", "dependsOn": ["g"]}]}"""
 SENT = (
     '{"requests":['
     '{"id":"a","atomicityGroup":"g","method":"post","url":"http://host/odata/X(1)/A?y=1","body":{"n": 9.990}},'
-    '{"id":"b","atomicityGroup":"g","method":"patch","url":"$a","dependsOn":["a"],"headers":{"if-match":"$a"},"body":[1.0]},'
+    '{"id":"b","atomicityGroup":"g","method":"patch","url":"$a","dependsOn":["a"],"headers":{"if-match":"$a"},'
+    '"body":[1.0]},'
     '{"id":"t","atomicityGroup":"g","method":"put","url":"http://host/odata/T","headers":{"content-type":"text/plain"},'
     '"body":"\\u00fc"}]}'
 )
@@ -73,7 +75,8 @@ def test_a_group_is_sent_as_a_batch_with_references_to_the_outside_replaced(mode
     assert urls == [BASE + "X", BASE + "A(2)/Lines"]
 
 
-RESPONSE = """ {"@x": [], "responses" : [ {"id": "t", "status": 200, "headers": {"Content-Type": "text/plain"}, "body": "\\u00fc"},
+RESPONSE = """ {"@x": [], "responses" : [ {"id": "t", "status": 200, "headers": {"Content-Type": "text/plain"},
+   "body": "\\u00fc"},
  {"body" : {"n": 9.990, "m": 123456789012345678901234} , "id": "a", "atomicityGroup": "g", "status": 201},
  {"id": "b", "status": 204, "body": null, "headers": null} ] } """
 

@@ -33,7 +33,9 @@ def test_groups_are_refused_as_a_whole(upstream, front):
     assert (status, json.loads(text)["error"]["code"], service.seen) == (501, "NoGroups", [])
 
 
-@pytest.mark.parametrize("headers", [JSON, {**JSON, "Prefer": "continue-on-error, return=minimal"}], ids=["stop", "continue"])
+@pytest.mark.parametrize(
+    "headers", [JSON, {**JSON, "Prefer": "continue-on-error, return=minimal"}], ids=["stop", "continue"]
+)
 def test_a_group_is_forwarded_as_a_batch(upstream, front, headers):
     places = {"location": "/v2/Orders(1)", "content-type": "application/json"}
     made = {"id": "r1", "status": 201, "headers": places, "body": {"n": 1}}
@@ -43,7 +45,13 @@ def test_a_group_is_forwarded_as_a_batch(upstream, front, headers):
         {"method": "post", "url": "Books", "body": 1},
         *group(
             {"url": "Orders?x=1", "body": {"n": 1.5}, "dependsOn": ["r0"]},
-            {"method": "patch", "url": "$r1", "headers": {"If-Match": "$r1", "Prefer": "x"}, "body": 2, "dependsOn": ["r0", "r1"]},
+            {
+                "method": "patch",
+                "url": "$r1",
+                "headers": {"If-Match": "$r1", "Prefer": "x"},
+                "body": 2,
+                "dependsOn": ["r0", "r1"],
+            },
             {"method": "get", "url": "Orders('a:b')"},
         ),
         {"url": "$r1/Lines", "dependsOn": ["g"]},
@@ -59,7 +67,8 @@ def test_a_group_is_forwarded_as_a_batch(upstream, front, headers):
     own = {"if-match": "$r1", "prefer": ", ".join(["x", *minimal])}
     assert json.loads(sent.body) == {"requests": [
         {"id": "r1", "atomicityGroup": "g", "method": "post", "url": "Orders?x=1", "body": {"n": 1.5}},
-        {"id": "r2", "atomicityGroup": "g", "method": "patch", "url": "$r1", "dependsOn": ["r1"], "headers": own, "body": 2},
+        {"id": "r2", "atomicityGroup": "g", "method": "patch", "url": "$r1", "dependsOn": ["r1"], "headers": own,
+         "body": 2},
         {"id": "r3", "atomicityGroup": "g", "method": "get", "url": "Orders('a:b')"},
     ]}  # fmt: skip
 
@@ -67,7 +76,9 @@ def test_a_group_is_forwarded_as_a_batch(upstream, front, headers):
 def test_a_group_of_two_services_is_not_sent(upstream, front):
     first, second = upstream(), upstream()
     it = front("--route", f"/odata/Orders={first.url}/Orders", "--upstream", second.url, "--groups", "forward")
-    found = it.batch(*group({"url": "Orders"}, {"url": "Books"}), {"url": "Books"}, {"url": "Books", "dependsOn": ["g"]})
+    found = it.batch(
+        *group({"url": "Orders"}, {"url": "Books"}), {"url": "Books"}, {"url": "Books", "dependsOn": ["g"]}
+    )
     assert [it["status"] for it in found.values()] == [501, 501, 200, 424]
     assert found["r0"]["body"]["error"]["code"] == "SeveralServices"
     assert (first.seen, second.paths) == ([], ["/odata/Books"])
@@ -81,7 +92,8 @@ def test_two_routes_to_one_service_are_one(upstream, front):
 
 
 @pytest.mark.parametrize("bad, statuses", [
-    ({"url": "../x"}, [424, 404]), ({"url": "http://evil/x"}, [424, 404]), ({"url": "x", "headers": {"X-Own": "1"}}, [424, 400]),
+    ({"url": "../x"}, [424, 404]), ({"url": "http://evil/x"}, [424, 404]),
+    ({"url": "x", "headers": {"X-Own": "1"}}, [424, 400]),
 ])  # fmt: skip
 def test_a_group_with_a_request_that_may_not_be_sent_is_not(upstream, front, bad, statuses):
     service = upstream()
@@ -90,7 +102,8 @@ def test_a_group_with_a_request_that_may_not_be_sent_is_not(upstream, front, bad
 
 
 @pytest.mark.parametrize("path, inside", [
-    ("/a:b", "/odata/a:b"), ("/$x", "/odata/$x"), ("/%24x", "/odata/$x"), ("//x", "/odata//x"), ("/x/$y", "x/$y"), ("/?a=1", "/odata/?a=1"),
+    ("/a:b", "/odata/a:b"), ("/$x", "/odata/$x"), ("/%24x", "/odata/$x"), ("//x", "/odata//x"), ("/x/$y", "x/$y"),
+    ("/?a=1", "/odata/?a=1"), ("/X('a:b')", "X('a:b')"),
 ])  # fmt: skip
 def test_urls_of_a_group_that_would_be_read_otherwise(upstream, front, path, inside):
     service = upstream(batching({"id": "r0", "status": 200}))
@@ -104,8 +117,8 @@ def test_urls_of_a_group_that_would_be_read_otherwise(upstream, front, path, ins
 
 
 @pytest.mark.parametrize("kind, statuses", [
-    ("hang-up", [502, 502]), ("half", [502, 502]), ("hang", [504, 504]), ("html", [502, 502]), ("missing", [404, 404]), ("big", [502, 502]),
-    ("elsewhere", [302, 302]),
+    ("hang-up", [502, 502]), ("half", [502, 502]), ("hang", [504, 504]), ("html", [502, 502]), ("big", [502, 502]),
+    ("missing", [404, 404]), ("elsewhere", [302, 302]),
 ])  # fmt: skip
 def test_services_that_break_within_a_group(upstream, front, monkeypatch, kind, statuses):
     from support.gateways import ODD
@@ -113,12 +126,18 @@ def test_services_that_break_within_a_group(upstream, front, monkeypatch, kind, 
     service = upstream()
     monkeypatch.setitem(ODD, "$batch", ODD[kind])
     it = front("--upstream", service.url, "--groups", "forward", "--timeout", "0.5", "--max-size", "200000")
-    assert it.statuses(*group({"url": "a"}, {"url": "b"}), {"url": "c", "dependsOn": ["g"]}, {"url": "d"}) == [*statuses, 424, 200]
+    assert it.statuses(*group({"url": "a"}, {"url": "b"}), {"url": "c", "dependsOn": ["g"]}, {"url": "d"}) == [
+        *statuses,
+        424,
+        200,
+    ]
 
 
 def test_an_error_of_others_while_a_group_is_out(upstream, front):
     """In mode stop the members of a group that is out are answered by their service."""
     service = upstream(batching({"id": "r0", "status": 201}, {"id": "r1", "status": 201}))
     it = front("--upstream", service.url, "--groups", "forward")
-    found = it.statuses(*group({"url": "a"}, {"url": "b"}), {"url": "missing"}, {"url": "c", "dependsOn": ["g"]}, headers=JSON)
+    found = it.statuses(
+        *group({"url": "a"}, {"url": "b"}), {"url": "missing"}, {"url": "c", "dependsOn": ["g"]}, headers=JSON
+    )
     assert found == [201, 201, 404, 424]

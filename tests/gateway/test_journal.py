@@ -179,7 +179,9 @@ def test_a_batch_goes_on_wherever_its_journal_ends(pair, tmp_path):
         with open(path, "wb") as file:
             file.write(events[:cut])
         happened = list(map(json.loads, events[:cut].splitlines(keepends=True)[1 : events[:cut].count(b"\n")]))
-        started = {id for it in happened for id in ([it["start"]] if isinstance(it.get("start"), str) else it.get("start", ()))}
+        started = {
+            id for it in happened for id in ([it["start"]] if isinstance(it.get("start"), str) else it.get("start", ()))
+        }
         out = started - {it["report"] for it in happened if "report" in it}
         del service.seen[:]
         status, _, text = ask("x")
@@ -196,7 +198,8 @@ def test_a_batch_goes_on_wherever_its_journal_ends(pair, tmp_path):
 
 
 @pytest.mark.parametrize("change", [
-    {"batch": BATCH + " "}, {"Prefer": "return=minimal"}, {"Authorization": "Bearer 2"}, {"Cookie": "a=b"}, {"path": "/other/$batch"},
+    {"batch": BATCH + " "}, {"Prefer": "return=minimal"}, {"Authorization": "Bearer 2"}, {"Cookie": "a=b"},
+    {"path": "/other/$batch"},
 ], ids=str)  # fmt: skip
 def test_another_batch_under_the_same_id(pair, change):
     service, ask = pair

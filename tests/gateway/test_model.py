@@ -21,7 +21,9 @@ def gateways(aiohttp):
 
     loop = Loop()
     service = Upstream(loop)
-    yield service, [Front(loop, "--upstream", service.url, "--groups", "forward", "--width", str(width)) for width in range(1, 5)]
+    yield service, [
+        Front(loop, "--upstream", service.url, "--groups", "forward", "--width", str(width)) for width in range(1, 5)
+    ]
     loop.stop()
 
 

@@ -1,7 +1,7 @@
 """What docs/gateway.md shows: its commands and its code, run; its options, statuses and blocks for others, compared.
 
-`PYTHONPATH=tests:python python3 tests/gateway/test_page.py --write` puts into the page what its commands print, over the
-library that ODB_BATCH_LIBRARY names.
+`PYTHONPATH=tests:python python3 tests/gateway/test_page.py --write` puts into the page what its commands print, over
+the library that ODB_BATCH_LIBRARY names.
 """
 
 import asyncio
@@ -98,7 +98,13 @@ def test_the_code_of_the_page_sends_a_group(loop, upstream):
     service = upstream(lambda seen: grouped(seen) if seen.path.endswith("$batch") else usual(seen))
     base = f"http://127.0.0.1:{service.port}/odata/"
     group = {"method": "post", "atomicityGroup": "g"}
-    batch = {"requests": [{"id": "a", "url": "A", **group}, {"id": "b", "url": "B", **group}, {"id": "c", "url": "C", "method": "get"}]}
+    batch = {
+        "requests": [
+            {"id": "a", "url": "A", **group},
+            {"id": "b", "url": "B", **group},
+            {"id": "c", "url": "C", "method": "get"},
+        ]
+    }
     body = "".join(f"    {line}\n" for line in blocks("python")[0].splitlines())
     names = {"perform_async": perform_async, "BASE": base, "batch": batch}
     exec(f"async def run(session):\n{body}    return response\n", names)
@@ -122,9 +128,13 @@ def test_the_options_of_the_page_are_those_of_the_help():
     from odb_batch.gateway._options import parser
 
     rows = re.search(r"\n\| option \|.*?\n\n", page(), re.DOTALL)[0].splitlines()[3:]
-    shown = {name: row.split(" | ")[1] for row in rows if row for name in re.findall(r"`(--[\w-]+)", row.partition(" | ")[0])}
+    shown = {
+        name: row.split(" | ")[1] for row in rows if row for name in re.findall(r"`(--[\w-]+)", row.partition(" | ")[0])
+    }
     known = {it.option_strings[0]: it for it in parser()._actions if it.option_strings[0] != "-h"}
-    assert list(shown) == ["--upstream", "--route", "--groups", "--listen", *list(shown)[4:]] and set(shown) == set(known)
+    assert list(shown) == ["--upstream", "--route", "--groups", "--listen", *list(shown)[4:]] and set(shown) == set(
+        known
+    )
     for name, value in shown.items():
         usual = known[name].default
         if value.replace(",", "").isdigit():
@@ -161,7 +171,9 @@ def test_nginx_sends_batches_to_the_gateway(upstream, running, tmp_path):
     it, port = running("--upstream", service.url), free_port()
     server = blocks("nginx")[0].replace("8090", str(it.port))
     other = f"location / {{ proxy_pass {service.url}; }}"
-    paths = "".join(f"{name}_temp_path {tmp_path}/{name};" for name in ("client_body", "proxy", "fastcgi", "uwsgi", "scgi"))
+    paths = "".join(
+        f"{name}_temp_path {tmp_path}/{name};" for name in ("client_body", "proxy", "fastcgi", "uwsgi", "scgi")
+    )
     http = f"http {{ access_log off; {paths} server {{ listen 127.0.0.1:{port}; {server} {other} }} }}"
     (tmp_path / "nginx.conf").write_text(f"daemon off; pid {tmp_path}/pid; events {{}} {http}")
     words = ["nginx", "-c", str(tmp_path / "nginx.conf"), "-p", str(tmp_path), "-e", str(tmp_path / "log")]
@@ -170,7 +182,11 @@ def test_nginx_sends_batches_to_the_gateway(upstream, running, tmp_path):
             front = Asked()
             front.port = int(port)
             wait_for(front)
-            found = front.batch({"method": "post", "url": "Books"}, {"url": "$r0", "dependsOn": ["r0"]}, {"url": f"http://127.0.0.1:{port}/odata/x"})
+            found = front.batch(
+                {"method": "post", "url": "Books"},
+                {"url": "$r0", "dependsOn": ["r0"]},
+                {"url": f"http://127.0.0.1:{port}/odata/x"},
+            )
             assert [it["status"] for it in found.values()] == [201, 200, 200]
             assert service.seen[-1].headers["x-forwarded-host"] == f"127.0.0.1:{port}"
             assert front.ask("GET", "/odata/plain")[0] == 200

@@ -68,7 +68,9 @@ def test_sigterm(upstream, running):
     service = upstream(slow)
     it = running("--upstream", service.url, "--width", "1", "--log", "none")
     with ThreadPoolExecutor(1) as clients:
-        asked = clients.submit(it.statuses, {"method": "post", "url": "slow"}, {"url": "$r0", "dependsOn": ["r0"]}, {"url": "x"})
+        asked = clients.submit(
+            it.statuses, {"method": "post", "url": "slow"}, {"url": "$r0", "dependsOn": ["r0"]}, {"url": "x"}
+        )
         until(lambda: service.seen)
         it.process.send_signal(signal.SIGTERM)
         until(lambda: it.ask("GET", "/health/ready")[0] == 503)
@@ -104,7 +106,8 @@ def test_a_line_of_log_for_each_batch_and_each_request(upstream, running):
     lines = [re.sub(r"^[-\d]+T[:\d]+Z |(ms|from)=\S+|\b\d{5}\b", "", line).split() for line in text.splitlines()]
     url, batch = "url=http://127.0.0.1:", ["batch=/odata/$batch", "method=POST"]
     assert sorted(lines[:2]) == [
-        ["request=r0", "method=GET", f"{url}/odata/x", "status=200"], ["request=r1", "method=POST", f"{url}/odata/missing", "status=404"],
+        ["request=r0", "method=GET", f"{url}/odata/x", "status=200"],
+        ["request=r1", "method=POST", f"{url}/odata/missing", "status=404"],
     ]  # fmt: skip
     assert lines[2][:-1] == [*batch, "status=200", "sent=2", "failed=1"] and lines[2][-1].startswith("bytes=")
     assert lines[3] == [*batch, "status=400", "code=F02", "sent=0", "failed=0"]
@@ -198,7 +201,7 @@ def test_sigkill_at_twenty_moments(upstream, running, tmp_path):
 
 
 def judged(service, key, responses):
-    """The requests of a batch that are lost; any other one was performed just once if it was answered 2xx, else never."""
+    """The requests of a batch that are lost; any other one was performed once if it was answered 2xx, else never."""
     lost, statuses = [], {it["id"]: it["status"] for it in responses}
     for it in responses:
         count = service.performed[f"{key}-{it['id']}"]

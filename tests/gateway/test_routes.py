@@ -70,7 +70,8 @@ def test_a_path_is_normalized_but_for_what_has_a_meaning():
     ["--route", "Orders=http://a/"], ["--route", "/Orders=a"], ["--route", "/Orders=http://a/x/"],
     ["--route", "/x/../y=http://a/y"], ["--upstream", "http://a/", "--route", "/=http://b/"],
     *(["--upstream", "http://a/", *it] for it in (
-        ["--width", "0"], ["--width", "10001"], ["--timeout", "0"], ["--batches", "-1"], ["--listen", "x"], ["--listen", "1:99999"],
+        ["--width", "0"], ["--width", "10001"], ["--timeout", "0"], ["--batches", "-1"], ["--listen", "x"],
+        ["--listen", "1:99999"],
         ["--metrics", "x"], ["--health", "health"], ["--groups", "some"], ["--log", "all"], ["--keep", "nan"], ["--no"],
     )),
 ], ids=" ".join)  # fmt: skip

@@ -36,7 +36,9 @@ class Gateway:
 
     def __init__(self, options: Options) -> None:
         self._options = options
-        self._metrics = Metrics({"batches": options.batches, "connections": options.connections, "width": options.width})
+        self._metrics = Metrics(
+            {"batches": options.batches, "connections": options.connections, "width": options.width}
+        )
         self._routes, self._upstreams = Routes(options.routes), Upstreams(options, self._metrics)
         self._journals = Journals(options.journal, options.keep) if options.journal else None
 

@@ -67,8 +67,8 @@ class Routes:
         return next((it for it in self._routes if _takes(it.prefix, path)), None)
 
     def public(self, base: str, sent: str, place: str) -> str:
-        """Returns the URL, as clients see it, of what a service calls by a URL; that itself if no route leads there. One
-        without a host stays without.
+        """Returns the URL, as clients see it, of what a service calls by a URL; that itself if no route leads there.
+        One without a host stays without.
 
         Args:
             base: A URL that clients see.
