@@ -46,6 +46,7 @@ class Preparation:
         """Keeps what a request was answered, if others refer to it, and its URL, if it was not sent from here."""
         if id in self._referred:
             self._answers[id] = answer
+        if id in self._referred and answer.is_success:
             with contextlib.suppress(Refusal):
                 self._url_of(id)
 

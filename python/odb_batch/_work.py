@@ -125,11 +125,11 @@ class Work:
             else:
                 self._run.start(event.id)
                 out[event.id] = None
-        again = [id for id in out if self._requests[id].method == "GET" and self._requests[id].group is None]
-        for id in set(out).difference(again):
+        again = {id for id in out if self._requests[id].method == "GET" and self._requests[id].group is None}
+        for id in [id for id in out if id not in again]:
             LOG.error("%s was out when a process ended, and is lost", id)
             self._report(id, LOST)
-        return [Unit((id,), None) for id in again]
+        return [Unit((id,), None) for id in out if id in again]
 
     def _take_report(self, event: Report) -> None:
         headers = dict(event.headers or {})

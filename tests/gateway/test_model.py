@@ -8,7 +8,7 @@ from hypothesis import strategies as st
 
 from odb_batch import match, replay
 from support.profiles import share
-from support.replays import MODES, placed, responses_of
+from support.replays import MODES, is_as_one, placed, responses_of
 from support.rules import front as parts_of
 from support.servers import CONTINUE, JSON
 from support.strategies import recorded_batches
@@ -36,8 +36,9 @@ def routed(request):
 
 
 def bare(outcome):
-    """An outcome without a body where HTTP has none."""
-    headers = {**outcome["headers"], "Content-Type": "application/json"}
+    """An outcome as HTTP has it: without a body where there is none, and with usual headers."""
+    headers = {name: it for name, it in outcome["headers"].items() if name == "Location"}
+    headers["Content-Type"] = "application/json"
     body = None if outcome["status"] in (204, 205, 304) else outcome.get("body")
     return {**outcome, "headers": headers, "body": body}
 
@@ -77,6 +78,6 @@ def test_random_batches_are_replays(gateways, recorded, mode, width):
     assert status == 200, text
     assert len(set(seen)) == len(seen)
     match(batch, text)
-    if mode == "continue" or width == 1:
+    if (mode == "continue" or width == 1) and is_as_one(batch, recorded[1], mode):
         wanted = replay(batch, {"outcomes": list(outcomes.values())}, mode=mode, width=1).response
         assert compared(responses_of(text)) == compared(responses_of(wanted))

@@ -18,5 +18,12 @@ def placed(outcomes):
     return found
 
 
+def is_as_one(batch, outcomes, mode):
+    """Whether a batch is the same if groups are sent as one. In mode stop a group may fail by a 3xx, which stops nothing;
+    sent as one, its other requests are answered 424, which does."""
+    groups = {it["id"] for it in batch["requests"] if it.get("atomicityGroup") is not None}
+    return mode == "continue" or not any(300 <= it["status"] <= 399 for it in outcomes if it["id"] in groups)
+
+
 def responses_of(text):
     return json.loads(text)["responses"]
