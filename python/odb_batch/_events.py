@@ -35,7 +35,8 @@ class Journal(Protocol):
         """What has happened before, in order; none for a new batch."""
 
     def write(self, event: JournalEvent) -> None:
-        """Appends an event. It must not wait; the order of the calls is the order of the events."""
+        """Appends an event. It must not wait; the order of the calls is the order of the events. What is lost is written
+        by a thread if the batch is long, before anything is sent."""
 
     async def sync(self) -> None:
         """Returns once all events that were written before this call outlive the process, or the machine.

@@ -2,6 +2,7 @@
 
 import asyncio
 import contextlib
+import functools
 from typing import (
     Any,
     AsyncContextManager,
@@ -19,7 +20,7 @@ from typing import (
 
 from ._answers import answer_to, checked
 from ._commands import Mode
-from ._documents import Document
+from ._documents import Document, bytes_of
 from ._events import Journal
 from ._groups import SKIPPED, MemberRefused, PreparedGroup
 from ._messages import Answer, Answered, PreparedRequest
@@ -32,6 +33,9 @@ SendAsync = Callable[[PreparedRequest], Awaitable[Answered]]
 SendGroup = Callable[[PreparedGroup], Awaitable[Sequence[Answered]]]
 #: Opens the transaction of a group, by its name; see :data:`odb_batch._perform.Transaction`.
 TransactionAsync = Callable[[str], Union[AsyncContextManager[Any], ContextManager[Any]]]
+
+# A document with more bytes is read in a thread, so that the loop goes on meanwhile.
+_LONG = 65_536
 
 
 async def perform_async(
@@ -101,8 +105,10 @@ async def perform_async(
     """
     if transaction is not None and (groups is not None or journal is not None):
         raise ValueError("a transaction cannot be combined with groups that are sent as one, or with a journal")
-    with Work(
-        batch,
+    document = bytes_of(batch)
+    open_work = functools.partial(
+        Work,
+        document,
         mode=mode,
         width=width,
         limit=limit,
@@ -111,7 +117,9 @@ async def perform_async(
         stop=stop,
         sends_groups=groups is not None,
         journal=journal,
-    ) as work:
+    )
+    is_long = len(document) > _LONG
+    with await asyncio.get_running_loop().run_in_executor(None, open_work) if is_long else open_work() as work:
         await _Tasks(work, width, _How(send, transaction, timeout, gate, groups, journal)).end()
         if journal is not None:
             await journal.sync()

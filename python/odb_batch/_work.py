@@ -87,11 +87,12 @@ class Work:
         given = requests(document)
         if len(given) > limit:
             raise Refusal(413, "TooManyRequests", f"A batch may have {limit} requests")
-        if not (has_transactions or sends_groups) and any(request.group is not None for request in given):
+        has_groups = any(request.group is not None for request in given)
+        if has_groups and not (has_transactions or sends_groups):
             raise Refusal(501, "NoGroups", "Atomicity groups are not supported here")
         self._requests = {request.id: request for request in given}
         self._preparation, self._stop, self._journal = Preparation(given, service), stop, journal
-        self._plan, self._is_stopped = plan(document) if sends_groups else None, False
+        self._plan, self._is_stopped = plan(document) if has_groups and sends_groups else None, False
         happened = journal.events if journal is not None else ()
         # What was out before may be more than the width is now.
         self._run = Run(document, mode=mode, width=MAX_WIDTH if happened else width)

@@ -21,7 +21,7 @@ _NAME_SIZE = 64
 
 def identity(**parts: str) -> bytes:
     """Returns the first line of a journal: what a batch has to have in common with one that is sent again."""
-    return json.dumps(parts, sort_keys=True).encode() + b"\n"
+    return json.dumps({"form": 1, **parts}, sort_keys=True).encode() + b"\n"
 
 
 def digest(*texts: bytes) -> str:
@@ -71,7 +71,8 @@ class FileJournal:
         """Lets others have the file; a batch of which nothing has happened leaves none."""
         if not self.events and not self._written:
             os.unlink(self._path)
-        os.close(self._file)
+        file, self._file = self._file, -1  # what still writes must not write to another one
+        os.close(file)
 
 
 class Journals:

@@ -2,7 +2,7 @@
 
 import argparse
 import re
-from typing import NamedTuple, Optional, Sequence, Tuple
+from typing import NamedTuple, Optional, Sequence, Tuple, Union
 from urllib.parse import urlsplit
 
 from .._commands import MAX_WIDTH
@@ -85,7 +85,7 @@ def _path(text: str) -> str:
     return text
 
 
-def _metrics(text: str) -> "str | Address":
+def _metrics(text: str) -> Union[str, Address]:
     return _path(text) if text.startswith("/") else _address(text if ":" in text else f"127.0.0.1:{text}")
 
 

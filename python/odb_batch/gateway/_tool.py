@@ -3,7 +3,7 @@
 import asyncio
 import signal
 import sys
-from typing import Sequence
+from typing import Sequence, Tuple
 
 from ._options import PROGRAM, Address, Options, options_of
 
@@ -59,7 +59,7 @@ def _shown(wanted: Address, bound: Sequence[object]) -> str:
     return f"http://{f'[{host}]' if ':' in host else host}:{bound[1]}"
 
 
-def _signals() -> "tuple[asyncio.Event, asyncio.Event]":
+def _signals() -> Tuple[asyncio.Event, asyncio.Event]:
     """What SIGTERM and SIGINT set: the first one, and a further one."""
     stopped, hurry = asyncio.Event(), asyncio.Event()
 
