@@ -131,6 +131,13 @@ def test_a_chain_of_references_is_found_again_without_recursion():
     assert urls == ["http://host/" + "/".join(["x"] * 1_000)]
 
 
+def test_a_long_batch_goes_on():
+    long = {"requests": [{**BATCH["requests"][0], "body": "x" * 100_000}, *BATCH["requests"][1:]]}
+    response, service, journal = performed(long, outcomes_of(long), [Start("a")])
+    assert [it["status"] for it in responses_of(response)] == [500, 424, 424, 424, 424]
+    assert ids_of(journal.written[1:], Report) == ["a"] and service.sent == []
+
+
 def test_a_stop_lasts():
     stopped = []
     journal = Memory()

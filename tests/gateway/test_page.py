@@ -15,6 +15,7 @@ import socket
 import subprocess
 import sys
 import tempfile
+import time
 
 import pytest
 
@@ -196,9 +197,11 @@ def test_nginx_sends_batches_to_the_gateway(upstream, running, tmp_path):
 
 
 def wait_for(front):
-    for _ in range(200):
+    end = time.monotonic() + SECONDS
+    while time.monotonic() < end:
         with contextlib.suppress(OSError):
             return front.ask("GET", "/odata/ready")
+        time.sleep(0.02)
     pytest.fail("nginx does not listen")
 
 
