@@ -259,7 +259,7 @@ def test_a_disk_that_is_full(pair, monkeypatch):
     write, lines = os.write, []
 
     def failing(file, line):
-        lines.append(line)
+        lines.extend([line] if line.startswith(b"{") else [])
         if len(lines) == 7:
             raise OSError(28, "No space left on device")
         return write(file, line)

@@ -72,6 +72,7 @@ class FileJournal:
         if not self.events and not self._written:
             os.unlink(self._path)
         file, self._file = self._file, -1  # what still writes must not write to another one
+        fcntl.flock(file, fcntl.LOCK_UN)  # a sync that was cancelled may keep it open for a while
         os.close(file)
 
 

@@ -106,6 +106,4 @@ class Upstreams:
                 raise Refusal(502, "Encoded", "The service has compressed its answer, though it was not asked to")
             while len(body) <= room.left and (part := await answer.content.read(_PART)):
                 body += part
-            if len(body) > room.left:
-                answer.close()
         return Answer(answer.status, header_dict(answer.headers.items()), bytes(body))
