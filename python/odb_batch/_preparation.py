@@ -48,8 +48,9 @@ class Preparation:
         if id not in self._referred:
             return False
         self._answers[id] = answer
-        with contextlib.suppress(Refusal):
-            self.url(id)
+        if answer.is_success:
+            with contextlib.suppress(Refusal):
+                self.url(id)
         return True
 
     def prepared(self, id: str) -> PreparedRequest:
@@ -65,6 +66,15 @@ class Preparation:
             headers.setdefault("content-type", "application/json")
             body = to_wire(given.body, headers)
         return PreparedRequest(id, given.method, url, headers, body, given.group)
+
+    def member(self, id: str, group: Collection[str]) -> Request:
+        """Returns a request of a group that is sent as one, with the references to requests that are not in the group
+        replaced; raises Refusal as `prepared` does."""
+        given, headers = self._requests[id], self.headers(id, group)
+        if given.reference in group:
+            return given._replace(headers=headers)
+        url = self.url(id)
+        return given._replace(url=url, reference=None, rest=url, headers=headers)
 
     def headers(self, id: str, kept: Collection[str] = ()) -> Dict[str, str]:
         """Returns the headers of a request with ETags in place of references, but for those to requests that are kept;

@@ -10,7 +10,7 @@ from ._messages import Answer, Refusal, header_dict, media_type
 
 _DECODER = json.JSONDecoder()
 _SPACE = re.compile(r"[ \t\r\n]*").match
-_BODILESS = b"null"
+_BODILESS = "null"
 _BASE64 = re.compile(r"[A-Za-z0-9_+/-]*={0,2}").fullmatch
 
 
@@ -20,14 +20,23 @@ def answers_of(responses: bytes) -> Dict[str, Answer]:
     Args:
         responses: A response document (OData JSON Format 4.01, section 19.5) that :func:`odb_batch.match` accepts.
     """
-    text, found = responses.decode(), {}
-    for at in _elements(text, _members(text, 0)["responses"][0]):
-        spans = _members(text, at)
-        value = {name: json.loads(text[slice(*spans[name])]) for name in ("id", "status", "headers") if name in spans}
-        headers = _headers(value.get("headers"))
-        body = text[slice(*spans["body"])].encode() if "body" in spans else _BODILESS
-        found[value["id"]] = Answer(value["status"], headers, b"" if body == _BODILESS else _wire(body, headers))
+    found = {}
+    for texts in texts_of(responses.decode()):
+        headers = _headers(json.loads(texts.get("headers", "null")))
+        body = texts.get("body", _BODILESS)
+        wire = b"" if body == _BODILESS else _wire(body.encode(), headers)
+        found[json.loads(texts["id"])] = Answer(json.loads(texts["status"]), headers, wire)
     return found
+
+
+def texts_of(responses: str) -> Iterator[Dict[str, str]]:
+    """Yields for each response of a document the text of each of its members.
+
+    Raises:
+        ValueError, IndexError, KeyError: It is no response document.
+    """
+    for at in _elements(responses, _members(responses, 0)["responses"][0]):
+        yield {name: responses[slice(*span)] for name, span in _members(responses, at).items()}
 
 
 def _headers(value: Any) -> Dict[str, str]:

@@ -14,7 +14,12 @@ from support.embedding import IN_PYTHON, block
 from support.program import ROOT, SHARED
 
 
-@pytest.mark.parametrize("name", ["", "._messages", "._perform", "._perform_async", "._runs", ".client", ".testing", ".wsgi"])
+MODULES = (
+    "", "._groups", "._messages", "._perform", "._perform_async", "._runs", ".client", ".testing", ".wsgi",
+)  # fmt: skip
+
+
+@pytest.mark.parametrize("name", MODULES)
 def test_its_examples(name, package):
     found = doctest.testmod(importlib.import_module(f"odb_batch{name}"))
     assert found.failed == 0 < found.attempted
@@ -27,7 +32,9 @@ def test_its_extras_are_all_that_it_needs(tmp_path, monkeypatch):
         (metadata,) = [package.read(it).decode() for it in package.namelist() if it.endswith("/METADATA")]
     head = metadata.partition("\n\n")[0]
     needed = re.findall("(?m)^Requires-Dist: (.*)$", head)
-    extras = {"django": "Django>=3.2", "fastapi": "fastapi", "flask": "Flask", "testing": "hypothesis"}
+    extras = {
+        "django": "Django>=3.2", "fastapi": "fastapi", "flask": "Flask", "gateway": "aiohttp>=3.8", "testing": "hypothesis",
+    }  # fmt: skip
     assert needed == [f'{name}; extra == "{extra}"' for extra, name in extras.items()]
     assert re.findall("(?m)^Provides-Extra: (.*)$", head) == list(extras)
 

@@ -7,6 +7,7 @@ from .._answers import BROKEN, LOG, TIMED_OUT, TIMEOUTS, checked
 from .._commands import MAX_WIDTH, Mode, match, plan, policy
 from .._documents import bytes_of, json_of
 from .._elements import Unit, batch_text, element_text, is_plain, units_of
+from .._groups import SKIPPED
 from .._messages import Answer, Answered, Refusal
 from .._preparation import Preparation
 from .._requests import Request, requests
@@ -15,8 +16,6 @@ from .._urls import Service
 
 # How many requests a batch may have.
 MOST = 10_000
-# What a request is answered that was not sent, or left out by a service that stops.
-_SKIPPED = Answer(424)
 
 
 class Parts:
@@ -51,7 +50,7 @@ class Parts:
             if len(unit.ids) > limit:
                 raise ValueError(f"the group {unit.group} has {len(unit.ids)} requests, and a batch may have {limit}")
         self._preparation = Preparation(given, Service(""))
-        self.answers: Dict[str, Answer] = dict.fromkeys(self._needs, _SKIPPED)
+        self.answers: Dict[str, Answer] = dict.fromkeys(self._needs, SKIPPED)
         self.error: Optional[Exception] = None
         # Those to which others refer, of those that have succeeded.
         self._referred: List[str] = []
@@ -145,7 +144,7 @@ class Parts:
         """Notes what the requests of a unit were answered; one without an answer was skipped."""
         unit = self._units[number]
         for id in unit.ids:
-            answer = self.answers[id] = answers.get(id, _SKIPPED)
+            answer = self.answers[id] = answers.get(id, SKIPPED)
             if not answer.is_success:
                 self._sound.discard(number)
             elif self._preparation.keep(id, answer):
