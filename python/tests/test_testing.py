@@ -9,6 +9,7 @@ from hypothesis import Phase, find, given, settings
 from hypothesis import strategies as st
 
 from odb_batch import Answer, Fault, canon, check, match, replay, run
+from odb_batch._explanations import EXPLANATIONS
 from odb_batch.testing import Scripted, batches, events, faulty_batches, outcomes
 from odb_batch.testing._faults import CHANGES
 from support.profiles import share
@@ -64,7 +65,8 @@ class TestStrategies:
         assert fault_of(check, batch) == (code, f"/requests/{position}")
 
     def test_each_fault_is_drawn(self):
-        assert {code for _, code, _ in drawn(faulty_batches(max_requests=4), 600)} == set(CHANGES)
+        assert set(CHANGES) == {code for code in EXPLANATIONS if "F10" <= code < "F50"}
+        assert {code for _, code, _ in drawn(faulty_batches(max_requests=4), 500)} == set(CHANGES)
 
     @share(40)
     @given(batches(min_requests=2, max_requests=3, groups=False, references=False, headers=False, bodies=PRICES))
@@ -75,13 +77,13 @@ class TestStrategies:
             assert {"atomicityGroup", "headers"}.isdisjoint(request) and request.get("body", PRICE) is PRICE
             assert not request["url"].startswith(tuple(f"${it['id']}/P" for it in batch["requests"]))
 
-    @share(40)
+    @share(100)
     @given(batches(min_requests=30, max_requests=40, bodies=None))
     def test_many_requests_without_bodies(self, batch):
         assert check(batch).requests >= 30 and not any("body" in it for it in batch["requests"])
 
     def test_each_part_is_drawn(self):
-        requests = [it for batch in drawn(batches(), 300) for it in batch["requests"]]
+        requests = [it for batch in drawn(batches(), 150) for it in batch["requests"]]
         texts = [json.dumps(it).lower() for it in requests]
         for part in ('"atomicitygroup": "', '"url": "$', '"body": ', '"if-match": "$', '"dependson": ["', "image/png"):
             assert any(part in text for text in texts), part

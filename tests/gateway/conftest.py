@@ -1,18 +1,10 @@
-"""Gateways with services behind them; all is skipped where aiohttp is not installed."""
+"""Gateways with services behind them; what needs them is skipped where aiohttp is not installed."""
 
-import os
+import signal
 
 import pytest
 
 from support.servers import skip_without
-
-HERE = os.path.dirname(os.path.abspath(__file__))
-
-
-def pytest_collection_modifyitems(items):
-    for item in items:
-        if str(item.path).startswith(HERE + os.sep):
-            item.add_marker(pytest.mark.usefixtures("aiohttp"))
 
 
 @pytest.fixture(scope="session")
@@ -48,8 +40,6 @@ def front(loop):
 @pytest.fixture
 def running(aiohttp):
     """Makes gateways as processes."""
-    import signal
-
     from support.gateways import Running
 
     made = []

@@ -33,7 +33,7 @@ BATCH = json.dumps({"requests": REQUESTS})
 
 
 def opened(journals, id="x", first=FIRST):
-    return FileJournal(*journals.open(id, first))
+    return FileJournal(*journals.open(id.encode(), first))
 
 
 def written(journals, events=EVENTS):
@@ -146,7 +146,9 @@ def pair(upstream, front, tmp_path):
         return web.Response(text=json.dumps({"responses": members}), content_type="application/json")
 
     service = upstream(answer)
-    it = front("--upstream", service.url, "--journal", str(tmp_path), "--groups", "forward")
+    it = front(
+        "--upstream", service.url, "--journal", str(tmp_path), "--groups", "forward", "--credential", "X-Api-Key"
+    )  # fmt: skip
 
     def ask(id, batch=BATCH, path="/odata/$batch", **headers):
         named = {name.replace("_", "-"): value for name, value in headers.items()}
@@ -199,7 +201,7 @@ def test_a_batch_goes_on_wherever_its_journal_ends(pair, tmp_path):
 
 @pytest.mark.parametrize("change", [
     {"batch": BATCH + " "}, {"Prefer": "return=minimal"}, {"Authorization": "Bearer 2"}, {"Cookie": "a=b"},
-    {"path": "/other/$batch"},
+    {"path": "/other/$batch"}, {"X_Api_Key": "2"},
 ], ids=str)  # fmt: skip
 def test_another_batch_under_the_same_id(pair, change):
     service, ask = pair

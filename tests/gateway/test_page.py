@@ -159,8 +159,12 @@ def test_the_codes_of_the_page_are_those_of_the_gateway():
 
 
 def test_the_probes_of_the_page_are_answered(upstream, running):
-    it = running("--upstream", upstream().url)
+    from odb_batch.gateway._options import options_of
+
     (text,) = blocks("yaml")
+    words = re.search(r"command: \[python3, -m, odb_batch, gateway, (.*)\]", text)[1].replace('"', "").split(", ")
+    assert options_of(words).listen == ("", 8090)
+    it = running("--upstream", upstream().url)
     paths = re.findall("path: ([^,]+), port: 8090", text)
     assert [it.ask("GET", path)[0] for path in paths] == [200, 200]
     assert int(re.search("terminationGracePeriodSeconds: ([0-9]+)", text)[1]) > 25 + 5

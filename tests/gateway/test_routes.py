@@ -72,7 +72,7 @@ def test_a_path_is_normalized_but_for_what_has_a_meaning():
     *(["--upstream", "http://a/", *it] for it in (
         ["--width", "0"], ["--width", "10001"], ["--timeout", "0"], ["--batches", "-1"], ["--listen", "x"],
         ["--listen", "1:99999"],
-        ["--metrics", "x"], ["--health", "health"], ["--groups", "some"], ["--log", "all"], ["--keep", "nan"], ["--no"],
+        ["--metrics", "x"], ["--health", "health"], ["--groups", "some"], ["--log", "all"], ["--keep", "nan"], ["--credential", "a b"], ["--no"],
     )),
 ], ids=" ".join)  # fmt: skip
 def test_wrong_arguments(words, capsys):

@@ -67,9 +67,15 @@ def _may_repeat(method: str, status: int) -> bool:
 
 
 def _headers(responses: bytes) -> Dict[str, Dict[str, str]]:
-    """The headers of each response by its id, with their names in lower case."""
-    elements = json.loads(responses)["responses"]
-    return {it["id"]: {name.lower(): value for name, value in (it.get("headers") or {}).items()} for it in elements}
+    """The headers of each response that are texts, by its id, with their names in lower case; of several the first."""
+    found: Dict[str, Dict[str, str]] = {}
+    for it in json.loads(responses)["responses"]:
+        headers = it.get("headers") if isinstance(it.get("headers"), dict) else {}
+        own = found[it["id"]] = {}
+        for name, value in headers.items():
+            if isinstance(value, str):
+                own.setdefault(name.lower(), value)
+    return found
 
 
 def _replaced(request: Request, names: Collection[str], headers: Mapping[str, Mapping[str, str]]) -> Request:

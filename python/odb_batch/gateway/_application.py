@@ -7,6 +7,7 @@ from typing import AsyncIterator, Dict, Optional
 
 from aiohttp import web
 
+from .._answers import FAILED, LOG
 from .._endpoint import Outer, folder_of, message_of, performed, refused, too_long
 from .._faults import Fault
 from .._messages import Answer, Refusal, header_dict
@@ -21,7 +22,6 @@ from ._upstreams import Upstreams
 _READ_SECONDS = 30.0
 # How often old journals are looked for, in seconds.
 _PRUNE_SECONDS = 60.0
-_FAILED = Refusal(500, "InternalError", "The gateway failed; its log says why")
 
 
 class Gateway:
@@ -114,8 +114,8 @@ class Gateway:
         except (Fault, Refusal) as error:
             answer = refused(error)
         except Exception as error:
-            log_line({"error": repr(error)})
-            answer = _FAILED.answer
+            LOG.error("a batch failed", exc_info=error)
+            answer = FAILED
         if answer.status != 200:
             code = answer.body["error"]["code"]
             self._metrics.fault(code)
@@ -157,21 +157,26 @@ class Gateway:
         self._metrics.batches_running += 1
         try:
             batch = await self._read(request)
-            id = request.headers.get("Repeatability-Request-ID", "")
+            headers = _headers(request)
+            id = headers.get("repeatability-request-id", "").encode()
             if self._journals is None or not id:
                 return performed(await performance.response(batch, None), performance.mode)
-            return await self._repeatable(self._journals, id, request, batch, performance)
+            # What has to be the same beside the document and the mode, or a client would read the answers of another.
+            same = [
+                request.path,
+                str(self._options.forwards),
+                *(headers.get(it, "") for it in self._options.credentials),
+            ]
+            sender = digest(*map(str.encode, same))
+            first = identity(batch=digest(batch), mode=performance.mode, sender=sender)
+            return await self._repeatable(self._journals, id, first, batch, performance)
         finally:
             self._metrics.batches_running -= 1
 
     async def _repeatable(
-        self, journals: Journals, id: str, request: web.Request, batch: bytes, performance: Performance
+        self, journals: Journals, id: bytes, first: bytes, batch: bytes, performance: Performance
     ) -> Answer:
         """Performs a batch that may be sent again, or goes on with it."""
-        who = (request.headers.get(name, "").encode("utf-8", "surrogateescape") for name in ("Authorization", "Cookie"))
-        groups = b"forward" if self._options.forwards else b"refuse"
-        more = digest(request.path.encode(), groups, *who)
-        first = identity(batch=digest(batch), mode=performance.mode, sender=more)
         journal: Optional[FileJournal] = None
         try:
             journal = FileJournal(*await asyncio.get_running_loop().run_in_executor(None, journals.open, id, first))
@@ -180,7 +185,7 @@ class Gateway:
         except Fault:
             raise
         except (OSError, ValueError) as error:
-            log_line({"journal": digest(id.encode("utf-8", "surrogateescape")), "error": repr(str(error))})
+            LOG.error("the journal %s: %s", digest(id), error)
             raise Refusal(500, "BadJournal", "The journal of the batch cannot be read or written") from None
         finally:
             if journal is not None:

@@ -93,7 +93,7 @@ class Journals:
         if not os.access(folder, os.W_OK | os.X_OK):
             raise PermissionError(13, "Permission denied", folder)
 
-    def open(self, id: str, first: bytes) -> Tuple[str, int, List[JournalEvent], int]:
+    def open(self, id: bytes, first: bytes) -> Tuple[str, int, List[JournalEvent], int]:
         """Opens and locks the journal of a Repeatability-Request-ID; returns what a FileJournal is made of.
 
         Args:
@@ -104,7 +104,7 @@ class Journals:
                 (500).
             OSError: It cannot be opened, read or written.
         """
-        path = os.path.join(self._path, digest(id.encode("utf-8", "surrogateescape")))
+        path = os.path.join(self._path, digest(id))
         file = _locked(path)
         try:
             with os.fdopen(os.dup(file), "rb") as reader:

@@ -35,6 +35,7 @@ class Options(NamedTuple):
     journal: str = ""
     keep: float = 86_400.0
     grace: float = 25.0
+    credentials: Tuple[str, ...] = ("authorization", "cookie")
     health: str = "/health"
     metrics_path: str = ""
     metrics_at: Optional[Address] = None
@@ -85,6 +86,12 @@ def _path(text: str) -> str:
     return text
 
 
+def _header(text: str) -> str:
+    if not re.fullmatch(r"[A-Za-z0-9-]+", text):
+        raise argparse.ArgumentTypeError(f"{text!r} is not the name of a header, such as X-Api-Key")
+    return text.lower()
+
+
 def _metrics(text: str) -> Union[str, Address]:
     return _path(text) if text.startswith("/") else _address(text if ":" in text else f"127.0.0.1:{text}")
 
@@ -133,6 +140,8 @@ def parser() -> argparse.ArgumentParser:
         help="of a batch, else 413, and of its answers together; 16777216")  # fmt: skip
     add("--journal", metavar="FOLDER", default="", help="keeps batches with a Repeatability-Request-ID there")
     add("--keep", metavar="S", type=_seconds, default=usual.keep, help="seconds for which a batch is kept; 86400")
+    add("--credential", metavar="NAME", type=_header, action="append", default=[],
+        help="a header by which services know a client, beside Authorization and Cookie")  # fmt: skip
     add("--grace", metavar="S", type=_seconds, default=usual.grace, help="seconds for what runs at SIGTERM; 25")
     add("--health", metavar="PATH", type=_path, default=usual.health, help="for probes; PATH/ready, too; /health")
     add("--metrics", metavar="PATH|PORT", type=_metrics, help="for Prometheus: here, or at a port of its own")
@@ -153,6 +162,7 @@ def options_of(words: Sequence[str]) -> Options:
     has_path = isinstance(given.metrics, str)
     more = {
         "routes": tuple(routes),
+        "credentials": (*Options(()).credentials, *given.credential),
         "forwards": given.groups == "forward",
         "metrics_path": given.metrics if has_path else "",
         "metrics_at": None if has_path else given.metrics,

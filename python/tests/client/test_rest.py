@@ -122,7 +122,7 @@ class TestDocuments:
     )
 
     def test_the_headers_of_the_response(self):
-        made = b'{"id":"a","status":201,"headers":{"LOCATION":"A(1)","ETag":"7"}}'
+        made = b'{"id":"a","status":201,"headers":{"Age":7,"LOCATION":"A(1)","location":"A(2)","ETag":"7"}}'
         responses = b'{"responses":[{"id":"b","status":504},%s]}' % made
         assert rest(self.BATCH, responses) == (
             b'{"requests":[{"id":"b","method":"put","url":"A(1)/B","headers":{"if-match":"7"},"body":1.50}]}'
